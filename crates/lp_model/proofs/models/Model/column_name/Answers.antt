@@ -1,0 +1,11 @@
+use Rattle.std.proofs.Common.{sym, ap, ◌∙◌}
+use Rattle.lp_model.specs.Program.{NamedColumn, empty_column}
+use Rattle.lp_model.specs.Shown.{named_column}
+use Rattle.lp_model.proofs.Read.{shown_at}
+use Rattle.lp_model.proofs.models.Model.column_name.Goals as goal
+
+pub returns : goal.returns
+returns c =
+    let es = c.self.inside.columns in
+    let r = shown_at (λ e. e.0) (λ e. named_column e.0 e.1) es c.args.index c.name.result.now empty_column c.name.ensures in
+    rw (← c.self.view_is) (sym r.1 ∙ sym (ap (λ (row : NamedColumn). row.name) r.2))

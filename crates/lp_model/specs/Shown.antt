@@ -1,0 +1,79 @@
+-- How a program stands in the code's parts, and what is asked of a new name.
+use Rattle.std.specs.Prelude.{◌≡◌, ℕ, ◌<◌, ◌≤◌, ◌⊎◌, ⊤, Bool, false, List, [], ◌∷◌, ◌++◌, length, map}
+use Rattle.std.specs.List.{list_any}
+use Rattle.std.specs.Str.{bytes_eq}
+use Rattle.lp_model.specs.declared.parts.Row.{Row}
+use Rattle.lp_model.specs.declared.parts.Column.{Column}
+use Rattle.lp_model.specs.Program.{Program, NamedRow, NamedColumn, IsWellFormed}
+
+-- a row of the code, with a name
+abbrev pub named_row : List ℕ → Row → NamedRow
+named_row name row = record { name = name; terms = row.terms; lower = row.lo; upper = row.up; active = row.active; weight = row.weight }
+
+-- and a column
+abbrev pub named_column : List ℕ → Column → NamedColumn
+named_column name column = record {
+  name = name;
+  lower = column.lo;
+  upper = column.up;
+  whole = column.whole;
+  lower_active = column.lower_active;
+  upper_active = column.upper_active;
+  whole_active = column.whole_active;
+  lower_weight = column.lower_weight;
+  upper_weight = column.upper_weight;
+}
+
+-- a program without rows and columns, whose objective is 0
+abbrev pub empty_program : Bool → Program
+empty_program maximise = record { rows = []; columns = []; objective = []; maximise = maximise; notes = [] }
+
+-- the names of the rows
+abbrev pub row_names : Program → List (List ℕ)
+row_names model = map (λ r. r.name) model.rows
+
+-- and of the columns
+abbrev pub column_names : Program → List (List ℕ)
+column_names model = map (λ c. c.name) model.columns
+
+-- one row more, at the end
+abbrev pub with_more_row : Program → NamedRow → Program
+with_more_row model row = record model { rows = model.rows ++ row ∷ [] }
+
+-- and one column more
+abbrev pub with_more_column : Program → NamedColumn → Program
+with_more_column model column = record model { columns = model.columns ++ column ∷ [] }
+
+-- ---- limits
+-- the most rows
+abbrev pub most_rows : ℕ
+most_rows = 2000
+
+-- the most columns
+abbrev pub most_columns : ℕ
+most_columns = 4000
+
+-- the most bytes of a name
+abbrev pub longest_name : ℕ
+longest_name = 255
+
+-- whether a name is one of the names
+abbrev pub is_named : List (List ℕ) → List ℕ → Bool
+is_named names name = list_any (bytes_eq name) names
+
+-- a new name is not there yet, there is room for one more, and it is not too long
+pub record CanAdd (names : List (List ℕ)) (most : ℕ) (name : List ℕ) : Type 0 where
+  pub fresh : is_named names name ≡ false
+  pub room : length names < most
+  pub short : length name ≤ longest_name
+
+-- it is not there yet, but there is no room, or it is too long
+pub record IsPastLimit (names : List (List ℕ)) (most : ℕ) (name : List ℕ) : Type 0 where
+  pub fresh : is_named names name ≡ false
+  pub past : (most ≤ length names) ⊎ (longest_name < length name)
+
+-- a well-formed program within the limits, which is what the code keeps
+pub record IsKept (model : Program) : Type 0 where
+  pub well_formed : IsWellFormed model
+  pub few_rows : length model.rows ≤ most_rows
+  pub few_columns : length model.columns ≤ most_columns

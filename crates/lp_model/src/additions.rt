@@ -1,0 +1,37 @@
+//! A new name, where it may be added.
+ghost use Rattle.std.specs.Prelude.{◌≡◌, ◌<◌, ◌^◌, ◌++◌, ◌∷◌, [], length, MatchResult, OnErr};
+ghost use Rattle.name_map.specs.Names.{names_of};
+ghost use Rattle.lp_model.specs.Shown.{CanAdd};
+ghost use Rattle.lp_model.specs.Refusals.{IsAddRefusal};
+
+use crate::models::ModelStop;
+use name_map::NameMap;
+use std::alloc::{AllocError, Global};
+
+const LONGEST_NAME: usize = 255;
+
+/// Puts a name last with its value, where it is new, there are fewer than `most`, and it is not too long.
+pub(crate) fn add_named<V: Drop>(
+    map: &mut NameMap<V>,
+    alloc: Global,
+    name: &[u8],
+    value: V,
+    most: u32,
+) -> Result<u32, ModelStop>
+    ensures answer { MatchResult result
+        (λ i. CanAdd (names_of map.old) most name.now × (i ≡ length map.old) × (map.new ≡ map.old ++ (name.now, value) ∷ []))
+        (λ stop. IsAddRefusal (names_of map.old) most name.now stop) }
+    ensures unchanged { OnErr result (map.new ≡ map.old) }
+{
+    if map.contains(name) {
+        return Err(ModelStop::DuplicateName);
+    }
+    let count = map.len();
+    if count >= most as usize || name.len() > LONGEST_NAME {
+        return Err(ModelStop::Limit);
+    }
+    match map.push(alloc, name, value) {
+        Ok(()) => Ok(count as u32),
+        Err(AllocError) => Err(ModelStop::Memory),
+    }
+}
