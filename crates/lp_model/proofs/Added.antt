@@ -1,5 +1,5 @@
 -- What a new name gives the program that the code's lists show.
-use Rattle.std.proofs.Common.{◌≡◌, refl, sym, ◌∙◌, ap, subst, ℕ, List, [], ◌∷◌, ◌++◌, length, map, Result, Ok, Err, MatchResult}
+use Rattle.std.proofs.Common.{◌≡◌, sym, ◌∙◌, ap, subst, ℕ, List, [], ◌∷◌, ◌++◌, length, map, Result, Ok, Err, MatchResult}
 use Rattle.std.specs.Prelude.{OnErr}
 use Rattle.std.proofs.lemmas.List.{length-map}
 use Rattle.name_map.specs.Names.{names_of}

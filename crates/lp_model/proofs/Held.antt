@@ -1,13 +1,13 @@
 -- What it is for each kind of member to hold, by the code's parts.
-use Rattle.std.proofs.Common.{◌≡◌, ◌<◌, refl, sym, ◌∙◌, ap, subst, ℕ, Bool, true, List, length, get_or, Option, Some, None, is_some, IsTrue}
+use Rattle.std.proofs.Common.{◌≡◌, ◌<◌, refl, sym, subst, ℕ, Bool, List, length, get_or, Option, IsTrue}
 use Rattle.std.specs.Prelude.{All, ◌↔◌}
 use Rattle.std.proofs.lemmas.List.{get_or_read_under}
 use Rattle.std.proofs.lemmas.List.Elements.{All-get_or}
 use Rattle.rational.specs.Rational.{ℚ, zero_ℚ, IsWhole}
 use Rattle.rational.specs.Linear.{Term}
-use Rattle.lp_model.specs.Program.{Program, NamedRow, IsWellFormedRow, row_at, column_at, empty_row}
-use Rattle.lp_model.specs.Members.{Row, Lower, Upper, Whole, value}
-use Rattle.lp_model.specs.Satisfaction.{values_at, IsAtLeast, IsAtMost, KeepsSides, Holds}
+use Rattle.lp_model.specs.Program.{Program, IsWellFormedRow, row_at, column_at, empty_row}
+use Rattle.lp_model.specs.Members.{Lower, Upper, Whole}
+use Rattle.lp_model.specs.Satisfaction.{values_at, IsAtLeast, IsAtMost, Holds}
 use Rattle.lp_model.specs.Shown.{IsKept}
 
 -- the value that an index reads

@@ -1,17 +1,15 @@
 -- What each part that is added keeps.
-use Rattle.std.proofs.Common.{◌≡◌, ◌≢◌, ◌<◌, ◌≤◌, ◌+◌, refl, sym, ◌∙◌, ap, subst, ℕ, Bool, true, false, true≢false, List, [], ◌∷◌, ◌++◌, length, map, get_or, arith, length-append}
-use Rattle.std.specs.Prelude.{All, AllPairs}
-use Rattle.std.specs.List.{list_any}
+use Rattle.std.proofs.Common.{◌≡◌, ◌≢◌, ◌<◌, ◌≤◌, ◌+◌, sym, ◌∙◌, subst, ℕ, Bool, false, true≢false, List, [], ◌∷◌, ◌++◌, length, map, get_or, arith, length-append}
 use Rattle.std.specs.Str.{bytes_eq}
 use Rattle.std.proofs.lemmas.List.{length-map}
-use Rattle.std.proofs.lemmas.List.Elements.{All-push, All-weaker, All-nil}
+use Rattle.std.proofs.lemmas.List.Elements.{All-push, All-weaker}
 use Rattle.std.proofs.lemmas.List.Folds.{list_any_at}
 use Rattle.std.proofs.lemmas.List.Quantifiers.{all_pairs_push}
 use Rattle.std.proofs.lemmas.Slice.Eq.{bytes_eq-Decides}
 use Rattle.name_map.proofs.NameLists.{any_map}
 use Rattle.rational.specs.Linear.{Term}
-use Rattle.lp_model.specs.Program.{Program, NamedRow, NamedColumn, Note, noted_column, IsForm, IsPositiveWeight, IsWellFormedRow, IsWellFormedColumn, IsWellFormed}
-use Rattle.lp_model.specs.Shown.{IsKept, CanAdd, row_names, column_names, with_more_row, with_more_column, empty_program, is_named, most_rows, most_columns}
+use Rattle.lp_model.specs.Program.{Program, NamedRow, NamedColumn, Note, noted_column, IsForm, IsPositiveWeight, IsWellFormedRow, IsWellFormedColumn}
+use Rattle.lp_model.specs.Shown.{IsKept, CanAdd, row_names, column_names, with_more_row, with_more_column, is_named, most_rows, most_columns}
 
 -- a list and one element more
 length_more : {X : Type 0} (xs : List X) (x : X) → length (xs ++ x ∷ []) ≡ length xs + 1

@@ -1,6 +1,6 @@
 -- The sums that are taken at a point: their operations in order.
-use Rattle.std.specs.Prelude.{ℕ, ◌<◌, List, [], length}
-use Rattle.rational.specs.Rational.{ℚ, zero_ℚ}
+use Rattle.std.specs.Prelude.{◌<◌, List, [], length}
+use Rattle.rational.specs.Rational.{zero_ℚ}
 use Rattle.rational.specs.Linear.{Term, Assignment}
 use Rattle.frac128.specs.Calculation.{Calculation, product_steps}
 use Rattle.lp_model.specs.Program.{Program, row_at}

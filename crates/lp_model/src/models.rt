@@ -99,7 +99,12 @@ impl Model {
     ///
     /// `DuplicateName` comes where a column has the name, before `Limit`, which comes where 4,000 columns are there or
     /// the name has more than 255 bytes. After a refusal the program is as it was.
-    pub fn add_column(&mut self, alloc: Global, name: &[u8], column: Column) -> Result<u32, ModelStop>
+    pub fn add_column(
+        &mut self,
+        alloc: Global,
+        name: &[u8],
+        column: Column,
+    ) -> Result<u32, ModelStop>
         requires { IsWellFormedColumn (named_column name.now column) }
         ensures answer { MatchResult result
             (λ j. CanAdd (column_names self.old) most_columns name.now × (j ≡ length self.old.columns) × (self.new ≡ with_more_column self.old (named_column name.now column)))

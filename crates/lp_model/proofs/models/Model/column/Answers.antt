@@ -1,4 +1,4 @@
-use Rattle.std.proofs.Common.{◌≡◌, sym, ap, ◌∙◌}
+use Rattle.std.proofs.Common.{sym, ap, ◌∙◌}
 use Rattle.lp_model.specs.Program.{NamedColumn, empty_column}
 use Rattle.lp_model.specs.Shown.{named_column}
 use Rattle.lp_model.proofs.Read.{shown_at}

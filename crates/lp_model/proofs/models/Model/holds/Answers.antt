@@ -1,4 +1,4 @@
-use Rattle.std.proofs.Common.{◌≡◌, ◌<◌, ℕ, List, length, IsTrue, ap, sym, subst, refl, ◌∙◌}
+use Rattle.std.proofs.Common.{◌<◌, ℕ, IsTrue, ap, sym, subst, refl}
 use Rattle.frac128.specs.Calculation.{first_wide}
 use Rattle.lp_model.specs.Program.{NamedColumn}
 use Rattle.lp_model.specs.Members.{Member, exists}
@@ -12,9 +12,11 @@ returns-in-Lower c =
     let j = c.in-Lower.index in
     let within = subst (λ (n : ℕ). j < n) (sym c.requires.counted) (subst (IsInRange c.args.self.now) c.in-Lower.is c.requires.in_range) in
     let is = value_read c.args.values.now j c.index-values-index.result within c.index-values-index.is in
-    rw c.in-Lower.is
-    (lower_holds c.args.self.now c.args.values.now j c.column.result.now.lo c.index-values-index.result c.is_at_least.result
-    (ap (λ (column : NamedColumn). column.lower) c.column.ensures) is c.is_at_least.ensures, refl)
+    rw c.in-Lower.is (
+      lower_holds c.args.self.now c.args.values.now j c.column.result.now.lo c.index-values-index.result c.is_at_least.result
+          (ap (λ (column : NamedColumn). column.lower) c.column.ensures) is c.is_at_least.ensures,
+      refl,
+    )
 
 pub returns-in-Upper : goal.returns-in-Upper
 unfolding first_wide
@@ -22,9 +24,11 @@ returns-in-Upper c =
     let j = c.in-Upper.index in
     let within = subst (λ (n : ℕ). j < n) (sym c.requires.counted) (subst (IsInRange c.args.self.now) c.in-Upper.is c.requires.in_range) in
     let is = value_read c.args.values.now j c.index-values-index-in-Upper.result within c.index-values-index-in-Upper.is in
-    rw c.in-Upper.is
-    (upper_holds c.args.self.now c.args.values.now j c.column-in-Upper.result.now.up c.index-values-index-in-Upper.result c.is_at_most.result
-    (ap (λ (column : NamedColumn). column.upper) c.column-in-Upper.ensures) is c.is_at_most.ensures, refl)
+    rw c.in-Upper.is (
+      upper_holds c.args.self.now c.args.values.now j c.column-in-Upper.result.now.up c.index-values-index-in-Upper.result c.is_at_most.result
+          (ap (λ (column : NamedColumn). column.upper) c.column-in-Upper.ensures) is c.is_at_most.ensures,
+      refl,
+    )
 
 pub returns-in-Whole : goal.returns-in-Whole
 unfolding first_wide
