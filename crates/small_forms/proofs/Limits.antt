@@ -21,7 +21,7 @@ use Rattle.small_forms.specs.Records.{Line, RowRecord, EntryRecord, SideRecord, 
 use Rattle.small_forms.specs.Tables.{Tables, tables, section_of, may_follow, says_more, comes_after, has_row, has_column, has_entry, row_fits, entry_fits, side_fits, with_row, with_entry, with_side}
 use Rattle.small_forms.specs.Form.{all_follow}
 use Rattle.small_forms.specs.Program.{Linear, IsProgram, DeclaresSmall, side_at, row_name, terms_at}
-use Rattle.small_forms.specs.Limits.{AreNames, IsShort, IsWithinLimits}
+use Rattle.small_forms.specs.Limits.{AreNames, IsShort, IsShaped, IsWithinLimits}
 use Rattle.small_forms.proofs.Lists.{any_map, map_push}
 use Rattle.small_forms.proofs.Pushes.{tables_heading, tables_row, tables_entry, tables_side}
 use Rattle.small_forms.proofs.Unique.{absent, at_head}
@@ -253,6 +253,10 @@ keeps_lines front (line ∷ lines) h keeps =
 
 -- ---- the program that the tables declare
 
+none_ascend : IsStrictlySortedBy nat_cmp []
+unfolding IsStrictlySortedBy
+none_ascend = tt
+
 -- what holds of each number that a look-up finds holds of each term
 terms_all : (P : ℤ → Type 0) (n : ℕ) (us : List (ℕ × ℤ)) → IsStrictlySortedBy nat_cmp (map (λ u. u.0) us) → All (λ u. u.0 < n) us
     → ((j : ℕ) (v : ℤ) → j < n → lookup (nat_eq j) us ≡ Some v → P v) → All (λ u. P u.1) us
@@ -288,6 +292,10 @@ or_found P f p d (x ∷ xs) h other = by (p x) (or_found P f p d xs (All-tail (�
     by false rest = rest
 
 module _ (t : Tables) (p : Linear) (is : IsProgram t p) where
+  -- a row past the last has no terms
+  no_terms : (i : ℕ) → length t.rows ≤ i → terms_at p i ≡ []
+  no_terms i past = let long = is.each_row in get_or_past p.terms i [] (omega arith)
+
   terms_keep : (P : ℤ → Type 0) → All (λ e. P e.value) t.entries → (i : ℕ) → All (λ u. P u.1) (terms_at p i)
   terms_keep P each i = by (ltb i (length t.rows)) refl
     where
@@ -297,16 +305,29 @@ module _ (t : Tables) (p : Linear) (is : IsProgram t p) where
           terms_all P (length t.columns) (terms_at p i) (is.ascend i within) (is.known i within)
           (λ j v less found. found_all P (λ (e : EntryRecord). e.value) _ t.entries v each (sym (is.factor i j within less) ∙ found))
       by false e =
-          let past : length t.rows ≤ i = ltb-false _ _ e in
-          let long = is.each_row in
-          let none : terms_at p i ≡ [] = get_or_past p.terms i [] (omega arith) in
-          subst (All (λ (u : ℕ × ℤ). P u.1)) (sym none) (λ k d h. absurd (omega arith))
+          subst (All (λ (u : ℕ × ℤ). P u.1)) (sym (no_terms i (ltb-false _ _ e))) (λ k d h. absurd (omega arith))
 
   sides_keep : (P : ℤ → Type 0) → All (λ s. P s.1) t.sides → P (pos 0) → All P p.sides
   sides_keep P each other k d h =
       let long = is.each_side in
       let said : get_or p.sides k d ≡ side_at t (row_name t k) = get_or_default p.sides k d (pos 0) h ∙ is.side k (omega arith) in
       subst P (sym said) (or_found P (λ (s : SideRecord). s.1) (λ s. bytes_eq (row_name t k) s.0) (pos 0) t.sides each other)
+
+  pub shape_of_tables : IsShaped p
+  shape_of_tables = record {
+    each_row = is.each_row ∙ ap length (sym is.rows);
+    each_side = is.each_side ∙ ap length (sym is.rows);
+    ascend = λ i. ascends i (ltb i (length t.rows)) refl;
+    known = λ i. knows i (ltb i (length t.rows)) refl;
+  }
+    where
+      ascends : (i : ℕ) (b : Bool) → ltb i (length t.rows) ≡ b → IsStrictlySortedBy nat_cmp (map (λ u. u.0) (terms_at p i))
+      ascends i true e = is.ascend i (ltb-true _ _ e)
+      ascends i false e = subst (λ (us : List (ℕ × ℤ)). IsStrictlySortedBy nat_cmp (map (λ u. u.0) us)) (sym (no_terms i (ltb-false _ _ e))) none_ascend
+
+      knows : (i : ℕ) (b : Bool) → ltb i (length t.rows) ≡ b → All (λ u. u.0 < length p.columns) (terms_at p i)
+      knows i true e = subst (λ (l : List (List ℕ)). All (λ u. u.0 < length l) (terms_at p i)) (sym is.columns) (is.known i (ltb-true _ _ e))
+      knows i false e = subst (All (λ (u : ℕ × ℤ). u.0 < length p.columns)) (sym (no_terms i (ltb-false _ _ e))) (λ k d h. absurd (omega arith))
 
   limits_of_tables : KeepsLimits t → IsWithinLimits p
   limits_of_tables keeps = record {
@@ -321,3 +342,6 @@ module _ (t : Tables) (p : Linear) (is : IsProgram t p) where
 
 pub within_limits : (bytes : List ℕ) (p : Linear) → DeclaresSmall bytes p → IsWithinLimits p
 within_limits bytes p (lines, form, is) = limits_of_tables (tables lines) p is (keeps_lines [] lines form.follow keeps_start)
+
+pub shaped : (bytes : List ℕ) (p : Linear) → DeclaresSmall bytes p → IsShaped p
+shaped bytes p (lines, form, is) = shape_of_tables (tables lines) p is
