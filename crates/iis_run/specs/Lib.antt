@@ -1,0 +1,5 @@
+pub mod Words
+pub mod Asked
+pub mod Lines
+pub mod Checking
+pub mod Kinds
