@@ -1,2 +1,6 @@
 pub mod Firsts
 pub mod Lists
+pub mod Said
+pub mod Verdicts
+pub mod Unambiguous
+pub mod Statuses

@@ -34,3 +34,7 @@ abbrev pub IsJudged : Program → Assignment → List Member → Verdict → Typ
 IsJudged model x set Accepted = All (Passes model x) set
 IsJudged model x set Rejected = IsAtFirst (Passes model x) (Misses model x) set
 IsJudged model x set (Wide w) = IsAtFirst (Passes model x) (λ m. first_wide limit (member_operations model m x) ≡ Some w) set
+
+-- there is one verdict
+abbrev pub OneVerdictLaw : Type 0
+OneVerdictLaw = (model : Program) (x : Assignment) (set : List Member) (v w : Verdict) → IsJudged model x set v → IsJudged model x set w → v ≡ w

@@ -3,3 +3,7 @@ pub mod Asked
 pub mod Lines
 pub mod Checking
 pub mod Kinds
+pub mod Limits
+pub mod Fetches
+pub mod Causes
+pub mod Run

@@ -3,7 +3,8 @@ use Rattle.std.specs.Prelude.{ℕ, ℤ, pos, true, false, List, [], ◌∷◌, �
 use Rattle.std.proofs.Common.{zero, suc}
 use Rattle.rational.specs.Rational.{ℚ, whole, zero_ℚ, one_ℚ}
 use Rattle.rational.specs.Linear.{Term}
-use Rattle.lp_model.specs.Program.{Program, NamedRow, NamedColumn, Soft}
+use Rattle.lp_model.specs.Program.{Program, NamedRow, NamedColumn}
+use Rattle.lp_model.specs.declared.parts.Weight.TheVariants.{Soft}
 use Rattle.small_forms.specs.declared.shape.Kind.{Kind}
 use Rattle.small_forms.specs.declared.shape.Kind.TheVariants.{AtMost, AtLeast, Equal}
 use Rattle.small_forms.specs.Records.{RowRecord}

@@ -1,0 +1,95 @@
+//! A run: what is asked for is fetched, read and checked, and its line is put.
+ghost use Rattle.std.specs.Prelude.{◌≡◌, ◌≢◌, ◌≤◌, ◌↔◌, None};
+ghost use Rattle.iis_edge.specs.Causes.{Rose};
+ghost use Rattle.iis_run.specs.Words.{request_of};
+ghost use Rattle.iis_run.specs.Causes.{IsReportEnding};
+ghost use Rattle.iis_run.specs.Run.{IsCaused, IsRun, HasFetchStop, AskedFor, IsRefuted, Settles};
+
+use crate::checking::{Verdict, judge};
+use crate::endings::{Ending, Which};
+use crate::fetching::fetch_file;
+use crate::members::list_active;
+use crate::saying::say;
+use crate::words;
+use iis_edge::{Shelf, Sink};
+use lp_model::Model;
+use small_forms::{read_model, read_values};
+use std::alloc::Global;
+
+// Reads a report and checks its point.
+fn check_report(alloc: Global, model: &Model, bytes: &[u8]) -> Ending
+    ensures { IsReportEnding model.now bytes.now result }
+{
+    let Ok(found) = read_values(alloc, bytes, model) else {
+        return Ending::Memory;
+    };
+    let Some(values) = found else {
+        return Ending::ReportRefused;
+    };
+    let Ok(members) = list_active(alloc, model) else {
+        return Ending::Memory;
+    };
+    Ending::Checked(judge(model, members.as_slice(), values.as_slice()))
+}
+
+// Fetches the files, reads them and checks.
+fn decide<S: Shelf>(alloc: Global, words: &[String], shelf: &mut S) -> Ending
+    ensures { IsCaused (S.file shelf.old) (S.faults shelf.old) (S.faults shelf.new) (request_of words.now) result }
+{
+    let Some(asked) = words::parse(words) else {
+        return Ending::Usage;
+    };
+    let model_bytes = match fetch_file(alloc, shelf, asked.model, Which::Model) {
+        Ok(bytes) => bytes,
+        Err(ending) => return ending,
+    };
+    let Ok(found) = read_model(alloc, model_bytes.as_slice()) else {
+        return Ending::Memory;
+    };
+    let Some(model) = found else {
+        return Ending::ModelRefused;
+    };
+    let report_bytes = match fetch_file(alloc, shelf, asked.report, Which::Report) {
+        Ok(bytes) => bytes,
+        Err(ending) => return ending,
+    };
+    check_report(alloc, &model, report_bytes.as_slice())
+}
+
+/// Does what the words ask for, puts its line, and gives the status.
+///
+/// `words` are the command line without the program's name. The form that is built is `verify MODEL REPORT`. The
+/// statuses are:
+///
+/// - 0: the report is accepted; `accepted settled 1 unsettled 0`.
+/// - 2: the words are none of the forms; the usage line.
+/// - 3: `read fault WHICH`, only where the shelf's count of faults of that file's own name rose; or `too long WHICH`,
+///   exactly where a told file is longer than its limit.
+/// - 4: the put of the `accepted` line failed.
+/// - 5: `model refused line 1 unsupported`, exactly where the bytes are not in the small form.
+/// - 6: `report refused line 1`, exactly where the bytes are not in the small form for that model.
+/// - 7: want of memory; nothing is written.
+/// - 8: the first member, in order, that does not hold or has a product or partial sum that is too wide is
+///   `rejected line 4`, or `wide line 4 OP LEFT RIGHT`.
+pub fn run<S: Shelf, W: Sink>(alloc: Global, words: &[String], shelf: &mut S, out: &mut W) -> u8
+    // Status 2 comes exactly where the words are none of the forms that are built.
+    ensures usage { (result ≡ 2) ↔ (request_of words.now ≡ None) }
+    // Status 3 comes only where a fetch of one of the two names failed in this call, or where the told file is too long.
+    ensures fetch_stop { result ≡ 3 → HasFetchStop (S.file shelf.old) (S.faults shelf.old) (S.faults shelf.new) (request_of words.now) }
+    // Status 4 comes only where the sink failed in this call.
+    ensures write_fault { result ≡ 4 → Rose (W.faults out.old) (W.faults out.new) }
+    // Statuses 5, 6, 0 and 8 come only where the told files call for them.
+    ensures model_refused { result ≡ 5 → AskedFor (S.file shelf.old) (request_of words.now) Ending.ModelRefused }
+    ensures report_refused { result ≡ 6 → AskedFor (S.file shelf.old) (request_of words.now) Ending.ReportRefused }
+    ensures accepted { result ≡ 0 → AskedFor (S.file shelf.old) (request_of words.now) (Ending.Checked Verdict.Accepted) }
+    ensures refuted { result ≡ 8 → IsRefuted (S.file shelf.old) (request_of words.now) }
+    // No other status is answered.
+    ensures statuses { (result ≤ 8) × (result ≢ 1) }
+    // Where no fetch and no put fails, what the told files call for is done: its line and its status, or want of memory.
+    ensures settles { Settles S.file S.faults W.faults W.taken shelf.old shelf.new out.old out.new (request_of words.now) result }
+    // Each status comes with its cause, and its line, or a front of it after a fault, is what is written.
+    ensures ran { IsRun S.file S.faults W.faults W.taken shelf.old shelf.new out.old out.new (request_of words.now) result }
+{
+    let ending = decide(alloc, words, shelf);
+    say(alloc, ending, out)
+}
