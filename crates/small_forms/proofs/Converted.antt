@@ -76,8 +76,17 @@ terms_ascend (u ∷ us) up =
     AllPairs-cons (λ (s t : Term). s.column < t.column) (small_term u) (map small_term us)
     (All-map (λ (t : Term). u.0 < t.column) small_term us (later u.0 us up.0)) (terms_ascend us up.1)
 
-positive_weight : zero_ℚ <ℚ one_ℚ
+pub positive_weight : zero_ℚ <ℚ one_ℚ
 positive_weight = positive_is.1 positive-one
+
+pub column_formed : (name : List ℕ) → IsWellFormedColumn (small_column name)
+column_formed name = record {
+  lower_weight = positive_weight;
+  upper_weight = positive_weight;
+  no_lower = λ none. absurd (cc);
+  no_upper = λ none. (refl, refl);
+  no_mark = λ none. refl;
+}
 
 module _ (p : Linear) (shape : IsShaped p) (limits : IsWithinLimits p) where
   pub form_of_row : (i : ℕ) → IsForm (length p.columns) (map small_term (terms_at p i))
@@ -98,13 +107,7 @@ module _ (p : Linear) (shape : IsShaped p) (limits : IsWithinLimits p) where
   well_formed = record {
     rows = All-listed (IsWellFormedRow (length (map small_column p.columns))) (small_row p) (length p.rows)
         (λ i h. record { form = subst (λ (n : ℕ). IsForm n (map small_term (terms_at p i))) (sym (length_map small_column p.columns)) (form_of_row i); weight = positive_weight });
-    columns = All-map IsWellFormedColumn small_column p.columns (λ k d h. record {
-      lower_weight = positive_weight;
-      upper_weight = positive_weight;
-      no_lower = λ none. absurd (cc);
-      no_upper = λ none. (refl, refl);
-      no_mark = λ none. refl;
-    });
+    columns = All-map IsWellFormedColumn small_column p.columns (λ k d h. column_formed (get_or p.columns k d));
     objective = record { ascending = λ i j d less h. absurd (omega arith); known = λ k d h. absurd (omega arith); nonzero = λ k d h. absurd (omega arith) };
     notes = λ k d h. absurd (omega arith);
     row_names = AllPairs-listed (λ (r s : NamedRow). r.name ≢ s.name) (small_row p) (length p.rows) names_differ;

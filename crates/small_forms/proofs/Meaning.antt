@@ -1,6 +1,5 @@
 -- The bytes of a model and of a report stand for one program and for one list of values.
-use Rattle.std.proofs.Common.{◌≡◌, ℕ, List, Option, Some, None, Ok, Err, length, map, refl, sym, ap, ◌∙◌}
-use Rattle.std.specs.Option.{ok_or}
+use Rattle.std.proofs.Common.{◌≡◌, ℕ, List, length, map, sym, ap, ◌∙◌}
 use Rattle.rational.specs.Rational.{ℚ, whole}
 use Rattle.lp_model.specs.Program.{Program}
 use Rattle.small_forms.specs.Converted.{program_of}
@@ -17,12 +16,3 @@ one_values names bytes v w a b = a.same ∙ ap (map whole) (one_point names byte
 
 pub counted_values : (names : List (List ℕ)) (bytes : List ℕ) (v : List ℚ) → ReportsValues names bytes v → length v ≡ length names
 counted_values names bytes v a = ap length a.same ∙ length_map whole a.point ∙ a.reports.2.len
-
--- what an answer that may fail says of a look-up
-pub found_place : {E : Type 0} (o : Option ℕ) (e : E) (i : ℕ) → Ok i ≡ ok_or o e → Some i ≡ o
-found_place None e i h = cc
-found_place (Some j) e i h = cc
-
-pub no_place : {E : Type 0} (o : Option ℕ) (e d : E) → Err d ≡ ok_or o e → None ≡ o
-no_place None e d h = refl
-no_place (Some j) e d h = cc

@@ -1,9 +1,10 @@
 -- A program of the small form as a linear program over the rationals.
-use Rattle.std.specs.Prelude.{ℕ, ℤ, pos, true, false, List, [], ◌∷◌, ◌++◌, Option, Some, None, map, length, slice_index_or}
+use Rattle.std.specs.Prelude.{ℕ, ℤ, pos, true, false, List, [], ◌∷◌, ◌++◌, Option, Some, None, map, length, take, slice_index_or}
 use Rattle.std.proofs.Common.{zero, suc}
 use Rattle.rational.specs.Rational.{ℚ, whole, zero_ℚ, one_ℚ}
 use Rattle.rational.specs.Linear.{Term}
 use Rattle.lp_model.specs.Program.{Program, NamedRow, NamedColumn}
+use Rattle.lp_model.specs.Shown.{empty_program}
 use Rattle.lp_model.specs.declared.parts.Weight.TheVariants.{Soft}
 use Rattle.small_forms.specs.declared.shape.Kind.{Kind}
 use Rattle.small_forms.specs.declared.shape.Kind.TheVariants.{AtMost, AtLeast, Equal}
@@ -72,3 +73,11 @@ program_of p = record {
   maximise = false;
   notes = [];
 }
+
+-- only the first n columns, and no rows
+abbrev pub first_columns : Linear → ℕ → Program
+first_columns p n = record (empty_program false) { columns = map small_column (take n p.columns) }
+
+-- all columns, and the first n rows
+abbrev pub first_rows : Linear → ℕ → Program
+first_rows p n = record (program_of p) { rows = listed (small_row p) n }
