@@ -1,3 +1,4 @@
+-- What every program of the small form keeps to.
 use Rattle.std.specs.Prelude.{◌≡◌, ◌≢◌, ℕ, ℤ, pos, ◌<◌, ◌≤◌, ◌^◌, true, List, map, length, unsigned_abs}
 use Rattle.std.specs.List.{All, AllPairs, sum_by}
 use Rattle.std.specs.List.Sorted.{IsStrictlySortedBy}
@@ -5,6 +6,7 @@ use Rattle.std.specs.Ordering.{nat_cmp}
 use Rattle.lines.specs.Names.{is_name}
 use Rattle.small_forms.specs.Program.{Linear, terms_at}
 
+-- the names of the rows, in order
 abbrev pub row_names : Linear → List (List ℕ)
 row_names p = map (λ r. r.0) p.rows
 
