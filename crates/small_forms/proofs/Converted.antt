@@ -11,9 +11,10 @@ use Rattle.rational.specs.Rational.{whole, zero_ℚ, one_ℚ, ◌<ℚ◌}
 use Rattle.rational.specs.Linear.{Term}
 use Rattle.rational.proofs.Whole.{whole_some}
 use Rattle.rational.proofs.Order.{positive_is, positive-one}
-use Rattle.lp_model.specs.Program.{NamedRow, NamedColumn, IsForm, IsWellFormedRow, IsWellFormedColumn, IsWellFormed}
+use Rattle.lp_model.specs.Program.{NamedRow, NamedColumn, row_at, column_at, empty_row, empty_column, IsForm, IsWellFormedRow, IsWellFormedColumn, IsWellFormed}
 use Rattle.small_forms.specs.declared.shape.Kind.TheVariants.{Equal}
 use Rattle.small_forms.specs.Records.{RowRecord}
+use Rattle.small_forms.specs.Tied.{name_at}
 use Rattle.small_forms.specs.Program.{Linear, DeclaresSmall, terms_at}
 use Rattle.small_forms.specs.Limits.{IsShaped, IsWithinLimits, row_names}
 use Rattle.small_forms.specs.Converted.{listed, record_at, small_term, small_row, small_column, program_of}
@@ -113,6 +114,13 @@ module _ (p : Linear) (shape : IsShaped p) (limits : IsWithinLimits p) where
     row_names = AllPairs-listed (λ (r s : NamedRow). r.name ≢ s.name) (small_row p) (length p.rows) names_differ;
     column_names = AllPairs-map (λ (c d : NamedColumn). c.name ≢ d.name) small_column p.columns [] limits.columns.differ;
   }
+
+-- each row and each column of it, by number
+pub row_is : (p : Linear) (i : ℕ) → i < length p.rows → row_at (program_of p) i ≡ small_row p i
+row_is p i h = at-listed (small_row p) (length p.rows) i empty_row h
+
+pub column_is : (p : Linear) (j : ℕ) → j < length p.columns → column_at (program_of p) j ≡ small_column (name_at p.columns j)
+column_is p j h = get_or-map small_column p.columns j [] empty_column h
 
 pub declared_well_formed : (bytes : List ℕ) (p : Linear) → DeclaresSmall bytes p → IsWellFormed (program_of p)
 declared_well_formed bytes p declares = well_formed p (shaped bytes p declares) (within_limits bytes p declares)

@@ -1,13 +1,12 @@
-use Rattle.std.proofs.Common.{◌≡◌, ◌≢◌, ℕ, ℤ, pos, ◌<◌, ◌≤◌, Bool, true, false, cond, ltb, eqb, nat_eq, not, ◌&&◌, ◌||◌, List, [], ◌∷◌, ◌++◌, Option, Some, None, length, map, take, get_or, refl, sym, ap, ◌∙◌, subst, arith, true≢false, append_assoc, append-nil, codes, eqb-true}
+use Rattle.std.proofs.Common.{◌≡◌, ◌≢◌, ℕ, ℤ, pos, ◌<◌, ◌≤◌, Bool, true, false, cond, ltb, not, ◌&&◌, ◌||◌, List, [], ◌∷◌, ◌++◌, Option, Some, None, length, map, take, get_or, refl, sym, ap, ◌∙◌, subst, arith, true≢false, append_assoc, append-nil, codes}
 use Rattle.std.specs.List.{All, list_any, find}
 use Rattle.std.specs.List.Sorted.{IsStrictlySortedBy}
-use Rattle.std.specs.Map.{lookup}
 use Rattle.std.specs.Option.{option_map, option_map_or}
 use Rattle.std.specs.Ordering.{nat_cmp}
 use Rattle.std.specs.Str.{bytes_eq}
 use Rattle.std.proofs.lemmas.Bool.{and_parts, ltb-true, ltb-false}
 use Rattle.std.proofs.lemmas.List.{length_push, length-take, get_or-take, get_or_default, get_or_past}
-use Rattle.std.proofs.lemmas.List.Elements.{All-head, All-tail, All-cons, All-push}
+use Rattle.std.proofs.lemmas.List.Elements.{All-head, All-tail, All-push}
 use Rattle.std.proofs.lemmas.List.Folds.{list_any_at, list_any_none}
 use Rattle.std.proofs.lemmas.List.Quantifiers.{all_pairs_push}
 use Rattle.std.proofs.lemmas.Slice.Eq.{bytes_eq-Decides}
@@ -22,9 +21,9 @@ use Rattle.small_forms.specs.Tables.{Tables, tables, section_of, may_follow, say
 use Rattle.small_forms.specs.Form.{all_follow}
 use Rattle.small_forms.specs.Program.{Linear, IsProgram, DeclaresSmall, side_at, row_name, terms_at}
 use Rattle.small_forms.specs.Limits.{AreNames, IsShort, IsShaped, IsWithinLimits}
-use Rattle.small_forms.proofs.Lists.{any_map, map_push}
+use Rattle.small_forms.proofs.Lists.{length_map, any_map, map_push}
 use Rattle.small_forms.proofs.Pushes.{tables_heading, tables_row, tables_entry, tables_side}
-use Rattle.small_forms.proofs.Unique.{absent, at_head}
+use Rattle.small_forms.proofs.Counts.{terms_all, terms_within}
 
 -- ---- names
 
@@ -257,23 +256,6 @@ none_ascend : IsStrictlySortedBy nat_cmp []
 unfolding IsStrictlySortedBy
 none_ascend = tt
 
--- what holds of each number that a look-up finds holds of each term
-terms_all : (P : ℤ → Type 0) (n : ℕ) (us : List (ℕ × ℤ)) → IsStrictlySortedBy nat_cmp (map (λ u. u.0) us) → All (λ u. u.0 < n) us
-    → ((j : ℕ) (v : ℤ) → j < n → lookup (nat_eq j) us ≡ Some v → P v) → All (λ u. P u.1) us
-unfolding IsStrictlySortedBy
-terms_all P n [] up known finds = λ k d h. absurd (omega arith)
-terms_all P n (u ∷ us) up known finds =
-    let within : u.0 < n = All-head (λ (u : ℕ × ℤ). u.0 < n) u us known in
-    All-cons (λ (u : ℕ × ℤ). P u.1) u us (finds u.0 u.1 within (at_head u us))
-    (terms_all P n us up.1 (All-tail (λ (u : ℕ × ℤ). u.0 < n) u us known) (λ j v less is. by j v less is (eqb j u.0) refl))
-  where
-    by : (j : ℕ) (v : ℤ) → j < n → lookup (nat_eq j) us ≡ Some v → (b : Bool) → eqb j u.0 ≡ b → P v
-    by j v less is true e =
-        let same : j ≡ u.0 = eqb-true j u.0 e in
-        let none = absent j u.0 us up.0 (omega arith) in
-        absurd (cc)
-    by j v less is false e = finds j v less (ap (λ b. cond b (Some u.1) (lookup (nat_eq j) us)) e ∙ is)
-
 -- what holds of each element holds of the one that is found
 found_all : {X Y : Type 0} (P : Y → Type 0) (f : X → Y) (p : X → Bool) (xs : List X) (y : Y) → All (λ x. P (f x)) xs → option_map f (find p xs) ≡ Some y → P y
 found_all P f p [] y h is = absurd (cc)
@@ -302,7 +284,7 @@ module _ (t : Tables) (p : Linear) (is : IsProgram t p) where
       by : (b : Bool) → ltb i (length t.rows) ≡ b → All (λ u. P u.1) (terms_at p i)
       by true e =
           let within : i < length t.rows = ltb-true _ _ e in
-          terms_all P (length t.columns) (terms_at p i) (is.ascend i within) (is.known i within)
+          terms_all (λ (u : ℕ × ℤ). P u.1) (length t.columns) (terms_at p i) (is.ascend i within) (is.known i within)
           (λ j v less found. found_all P (λ (e : EntryRecord). e.value) _ t.entries v each (sym (is.factor i j within less) ∙ found))
       by false e =
           subst (All (λ (u : ℕ × ℤ). P u.1)) (sym (no_terms i (ltb-false _ _ e))) (λ k d h. absurd (omega arith))
@@ -333,6 +315,11 @@ module _ (t : Tables) (p : Linear) (is : IsProgram t p) where
   limits_of_tables keeps = record {
     few_rows = subst (λ (l : List RowRecord). length l ≤ 2000) (sym is.rows) keeps.few_rows;
     few_columns = subst (λ (l : List (List ℕ)). length l ≤ 4000) (sym is.columns) keeps.few_columns;
+    few_entries =
+        let names = length_map (λ (r : RowRecord). r.0) t.rows in
+        let within = terms_within t p is (λ i k less h. keeps.rows.differ i k [] less (omega arith)) (λ i k less h. keeps.columns.differ i k [] less h) in
+        let few = keeps.few_entries in
+        omega arith;
     rows = subst (λ (l : List RowRecord). AreNames (map (λ r. r.0) l)) (sym is.rows) keeps.rows;
     columns = subst AreNames (sym is.columns) keeps.columns;
     factors = terms_keep (λ v. v ≢ pos 0) keeps.factors;

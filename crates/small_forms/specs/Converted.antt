@@ -22,6 +22,7 @@ lower_side AtMost v = None
 lower_side AtLeast v = Some (whole v)
 lower_side Equal v = Some (whole v)
 
+-- and the upper one
 abbrev pub upper_side : Kind → ℤ → Option ℚ
 upper_side AtMost v = Some (whole v)
 upper_side AtLeast v = None

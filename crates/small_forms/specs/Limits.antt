@@ -1,10 +1,12 @@
+-- What every program of the small form keeps to.
 use Rattle.std.specs.Prelude.{◌≡◌, ◌≢◌, ℕ, ℤ, pos, ◌<◌, ◌≤◌, ◌^◌, true, List, map, length, unsigned_abs}
-use Rattle.std.specs.List.{All, AllPairs}
+use Rattle.std.specs.List.{All, AllPairs, sum_by}
 use Rattle.std.specs.List.Sorted.{IsStrictlySortedBy}
 use Rattle.std.specs.Ordering.{nat_cmp}
 use Rattle.lines.specs.Names.{is_name}
 use Rattle.small_forms.specs.Program.{Linear, terms_at}
 
+-- the names of the rows, in order
 abbrev pub row_names : Linear → List (List ℕ)
 row_names p = map (λ r. r.0) p.rows
 
@@ -28,6 +30,7 @@ pub record IsShaped (p : Linear) : Type 0 where
 pub record IsWithinLimits (p : Linear) : Type 0 where
   pub few_rows : length p.rows ≤ 2000
   pub few_columns : length p.columns ≤ 4000
+  pub few_entries : sum_by length p.terms ≤ 100000
   pub rows : AreNames (row_names p)
   pub columns : AreNames p.columns
   pub factors : (i : ℕ) → All (λ u. u.1 ≢ pos 0) (terms_at p i)
