@@ -1,15 +1,15 @@
 -- A linear program is made of a program of the small form, column by column and row by row.
-use Rattle.std.proofs.Common.{◌≡◌, ℕ, ℤ, zero, suc, ◌+◌, ◌<◌, ◌≤◌, ◌^◌, ◌⊎◌, inl, inr, Bool, true, false, ◌&&◌, not, leb, ltb, eqb, List, [], ◌∷◌, ◌++◌, length, map, take, get_or, slice_index, refl, sym, ap, ◌∙◌, subst, arith, true≢false}
+use Rattle.std.proofs.Common.{◌≡◌, ℕ, ℤ, zero, suc, ◌+◌, ◌<◌, ◌≤◌, ◌^◌, ◌⊎◌, inl, inr, true, ◌&&◌, not, leb, ltb, eqb, List, [], ◌∷◌, ◌++◌, length, map, take, get_or, slice_index, refl, sym, ap, ◌∙◌, subst, arith, true≢false}
 use Rattle.std.specs.List.{All, list_all}
 use Rattle.std.proofs.Math.Numerals.{add-one}
 use Rattle.std.proofs.lemmas.Bool.{and_parts, leb-true}
-use Rattle.std.proofs.lemmas.List.{take_more, length-take, get_or-map, get_or_default}
-use Rattle.std.proofs.lemmas.List.Elements.{All-map, All-weaker}
+use Rattle.std.proofs.lemmas.List.{take_more, length-take, get_or-map}
+use Rattle.std.proofs.lemmas.List.Elements.{All-weaker}
 use Rattle.rational.specs.Rational.{one_ℚ}
 use Rattle.lines.specs.Names.{is_name, is_shown}
 use Rattle.lp_model.specs.declared.models.ModelStop.{ModelStop}
 use Rattle.lp_model.specs.declared.models.ModelStop.TheVariants.{UnknownName, DuplicateName, Limit, Memory}
-use Rattle.lp_model.specs.Program.{Program, NamedRow, NamedColumn, IsForm, IsWellFormedColumn, IsPositiveWeight}
+use Rattle.lp_model.specs.Program.{Program, NamedRow, NamedColumn, IsForm}
 use Rattle.lp_model.specs.declared.parts.Row.{Row}
 use Rattle.lp_model.specs.declared.parts.Weight.TheVariants.{Soft}
 use Rattle.lp_model.specs.Shown.{named_row, row_names as names_of_rows, column_names, with_more_row, with_more_column, most_rows, most_columns, longest_name, CanAdd}
@@ -20,10 +20,10 @@ use Rattle.small_forms.specs.declared.program.Term.{Term}
 use Rattle.small_forms.specs.Program.{Linear, terms_at, term_shown}
 use Rattle.small_forms.specs.Tied.{name_at}
 use Rattle.small_forms.specs.Limits.{AreNames, IsShaped, IsWithinLimits, row_names}
-use Rattle.small_forms.specs.Converted.{listed, lower_side, upper_side, side_of_row, record_at, small_term, small_row, small_column, program_of, first_columns, first_rows}
+use Rattle.small_forms.specs.Converted.{listed, lower_side, upper_side, side_of_row, record_at, small_term, small_row, small_column, first_columns, first_rows}
 use Rattle.small_forms.proofs.Lists.{length_map, map_push}
 use Rattle.small_forms.proofs.Limits.{not_before}
-use Rattle.small_forms.proofs.Converted.{form_of_row, length-listed}
+use Rattle.small_forms.proofs.Converted.{form_of_row}
 
 -- a name that can be added is refused only for want of memory
 pub memory_only : (names : List (List ℕ)) (most : ℕ) (name : List ℕ) (stop : ModelStop) → CanAdd names most name → IsAddRefusal names most name stop → stop ≡ Memory
