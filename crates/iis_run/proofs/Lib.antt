@@ -4,3 +4,5 @@ pub mod Said
 pub mod Verdicts
 pub mod Unambiguous
 pub mod Statuses
+pub mod Active
+pub mod Decided

@@ -29,7 +29,7 @@ added_none test make i old sofar e before =
 pub four_kinds : (test : Member → Bool) (a b c d l1 l2 l3 l4 : List Member) → l1 ≡ [] ++ filter test a → l2 ≡ l1 ++ filter test b → l3 ≡ l2 ++ filter test c → l4 ≡ l3 ++ filter test d → l4 ≡ filter test (a ++ (b ++ (c ++ d)))
 four_kinds test a b c d l1 l2 l3 l4 e1 e2 e3 e4 =
     let whole =
-        filter-append test a (b ++ (c ++ d)) ∙ ap (λ l. filter test a ++ l) (filter-append test b (c ++ d) ∙ ap (λ l. filter test b ++ l) (filter-append test c d)) in
+    filter-append test a (b ++ (c ++ d)) ∙ ap (λ l. filter test a ++ l) (filter-append test b (c ++ d) ∙ ap (λ l. filter test b ++ l) (filter-append test c d)) in
     e4 ∙ ap (λ l. l ++ filter test d) (e3 ∙ ap (λ l. l ++ filter test c) (e2 ∙ ap (λ l. l ++ filter test b) e1))
     ∙ append_assoc (filter test a ++ filter test b) (filter test c) (filter test d)
     ∙ append_assoc (filter test a) (filter test b) (filter test c ++ filter test d)

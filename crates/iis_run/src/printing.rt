@@ -6,8 +6,7 @@ use crate::endings::Which;
 use frac128::{Op, Wide};
 use std::alloc::{AllocError, Global};
 
-pub(crate) const USAGE: &str =
-    "usage: iisan analyse MODEL SCRIPT | verify MODEL REPORT | make N\n";
+pub(crate) const USAGE: &str = "usage: iisan analyse MODEL SCRIPT | verify MODEL REPORT | make N\n";
 
 pub(crate) fn read_fault_text(which: Which) -> &'static str
     ensures { result.now ≡ read_fault_line which }

@@ -5,8 +5,7 @@ use std::alloc::{AllocError, Global};
 use std::process::Abort;
 use std::test::Fail;
 
-const MODEL: &str =
-    "ROWS\n G r\n L s\nCOLUMNS\n x r 2\n x s 1\nRHS\n r 3\n s 4\nENDATA\n";
+const MODEL: &str = "ROWS\n G r\n L s\nCOLUMNS\n x r 2\n x s 1\nRHS\n r 3\n s 4\nENDATA\n";
 
 const EMPTY_MODEL: &str = "ROWS\nCOLUMNS\nENDATA\n";
 
@@ -66,7 +65,14 @@ fn check_values(
     expected: (u8, &str),
 ) -> Result<(), Fail> {
     let report = report(alloc, values)?;
-    check_run(rt, alloc, BOTH, (model, report.as_str()), (&[], &[]), expected)
+    check_run(
+        rt,
+        alloc,
+        BOTH,
+        (model, report.as_str()),
+        (&[], &[]),
+        expected,
+    )
 }
 
 #[test]
@@ -109,9 +115,30 @@ fn words(rt: HostRuntime) -> Result<(), Fail> {
     let usage = (2, USAGE);
     let texts = (MODEL, "");
     check_run(&rt, alloc, &["verify", "m.mps"], texts, (&[], &[]), usage)?;
-    check_run(&rt, alloc, &["verify", "", "r.txt"], texts, (&[], &[]), usage)?;
-    check_run(&rt, alloc, &["verify", "m.mps", "-r"], texts, (&[], &[]), usage)?;
-    check_run(&rt, alloc, &["check", "m.mps", "r.txt"], texts, (&[], &[]), usage)?;
+    check_run(
+        &rt,
+        alloc,
+        &["verify", "", "r.txt"],
+        texts,
+        (&[], &[]),
+        usage,
+    )?;
+    check_run(
+        &rt,
+        alloc,
+        &["verify", "m.mps", "-r"],
+        texts,
+        (&[], &[]),
+        usage,
+    )?;
+    check_run(
+        &rt,
+        alloc,
+        &["check", "m.mps", "r.txt"],
+        texts,
+        (&[], &[]),
+        usage,
+    )?;
     check_run(&rt, alloc, &[], texts, (&[], &[]), usage)?;
     Ok(())
 }
@@ -121,10 +148,31 @@ fn faults(rt: HostRuntime) -> Result<(), Fail> {
     let alloc = rt.alloc();
     let good = report(alloc, "value x 2\n")?;
     let texts = (MODEL, good.as_str());
-    check_run(&rt, alloc, BOTH, texts, (&[1], &[]), (3, "read fault model\n"))?;
-    check_run(&rt, alloc, BOTH, texts, (&[2], &[]), (3, "read fault report\n"))?;
+    check_run(
+        &rt,
+        alloc,
+        BOTH,
+        texts,
+        (&[1], &[]),
+        (3, "read fault model\n"),
+    )?;
+    check_run(
+        &rt,
+        alloc,
+        BOTH,
+        texts,
+        (&[2], &[]),
+        (3, "read fault report\n"),
+    )?;
     let absent: &[&str] = &["verify", "n.mps", "r.txt"];
-    check_run(&rt, alloc, absent, texts, (&[], &[]), (3, "read fault model\n"))?;
+    check_run(
+        &rt,
+        alloc,
+        absent,
+        texts,
+        (&[], &[]),
+        (3, "read fault model\n"),
+    )?;
     let lines = [(0, ""), (1, "a"), (31, ACCEPTED)];
     for (taken, written) in lines {
         let cut = Cut { call: 1, taken };
@@ -135,7 +183,14 @@ fn faults(rt: HostRuntime) -> Result<(), Fail> {
     check_run(&rt, alloc, BOTH, ("", ""), (&[], &[cut]), (5, "mode"))?;
     check_run(&rt, alloc, BOTH, (MODEL, ""), (&[], &[cut]), (6, "repo"))?;
     let bad = report(alloc, "value x 1\n")?;
-    check_run(&rt, alloc, BOTH, (MODEL, bad.as_str()), (&[], &[cut]), (8, "reje"))?;
+    check_run(
+        &rt,
+        alloc,
+        BOTH,
+        (MODEL, bad.as_str()),
+        (&[], &[cut]),
+        (8, "reje"),
+    )?;
     check_run(&rt, alloc, &["verify"], texts, (&[], &[cut]), (2, "usag"))?;
     Ok(())
 }
@@ -160,7 +215,8 @@ fn wide_sums(rt: HostRuntime) -> Result<(), Fail> {
     let (model, values) = wide_texts(alloc, 170)?;
     check_values(&rt, alloc, model.as_str(), values.as_str(), (0, ACCEPTED))?;
     let (model, values) = wide_texts(alloc, 171)?;
-    let line = "wide line 4 plus 169999999999999999660000000000000000170 999999999999999998000000000000000001\n";
+    let line =
+        "wide line 4 plus 169999999999999999660000000000000000170 999999999999999998000000000000000001\n";
     check_values(&rt, alloc, model.as_str(), values.as_str(), (8, line))?;
     Ok(())
 }

@@ -12,11 +12,11 @@ loop-index-preserved c =
     let make = member_of_kind c.args.kind in
     let here : is_active c.args.model.now (member_of_kind c.args.kind c.loop-index.index) ≡ c.is_active.result = sym (c.is_active.ensures ∙ ap (is_active c.args.model.now) c.make_member-member.ensures) in
     elim c.if-is_active.branch [
-      then-is_active+in_ok-push w ↦
-        ap (λ v. v.items) w.members-is
-        ∙ added_one test make c.loop-index.index c.args.members.now.items c.loop-index.members.items w.push.new.self.items (here ∙ w.if-is_active.true) c.loop-index.invariant
-        (w.in_ok-push.ensures.items ∙ ap (λ m. c.loop-index.members.items ++ m ∷ []) c.make_member-member.ensures)
+      | then-is_active+in_ok-push w ↦
+          ap (λ v. v.items) w.members-is
+          ∙ added_one test make c.loop-index.index c.args.members.now.items c.loop-index.members.items w.push.new.self.items (here ∙ w.if-is_active.true) c.loop-index.invariant
+          (w.in_ok-push.ensures.items ∙ ap (λ m. c.loop-index.members.items ++ m ∷ []) c.make_member-member.ensures)
       | else-is_active w ↦
-        ap (λ v. v.items) w.members-is
-        ∙ added_none test make c.loop-index.index c.args.members.now.items c.loop-index.members.items (here ∙ w.if-is_active.false) c.loop-index.invariant
+          ap (λ v. v.items) w.members-is
+          ∙ added_none test make c.loop-index.index c.args.members.now.items c.loop-index.members.items (here ∙ w.if-is_active.false) c.loop-index.invariant
     ]

@@ -10,11 +10,11 @@ returns g c =
     let puts = g.W.Sink.faults in
     let taken = g.W.Sink.taken in
     let shelf = c.args.shelf.now in
-    let shelf' = c.decide.new.shelf in
+    let shelf' = c.decide-ending.new.shelf in
     let out = c.args.out.now in
     let out' = c.say.new.out in
     let request = request_of c.args.words.now in
-    let run : IsRun file fetches puts taken shelf shelf' out out' request c.say.result = record { ending = c.decide.result; cause = c.decide.ensures; written = c.say.ensures } in
+    let run : IsRun file fetches puts taken shelf shelf' out out' request c.say.result = record { ending = c.decide-ending.result; cause = c.decide-ending.ensures; written = c.say.ensures } in
     record {
       usage = usage_clause file fetches puts taken shelf shelf' out out' request c.say.result run;
       fetch_stop = fetch_stop_clause file fetches puts taken shelf shelf' out out' request c.say.result run;
