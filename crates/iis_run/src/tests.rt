@@ -35,189 +35,183 @@ fn report(alloc: Global, values: &str) -> Result<String, AllocError> {
     format!(in alloc; "iisan report 1\ncommand check\nfeasible\npoint\n{values}end\nreport end\n")
 }
 
-// The words over this model and report, where these fetches and puts fail, give the status and write the text.
-fn check_run(
-    rt: &impl Abort,
-    alloc: Global,
-    words: &[&str],
-    texts: (&str, &str),
-    faults: (&[u32], &[Cut]),
-    expected: (u8, &str),
-) -> Result<(), Fail> {
-    let mut files = Vec::new(alloc);
-    files.push(file(alloc, "m.mps", texts.0)?)?;
-    files.push(file(alloc, "r.txt", texts.1)?)?;
-    let words = owned(alloc, words)?;
-    let mut shelf = MemShelf::new(alloc, files, faults.0.to_vec(alloc)?);
-    let mut out = MemSink::new(alloc, 1000, faults.1.to_vec(alloc)?)?;
-    let status = run(alloc, words.as_slice(), &mut shelf, &mut out);
-    assert_eq!(rt; status, expected.0, "the status before {}", expected.1);
-    assert_eq!(rt; out.bytes(), expected.1.as_bytes(), "not {}", expected.1);
-    Ok(())
+/// What a run gives: its status, and what the sink took.
+#[derive(Drop)]
+struct Outcome {
+    status: u8,
+    written: Vec<u8>,
 }
 
-// The report with these value lines on the model is said to be so.
-fn check_values(
-    rt: &impl Abort,
+// The run of the words over this model and report, where these fetches and puts fail.
+fn run_over(
     alloc: Global,
+    words: &[&str],
     model: &str,
-    values: &str,
-    expected: (u8, &str),
-) -> Result<(), Fail> {
+    report: &str,
+    failing: &[u32],
+    cuts: &[Cut],
+) -> Result<Outcome, AllocError> {
+    let mut files = Vec::new(alloc);
+    files.push(file(alloc, "m.mps", model)?)?;
+    files.push(file(alloc, "r.txt", report)?)?;
+    let words = owned(alloc, words)?;
+    let mut shelf = MemShelf::new(alloc, files, failing.to_vec(alloc)?);
+    let mut out = MemSink::new(alloc, 1000, cuts.to_vec(alloc)?)?;
+    let status = run(alloc, words.as_slice(), &mut shelf, &mut out);
+    let written = out.bytes().to_vec(alloc)?;
+    Ok(Outcome { status, written })
+}
+
+fn expect(rt: &impl Abort, outcome: &Outcome, status: u8, written: &str) {
+    assert_eq!(rt;
+        outcome.written.as_slice(),
+        written.as_bytes(),
+        "not {written}"
+    );
+    assert_eq!(rt; outcome.status, status, "the status of {written}");
+}
+
+// The run of a report with these value lines on a model.
+fn run_values(alloc: Global, model: &str, values: &str) -> Result<Outcome, AllocError> {
     let report = report(alloc, values)?;
-    check_run(
-        rt,
-        alloc,
-        BOTH,
-        (model, report.as_str()),
-        (&[], &[]),
-        expected,
-    )
+    run_over(alloc, BOTH, model, report.as_str(), &[], &[])
 }
 
 #[test]
 fn points(rt: HostRuntime) -> Result<(), Fail> {
     let alloc = rt.alloc();
-    let rejected = (8, "rejected line 4\n");
-    check_values(&rt, alloc, MODEL, "value x 2\n", (0, ACCEPTED))?;
-    check_values(&rt, alloc, MODEL, "value x 1\n", rejected)?;
-    check_values(&rt, alloc, MODEL, "value x 5\n", rejected)?;
-    check_values(&rt, alloc, MODEL, "value x -1\n", rejected)?;
-    check_values(&rt, alloc, MODEL, "", rejected)?;
-    check_values(&rt, alloc, EMPTY_MODEL, "", (0, ACCEPTED))?;
     let equal = "ROWS\n E r\nCOLUMNS\n x r 1\n y r -1\nRHS\n r -3\nENDATA\n";
-    check_values(&rt, alloc, equal, "value y 3\n", (0, ACCEPTED))?;
-    check_values(&rt, alloc, equal, "value x 1\nvalue y 3\n", rejected)?;
+    let accepted = [
+        (MODEL, "value x 2\n"),
+        (EMPTY_MODEL, ""),
+        (equal, "value y 3\n"),
+    ];
+    for (model, values) in accepted {
+        expect(&rt, &run_values(alloc, model, values)?, 0, ACCEPTED);
+    }
+    let rejected = [
+        (MODEL, "value x 1\n"),
+        (MODEL, "value x 5\n"),
+        (MODEL, "value x -1\n"),
+        (MODEL, ""),
+        (equal, "value x 1\nvalue y 3\n"),
+    ];
+    for (model, values) in rejected {
+        expect(
+            &rt,
+            &run_values(alloc, model, values)?,
+            8,
+            "rejected line 4\n",
+        );
+    }
     Ok(())
 }
 
 #[test]
 fn refusals(rt: HostRuntime) -> Result<(), Fail> {
     let alloc = rt.alloc();
-    let model = (5, "model refused line 1 unsupported\n");
-    let named = "NAME T\nROWS\n G r\nCOLUMNS\n x r 2\nENDATA\n";
-    check_values(&rt, alloc, named, "value x 2\n", model)?;
-    check_values(&rt, alloc, "", "", model)?;
-    let twice = "ROWS\n G r\n L r\nCOLUMNS\nENDATA\n";
-    check_values(&rt, alloc, twice, "", model)?;
-    let refused = (6, "report refused line 1\n");
-    check_values(&rt, alloc, MODEL, "value y 2\n", refused)?;
-    check_values(&rt, alloc, MODEL, "value x 0\n", refused)?;
-    check_values(&rt, alloc, MODEL, "value x 2\nvalue x 2\n", refused)?;
+    let models = [
+        "",
+        "NAME T\nROWS\n G r\nCOLUMNS\n x r 2\nENDATA\n",
+        "ROWS\n G r\n L r\nCOLUMNS\nENDATA\n",
+    ];
+    for model in models {
+        let line = "model refused line 1 unsupported\n";
+        expect(&rt, &run_values(alloc, model, "value x 2\n")?, 5, line);
+    }
+    let line = "report refused line 1\n";
+    for values in ["value y 2\n", "value x 0\n", "value x 2\nvalue x 2\n"] {
+        expect(&rt, &run_values(alloc, MODEL, values)?, 6, line);
+    }
     let cut = "iisan report 1\ncommand check\nfeasible\npoint\nvalue x 2\nend\n";
-    check_run(&rt, alloc, BOTH, (MODEL, cut), (&[], &[]), refused)?;
+    expect(&rt, &run_over(alloc, BOTH, MODEL, cut, &[], &[])?, 6, line);
     Ok(())
 }
 
 #[test]
 fn words(rt: HostRuntime) -> Result<(), Fail> {
     let alloc = rt.alloc();
-    let usage = (2, USAGE);
-    let texts = (MODEL, "");
-    check_run(&rt, alloc, &["verify", "m.mps"], texts, (&[], &[]), usage)?;
-    check_run(
-        &rt,
-        alloc,
-        &["verify", "", "r.txt"],
-        texts,
-        (&[], &[]),
-        usage,
-    )?;
-    check_run(
-        &rt,
-        alloc,
-        &["verify", "m.mps", "-r"],
-        texts,
-        (&[], &[]),
-        usage,
-    )?;
-    check_run(
-        &rt,
-        alloc,
-        &["check", "m.mps", "r.txt"],
-        texts,
-        (&[], &[]),
-        usage,
-    )?;
-    check_run(&rt, alloc, &[], texts, (&[], &[]), usage)?;
+    let none: &[&str] = &[];
+    let short: &[&str] = &["verify", "m.mps"];
+    let empty: &[&str] = &["verify", "", "r.txt"];
+    let dash: &[&str] = &["verify", "m.mps", "-r"];
+    let other: &[&str] = &["check", "m.mps", "r.txt"];
+    for words in [none, short, empty, dash, other] {
+        expect(&rt, &run_over(alloc, words, MODEL, "", &[], &[])?, 2, USAGE);
+    }
     Ok(())
 }
 
 #[test]
-fn faults(rt: HostRuntime) -> Result<(), Fail> {
+fn fetches(rt: HostRuntime) -> Result<(), Fail> {
     let alloc = rt.alloc();
     let good = report(alloc, "value x 2\n")?;
-    let texts = (MODEL, good.as_str());
-    check_run(
-        &rt,
-        alloc,
-        BOTH,
-        texts,
-        (&[1], &[]),
-        (3, "read fault model\n"),
-    )?;
-    check_run(
-        &rt,
-        alloc,
-        BOTH,
-        texts,
-        (&[2], &[]),
-        (3, "read fault report\n"),
-    )?;
+    let report = good.as_str();
+    let first = run_over(alloc, BOTH, MODEL, report, &[1], &[])?;
+    expect(&rt, &first, 3, "read fault model\n");
+    let second = run_over(alloc, BOTH, MODEL, report, &[2], &[])?;
+    expect(&rt, &second, 3, "read fault report\n");
     let absent: &[&str] = &["verify", "n.mps", "r.txt"];
-    check_run(
-        &rt,
-        alloc,
-        absent,
-        texts,
-        (&[], &[]),
-        (3, "read fault model\n"),
-    )?;
-    let lines = [(0, ""), (1, "a"), (31, ACCEPTED)];
-    for (taken, written) in lines {
-        let cut = Cut { call: 1, taken };
-        check_run(&rt, alloc, BOTH, texts, (&[], &[cut]), (4, written))?;
+    let third = run_over(alloc, absent, MODEL, report, &[], &[])?;
+    expect(&rt, &third, 3, "read fault model\n");
+    Ok(())
+}
+
+// The run whose one put takes so many bytes, and fails.
+fn run_cut(alloc: Global, model: &str, values: &str, taken: usize) -> Result<Outcome, AllocError> {
+    let report = report(alloc, values)?;
+    let cuts = [Cut { call: 1, taken }];
+    run_over(alloc, BOTH, model, report.as_str(), &[], &cuts)
+}
+
+#[test]
+fn puts(rt: HostRuntime) -> Result<(), Fail> {
+    let alloc = rt.alloc();
+    for (taken, written) in [(0, ""), (1, "a"), (31, ACCEPTED)] {
+        expect(
+            &rt,
+            &run_cut(alloc, MODEL, "value x 2\n", taken)?,
+            4,
+            written,
+        );
     }
-    let cut = Cut { call: 1, taken: 4 };
-    check_run(&rt, alloc, BOTH, texts, (&[2], &[cut]), (3, "read"))?;
-    check_run(&rt, alloc, BOTH, ("", ""), (&[], &[cut]), (5, "mode"))?;
-    check_run(&rt, alloc, BOTH, (MODEL, ""), (&[], &[cut]), (6, "repo"))?;
-    let bad = report(alloc, "value x 1\n")?;
-    check_run(
-        &rt,
-        alloc,
-        BOTH,
-        (MODEL, bad.as_str()),
-        (&[], &[cut]),
-        (8, "reje"),
-    )?;
-    check_run(&rt, alloc, &["verify"], texts, (&[], &[cut]), (2, "usag"))?;
+    expect(&rt, &run_cut(alloc, "", "", 4)?, 5, "mode");
+    expect(&rt, &run_cut(alloc, MODEL, "value y 1\n", 4)?, 6, "repo");
+    expect(&rt, &run_cut(alloc, MODEL, "value x 1\n", 4)?, 8, "reje");
     Ok(())
 }
 
 // A row of so many columns, each with the greatest factor and value.
-fn wide_texts(alloc: Global, columns: u32) -> Result<(String, String), AllocError> {
+fn wide_model(alloc: Global, columns: u32) -> Result<String, AllocError> {
     let mut model = String::from_str(alloc, "ROWS\n G r\nCOLUMNS\n")?;
-    let mut values = String::new(alloc);
     for index in 0..columns {
         let entry = format!(in alloc; " x{index} r 999999999999999999\n")?;
         model.push_str(entry.as_str())?;
+    }
+    model.push_str("ENDATA\n")?;
+    Ok(model)
+}
+
+fn wide_values(alloc: Global, columns: u32) -> Result<String, AllocError> {
+    let mut values = String::new(alloc);
+    for index in 0..columns {
         let value = format!(in alloc; "value x{index} 999999999999999999\n")?;
         values.push_str(value.as_str())?;
     }
-    model.push_str("ENDATA\n")?;
-    Ok((model, values))
+    Ok(values)
 }
 
 #[test]
 fn wide_sums(rt: HostRuntime) -> Result<(), Fail> {
     let alloc = rt.alloc();
-    let (model, values) = wide_texts(alloc, 170)?;
-    check_values(&rt, alloc, model.as_str(), values.as_str(), (0, ACCEPTED))?;
-    let (model, values) = wide_texts(alloc, 171)?;
-    let line =
+    let wide =
         "wide line 4 plus 169999999999999999660000000000000000170 999999999999999998000000000000000001\n";
-    check_values(&rt, alloc, model.as_str(), values.as_str(), (8, line))?;
+    for (columns, status, line) in [(170, 0, ACCEPTED), (171, 8, wide)] {
+        let model = wide_model(alloc, columns)?;
+        let values = wide_values(alloc, columns)?;
+        let outcome = run_values(alloc, model.as_str(), values.as_str())?;
+        expect(&rt, &outcome, status, line);
+    }
     Ok(())
 }
 
