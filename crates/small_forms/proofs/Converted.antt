@@ -1,4 +1,4 @@
-use Rattle.std.proofs.Common.{◌≡◌, ◌≢◌, ℕ, ℤ, pos, zero, suc, ◌<◌, ◌≤◌, Bool, true, false, ltb, List, [], ◌∷◌, ◌++◌, length, map, get_or, refl, sym, ap, ◌∙◌, subst, arith}
+use Rattle.std.proofs.Common.{Some, ◌≡◌, ◌≢◌, ℕ, ℤ, pos, zero, suc, ◌<◌, ◌≤◌, Bool, true, false, ltb, List, [], ◌∷◌, ◌++◌, length, map, get_or, refl, sym, ap, ◌∙◌, subst, arith}
 use Rattle.std.specs.List.{All, AllPairs, AllByRecursion}
 use Rattle.std.specs.List.Sorted.{IsStrictlySortedBy}
 use Rattle.std.specs.Ordering.{nat_cmp}
@@ -7,18 +7,18 @@ use Rattle.std.proofs.lemmas.Bool.{ltb-true, ltb-false}
 use Rattle.std.proofs.lemmas.List.{length_push, get_or_push, get_or_append_left, get_or-map}
 use Rattle.std.proofs.lemmas.List.Elements.{All-cons, All-map, All-weaker}
 use Rattle.std.proofs.lemmas.List.Kept.{AllPairs-cons}
-use Rattle.rational.specs.Rational.{whole, zero_ℚ, one_ℚ, ◌<ℚ◌}
+use Rattle.rational.specs.Rational.{ℚ, whole, zero_ℚ, one_ℚ, ◌<ℚ◌}
 use Rattle.rational.specs.Linear.{Term}
 use Rattle.rational.proofs.Whole.{whole_some}
 use Rattle.rational.proofs.Order.{positive_is, positive-one}
 use Rattle.lp_model.specs.Program.{NamedRow, NamedColumn, row_at, column_at, empty_row, empty_column, IsForm, IsWellFormedRow, IsWellFormedColumn, IsWellFormed}
 use Rattle.small_forms.specs.declared.shape.Kind.TheVariants.{Equal}
 use Rattle.small_forms.specs.Records.{RowRecord}
-use Rattle.small_forms.specs.Tied.{name_at}
+use Rattle.name_map.specs.Names.{name_at}
 use Rattle.small_forms.specs.Program.{Linear, DeclaresSmall, terms_at}
 use Rattle.small_forms.specs.Limits.{IsShaped, IsWithinLimits, row_names}
 use Rattle.small_forms.specs.Converted.{listed, record_at, small_term, small_row, small_column, program_of}
-use Rattle.small_forms.proofs.Lists.{length_map}
+use Rattle.name_map.proofs.NameLists.{length_map}
 use Rattle.small_forms.proofs.Limits.{within_limits, shaped}
 use Rattle.small_forms.proofs.Unique.{above}
 
@@ -80,8 +80,9 @@ terms_ascend (u ∷ us) up =
 pub positive_weight : zero_ℚ <ℚ one_ℚ
 positive_weight = positive_is.1 positive-one
 
-pub column_formed : (name : List ℕ) → IsWellFormedColumn (small_column name)
-column_formed name = record {
+-- a column is well formed wherever it begins
+pub column_formed : (name : List ℕ) (lower : ℚ) → IsWellFormedColumn (record (small_column name) { lower = Some lower })
+column_formed name lower = record {
   lower_weight = positive_weight;
   upper_weight = positive_weight;
   no_lower = λ none. absurd (cc);
@@ -108,7 +109,7 @@ module _ (p : Linear) (shape : IsShaped p) (limits : IsWithinLimits p) where
   well_formed = record {
     rows = All-listed (IsWellFormedRow (length (map small_column p.columns))) (small_row p) (length p.rows)
         (λ i h. record { form = subst (λ (n : ℕ). IsForm n (map small_term (terms_at p i))) (sym (length_map small_column p.columns)) (form_of_row i); weight = positive_weight });
-    columns = All-map IsWellFormedColumn small_column p.columns (λ k d h. column_formed (get_or p.columns k d));
+    columns = All-map IsWellFormedColumn small_column p.columns (λ k d h. column_formed (get_or p.columns k d) zero_ℚ);
     objective = record { ascending = λ i j d less h. absurd (omega arith); known = λ k d h. absurd (omega arith); nonzero = λ k d h. absurd (omega arith) };
     notes = λ k d h. absurd (omega arith);
     row_names = AllPairs-listed (λ (r s : NamedRow). r.name ≢ s.name) (small_row p) (length p.rows) names_differ;

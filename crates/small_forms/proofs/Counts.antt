@@ -13,7 +13,7 @@ use Rattle.std.proofs.lemmas.List.Sums.{sum_by_more}
 use Rattle.std.proofs.lemmas.Slice.Eq.{bytes_eq-Decides}
 use Rattle.small_forms.specs.Records.{EntryRecord}
 use Rattle.small_forms.specs.Tables.{Tables}
-use Rattle.small_forms.specs.Tied.{name_at}
+use Rattle.name_map.specs.Names.{name_at}
 use Rattle.small_forms.specs.Program.{Linear, IsProgram, row_name, terms_at}
 use Rattle.small_forms.proofs.Unique.{above, absent, at_head}
 

@@ -21,7 +21,7 @@ use Rattle.small_forms.specs.Tables.{Tables, tables, section_of, may_follow, say
 use Rattle.small_forms.specs.Form.{all_follow}
 use Rattle.small_forms.specs.Program.{Linear, IsProgram, DeclaresSmall, side_at, row_name, terms_at}
 use Rattle.small_forms.specs.Limits.{AreNames, IsShort, IsShaped, IsWithinLimits}
-use Rattle.small_forms.proofs.Lists.{length_map, any_map, map_push}
+use Rattle.name_map.proofs.NameLists.{length_map, any_map, map_push}
 use Rattle.small_forms.proofs.Pushes.{tables_heading, tables_row, tables_entry, tables_side}
 use Rattle.small_forms.proofs.Counts.{terms_all, terms_within}
 

@@ -18,10 +18,10 @@ use Rattle.small_forms.specs.declared.shape.Kind.{Kind}
 use Rattle.small_forms.specs.Records.{RowRecord}
 use Rattle.small_forms.specs.declared.program.Term.{Term}
 use Rattle.small_forms.specs.Program.{Linear, terms_at, term_shown}
-use Rattle.small_forms.specs.Tied.{name_at}
+use Rattle.name_map.specs.Names.{name_at}
 use Rattle.small_forms.specs.Limits.{AreNames, IsShaped, IsWithinLimits, row_names}
 use Rattle.small_forms.specs.Converted.{listed, lower_side, upper_side, side_of_row, record_at, small_term, small_row, small_column, first_columns, first_rows}
-use Rattle.small_forms.proofs.Lists.{length_map, map_push}
+use Rattle.name_map.proofs.NameLists.{length_map, map_push}
 use Rattle.small_forms.proofs.Limits.{not_before}
 use Rattle.small_forms.proofs.Converted.{form_of_row}
 

@@ -4,7 +4,7 @@ use Rattle.rational.specs.Rational.{ℚ, whole}
 use Rattle.lp_model.specs.Program.{Program}
 use Rattle.small_forms.specs.Converted.{program_of}
 use Rattle.small_forms.specs.Meaning.{DeclaresModel, ReportsValues}
-use Rattle.small_forms.proofs.Lists.{length_map}
+use Rattle.name_map.proofs.NameLists.{length_map}
 use Rattle.small_forms.proofs.Unique.{one_program}
 use Rattle.small_forms.proofs.Values.{one_point}
 

@@ -5,7 +5,7 @@ ghost use Rattle.rational.specs.Rational.{one_ℚ};
 ghost use Rattle.lp_model.specs.Program.{IsForm, IsPositiveWeight};
 ghost use Rattle.lp_model.specs.Shown.{named_row, row_names, column_names, with_more_row, with_more_column, most_rows, most_columns, CanAdd};
 ghost use Rattle.small_forms.specs.Program.{linear, term_shown, terms_at};
-ghost use Rattle.small_forms.specs.Tied.{name_at};
+ghost use Rattle.name_map.specs.Names.{name_at};
 ghost use Rattle.small_forms.specs.Limits.{IsShaped, IsWithinLimits};
 ghost use Rattle.small_forms.specs.Converted.{lower_side, upper_side, record_at, side_of_row, small_term, small_column, program_of, first_columns, first_rows};
 
@@ -117,16 +117,14 @@ fn column_name(program: &SmallProgram, index: usize) -> &[u8]
     requires { index < length (linear program.now).columns }
     ensures { result.now ≡ name_at (linear program.now).columns index }
 {
-    let entry = program.columns.get_index(index).unwrap();
-    entry.0.as_slice()
+    program.columns.name(index)
 }
 
 fn row_named(program: &SmallProgram, index: usize) -> (&[u8], Kind)
     requires { index < length (linear program.now).rows }
     ensures { (result.0.now, result.1) ≡ record_at (linear program.now) index }
 {
-    let entry = program.rows.get_index(index).unwrap();
-    (entry.0.as_slice(), *entry.1)
+    (program.rows.name(index), *program.rows.value(index))
 }
 
 fn row_terms(program: &SmallProgram, index: usize) -> &[Term]
