@@ -40,10 +40,15 @@ fn empty_row(alloc: Global, lo: i64) -> Row
     }
 }
 
+// Puts that column last.
+fn add_box(model: &mut Model, alloc: Global, name: &[u8]) -> Result<u32, ModelStop> {
+    model.add_column(alloc, name, box_column())
+}
+
 // A program with a column x and two rows, of which the second asks that 0 is at least 1.
 fn make(alloc: Global) -> Result<Model, ModelStop> {
     let mut model = Model::new(alloc, true);
-    model.add_column(alloc, b"x", box_column())?;
+    add_box(&mut model, alloc, b"x")?;
     model.add_row(alloc, b"r", empty_row(alloc, 0))?;
     model.add_row(alloc, b"s", empty_row(alloc, 1))?;
     Ok(model)
@@ -65,7 +70,7 @@ fn names_and_limits(rt: HostRuntime) -> Result<(), Fail> {
     let long = [b'n'; 256];
     let past = model.add_row(alloc, &long, empty_row(alloc, 0));
     assert_eq!(rt; past, Err(ModelStop::Limit));
-    let fits = model.add_column(alloc, &long[..255], box_column());
+    let fits = add_box(&mut model, alloc, &long[..255]);
     assert_eq!(rt; fits, Ok(1));
     if model.column_count() == 2 {
         model.add_note(Note::LowerKept(1))?;
@@ -104,6 +109,32 @@ fn members(rt: HostRuntime) -> Result<(), Fail> {
         assert_eq!(rt; say(&model, Member::Whole(0)), (false, false, false));
         assert_eq!(rt; model.row_name(1), b"s".as_slice());
         assert!(rt; model.row(1).terms.as_slice().is_empty());
+    } else {
+        assert!(rt; false);
+    }
+    Ok(())
+}
+
+#[test]
+fn sets(rt: HostRuntime) -> Result<(), Fail> {
+    let alloc = rt.alloc();
+    let Ok(model) = make(alloc) else {
+        return Err(Fail::from(AllocError));
+    };
+    if model.row_count() == 2 && model.column_count() == 1 {
+        let mut set = model.members(alloc)?;
+        assert_eq!(rt; set.count(), 3);
+        assert!(rt; set.contains(Member::Lower(0)) && !set.contains(Member::Upper(0)));
+        set.insert(Member::Upper(0));
+        set.remove(Member::Row(1));
+        assert_eq!(rt; set.next(None), Some(Member::Row(0)));
+        assert_eq!(rt; set.next(Some(Member::Row(0))), Some(Member::Lower(0)));
+        assert_eq!(rt; set.next(Some(Member::Row(1))), Some(Member::Lower(0)));
+        assert_eq!(rt; set.next(Some(Member::Lower(0))), Some(Member::Upper(0)));
+        assert_eq!(rt; set.next(Some(Member::Upper(0))), None);
+        assert_eq!(rt; set.copy(alloc)?.count(), 3);
+        let none = MemberSet::empty(alloc, &model)?;
+        assert_eq!(rt; (none.count(), none.next(None)), (0, None));
     } else {
         assert!(rt; false);
     }

@@ -1,0 +1,196 @@
+//! Sets of members.
+ghost use Rattle.std.specs.Prelude.{◌≡◌, ◌<◌, ◌≤◌, Option, MatchOption, IfOk, ⊤, filter, length};
+ghost use Rattle.lp_model.specs.Members.{has, IsInOrder};
+ghost use Rattle.lp_model.specs.Shown.{most_rows, most_columns};
+ghost use Rattle.lp_model.specs.MemberSets.{possible_in, IsMemberFor, IsPossibleIn, empty_set, active_set, set_with, set_without, next_after, place_count, place_in, place_after};
+
+use crate::members::Member;
+use crate::models::Model;
+use std::alloc::{AllocError, Global};
+
+/// A set of members of a program.
+///
+/// Contracts see how many rows and columns the program has, and the members in member order: rows, lower bounds,
+/// upper bounds, marks, each by number.
+#[derive(Drop)]
+pub struct MemberSet {
+    rows: u32,
+    columns: u32,
+    marks: Vec<bool>,
+}
+
+impl std::marker::Model for MemberSet {
+    ghost use Rattle.lp_model.specs.MemberSets.{SetValue, marked_set, IsMarking};
+
+    ghost Value = { SetValue };
+
+    ghost view = { λ s. marked_set s.rows s.columns s.marks.items };
+
+    ghost invariant = { λ s. IsMarking s.rows s.columns s.marks.items };
+}
+
+impl MemberSet {
+    /// A set of no members, for those of a program.
+    pub fn empty(alloc: Global, model: &Model) -> Result<MemberSet, AllocError>
+        ensures { IfOk result (λ set. set ≡ empty_set model.now) }
+    {
+        let rows = model.row_count();
+        let columns = model.column_count();
+        let marks = vec![in alloc; false; count_places(rows, columns)]?;
+        Ok(MemberSet {
+            rows,
+            columns,
+            marks,
+        })
+    }
+
+    /// The same set once more.
+    pub fn copy(&self, alloc: Global) -> Result<MemberSet, AllocError>
+        ensures { IfOk result (λ set. set ≡ self.now) }
+    {
+        Ok(MemberSet {
+            rows: self.rows,
+            columns: self.columns,
+            marks: Vec::from_slice(alloc, self.marks.as_slice())?,
+        })
+    }
+
+    /// Whether the member is in the set. It need not exist in the program, but its number must be below that of the
+    /// rows, or of the columns.
+    pub fn contains(&self, member: Member) -> bool
+        requires { IsPossibleIn self.now member }
+        ensures { result ≡ has self.now.members member }
+    {
+        self.marks[place_of(self.rows, self.columns, member)]
+    }
+
+    /// Puts the member in its place in the set. Where it is there, the set stays as it was.
+    pub fn insert(&mut self, member: Member)
+        requires { IsPossibleIn self.old member }
+        ensures { self.new ≡ set_with self.old member }
+    {
+        let place = place_of(self.rows, self.columns, member);
+        self.marks[place] = true;
+    }
+
+    /// Takes the member out of the set. Where it is not there, the set stays as it was.
+    pub fn remove(&mut self, member: Member)
+        requires { IsPossibleIn self.old member }
+        ensures { self.new ≡ set_without self.old member }
+    {
+        let place = place_of(self.rows, self.columns, member);
+        self.marks[place] = false;
+    }
+
+    /// How many members the set has. They are possible members, and stand in order.
+    pub fn count(&self) -> u64
+        ensures count { result ≡ length self.now.members }
+        ensures possible { self.now.members ≡ filter (has self.now.members) (possible_in self.now) }
+        ensures in_order { IsInOrder self.now.members }
+    {
+        let mut count: u64 = 0;
+        for place in 0..self.marks.len() {
+            if self.marks[place] {
+                count += 1;
+            }
+        }
+        count
+    }
+
+    /// The first member of the set that comes after the given one in member order, or its first member where none is
+    /// given.
+    pub fn next(&self, after: Option<Member>) -> Option<Member>
+        requires { MatchOption after ⊤ (IsPossibleIn self.now) }
+        ensures { result ≡ next_after self.now after }
+    {
+        let first = first_place(self.rows, self.columns, after);
+        for place in first..self.marks.len() {
+            if self.marks[place] {
+                return Some(member_at(self.rows, self.columns, place));
+            }
+        }
+        None
+    }
+}
+
+impl Model {
+    /// The set of the active members.
+    pub fn members(&self, alloc: Global) -> Result<MemberSet, AllocError>
+        ensures { IfOk result (λ set. set ≡ active_set self.now) }
+    {
+        let rows = self.row_count();
+        let columns = self.column_count();
+        let mut marks = Vec::new(alloc);
+        for place in 0..count_places(rows, columns) {
+            let active = self.is_active(member_at(rows, columns, place));
+            marks.push(active)?;
+        }
+        Ok(MemberSet {
+            rows,
+            columns,
+            marks,
+        })
+    }
+}
+
+// How many members a program with so many rows and columns may have.
+fn count_places(rows: u32, columns: u32) -> usize
+    requires few_rows { rows ≤ most_rows }
+    requires few_columns { columns ≤ most_columns }
+    ensures { result ≡ place_count rows columns }
+{
+    rows as usize + (columns as usize + (columns as usize + columns as usize))
+}
+
+// The place of a member among them, in order.
+fn place_of(rows: u32, columns: u32, member: Member) -> usize
+    requires few_rows { rows ≤ most_rows }
+    requires few_columns { columns ≤ most_columns }
+    requires in_range { IsMemberFor rows columns member }
+    ensures place { result ≡ place_in rows columns member }
+    ensures within { result < place_count rows columns }
+{
+    let (rows, columns) = (rows as usize, columns as usize);
+    match member {
+        Member::Row(index) => index as usize,
+        Member::Lower(index) => rows + index as usize,
+        Member::Upper(index) => rows + (columns + index as usize),
+        Member::Whole(index) => rows + (columns + (columns + index as usize)),
+    }
+}
+
+// The first place after that of the given member.
+fn first_place(rows: u32, columns: u32, after: Option<Member>) -> usize
+    requires few_rows { rows ≤ most_rows }
+    requires few_columns { columns ≤ most_columns }
+    requires in_range { MatchOption after ⊤ (IsMemberFor rows columns) }
+    ensures place { result ≡ place_after rows columns after }
+    ensures within { result ≤ place_count rows columns }
+{
+    match after {
+        Some(member) => place_of(rows, columns, member) + 1,
+        None => 0,
+    }
+}
+
+// The member at a place.
+fn member_at(rows: u32, columns: u32, place: usize) -> Member
+    requires few_rows { rows ≤ most_rows }
+    requires few_columns { columns ≤ most_columns }
+    requires within { place < place_count rows columns }
+    ensures in_range { IsMemberFor rows columns result }
+    ensures place { place ≡ place_in rows columns result }
+{
+    let (lowers, uppers) = (rows as usize, rows as usize + columns as usize);
+    let wholes = uppers + columns as usize;
+    if place < lowers {
+        return Member::Row(place as u32);
+    }
+    if place < uppers {
+        return Member::Lower((place - lowers) as u32);
+    }
+    if place < wholes {
+        return Member::Upper((place - uppers) as u32);
+    }
+    Member::Whole((place - wholes) as u32)
+}
