@@ -66,8 +66,8 @@ numbered_at make (suc n) i d l =
     elim (cases_lt i n) [
       | inl h ↦ (let k : i < length (numbered make n) = (let e : length (numbered make n) ≡ n = length-numbered make n in omega arith) in get_or_append_left (numbered make n) (make n ∷ []) d i k ∙ numbered_at make n i d h)
       | inr h ↦ (let e : i ≡ length (numbered make n) + 0 = (let k : length (numbered make n) ≡ n = length-numbered make n in omega arith) in
-        let f : n ≡ i = omega arith in
-        ap (λ k. get_or (numbered make n ++ make n ∷ []) k d) e ∙ (get_or-append-add (numbered make n) (make n ∷ []) 0 d ∙ ap make f))
+          let f : n ≡ i = omega arith in
+          ap (λ k. get_or (numbered make n ++ make n ∷ []) k d) e ∙ (get_or-append-add (numbered make n) (make n ∷ []) 0 d ∙ ap make f))
     ]
 
 -- what stands after the numbered ones

@@ -14,7 +14,7 @@ loop-place-preserved c =
 pub invariant_of-result : goal.invariant_of-result
 invariant_of-result c = record {
   each = marks_count c.args.self.now c.row_count-rows.result c.column_count-columns.result c.loop-place.place c.loop-place.marks.items
-    (subst (λ (n : ℕ). n ≤ c.loop-place.place) c.count_places-place-end.ensures c.loop-place-test.false) c.loop-place.invariant;
+      (subst (λ (n : ℕ). n ≤ c.loop-place.place) c.count_places-place-end.ensures c.loop-place-test.false) c.loop-place.invariant;
   few_rows = c.row_count-rows.ensures.few;
   few_columns = c.column_count-columns.ensures.few;
 }
