@@ -7,7 +7,6 @@ ghost use Rattle.lp_model.specs.Evaluation.{IsInRange};
 use super::*;
 use frac128::Frac;
 use std::alloc::{AllocError, Global};
-
 use std::test::Fail;
 
 // A column from 0 to 3, without a mark.
@@ -90,7 +89,11 @@ fn say(model: &Model, member: Member) -> (bool, bool, bool)
     let there = model.exists(member);
     let values = [Frac::whole(4)];
     if there && model.column_count() == 1 {
-        (there, model.is_active(member), model.holds(member, &values) == Ok(true))
+        (
+            there,
+            model.is_active(member),
+            model.holds(member, &values) == Ok(true),
+        )
     } else {
         (there, false, false)
     }

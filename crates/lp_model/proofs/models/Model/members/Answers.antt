@@ -1,4 +1,4 @@
-use Rattle.std.proofs.Common.{◌∙◌, ◌<◌, ◌≤◌, sym, subst, ap, ℕ}
+use Rattle.std.proofs.Common.{◌<◌, ◌≤◌, subst, ℕ}
 use Rattle.lp_model.proofs.Marked.{marks_next, marks_count, marks_give}
 use Rattle.lp_model.proofs.models.Model.members.Goals as goal
 
@@ -14,7 +14,7 @@ loop-place-preserved c =
 pub invariant_of-result : goal.invariant_of-result
 invariant_of-result c = record {
   each = marks_count c.args.self.now c.row_count-rows.result c.column_count-columns.result c.loop-place.place c.loop-place.marks.items
-    (subst (λ (n : ℕ). n ≤ c.loop-place.place) c.count_places-place-end.ensures c.loop-place-test.false) c.loop-place.invariant;
+      (subst (λ (n : ℕ). n ≤ c.loop-place.place) c.count_places-place-end.ensures c.loop-place-test.false) c.loop-place.invariant;
   few_rows = c.row_count-rows.ensures.few;
   few_columns = c.column_count-columns.ensures.few;
 }
