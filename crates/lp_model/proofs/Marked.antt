@@ -1,15 +1,15 @@
 -- The members that a list of marks gives, by their places among the possible members.
 use Rattle.std.proofs.Common.{◌≡◌, ◌<◌, ◌≤◌, ◌+◌, ◌-◌, refl, sym, ◌∙◌, ap, subst, ℕ, zero, suc, Bool, true, false, true≢false, cond, not, ◌&&◌, ◌||◌, ltb, List, [], ◌∷◌, ◌++◌, length, get_or, set, map, take, drop, replicate, filter, arith, inl, inr, length-append, lt-ltb, Option, Some, None, drop-cons, add-one}
 use Rattle.std.proofs.lemmas.Bool.{cases_lt, le-ltb}
-use Rattle.std.proofs.lemmas.List.{take_all, get_or_read_under, length-map, get_or_append_left, get_or-append-add, get_or-set_same, get_or-set_other, get_or-map, get_or-replicate}
-use Rattle.std.proofs.lemmas.List.Elements.{filter_passes, All-contains, filter_more}
+use Rattle.std.proofs.lemmas.List.{take_all, get_or_read_under, length-map, get_or_append_left, get_or-append-add, get_or-set_same, get_or-set_other, get_or-map}
+use Rattle.std.proofs.lemmas.List.Elements.{filter_passes, All-contains}
 use Rattle.std.proofs.lemmas.List.Filters.{length-filter_more}
 use Rattle.std.proofs.lemmas.List.Kept.{AllPairs-filter}
 use Rattle.std.proofs.Math.ListN.{drop_of_length-le}
-use Rattle.std.specs.Prelude.{All, AllPairs, Contains, MatchOption, ⊤, find}
+use Rattle.std.specs.Prelude.{Contains, MatchOption, ⊤, find}
 use Rattle.lp_model.specs.Program.{Program}
-use Rattle.lp_model.specs.Members.{Member, Row, Lower, Upper, Whole, comes_before, is_same, has, is_active, numbered, active_members, IsInOrder}
-use Rattle.lp_model.specs.MemberSets.{SetValue, members_for, possible_in, IsMemberFor, follows, place_count, place_in, place_after, is_marked, marked_set, set_with, set_without, next_after, active_set, empty_set}
+use Rattle.lp_model.specs.Members.{Member, Row, Lower, Upper, Whole, comes_before, is_same, has, is_active, numbered, IsInOrder}
+use Rattle.lp_model.specs.MemberSets.{SetValue, members_for, IsMemberFor, follows, place_count, place_in, place_after, is_marked, marked_set, set_with, set_without, next_after, active_set}
 use Rattle.lp_model.proofs.Sets.{same_members, same_self, contains_of_has, has_of_contains, Contains-filter, possible_in_order}
 
 -- ---- lists

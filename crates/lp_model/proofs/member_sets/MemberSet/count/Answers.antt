@@ -1,4 +1,4 @@
-use Rattle.std.proofs.Common.{◌∙◌, ◌<◌, ◌≤◌, sym, subst, ap, ℕ, true, false, length, arith}
+use Rattle.std.proofs.Common.{◌∙◌, ◌<◌, ◌≤◌, subst, ap, ℕ, true, false, length, arith}
 use Rattle.lp_model.specs.Members.{has, IsInOrder}
 use Rattle.lp_model.specs.MemberSets.{SetValue, members_for, is_marked, possible_in}
 use Rattle.std.specs.Prelude.{◌≡◌, filter}

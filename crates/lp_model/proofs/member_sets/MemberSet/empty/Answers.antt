@@ -1,6 +1,5 @@
-use Rattle.std.proofs.Common.{◌∙◌, ap, ℕ, Bool, List, [], length}
-use Rattle.lp_model.specs.Members.{Member}
-use Rattle.lp_model.specs.MemberSets.{SetValue, marked_set}
+use Rattle.std.proofs.Common.{◌∙◌, ap, ℕ, [], length}
+use Rattle.lp_model.specs.MemberSets.{marked_set}
 use Rattle.lp_model.proofs.Marked.{no_marks, set_of}
 use Rattle.lp_model.proofs.member_sets.MemberSet.empty.Goals as goal
 

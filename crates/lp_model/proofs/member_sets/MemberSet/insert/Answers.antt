@@ -1,4 +1,4 @@
-use Rattle.std.proofs.Common.{◌∙◌, sym, subst, ap, ℕ, Bool, List, set, true}
+use Rattle.std.proofs.Common.{◌∙◌, sym, subst, ap, ℕ, set, true}
 use Rattle.lp_model.specs.MemberSets.{SetValue, IsPossibleIn, marked_set, set_with}
 use Rattle.lp_model.proofs.Marked.{inserted}
 use Rattle.lp_model.proofs.member_sets.MemberSet.insert.Goals as goal

@@ -1,4 +1,4 @@
-use Rattle.std.proofs.Common.{◌∙◌, sym, subst, ap, ℕ, Bool, List, set, false}
+use Rattle.std.proofs.Common.{◌∙◌, sym, subst, ap, ℕ, set, false}
 use Rattle.lp_model.specs.MemberSets.{SetValue, IsPossibleIn, marked_set, set_without}
 use Rattle.lp_model.proofs.Marked.{removed}
 use Rattle.lp_model.proofs.member_sets.MemberSet.remove.Goals as goal

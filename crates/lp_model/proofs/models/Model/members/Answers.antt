@@ -1,4 +1,4 @@
-use Rattle.std.proofs.Common.{◌∙◌, ◌<◌, ◌≤◌, sym, subst, ap, ℕ}
+use Rattle.std.proofs.Common.{◌<◌, ◌≤◌, subst, ℕ}
 use Rattle.lp_model.proofs.Marked.{marks_next, marks_count, marks_give}
 use Rattle.lp_model.proofs.models.Model.members.Goals as goal
 
