@@ -1,12 +1,12 @@
 -- An active member is one of the program's, and it is there.
-use Rattle.std.proofs.Common.{◌≡◌, ◌<◌, sym, ◌∙◌, ap, subst, ℕ, Bool, true, false, List, length, IsTrue, is_some}
+use Rattle.std.proofs.Common.{◌≡◌, true, length, IsTrue}
 use Rattle.std.specs.Prelude.{All, Contains}
 use Rattle.std.proofs.lemmas.Bool.{and_parts, ltb-true}
 use Rattle.std.proofs.lemmas.List.Elements.{All-weaker, All-contains_itself}
 use Rattle.lp_model.specs.declared.members.Member.{Member}
 use Rattle.lp_model.specs.declared.members.Member.TheVariants.{Row, Lower, Upper, Whole}
-use Rattle.lp_model.specs.Program.{Program, column_at}
-use Rattle.lp_model.specs.Members.{exists, flag, is_active, active_members}
+use Rattle.lp_model.specs.Program.{Program}
+use Rattle.lp_model.specs.Members.{exists, flag, active_members}
 use Rattle.lp_model.specs.Evaluation.{IsInRange}
 use Rattle.lp_model.proofs.Sets.{members_law, lower_there, upper_there, whole_there}
 

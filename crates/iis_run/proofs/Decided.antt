@@ -1,9 +1,6 @@
 -- What fetched bytes call for.
 use Rattle.std.proofs.Common.{◌≡◌, ◌≤◌, sym, subst, ℕ, List, length, Option, Some, None, IfSome}
-use Rattle.rational.specs.Rational.{ℚ}
 use Rattle.lp_model.specs.Program.{Program}
-use Rattle.lp_model.specs.Members.{active_members}
-use Rattle.lp_model.specs.Satisfaction.{values_at}
 use Rattle.lp_model.specs.Shown.{column_names}
 use Rattle.small_forms.specs.Meaning.{DeclaresModel, ReportsValues}
 use Rattle.iis_run.specs.Words.{Request}
@@ -13,7 +10,7 @@ use Rattle.iis_run.specs.declared.endings.Which.TheVariants.{Model, Report}
 use Rattle.iis_run.specs.declared.endings.Ending.{Ending}
 use Rattle.iis_run.specs.declared.endings.Ending.TheVariants.{Usage, ReadFault, TooLong, Memory, ModelRefused, ReportRefused, Checked}
 use Rattle.iis_run.specs.Limits.{limit_of}
-use Rattle.iis_run.specs.Causes.{IsModel, IsNoModel, IsNoReport, IsChecked, CallsFor, IsReportEnding}
+use Rattle.iis_run.specs.Causes.{IsModel, IsNoModel, IsNoReport, IsChecked, IsReportEnding}
 use Rattle.iis_run.specs.Run.{told, IsCaused}
 
 -- these bytes were fetched of a file, where it is told

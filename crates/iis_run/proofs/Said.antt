@@ -1,6 +1,5 @@
 -- A line that is put is said.
 use Rattle.std.proofs.Common.{◌≡◌, refl, sym, subst, ℕ, List, Option, inl, inr}
-use Rattle.std.specs.Prelude.{◌⊎◌}
 use Rattle.iis_run.specs.declared.endings.Ending.{Ending}
 use Rattle.iis_run.specs.Run.{Puts, PutWhole, PutFailed, IsSaid, line_of, status_of, status_after_fault}
 

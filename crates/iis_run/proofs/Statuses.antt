@@ -1,6 +1,6 @@
 -- What each status tells of a run.
-use Rattle.std.proofs.Common.{◌≡◌, ◌≢◌, ◌<◌, ◌≤◌, refl, sym, ◌∙◌, ap, subst, ℕ, List, Option, Some, None, IfSome, arith, inl, inr, length}
-use Rattle.std.specs.Prelude.{◌⊎◌, ◌↔◌, ⊤}
+use Rattle.std.proofs.Common.{◌≡◌, ◌≢◌, ◌≤◌, refl, sym, ◌∙◌, subst, ℕ, List, Option, Some, None, arith, inl, inr}
+use Rattle.std.specs.Prelude.{◌⊎◌, ◌↔◌}
 use Rattle.iis_edge.specs.Causes.{Rose}
 use Rattle.iis_run.specs.Words.{Request}
 use Rattle.iis_run.specs.declared.checking.Verdict.{Verdict}
@@ -9,9 +9,8 @@ use Rattle.iis_run.specs.declared.endings.Which.{Which}
 use Rattle.iis_run.specs.declared.endings.Which.TheVariants.{Model, Report}
 use Rattle.iis_run.specs.declared.endings.Ending.{Ending}
 use Rattle.iis_run.specs.declared.endings.Ending.TheVariants.{Usage, ReadFault, TooLong, Memory, ModelRefused, ReportRefused, Checked}
-use Rattle.iis_run.specs.Limits.{limit_of}
 use Rattle.iis_run.specs.Causes.{CallsFor, IsToldFor}
-use Rattle.iis_run.specs.Run.{told, HasFailed, IsCaused, PutWhole, PutFailed, PutsNothing, IsSaid, EndsInWant, Ends, line_of, status_of, status_after_fault, IsRun, HasFetchStop, AskedFor, IsRefuted, IsCalm, Settles}
+use Rattle.iis_run.specs.Run.{told, HasFailed, IsCaused, PutWhole, IsSaid, EndsInWant, Ends, line_of, status_of, status_after_fault, IsRun, HasFetchStop, AskedFor, IsRefuted, IsCalm, Settles}
 use Rattle.iis_run.proofs.Unambiguous.{one_ending}
 
 -- ---- the ending by its status

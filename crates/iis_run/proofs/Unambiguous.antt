@@ -1,18 +1,17 @@
 -- Told files call for one ending.
-use Rattle.std.proofs.Common.{◌≡◌, ◌<◌, ◌≤◌, refl, sym, ◌∙◌, ap, subst, ℕ, List, length, Option, Some, None, true≢false, arith}
+use Rattle.std.proofs.Common.{◌≡◌, ◌<◌, ◌≤◌, refl, sym, ap, subst, ℕ, List, Option, Some, None, true≢false, arith}
 use Rattle.rational.specs.Rational.{ℚ}
 use Rattle.lp_model.specs.Program.{Program}
 use Rattle.lp_model.specs.Members.{active_members}
 use Rattle.lp_model.specs.Satisfaction.{values_at}
 use Rattle.lp_model.specs.Shown.{column_names}
-use Rattle.small_forms.specs.Meaning.{DeclaresModel, ReportsValues}
+use Rattle.small_forms.specs.Meaning.{ReportsValues}
 use Rattle.small_forms.proofs.Meaning.{one_model, one_values}
 use Rattle.iis_run.specs.declared.checking.Verdict.{Verdict}
 use Rattle.iis_run.specs.declared.endings.Which.TheVariants.{Model, Report}
 use Rattle.iis_run.specs.declared.endings.Ending.{Ending}
 use Rattle.iis_run.specs.declared.endings.Ending.TheVariants.{Usage, ReadFault, TooLong, Memory, ModelRefused, ReportRefused, Checked}
 use Rattle.iis_run.specs.Checking.{IsJudged}
-use Rattle.iis_run.specs.Limits.{limit_of}
 use Rattle.iis_run.specs.Causes.{IsModel, IsNoModel, IsNoReport, IsChecked, CallsFor, IsToldFor, OneEndingLaw}
 use Rattle.iis_run.proofs.Verdicts.{one_verdict}
 

@@ -1,7 +1,7 @@
 -- A point has one verdict.
-use Rattle.std.proofs.Common.{◌≡◌, refl, sym, ◌∙◌, ap, subst, ℕ, List, [], ◌∷◌, ◌++◌, Option, Some, None}
+use Rattle.std.proofs.Common.{◌≡◌, refl, sym, ◌∙◌, subst, List, [], ◌∷◌, ◌++◌, Some, None}
 use Rattle.std.specs.Prelude.{All}
-use Rattle.std.proofs.lemmas.List.Elements.{All-append, All-head, All-tail}
+use Rattle.std.proofs.lemmas.List.Elements.{All-head, All-tail}
 use Rattle.rational.specs.Linear.{Assignment}
 use Rattle.frac128.specs.declared.Wide.{Wide as Operation}
 use Rattle.frac128.specs.Limit.{limit}
@@ -9,9 +9,8 @@ use Rattle.frac128.specs.Calculation.{first_wide}
 use Rattle.lp_model.specs.Program.{Program}
 use Rattle.lp_model.specs.declared.members.Member.{Member}
 use Rattle.lp_model.specs.Evaluation.{member_operations}
-use Rattle.iis_run.specs.declared.checking.Verdict.{Verdict}
 use Rattle.iis_run.specs.declared.checking.Verdict.TheVariants.{Accepted, Rejected, Wide}
-use Rattle.iis_run.specs.Checking.{Passes, Misses, IsAtFirst, IsJudged, OneVerdictLaw}
+use Rattle.iis_run.specs.Checking.{Passes, Misses, IsAtFirst, OneVerdictLaw}
 
 -- what is said of a list is said of each part
 middle : (P : Member → Type 0) (front : List Member) (m : Member) (back : List Member) → All P (front ++ m ∷ back) → P m

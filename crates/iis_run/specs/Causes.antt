@@ -1,5 +1,5 @@
 -- What the told files call for.
-use Rattle.std.specs.Prelude.{◌≡◌, ⊤, ℕ, ◌<◌, ◌≤◌, List, length, Option, Some, None, IfSome, IsSome}
+use Rattle.std.specs.Prelude.{◌≡◌, ⊤, ℕ, ◌<◌, ◌≤◌, List, length, Option, IfSome, IsSome}
 use Rattle.rational.specs.Rational.{ℚ}
 use Rattle.lp_model.specs.Program.{Program}
 use Rattle.lp_model.specs.Members.{active_members}
@@ -9,10 +9,9 @@ use Rattle.small_forms.specs.Meaning.{DeclaresModel, ReportsValues}
 use Rattle.iis_run.specs.Limits.{limit_of}
 use Rattle.iis_run.specs.Checking.{IsJudged}
 use Rattle.iis_run.specs.declared.checking.Verdict.{Verdict}
-use Rattle.iis_run.specs.declared.endings.Which.{Which}
 use Rattle.iis_run.specs.declared.endings.Which.TheVariants.{Model, Report}
 use Rattle.iis_run.specs.declared.endings.Ending.{Ending}
-use Rattle.iis_run.specs.declared.endings.Ending.TheVariants.{Usage, ReadFault, TooLong, Memory, ModelRefused, ReportRefused, Checked}
+use Rattle.iis_run.specs.declared.endings.Ending.TheVariants.{TooLong, Memory, ModelRefused, ReportRefused, Checked}
 
 -- the bytes of a model are within the limit and declare a program
 pub record IsModel (bytes : List ℕ) : Type 0 where

@@ -1,5 +1,5 @@
 -- What a point is found to be: the members of a program are taken in order, and the first that does not pass decides.
-use Rattle.std.specs.Prelude.{◌≡◌, ℕ, List, ◌∷◌, ◌++◌, Some, None, All}
+use Rattle.std.specs.Prelude.{◌≡◌, List, ◌∷◌, ◌++◌, Some, None, All}
 use Rattle.rational.specs.Linear.{Assignment}
 use Rattle.frac128.specs.Limit.{limit}
 use Rattle.frac128.specs.Calculation.{first_wide}

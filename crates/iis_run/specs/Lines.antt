@@ -1,5 +1,5 @@
 -- The lines that are printed.
-use Rattle.std.specs.Prelude.{ℕ, List, ◌++◌, codes, decimal}
+use Rattle.std.specs.Prelude.{ℕ, List, ◌++◌, codes}
 use Rattle.frac128.specs.declared.Op.{Op}
 use Rattle.frac128.specs.declared.Op.TheVariants.{Plus, Minus, Times, Over}
 use Rattle.frac128.specs.Printed.{printed}

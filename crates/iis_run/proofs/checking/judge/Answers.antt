@@ -1,13 +1,11 @@
-use Rattle.std.proofs.Common.{◌≡◌, true≢false, sym, ◌∙◌, subst, List, take, length, true, IsTrue, Some}
+use Rattle.std.proofs.Common.{◌≡◌, true≢false, sym, ◌∙◌, subst, Some}
 use Rattle.std.specs.Prelude.{All}
 use Rattle.std.proofs.lemmas.List.{take_all}
 use Rattle.std.proofs.lemmas.List.Elements.{All-more}
-use Rattle.frac128.specs.declared.Wide.{Wide}
 use Rattle.frac128.specs.Limit.{limit}
 use Rattle.frac128.specs.Calculation.{first_wide}
-use Rattle.lp_model.specs.declared.members.Member.{Member}
 use Rattle.lp_model.specs.declared.members.Member.TheVariants.{Row}
-use Rattle.lp_model.specs.Satisfaction.{values_at, Holds}
+use Rattle.lp_model.specs.Satisfaction.{values_at}
 use Rattle.lp_model.specs.Evaluation.{member_operations}
 use Rattle.iis_run.specs.Checking.{Passes, Misses}
 use Rattle.iis_run.proofs.Firsts.{first_at}

@@ -1,5 +1,4 @@
-use Rattle.std.proofs.Common.{◌≡◌, sym, ap, ◌∙◌, ◌++◌, ◌∷◌, [], true, false, Bool}
-use Rattle.lp_model.specs.declared.members.Member.{Member}
+use Rattle.std.proofs.Common.{◌≡◌, sym, ap, ◌∙◌, ◌++◌, ◌∷◌, []}
 use Rattle.lp_model.specs.Members.{is_active}
 use Rattle.iis_run.specs.Kinds.{member_of_kind}
 use Rattle.iis_run.proofs.Lists.{added_one, added_none}

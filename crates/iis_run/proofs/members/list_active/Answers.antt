@@ -1,4 +1,4 @@
-use Rattle.std.proofs.Common.{◌≡◌, ap, ◌∙◌, ◌++◌, ℕ, []}
+use Rattle.std.proofs.Common.{ap, ◌∙◌, ◌++◌, []}
 use Rattle.std.specs.Prelude.{filter}
 use Rattle.lp_model.specs.declared.members.Member.TheVariants.{Row, Lower, Upper, Whole}
 use Rattle.lp_model.specs.Members.{is_active, numbered}

@@ -1,13 +1,12 @@
-use Rattle.std.proofs.Common.{◌≡◌, ◌≤◌, ℕ, List, Option, Some, IfSome, length, sym, ap, subst, ◌∙◌}
+use Rattle.std.proofs.Common.{ℕ, List, Option, sym, ap, subst, ◌∙◌}
 use Rattle.std.specs.Option.{option_map}
-use Rattle.lp_model.specs.Program.{Program}
 use Rattle.small_forms.specs.Meaning.{DeclaresModel}
-use Rattle.iis_run.specs.declared.endings.Which.TheVariants.{Model, Report}
+use Rattle.iis_run.specs.declared.endings.Which.TheVariants.{Report}
 use Rattle.iis_run.specs.declared.endings.Ending.TheVariants.{ModelRefused}
-use Rattle.iis_run.specs.Words.{Request, request_of}
+use Rattle.iis_run.specs.Words.{Request}
 use Rattle.iis_run.specs.Asked.{request_asked}
 use Rattle.iis_run.specs.Causes.{IsReportEnding}
-use Rattle.iis_run.specs.Run.{IsCaused, name_of}
+use Rattle.iis_run.specs.Run.{IsCaused}
 use Rattle.iis_run.proofs.Decided.{IsFetched, model_refused, report_caused}
 use Rattle.iis_run.proofs.running.decide.Goals as goal
 

@@ -1,4 +1,4 @@
-use Rattle.std.proofs.Common.{refl, sym, subst, map}
+use Rattle.std.proofs.Common.{refl, sym, subst}
 use Rattle.std.specs.List.{IsDistinct}
 use Rattle.std.specs.Str.{bytes_eq}
 use Rattle.name_map.proofs.NameLists.{distinct_moves, names_shown}
