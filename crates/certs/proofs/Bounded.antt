@@ -20,10 +20,11 @@ use Rattle.lp_model.specs.Program.{Program, row_at}
 use Rattle.lp_model.specs.Members.{value, number, is_mark}
 use Rattle.lp_model.specs.Satisfaction.{Point, coordinate, values_at, IsAtLeast, IsAtMost, KeepsSides, Holds, Satisfies}
 use Rattle.lp_model.proofs.Points.{common_denominator}
-use Rattle.certs.specs.Combination.{Share, column_sum, KeepsBranch}
+use Rattle.certs.specs.declared.evidence.Share.{Share}
+use Rattle.certs.specs.Combination.{column_sum, KeepsBranch}
 use Rattle.certs.specs.Bound.{objective_value, directed, IsBetter, KeepsRay, IsImproving, Unbounded, without_marks, BoundLaw, ValidBoundLaw, RayLaw}
 use Rattle.certs.proofs.Lists.{All-passed}
-use Rattle.certs.proofs.Shares.{left_side, left_side-is, left-le-right}
+use Rattle.certs.proofs.Sides.{left_side, left_side-is, left-le-right}
 use Rattle.certs.proofs.Refuted.{positive_nonneg}
 
 -- ---- the form with each factor negated

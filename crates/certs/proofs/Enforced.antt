@@ -16,7 +16,7 @@ use Rattle.lp_model.specs.Satisfaction.{coordinate, IsAtLeast, IsAtMost, KeepsSi
 use Rattle.lp_model.proofs.Sets.{Contains-cons, Contains-filter, contains_of_has, has_of_contains}
 use Rattle.certs.specs.Violation.{shortfall, overrun, violation, is_violated}
 use Rattle.certs.specs.Filter.{Stretches, Enforces, first, further, RoundsLaw}
-use Rattle.certs.proofs.Shares.{holds_sides}
+use Rattle.certs.proofs.Sides.{holds_sides}
 use Rattle.certs.proofs.Missed.{larger_left, larger_right, larger_least}
 
 -- ---- a member is violated, or holds

@@ -15,7 +15,11 @@ use Rattle.lp_model.specs.declared.parts.Weight.TheVariants.{Soft, Rigid}
 use Rattle.lp_model.specs.Program.{Program}
 use Rattle.lp_model.specs.Members.{value, number, weight}
 use Rattle.lp_model.specs.Satisfaction.{Point, coordinate, IsAtLeast, IsAtMost, KeepsSides, Holds, IsSatisfiable}
-use Rattle.certs.specs.Combination.{Branch, Source, Of, Below, Above, Share, source_form, source_number, IsFrom, IsThere, column_sum, right_side, IsCombination}
+use Rattle.certs.specs.declared.evidence.Branch.{Branch}
+use Rattle.certs.specs.declared.evidence.Source.{Source}
+use Rattle.certs.specs.declared.evidence.Source.TheVariants.{Member as Of, Below, Above}
+use Rattle.certs.specs.declared.evidence.Share.{Share}
+use Rattle.certs.specs.Combination.{source_form, source_number, IsFrom, IsThere, column_sum, right_side, IsCombination}
 use Rattle.certs.specs.Violation.{weight_on, IsWithinWeight, IsLeastDual}
 use Rattle.certs.specs.Checks.{every, every_below, at_least_test, at_most_test, sides_test, holds_test, from_test, there_test, within_test}
 use Rattle.lp_model.proofs.Sets.{contains_of_has}

@@ -17,7 +17,9 @@ use Rattle.lp_model.specs.Program.{Program, NamedRow, NamedColumn}
 use Rattle.lp_model.specs.Members.{active_members}
 use Rattle.lp_model.specs.Satisfaction.{Point, coordinate, Holds, IsUnsatisfiable}
 use Rattle.lp_model.specs.Edits.{edited, Weigh}
-use Rattle.certs.specs.Combination.{KeepsBranch, Of, Below, Above, Share, column_sum, right_side, IsCombination}
+use Rattle.certs.specs.declared.evidence.Source.TheVariants.{Member as Of, Below, Above}
+use Rattle.certs.specs.declared.evidence.Share.{Share}
+use Rattle.certs.specs.Combination.{KeepsBranch, column_sum, right_side, IsCombination}
 use Rattle.certs.specs.Proof.{Tree, Tip, Fork, IsProof, preorder}
 use Rattle.certs.specs.Violation.{IsLeastDual, IsLeast, weighted_violation}
 use Rattle.certs.specs.Filter.{Late, Early, start, stays, goes}

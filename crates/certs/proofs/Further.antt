@@ -14,7 +14,11 @@ use Rattle.lp_model.specs.declared.members.Side.TheVariants.{Lo, Up}
 use Rattle.lp_model.specs.Program.{Program, NamedRow, IsWellFormedRow, IsWellFormed, empty_row}
 use Rattle.lp_model.specs.Members.{column_form}
 use Rattle.lp_model.proofs.Sets.{lower_there, upper_there}
-use Rattle.certs.specs.Combination.{Branch, lesser, greater, least_upper, greatest_lower, Source, Of, Below, Above, Share, source_form, source_number, multiple, IsThere, column_sum, FurtherColumnsLaw}
+use Rattle.certs.specs.declared.evidence.Branch.{Branch}
+use Rattle.certs.specs.declared.evidence.Source.{Source}
+use Rattle.certs.specs.declared.evidence.Source.TheVariants.{Member as Of, Below, Above}
+use Rattle.certs.specs.declared.evidence.Share.{Share}
+use Rattle.certs.specs.Combination.{lesser, greater, least_upper, greatest_lower, source_form, source_number, multiple, IsThere, column_sum, FurtherColumnsLaw}
 
 nothing_more : (c z : ℚ) → c ≡ zero_ℚ → z ≡ zero_ℚ → c +ℚ z ≡ zero_ℚ
 nothing_more c z p q = ap (λ a. a +ℚ z) p ∙ ap (λ a. zero_ℚ +ℚ a) q ∙ ring_ℚ [] (zero_of :+ zero_of) zero_of tt

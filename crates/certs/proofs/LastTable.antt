@@ -20,7 +20,11 @@ use Rattle.lp_model.specs.Members.{form, value, number}
 use Rattle.lp_model.specs.Satisfaction.{values_at, IsIrreducible}
 use Rattle.lp_model.proofs.Points.{value_law}
 use Rattle.lp_model.proofs.Sets.{Contains-cons}
-use Rattle.certs.specs.Combination.{Branch, Source, Of, Below, Above, Share, source_form, source_value, source_number, number_or_zero, signed, multiple, IsFrom, IsThere, column_sum, right_side}
+use Rattle.certs.specs.declared.evidence.Branch.{Branch}
+use Rattle.certs.specs.declared.evidence.Source.{Source}
+use Rattle.certs.specs.declared.evidence.Source.TheVariants.{Member as Of, Below, Above}
+use Rattle.certs.specs.declared.evidence.Share.{Share}
+use Rattle.certs.specs.Combination.{source_form, source_value, source_number, number_or_zero, signed, multiple, IsFrom, IsThere, column_sum, right_side}
 use Rattle.certs.specs.Alternative.{IsWeighting, with_source, members_of, IsOrdered, IsMet}
 use Rattle.certs.specs.System.{is_basic, Place, SystemRow, empty_system_row, equal_to, SideOf, side_on, sides_of, side_factor, side_number, terms_from, alternative_system, support, IsLastTable, LastTableLaw}
 use Rattle.certs.proofs.Filters.{nil_apart}

@@ -1,5 +1,5 @@
 pub mod Lists
-pub mod Shares
+pub mod Sides
 pub mod Refuted
 pub mod Missed
 pub mod Bounded
@@ -8,7 +8,7 @@ pub mod Filters
 pub mod Enforced
 pub mod Further
 pub mod Evaluate
-pub mod Checked
+pub mod Passed
 pub mod Support
 pub mod Columns
 pub mod LastTable

@@ -17,10 +17,14 @@ use Rattle.lp_model.specs.Program.{Program}
 use Rattle.lp_model.specs.Members.{value, number, weight}
 use Rattle.lp_model.specs.Satisfaction.{coordinate, KeepsSides, Holds}
 use Rattle.lp_model.proofs.Sets.{same_self}
-use Rattle.certs.specs.Combination.{Branch, KeepsBranch, KeepsPath, Source, Of, Below, Above, Share, source_form, source_value, source_number, number_or_zero, signed, multiple, IsFrom, IsThere, right_side}
+use Rattle.certs.specs.declared.evidence.Branch.{Branch}
+use Rattle.certs.specs.declared.evidence.Source.{Source}
+use Rattle.certs.specs.declared.evidence.Source.TheVariants.{Member as Of, Below, Above}
+use Rattle.certs.specs.declared.evidence.Share.{Share}
+use Rattle.certs.specs.Combination.{KeepsBranch, KeepsPath, source_form, source_value, source_number, number_or_zero, signed, multiple, IsFrom, IsThere, right_side}
 use Rattle.certs.specs.Violation.{larger, shortfall, overrun, violation, weighed, weighted_violation, is_rigid, is_of, weight_on, IsWithinWeight, IsLeastDual, LeastLaw, LeastPointLaw}
 use Rattle.certs.proofs.Lists.{All-passed}
-use Rattle.certs.proofs.Shares.{sum_over-le, all_both, source_value-is, left_side, left_side-is, holds_sides, KeepsSide, side_le, upper_kept, lower_kept}
+use Rattle.certs.proofs.Sides.{sum_over-le, all_both, source_value-is, left_side, left_side-is, holds_sides, KeepsSide, side_le, upper_kept, lower_kept}
 use Rattle.certs.proofs.Refuted.{positive_nonneg}
 
 -- ---- the larger of two

@@ -19,7 +19,9 @@ use Rattle.lp_model.specs.declared.members.Side.TheVariants.{Lo, Up}
 use Rattle.lp_model.specs.Program.{Program, IsWellFormed}
 use Rattle.lp_model.specs.Members.{column_form, form, value, number, is_mark}
 use Rattle.lp_model.specs.Satisfaction.{values_at, IsAtLeast, IsAtMost, KeepsSides, Holds, Satisfies, IsSatisfiable}
-use Rattle.certs.specs.Combination.{Branch, Of, number_or_zero, signed}
+use Rattle.certs.specs.declared.evidence.Branch.{Branch}
+use Rattle.certs.specs.declared.evidence.Source.TheVariants.{Member as Of}
+use Rattle.certs.specs.Combination.{number_or_zero, signed}
 use Rattle.certs.specs.System.{Limits, SystemRow, no_limits, empty_system_row, equal_to, SideOf, side_on, sides_of, side_factor, side_number, terms_from, alternative_system, variable_form, variable_limits, limit_on, VariableShare, IsVariableCombination, NoWeightingLaw}
 use Rattle.certs.proofs.Further.{source_known}
 use Rattle.certs.proofs.Support.{satisfiable_at}

@@ -6,7 +6,9 @@ use Rattle.frac128.specs.declared.Wide.{Wide as Operation}
 use Rattle.frac128.specs.Calculation.{Calculation, first_wide}
 use Rattle.frac128.proofs.Calculations.{first_wide-is, done-wide}
 use Rattle.frac128.proofs.Firsts.{first_for, none_for, narrow_for}
-use Rattle.certs.specs.Checks.{Checked, Yes, No, Wide, Step, unless_wide, outcome_within, IsPassed, IsFirstWide, WideLaw, YesLaw}
+use Rattle.certs.specs.declared.evidence.Checked.{Checked}
+use Rattle.certs.specs.declared.evidence.Checked.TheVariants.{Yes, No, Wide}
+use Rattle.certs.specs.Checks.{Step, unless_wide, outcome_within, IsPassed, IsFirstWide, WideLaw, YesLaw}
 
 -- ---- steps that pass are passed over
 pub past : (most : ℕ) (s : Step) (rest : List Step) → IsPassed most s → outcome_within most (s ∷ rest) ≡ outcome_within most rest

@@ -13,9 +13,12 @@ use Rattle.lp_model.specs.declared.members.Side.{Side}
 use Rattle.lp_model.specs.declared.members.Side.TheVariants.{Lo, Up}
 use Rattle.lp_model.specs.Program.{Program}
 use Rattle.lp_model.specs.Members.{value, number, weight}
-use Rattle.certs.specs.Combination.{Source, Of, Below, Above, Share, source_form, source_value, source_number, number_or_zero, signed, multiple, IsFrom, IsThere, right_side}
+use Rattle.certs.specs.declared.evidence.Source.{Source}
+use Rattle.certs.specs.declared.evidence.Source.TheVariants.{Member as Of, Below, Above}
+use Rattle.certs.specs.declared.evidence.Share.{Share}
+use Rattle.certs.specs.Combination.{source_form, source_value, source_number, number_or_zero, signed, multiple, IsFrom, IsThere, right_side}
 use Rattle.certs.specs.Alternative.{cost_of, source_cost, cost, IsPricedOn, IsPriced, IsPrice, PriceLaw}
-use Rattle.certs.proofs.Shares.{sum_over-le, all_both, source_value-is, left_side, left_side-is}
+use Rattle.certs.proofs.Sides.{sum_over-le, all_both, source_value-is, left_side, left_side-is}
 
 priced_on : (side : Side) (o : Option ℚ) (w v t c : ℚ) → zero_ℚ ≤ℚ w → IsSome o → IfSome o (λ b. signed side v -ℚ t *ℚ signed side b ≤ℚ c)
     → (signed side w *ℚ v) +ℚ (neg_ℚ t *ℚ (signed side w *ℚ number_or_zero o)) ≤ℚ c *ℚ w

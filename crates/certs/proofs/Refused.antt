@@ -20,12 +20,18 @@ use Rattle.frac128.specs.declared.Wide.{Wide as Operation}
 use Rattle.frac128.specs.Width.{operation}
 use Rattle.frac128.specs.Calculation.{first_wide}
 use Rattle.lp_model.proofs.Sets.{has_of_contains}
-use Rattle.certs.proofs.Checked.{Passes}
-use Rattle.certs.specs.Combination.{Branch, Source, Of, Below, Above, Share, IsFrom, IsThere, source_number, signed, column_sum, right_side}
+use Rattle.certs.proofs.Passed.{Passes}
+use Rattle.certs.specs.declared.evidence.Branch.{Branch}
+use Rattle.certs.specs.declared.evidence.Source.{Source}
+use Rattle.certs.specs.declared.evidence.Source.TheVariants.{Member as Of, Below, Above}
+use Rattle.certs.specs.declared.evidence.Share.{Share}
+use Rattle.certs.specs.Combination.{IsFrom, IsThere, source_number, signed, column_sum, right_side}
 use Rattle.certs.specs.Violation.{weight_on, is_rigid, IsWithinWeight}
 use Rattle.certs.specs.Bound.{directed, objective_value, KeepsRay}
 use Rattle.certs.specs.Alternative.{cost_of, IsPriced, IsPrice}
-use Rattle.certs.specs.Checks.{Checked, No, Step, unless_wide, outcome_within, every, every_below, at_least_test, at_most_test, sides_test, holds_test, from_test, there_test, usable_test, within_test, weight_operations, point_steps, usable_step, columns_step, right_step, combination_steps, bound_steps, within_steps, least_steps, ray_test, ray_steps, signed_terms, priced_steps, price_steps, PointNoLaw, CombinationNoLaw, BoundNoLaw, LeastNoLaw, RayNoLaw, PriceNoLaw}
+use Rattle.certs.specs.declared.evidence.Checked.{Checked}
+use Rattle.certs.specs.declared.evidence.Checked.TheVariants.{No}
+use Rattle.certs.specs.Checks.{Step, unless_wide, outcome_within, every, every_below, at_least_test, at_most_test, sides_test, holds_test, from_test, there_test, usable_test, within_test, weight_operations, point_steps, usable_step, columns_step, right_step, combination_steps, bound_steps, within_steps, least_steps, ray_test, ray_steps, signed_terms, priced_steps, price_steps, PointNoLaw, CombinationNoLaw, BoundNoLaw, LeastNoLaw, RayNoLaw, PriceNoLaw}
 use Rattle.lp_model.specs.Evaluation.{value_operations, member_operations}
 
 step_never : (o : Option Operation) (p : Bool) (r : Checked) → p ≡ true → (r ≡ No → ⊥) → unless_wide o (cond p r No) ≡ No → ⊥

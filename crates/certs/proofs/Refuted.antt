@@ -11,9 +11,11 @@ use Rattle.lp_model.specs.declared.members.Member.{Member}
 use Rattle.lp_model.specs.declared.members.Member.TheVariants.{Whole}
 use Rattle.lp_model.specs.Program.{Program}
 use Rattle.lp_model.specs.Satisfaction.{coordinate, Holds, Satisfies}
-use Rattle.certs.specs.Combination.{Branch, KeepsBranch, KeepsPath, Share, right_side, CombinationLaw}
+use Rattle.certs.specs.declared.evidence.Branch.{Branch}
+use Rattle.certs.specs.declared.evidence.Share.{Share}
+use Rattle.certs.specs.Combination.{KeepsBranch, KeepsPath, right_side, CombinationLaw}
 use Rattle.certs.specs.Proof.{Node, Tree, Tip, Fork, preorder, at_most, at_least, IsTreeProof, ProofLaw, OneTreeLaw}
-use Rattle.certs.proofs.Shares.{left_side-is, left-le-right}
+use Rattle.certs.proofs.Sides.{left_side-is, left-le-right}
 
 pub positive_nonneg : (shares : List Share) → All (λ s. zero_ℚ <ℚ s.weight) shares → All (λ s. zero_ℚ ≤ℚ s.weight) shares
 positive_nonneg shares h = All-weaker (λ (s : Share). zero_ℚ <ℚ s.weight) (λ s. zero_ℚ ≤ℚ s.weight) (λ s l. le_of_lt_ℚ l) shares h

@@ -14,7 +14,10 @@ use Rattle.lp_model.specs.Program.{Program}
 use Rattle.lp_model.specs.Members.{value, number}
 use Rattle.lp_model.specs.Satisfaction.{Point, coordinate, values_at, IsAtLeast, IsAtMost, KeepsSides, Holds, Satisfies, IsSatisfiable}
 use Rattle.lp_model.proofs.Points.{common_denominator}
-use Rattle.certs.specs.Combination.{KeepsBranch, Source, Of, Below, Above, Share, source_value, source_number, IsCombination}
+use Rattle.certs.specs.declared.evidence.Source.{Source}
+use Rattle.certs.specs.declared.evidence.Source.TheVariants.{Member as Of, Below, Above}
+use Rattle.certs.specs.declared.evidence.Share.{Share}
+use Rattle.certs.specs.Combination.{KeepsBranch, source_value, source_number, IsCombination}
 use Rattle.certs.specs.Alternative.{IsWeighting, with_source, members_of, IsOrdered, IsMet, SupportLaw}
 use Rattle.certs.proofs.Refuted.{combination_law}
 use Rattle.certs.proofs.Filters.{nil_apart}

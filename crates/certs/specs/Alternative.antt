@@ -11,7 +11,10 @@ use Rattle.lp_model.specs.declared.parts.Weight.TheVariants.{Soft, Rigid}
 use Rattle.lp_model.specs.Program.{Program}
 use Rattle.lp_model.specs.Members.{value, number, weight}
 use Rattle.lp_model.specs.Satisfaction.{values_at, IsIrreducible}
-use Rattle.certs.specs.Combination.{Source, Of, Below, Above, Share, source_value, source_number, IsThere, signed, column_sum, right_side}
+use Rattle.certs.specs.declared.evidence.Source.{Source}
+use Rattle.certs.specs.declared.evidence.Source.TheVariants.{Member as Of, Below, Above}
+use Rattle.certs.specs.declared.evidence.Share.{Share}
+use Rattle.certs.specs.Combination.{source_value, source_number, IsThere, signed, column_sum, right_side}
 
 -- No weight is negative, the columns cancel, and the right side is -1.
 pub record IsWeighting (model : Program) (set : List Member) (shares : List Share) : Type 0 where

@@ -7,7 +7,8 @@ use Rattle.lp_model.specs.declared.members.Side.TheVariants.{Lo, Up}
 use Rattle.lp_model.specs.Program.{Program}
 use Rattle.lp_model.specs.Members.{value, number, is_mark}
 use Rattle.lp_model.specs.Satisfaction.{Point, coordinate, values_at, Satisfies}
-use Rattle.certs.specs.Combination.{Share, IsThere, column_sum, right_side}
+use Rattle.certs.specs.declared.evidence.Share.{Share}
+use Rattle.certs.specs.Combination.{IsThere, column_sum, right_side}
 
 -- what the objective is at an assignment
 abbrev pub objective_value : Program → Assignment → ℚ

@@ -18,16 +18,16 @@ use Rattle.frac128.specs.Limit.{limit}
 use Rattle.frac128.specs.declared.Wide.{Wide as Operation}
 use Rattle.frac128.specs.Width.{operation, is_wide}
 use Rattle.frac128.specs.Calculation.{Calculation, first_wide, sum_steps}
-use Rattle.certs.specs.Combination.{Branch, Source, Of, Below, Above, Share, source_form, source_number, number_or_zero, signed, column_sum, right_side, IsCombination}
+use Rattle.certs.specs.declared.evidence.Branch.{Branch}
+use Rattle.certs.specs.declared.evidence.Source.{Source}
+use Rattle.certs.specs.declared.evidence.Source.TheVariants.{Member as Of, Below, Above}
+use Rattle.certs.specs.declared.evidence.Share.{Share}
+use Rattle.certs.specs.declared.evidence.Checked.{Checked}
+use Rattle.certs.specs.declared.evidence.Checked.TheVariants.{Yes, No, Wide}
+use Rattle.certs.specs.Combination.{source_form, source_number, number_or_zero, signed, column_sum, right_side, IsCombination}
 use Rattle.certs.specs.Violation.{weight_on, is_of, violation, is_rigid, IsLeastDual}
 use Rattle.certs.specs.Bound.{directed, objective_value, IsBoundDual, IsImproving}
 use Rattle.certs.specs.Alternative.{cost_of, IsPrice}
-
--- what a check answers
-pub data Checked : Type 0 where
-  Yes : Checked
-  No : Checked
-  Wide : Operation → Checked
 
 -- operations, and a test of their results
 pub record Step : Type 0 where

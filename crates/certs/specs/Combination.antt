@@ -6,17 +6,15 @@ use Rattle.rational.specs.Linear.{Term, Assignment, factor_of}
 use Rattle.lp_model.specs.declared.members.Member.{Member}
 use Rattle.lp_model.specs.declared.members.Side.{Side}
 use Rattle.lp_model.specs.declared.members.Side.TheVariants.{Lo, Up}
+use Rattle.certs.specs.declared.evidence.Branch.{Branch}
+use Rattle.certs.specs.declared.evidence.Source.{Source}
+use Rattle.certs.specs.declared.evidence.Source.TheVariants.{Member as Of, Below, Above}
+use Rattle.certs.specs.declared.evidence.Share.{Share}
 use Rattle.lp_model.specs.Program.{Program, IsWellFormed}
 use Rattle.lp_model.specs.Members.{column_form, form, value, number}
 use Rattle.lp_model.specs.Satisfaction.{Satisfies}
 
 -- ---- branches
--- a column is at most a whole number, or at least one
-pub record Branch : Type 0 where
-  pub column : ℕ
-  pub upper : Bool
-  pub at : ℤ
-
 -- the column is on the branch's side
 abbrev pub KeepsBranch : Assignment → Branch → Type 0
 KeepsBranch x b = cond b.upper (x b.column ≤ℚ whole b.at) (whole b.at ≤ℚ x b.column)
@@ -46,18 +44,6 @@ greatest_lower [] j = None
 greatest_lower (b ∷ path) j = cond ((b.column == j) && not b.upper) (Some (greater b.at (greatest_lower path j))) (greatest_lower path j)
 
 -- ---- shares
--- where a share comes from: a member, or the path's branches on a column
-pub data Source : Type 0 where
-  Of : Member → Source
-  Below : ℕ → Source
-  Above : ℕ → Source
-
--- a side of a source, so many times
-pub record Share : Type 0 where
-  pub source : Source
-  pub side : Side
-  pub weight : ℚ
-
 -- the terms of a source; on the path the column itself
 abbrev pub source_form : Program → Source → List Term
 source_form model (Of m) = form model m

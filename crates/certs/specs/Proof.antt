@@ -5,7 +5,9 @@ use Rattle.lp_model.specs.declared.members.Member.TheVariants.{Whole}
 use Rattle.lp_model.specs.Program.{Program}
 use Rattle.lp_model.specs.Members.{exists}
 use Rattle.lp_model.specs.Satisfaction.{IsUnsatisfiable}
-use Rattle.certs.specs.Combination.{Branch, Share, IsCombination}
+use Rattle.certs.specs.declared.evidence.Branch.{Branch}
+use Rattle.certs.specs.declared.evidence.Share.{Share}
+use Rattle.certs.specs.Combination.{IsCombination}
 
 -- a node as it is listed
 pub data Node : Type 0 where

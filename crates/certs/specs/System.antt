@@ -9,7 +9,9 @@ use Rattle.lp_model.specs.declared.members.Side.TheVariants.{Lo, Up}
 use Rattle.lp_model.specs.Program.{Program, IsWellFormed}
 use Rattle.lp_model.specs.Members.{column_form, form, number, weight, is_mark}
 use Rattle.lp_model.specs.Satisfaction.{IsSatisfiable, IsIrreducible}
-use Rattle.certs.specs.Combination.{Of, Share, number_or_zero, signed}
+use Rattle.certs.specs.declared.evidence.Source.TheVariants.{Member as Of}
+use Rattle.certs.specs.declared.evidence.Share.{Share}
+use Rattle.certs.specs.Combination.{number_or_zero, signed}
 use Rattle.certs.specs.Alternative.{cost_of, cost, IsWeighting, IsCheapest, IsPrice, members_of, IsOrdered}
 
 -- a least and a greatest value, each where it is there

@@ -10,7 +10,11 @@ use Rattle.lp_model.specs.declared.parts.Weight.TheVariants.{Soft, Rigid}
 use Rattle.lp_model.specs.Program.{Program}
 use Rattle.lp_model.specs.Members.{value, number, weight, is_same}
 use Rattle.lp_model.specs.Satisfaction.{Point, coordinate, Satisfies}
-use Rattle.certs.specs.Combination.{Branch, KeepsPath, Source, Of, Below, Above, Share, IsThere, column_sum, right_side}
+use Rattle.certs.specs.declared.evidence.Branch.{Branch}
+use Rattle.certs.specs.declared.evidence.Source.{Source}
+use Rattle.certs.specs.declared.evidence.Source.TheVariants.{Member as Of, Below, Above}
+use Rattle.certs.specs.declared.evidence.Share.{Share}
+use Rattle.certs.specs.Combination.{KeepsPath, IsThere, column_sum, right_side}
 
 -- the larger of two
 abbrev pub larger : ℚ → ℚ → ℚ

@@ -1,8 +1,10 @@
 //! Evidence: combinations, proofs, duals, rays, prices and filters, and what each shows.
 #![tactic(auto)]
 
+mod evidence;
 mod laws;
 
+pub use evidence::{Branch, Checked, Combo, Point, Ray, Share, Shares, Source, Values};
 pub use laws::{
     bound_is_kept, bound_is_valid, checked_bound, checked_combination, checked_least,
     checked_point, checked_price, checked_ray, combination_refutes, early_is_irreducible,
@@ -13,3 +15,4 @@ pub use laws::{
     refused_price, refused_ray, rounds_are_few, support_is_irreducible, wide_is_first,
     yes_is_all_passed,
 };
+pub use lp_model::{Member, Side};

@@ -1,4 +1,4 @@
-use Rattle.certs.proofs.Checked.{bound_check_law}
+use Rattle.certs.proofs.Passed.{bound_check_law}
 use Rattle.certs.proofs.laws.checked_bound.Goals as goal
 
 pub returns : goal.returns

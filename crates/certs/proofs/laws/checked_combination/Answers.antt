@@ -1,4 +1,4 @@
-use Rattle.certs.proofs.Checked.{combination_check_law}
+use Rattle.certs.proofs.Passed.{combination_check_law}
 use Rattle.certs.proofs.laws.checked_combination.Goals as goal
 
 pub returns : goal.returns

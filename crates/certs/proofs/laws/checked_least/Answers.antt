@@ -1,4 +1,4 @@
-use Rattle.certs.proofs.Checked.{least_check_law}
+use Rattle.certs.proofs.Passed.{least_check_law}
 use Rattle.certs.proofs.laws.checked_least.Goals as goal
 
 pub returns : goal.returns

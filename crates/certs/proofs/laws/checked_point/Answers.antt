@@ -1,4 +1,4 @@
-use Rattle.certs.proofs.Checked.{point_check_law}
+use Rattle.certs.proofs.Passed.{point_check_law}
 use Rattle.certs.proofs.laws.checked_point.Goals as goal
 
 pub returns : goal.returns

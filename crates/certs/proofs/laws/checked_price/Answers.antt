@@ -1,4 +1,4 @@
-use Rattle.certs.proofs.Checked.{price_check_law}
+use Rattle.certs.proofs.Passed.{price_check_law}
 use Rattle.certs.proofs.laws.checked_price.Goals as goal
 
 pub returns : goal.returns

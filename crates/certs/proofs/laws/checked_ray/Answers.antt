@@ -1,4 +1,4 @@
-use Rattle.certs.proofs.Checked.{ray_check_law}
+use Rattle.certs.proofs.Passed.{ray_check_law}
 use Rattle.certs.proofs.laws.checked_ray.Goals as goal
 
 pub returns : goal.returns

@@ -19,11 +19,15 @@ use Rattle.lp_model.specs.Members.{value, number, weight}
 use Rattle.lp_model.specs.Satisfaction.{Holds}
 use Rattle.frac128.specs.declared.Wide.{Wide as Operation}
 use Rattle.frac128.specs.Calculation.{first_wide}
-use Rattle.certs.specs.Combination.{Branch, Share, IsThere, signed, column_sum, right_side}
+use Rattle.certs.specs.declared.evidence.Branch.{Branch}
+use Rattle.certs.specs.declared.evidence.Share.{Share}
+use Rattle.certs.specs.Combination.{IsThere, signed, column_sum, right_side}
 use Rattle.certs.specs.Violation.{weight_on, is_rigid, IsWithinWeight}
 use Rattle.certs.specs.Bound.{directed, objective_value, KeepsRay}
 use Rattle.certs.specs.Alternative.{cost_of, IsPriced, IsPrice}
-use Rattle.certs.specs.Checks.{Checked, Yes, No, Step, unless_wide, outcome_within, every, every_below, holds_test, there_test, usable_test, within_test, point_steps, weight_operations, usable_step, columns_step, right_step, combination_steps, bound_steps, within_steps, least_steps, ray_test, ray_steps, priced_steps, price_steps, PointCheckLaw, CombinationCheckLaw, BoundCheckLaw, LeastCheckLaw, RayCheckLaw, PriceCheckLaw}
+use Rattle.certs.specs.declared.evidence.Checked.{Checked}
+use Rattle.certs.specs.declared.evidence.Checked.TheVariants.{Yes, No}
+use Rattle.certs.specs.Checks.{Step, unless_wide, outcome_within, every, every_below, holds_test, there_test, usable_test, within_test, point_steps, weight_operations, usable_step, columns_step, right_step, combination_steps, bound_steps, within_steps, least_steps, ray_test, ray_steps, priced_steps, price_steps, PointCheckLaw, CombinationCheckLaw, BoundCheckLaw, LeastCheckLaw, RayCheckLaw, PriceCheckLaw}
 use Rattle.lp_model.specs.Evaluation.{value_operations, member_operations}
 use Rattle.certs.proofs.Lists.{All-passed, all_front, all_back}
 use Rattle.certs.proofs.Further.{factor_past, further_columns_law}

@@ -20,7 +20,11 @@ use Rattle.lp_model.specs.Program.{Program}
 use Rattle.lp_model.specs.Members.{value, number}
 use Rattle.lp_model.specs.Satisfaction.{IsAtLeast, IsAtMost, KeepsSides, Holds, Satisfies}
 use Rattle.lp_model.proofs.Points.{value_law}
-use Rattle.certs.specs.Combination.{Branch, KeepsBranch, KeepsPath, lesser, greater, least_upper, greatest_lower, Source, Of, Below, Above, Share, source_form, source_value, source_number, number_or_zero, signed, multiple, IsFrom, IsThere, column_sum, right_side}
+use Rattle.certs.specs.declared.evidence.Branch.{Branch}
+use Rattle.certs.specs.declared.evidence.Source.{Source}
+use Rattle.certs.specs.declared.evidence.Source.TheVariants.{Member as Of, Below, Above}
+use Rattle.certs.specs.declared.evidence.Share.{Share}
+use Rattle.certs.specs.Combination.{KeepsBranch, KeepsPath, lesser, greater, least_upper, greatest_lower, source_form, source_value, source_number, number_or_zero, signed, multiple, IsFrom, IsThere, column_sum, right_side}
 
 -- sums keep an inequality of their parts
 pub sum_over-le : {A : Type 0} (P : A → Type 0) (f g : A → ℚ) → ((a : A) → P a → f a ≤ℚ g a) → (xs : List A) → All P xs → sum_over f xs ≤ℚ sum_over g xs
