@@ -17,3 +17,4 @@ pub mod Refused
 pub mod NoWeighting
 pub mod Examples
 pub mod Outcomes
+pub mod Held

@@ -70,7 +70,7 @@ mark_passes : (t : Bool) (d : ℕ) → (t ≡ true → d ≡ 1) → cond t (d ==
 mark_passes true d h = eq-eqb d 1 (h refl)
 mark_passes false d h = refl
 
-holds_passes : (model : Program) (x : Assignment) (m : Member) → Holds model x m → holds_test model x m ≡ true
+pub holds_passes : (model : Program) (x : Assignment) (m : Member) → Holds model x m → holds_test model x m ≡ true
 holds_passes model x (Row i) h = sides_pass model x (Row i) h
 holds_passes model x (Lower j) h = sides_pass model x (Lower j) h
 holds_passes model x (Upper j) h = sides_pass model x (Upper j) h

@@ -1,5 +1,5 @@
 -- The checks of evidence, each a list of steps: operations, and then a test. An operation is wide where `is_wide` says so, for parts up to a limit.
-use Rattle.std.specs.Prelude.{◌≡◌, ℕ, ◌==◌, zero, suc, Bool, true, false, ◌&&◌, not, cond, List, [], ◌∷◌, ◌++◌, map, length, Option, Some, None, is_some, filter, ◌<◌, ◌↔◌, All}
+use Rattle.std.specs.Prelude.{◌≡◌, ℕ, ◌==◌, zero, suc, Bool, true, false, ◌&&◌, not, cond, List, [], ◌∷◌, ◌++◌, map, length, Option, Some, None, is_some, Result, Ok, Err, filter, ◌<◌, ◌↔◌, All}
 use Rattle.rational.specs.Rational.{ℚ, ◌+ℚ◌, ◌-ℚ◌, ◌*ℚ◌, neg_ℚ, zero_ℚ, le_q, lt_q, eq_ℚ}
 use Rattle.rational.specs.Linear.{Term, Assignment, factor_of}
 use Rattle.lp_model.specs.declared.members.Member.{Member}
@@ -47,6 +47,12 @@ outcome_within most (s ∷ steps) = unless_wide (first_wide most s.operations) (
 -- with the parts that a `Frac` has
 abbrev pub outcome : List Step → Checked
 outcome steps = outcome_within limit steps
+
+-- a yes or a no, or what is too wide
+abbrev pub checked_of : Result Bool Operation → Checked
+checked_of (Ok true) = Yes
+checked_of (Ok false) = No
+checked_of (Err o) = Wide o
 
 -- ---- tests
 -- whether each element passes

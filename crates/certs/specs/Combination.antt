@@ -1,5 +1,5 @@
 -- Combinations of members' sides, and what a combination shows.
-use Rattle.std.specs.Prelude.{◌≡◌, ℕ, ◌<◌, ◌≤◌, ◌==◌, ℤ, int_lt, Bool, ◌&&◌, not, cond, List, [], ◌∷◌, length, Option, Some, None, option_map, IsSome, All, Contains}
+use Rattle.std.specs.Prelude.{◌≡◌, ℕ, ◌<◌, ◌≤◌, ◌==◌, ℤ, int_lt, ◌&&◌, not, cond, List, [], ◌∷◌, length, Option, Some, None, option_map, IsSome, All, Contains}
 use Rattle.rational.specs.Rational.{ℚ, whole, ◌*ℚ◌, neg_ℚ, zero_ℚ, ◌≤ℚ◌, ◌<ℚ◌}
 use Rattle.rational.specs.Sum.{sum_over}
 use Rattle.rational.specs.Linear.{Term, Assignment, factor_of}

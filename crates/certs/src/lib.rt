@@ -3,6 +3,7 @@
 
 mod evidence;
 mod laws;
+mod points;
 
 pub use evidence::{Branch, Checked, Combo, Point, Ray, Share, Shares, Source, Values};
 pub use laws::{
@@ -16,3 +17,4 @@ pub use laws::{
     yes_is_all_passed,
 };
 pub use lp_model::{Member, Side};
+pub use points::check_point;
