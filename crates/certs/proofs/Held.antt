@@ -1,9 +1,9 @@
 -- A point's members, one after another.
-use Rattle.std.proofs.Common.{◌≡◌, ◌<◌, ◌≤◌, ◌+◌, refl, sym, ◌∙◌, ap, ℕ, Bool, true, false, true≢false, cond, ◌&&◌, nat_lt, List, [], ◌∷◌, length, drop, get_or, Option, None, Some, is_some, IsTrue, Result, Ok, Err}
+use Rattle.std.proofs.Common.{◌≡◌, refl, sym, ◌∙◌, ap, ℕ, Bool, true, false, true≢false, cond, ◌&&◌, nat_lt, List, [], ◌∷◌, length, get_or, Option, None, Some, is_some, IsTrue, Result, Ok, Err}
 use Rattle.std.specs.Prelude.{◌↔◌, MatchResult}
 use Rattle.std.proofs.Common.{inl, inr, lt-ltb}
 use Rattle.std.proofs.lemmas.Bool.{cases_lt}
-use Rattle.std.proofs.lemmas.List.{at_drop_more, drop_all, get_or_past}
+use Rattle.std.proofs.lemmas.List.{get_or_past}
 use Rattle.rational.specs.Rational.{ℚ}
 use Rattle.rational.specs.Linear.{Assignment, form_value}
 use Rattle.lp_model.specs.declared.members.Member.{Member}
@@ -15,8 +15,7 @@ use Rattle.lp_model.specs.Evaluation.{value_operations, member_operations}
 use Rattle.frac128.specs.declared.Wide.{Wide as Operation}
 use Rattle.frac128.specs.Limit.{limit}
 use Rattle.frac128.specs.Calculation.{first_wide, product_steps}
-use Rattle.certs.specs.declared.evidence.Checked.{Checked}
-use Rattle.certs.specs.declared.evidence.Checked.TheVariants.{Yes, No, Wide}
+use Rattle.certs.specs.declared.evidence.Checked.TheVariants.{Yes, No}
 use Rattle.certs.specs.Checks.{outcome, unless_wide, checked_of, point_steps, at_least_test, at_most_test, holds_test}
 use Rattle.certs.proofs.Evaluate.{holds-true}
 use Rattle.certs.proofs.Refused.{holds_passes}

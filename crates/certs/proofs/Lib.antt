@@ -18,3 +18,6 @@ pub mod NoWeighting
 pub mod Examples
 pub mod Outcomes
 pub mod Held
+pub mod ColumnSums
+pub mod PathNumbers
+pub mod Combined

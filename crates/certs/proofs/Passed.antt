@@ -69,7 +69,7 @@ usable_positive : (model : Program) (set : List Member) (path : List Branch) (sh
 usable_positive model set path shares e =
     every_all (λ s. lt_q zero_ℚ s.weight) (λ s. zero_ℚ <ℚ s.weight) (λ s h. lt_q-true zero_ℚ s.weight h) shares (and_parts (every (λ s. lt_q zero_ℚ s.weight) shares) (every (there_test model set path) shares) e).0
 
-usable_there : (model : Program) (set : List Member) (path : List Branch) (shares : List Share) → usable_test model set path shares ≡ true → All (IsThere model set path) shares
+pub usable_there : (model : Program) (set : List Member) (path : List Branch) (shares : List Share) → usable_test model set path shares ≡ true → All (IsThere model set path) shares
 usable_there model set path shares e =
     every_all (there_test model set path) (IsThere model set path) (there-true model set path) shares (and_parts (every (λ s. lt_q zero_ℚ s.weight) shares) (every (there_test model set path) shares) e).1
 

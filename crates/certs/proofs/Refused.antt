@@ -45,7 +45,7 @@ never_no most [] p e = cc
 never_no most (s ∷ steps) p e = step_never (first_wide most s.operations) s.passes (outcome_within most steps) (All-head Passes s steps p) (never_no most steps (All-tail Passes s steps p)) e
 
 -- ---- what holds passes its test
-every_passes : {A : Type 0} (test : A → Bool) (P : A → Type 0) → ((a : A) → P a → test a ≡ true) → (xs : List A) → All P xs → every test xs ≡ true
+pub every_passes : {A : Type 0} (test : A → Bool) (P : A → Type 0) → ((a : A) → P a → test a ≡ true) → (xs : List A) → All P xs → every test xs ≡ true
 every_passes test P h [] p = refl
 every_passes test P h (a ∷ xs) p = and_from (test a) (every test xs) (h a (All-head P a xs p)) (every_passes test P h xs (All-tail P a xs p))
 

@@ -116,17 +116,20 @@ abbrev pub sign_of : Side → Op
 sign_of Lo = Minus
 sign_of Up = Plus
 
+-- a number times a weight, and then plus or minus
+abbrev pub share_operations : ℚ → Side → ℚ → ℚ → Calculation
+share_operations sum side q w = operation Times q w ∷ operation (sign_of side) sum (q *ℚ w) ∷ []
+
 -- the sums with something added for one column
 abbrev pub added_at : Assignment → ℕ → ℚ → Assignment
-added_at sums j q = λ i. cond (i == j) (sums i +ℚ q) (sums i)
+added_at sums j q = λ i. cond (j == i) (sums i +ℚ q) (sums i)
 
 -- each term ascending: factor times weight, and then plus or minus
 abbrev pub form_operations : Assignment → Side → ℚ → List Term → Calculation
 form_operations sums side w [] = []
 form_operations sums side w (t ∷ terms) =
-    operation Times t.factor w
-    ∷ operation (sign_of side) (sums t.column) (t.factor *ℚ w)
-    ∷ form_operations (added_at sums t.column (signed side (t.factor *ℚ w))) side w terms
+    share_operations (sums t.column) side t.factor w
+    ++ form_operations (added_at sums t.column (signed side (t.factor *ℚ w))) side w terms
 
 -- the sums after these terms
 abbrev pub sums_after : Assignment → Side → ℚ → List Term → Assignment
@@ -143,9 +146,8 @@ column_operations model sums (s ∷ shares) =
 abbrev pub right_operations : Program → List Branch → ℚ → List Share → Calculation
 right_operations model path sum [] = []
 right_operations model path sum (s ∷ shares) =
-    operation Times (number_or_zero (source_number model path s.source s.side)) s.weight
-    ∷ operation (sign_of s.side) sum (number_or_zero (source_number model path s.source s.side) *ℚ s.weight)
-    ∷ right_operations model path (sum +ℚ signed s.side (number_or_zero (source_number model path s.source s.side) *ℚ s.weight)) shares
+    share_operations sum s.side (number_or_zero (source_number model path s.source s.side)) s.weight
+    ++ right_operations model path (sum +ℚ signed s.side (number_or_zero (source_number model path s.source s.side) *ℚ s.weight)) shares
 
 -- before any arithmetic: weights and sides
 abbrev pub usable_step : Program → List Member → List Branch → List Share → Step

@@ -1,5 +1,5 @@
 -- Combinations of members' sides, and what a combination shows.
-use Rattle.std.specs.Prelude.{◌≡◌, ℕ, ◌<◌, ◌≤◌, ◌==◌, ℤ, int_lt, ◌&&◌, not, cond, List, [], ◌∷◌, length, Option, Some, None, option_map, IsSome, All, Contains}
+use Rattle.std.specs.Prelude.{◌≡◌, ℕ, ◌<◌, ◌≤◌, ◌==◌, ℤ, unsigned_abs, int_lt, ◌&&◌, not, cond, List, [], ◌∷◌, length, Option, Some, None, option_map, IsSome, All, Contains}
 use Rattle.rational.specs.Rational.{ℚ, whole, ◌*ℚ◌, neg_ℚ, zero_ℚ, ◌≤ℚ◌, ◌<ℚ◌}
 use Rattle.rational.specs.Sum.{sum_over}
 use Rattle.rational.specs.Linear.{Term, Assignment, factor_of}
@@ -10,6 +10,7 @@ use Rattle.certs.specs.declared.evidence.Branch.{Branch}
 use Rattle.certs.specs.declared.evidence.Source.{Source}
 use Rattle.certs.specs.declared.evidence.Source.TheVariants.{Member as Of, Below, Above}
 use Rattle.certs.specs.declared.evidence.Share.{Share}
+use Rattle.frac128.specs.Limit.{limit}
 use Rattle.lp_model.specs.Program.{Program, IsWellFormed}
 use Rattle.lp_model.specs.Members.{column_form, form, value, number}
 use Rattle.lp_model.specs.Satisfaction.{Satisfies}
@@ -18,6 +19,10 @@ use Rattle.lp_model.specs.Satisfaction.{Satisfies}
 -- the column is on the branch's side
 abbrev pub KeepsBranch : Assignment → Branch → Type 0
 KeepsBranch x b = cond b.upper (x b.column ≤ℚ whole b.at) (whole b.at ≤ℚ x b.column)
+
+-- the magnitude of the branch's number is one of a fraction's part
+abbrev pub IsFitting : Branch → Type 0
+IsFitting b = unsigned_abs b.at ≤ limit
 
 -- every branch of the path is kept
 abbrev pub KeepsPath : Assignment → List Branch → Type 0
@@ -44,6 +49,11 @@ greatest_lower [] j = None
 greatest_lower (b ∷ path) j = cond ((b.column == j) && not b.upper) (Some (greater b.at (greatest_lower path j))) (greatest_lower path j)
 
 -- ---- shares
+-- the one of two that stands on the side
+abbrev pub on_side : Side → Option ℚ → Option ℚ → Option ℚ
+on_side Lo lo up = lo
+on_side Up lo up = up
+
 -- the terms of a source; on the path the column itself
 abbrev pub source_form : Program → Source → List Term
 source_form model (Of m) = form model m

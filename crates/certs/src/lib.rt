@@ -1,10 +1,14 @@
 //! Evidence: combinations, proofs, duals, rays, prices and filters, and what each shows.
 #![tactic(auto)]
 
+mod combinations;
 mod evidence;
 mod laws;
+mod numbers;
 mod points;
+mod sums;
 
+pub use combinations::check_combo;
 pub use evidence::{Branch, Checked, Combo, Point, Ray, Share, Shares, Source, Values};
 pub use laws::{
     bound_is_kept, bound_is_valid, checked_bound, checked_combination, checked_least,
