@@ -21,3 +21,4 @@ pub mod Held
 pub mod ColumnSums
 pub mod PathNumbers
 pub mod Combined
+pub mod Sound

@@ -10,7 +10,7 @@ use Rattle.lp_model.specs.declared.parts.Weight.{Weight}
 use Rattle.lp_model.specs.declared.parts.Weight.TheVariants.{Soft, Rigid}
 use Rattle.lp_model.specs.Program.{Program, column_at, IsWellFormed}
 use Rattle.lp_model.specs.Members.{form, value, number, weight, has}
-use Rattle.lp_model.specs.Satisfaction.{Satisfies}
+use Rattle.lp_model.specs.Satisfaction.{values_at, Satisfies, IsSatisfiable, IsUnsatisfiable}
 use Rattle.lp_model.specs.Evaluation.{value_operations, member_operations}
 use Rattle.frac128.specs.declared.Op.{Op}
 use Rattle.frac128.specs.declared.Op.TheVariants.{Plus, Minus, Times}
@@ -24,7 +24,7 @@ use Rattle.certs.specs.declared.evidence.Source.TheVariants.{Member as Of, Below
 use Rattle.certs.specs.declared.evidence.Share.{Share}
 use Rattle.certs.specs.declared.evidence.Checked.{Checked}
 use Rattle.certs.specs.declared.evidence.Checked.TheVariants.{Yes, No, Wide}
-use Rattle.certs.specs.Combination.{source_form, source_number, number_or_zero, signed, column_sum, right_side, IsCombination}
+use Rattle.certs.specs.Combination.{source_form, source_number, number_or_zero, signed, column_sum, right_side, IsCombination, KeepsPath}
 use Rattle.certs.specs.Violation.{weight_on, is_of, violation, is_rigid, IsLeastDual}
 use Rattle.certs.specs.Bound.{directed, objective_value, IsBoundDual, IsImproving}
 use Rattle.certs.specs.Alternative.{cost_of, IsPrice}
@@ -280,6 +280,20 @@ PointCheckLaw = (most : ℕ) (model : Program) (set : List Member) (x : Assignme
 abbrev pub CombinationCheckLaw : Type 0
 CombinationCheckLaw = (most : ℕ) (model : Program) (set : List Member) (path : List Branch) (shares : List Share)
     → IsWellFormed model → All (λ b. b.column < length model.columns) path → outcome_within most (combination_steps model set path shares) ≡ Yes → IsCombination model set path shares
+
+-- what it shows of the set: values that are taken are those of a point
+abbrev pub SatisfiableLaw : Type 0
+SatisfiableLaw = (most : ℕ) (model : Program) (set : List Member) (values : List ℚ) → outcome_within most (point_steps model set (values_at values)) ≡ Yes → IsSatisfiable model set
+
+-- nothing on the path satisfies the set
+abbrev pub RefutedLaw : Type 0
+RefutedLaw = (most : ℕ) (model : Program) (set : List Member) (path : List Branch) (shares : List Share)
+    → IsWellFormed model → All (λ b. b.column < length model.columns) path → outcome_within most (combination_steps model set path shares) ≡ Yes
+    → (x : Assignment) → Satisfies model set x → KeepsPath x path → ⊥
+
+-- without a path, no point does
+abbrev pub UnsatisfiableLaw : Type 0
+UnsatisfiableLaw = (most : ℕ) (model : Program) (set : List Member) (shares : List Share) → IsWellFormed model → outcome_within most (combination_steps model set [] shares) ≡ Yes → IsUnsatisfiable model set
 
 -- a bound
 abbrev pub BoundCheckLaw : Type 0

@@ -1,7 +1,7 @@
 //! Laws of evidence: what combinations, proofs, duals, rays, prices and filters show, and what their checks answer.
 ghost use Rattle.certs.specs.Alternative.{PriceLaw, SupportLaw};
 ghost use Rattle.certs.specs.Bound.{BoundLaw, RayLaw, ValidBoundLaw};
-ghost use Rattle.certs.specs.Checks.{BoundCheckLaw, BoundNoLaw, CombinationCheckLaw, CombinationNoLaw, LeastCheckLaw, LeastNoLaw, PointCheckLaw, PointNoLaw, PriceCheckLaw, PriceNoLaw, RayCheckLaw, RayNoLaw, WideLaw, YesLaw};
+ghost use Rattle.certs.specs.Checks.{BoundCheckLaw, BoundNoLaw, CombinationCheckLaw, CombinationNoLaw, LeastCheckLaw, LeastNoLaw, PointCheckLaw, PointNoLaw, PriceCheckLaw, PriceNoLaw, RayCheckLaw, RayNoLaw, RefutedLaw, SatisfiableLaw, UnsatisfiableLaw, WideLaw, YesLaw};
 ghost use Rattle.certs.specs.Combination.{CombinationLaw, FurtherColumnsLaw};
 ghost use Rattle.certs.specs.Filter.{EarlyLaw, EarlyTestLaw, LateGroupsLaw, LateLaw, LateTestLaw, OneEarlyLaw, OneLateLaw, RoundsLaw};
 ghost use Rattle.certs.specs.Proof.{OneTreeLaw, ProofLaw};
@@ -101,6 +101,21 @@ pub fn checked_point()
 /// What the check takes is a combination.
 pub fn checked_combination()
     ensures { CombinationCheckLaw }
+{}
+
+/// Values that the check of a point takes show that some point satisfies the set.
+pub fn taken_values_satisfy()
+    ensures { SatisfiableLaw }
+{}
+
+/// Where the check takes a combination, nothing on the path satisfies the set.
+pub fn taken_combination_refutes()
+    ensures { RefutedLaw }
+{}
+
+/// Where it takes one without a path, no point satisfies the set.
+pub fn taken_combination_is_unsatisfiable()
+    ensures { UnsatisfiableLaw }
 {}
 
 /// What the check takes is a bound's dual.

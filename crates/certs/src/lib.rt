@@ -17,8 +17,9 @@ pub use laws::{
     late_is_irreducible, late_tests, least_is_bounded, no_weighting_gives_point,
     nodes_tell_the_tree, one_early, one_late, price_is_least, proof_refutes, ray_is_unbounded,
     reached_is_least, refused_bound, refused_combination, refused_least, refused_point,
-    refused_price, refused_ray, rounds_are_few, support_is_irreducible, wide_is_first,
-    yes_is_all_passed,
+    refused_price, refused_ray, rounds_are_few, support_is_irreducible,
+    taken_combination_is_unsatisfiable, taken_combination_refutes, taken_values_satisfy,
+    wide_is_first, yes_is_all_passed,
 };
 pub use lp_model::{Member, Side};
 pub use points::check_point;
