@@ -1,0 +1,8 @@
+use Rattle.std.proofs.Common.{◌≡◌, drop}
+use Rattle.lp_model.specs.Satisfaction.{values_at}
+use Rattle.certs.specs.Checks.{outcome, point_steps}
+use Rattle.certs.proofs.points.members_hold.Given as goal
+
+-- the members left decide
+abbrev pub invariant-loop-member : goal.invariant-loop-member
+invariant-loop-member l = outcome (point_steps l.model (drop l.member-index l.set) (values_at l.values)) ≡ outcome (point_steps l.model l.set (values_at l.values))

@@ -1,0 +1,61 @@
+//! Whether shares are a combination.
+ghost use Rattle.std.specs.Prelude.{◌≡◌, ◌<◌, All, length};
+ghost use Rattle.certs.specs.Combination.{IsFitting};
+ghost use Rattle.certs.specs.Checks.{outcome, combination_steps, checked_of};
+
+use crate::evidence::{Branch, Checked, Combo, Share};
+use crate::numbers::are_usable;
+use crate::points::checked;
+use crate::sums::{add_shares, are_zero, clear, right_side};
+use frac128::{Frac, Wide};
+use lp_model::{Member, Model};
+
+/// Whether the combination shows that no point on the path satisfies the set.
+///
+/// Before any arithmetic it is `No` where a weight is not above 0, or where the set and the path do not have a side that
+/// is named. Then each column is summed: the shares in order, the terms of each in order, factor times weight, and that
+/// plus on `Up` and minus on `Lo`. All sums must be 0. Last comes the right side in the same way, from the numbers on the
+/// sides: it must be below 0. `Wide` comes with the first operation that is too wide, where no test before it fails.
+///
+/// `sums` is room for one number a column: what it held does not matter.
+pub fn check_combo(
+    model: &Model,
+    set: &[Member],
+    path: &[Branch],
+    combo: &Combo,
+    sums: &mut [Frac],
+) -> Checked
+    requires room { length sums.old ≡ length model.now.columns }
+    requires known { All (λ b. b.column < length model.now.columns) path.now }
+    requires fitting { All IsFitting path.now }
+    ensures { result ≡ outcome (combination_steps model.now set.now path.now combo.now.shares) }
+{
+    checked(combines(model, set, path, combo.shares.as_slice(), sums))
+}
+
+// Whether the shares do.
+fn combines(
+    model: &Model,
+    set: &[Member],
+    path: &[Branch],
+    shares: &[Share],
+    sums: &mut [Frac],
+) -> Result<bool, Wide>
+    requires room { length sums.old ≡ length model.now.columns }
+    requires known { All (λ b. b.column < length model.now.columns) path.now }
+    requires fitting { All IsFitting path.now }
+    ensures { checked_of result ≡ outcome (combination_steps model.now set.now path.now shares.now) }
+{
+    if !are_usable(model, set, path, shares) {
+        return Ok(false);
+    }
+    clear(sums);
+    // That the terms of a row name the program's columns is told with the count.
+    let _rows = model.row_count();
+    add_shares(model, shares, sums)?;
+    if !are_zero(sums) {
+        return Ok(false);
+    }
+    let right = right_side(model, path, shares)?;
+    Ok(right < Frac::whole(0))
+}

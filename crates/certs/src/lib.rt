@@ -1,0 +1,25 @@
+//! Evidence: combinations, proofs, duals, rays, prices and filters, and what each shows.
+#![tactic(auto)]
+
+mod combinations;
+mod evidence;
+mod laws;
+mod numbers;
+mod points;
+mod sums;
+
+pub use combinations::check_combo;
+pub use evidence::{Branch, Checked, Combo, Point, Ray, Share, Shares, Source, Values};
+pub use laws::{
+    bound_is_kept, bound_is_valid, checked_bound, checked_combination, checked_least,
+    checked_point, checked_price, checked_ray, combination_refutes, early_is_irreducible,
+    early_tests, further_columns, last_table_is_cheapest, last_table_is_irreducible, late_groups,
+    late_is_irreducible, late_tests, least_is_bounded, no_weighting_gives_point,
+    nodes_tell_the_tree, one_early, one_late, price_is_least, proof_refutes, ray_is_unbounded,
+    reached_is_least, refused_bound, refused_combination, refused_least, refused_point,
+    refused_price, refused_ray, rounds_are_few, support_is_irreducible,
+    taken_combination_is_unsatisfiable, taken_combination_refutes, taken_values_satisfy,
+    wide_is_first, yes_is_all_passed,
+};
+pub use lp_model::{Member, Side};
+pub use points::check_point;

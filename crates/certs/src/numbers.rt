@@ -1,0 +1,184 @@
+//! The sides of members and of paths.
+ghost use Rattle.std.specs.Prelude.{◌≡◌, ◌&&◌, Some, None, All, IfSome, ◌≤◌, unsigned_abs};
+ghost use Rattle.std.specs.Option.{option_map};
+ghost use Rattle.rational.specs.Rational.{whole, zero_ℚ, lt_q};
+ghost use Rattle.frac128.specs.Limit.{limit};
+ghost use Rattle.lp_model.specs.Members.{number, has};
+ghost use Rattle.certs.specs.Combination.{source_number as number_of_source, least_upper as least_on, greatest_lower as greatest_on, lesser as lesser_of, greater as greater_of, on_side as number_on, IsFitting};
+ghost use Rattle.certs.specs.Checks.{from_test, there_test, usable_test};
+
+use crate::evidence::{Branch, Share, Source};
+use crate::points::is_present;
+use frac128::Frac;
+use lp_model::{Member, Model, Side};
+
+/// Whether each share has a weight above 0, and a side that the set and the path have.
+pub(crate) fn are_usable(model: &Model, set: &[Member], path: &[Branch], shares: &[Share]) -> bool
+    requires { All IsFitting path.now }
+    ensures { result ≡ usable_test model.now set.now path.now shares.now }
+{
+    for share in shares {
+        if !is_usable(model, set, path, share) {
+            return false;
+        }
+    }
+    true
+}
+
+// Whether one share has.
+fn is_usable(model: &Model, set: &[Member], path: &[Branch], share: &Share) -> bool
+    requires { All IsFitting path.now }
+    ensures { result ≡ (lt_q zero_ℚ share.now.weight && there_test model.now set.now path.now share.now) }
+{
+    is_positive(share.weight) && is_there(model, set, path, share)
+}
+
+// Whether a number is above 0.
+fn is_positive(number: Frac) -> bool
+    ensures { result ≡ lt_q zero_ℚ number }
+{
+    Frac::whole(0) < number
+}
+
+// Whether the set or the path has the side of a share.
+fn is_there(model: &Model, set: &[Member], path: &[Branch], share: &Share) -> bool
+    requires { All IsFitting path.now }
+    ensures { result ≡ there_test model.now set.now path.now share.now }
+{
+    is_from(set, share.source) && source_number(model, path, share.source, share.side).is_some()
+}
+
+// Whether the source is a member of the set, or the path.
+fn is_from(set: &[Member], source: Source) -> bool
+    ensures { result ≡ from_test set.now source }
+{
+    match source {
+        Source::Member(member) => is_in(set, member),
+        Source::Below(_) => true,
+        Source::Above(_) => true,
+    }
+}
+
+// Whether the set has the member.
+fn is_in(set: &[Member], member: Member) -> bool
+    ensures { result ≡ has set.now member }
+{
+    for other in set {
+        if *other == member {
+            return true;
+        }
+    }
+    false
+}
+
+/// The number on a side of a source, where it has that side.
+pub(crate) fn source_number(
+    model: &Model,
+    path: &[Branch],
+    source: Source,
+    side: Side,
+) -> Option<Frac>
+    requires { All IsFitting path.now }
+    ensures { result ≡ number_of_source model.now path.now source side }
+{
+    match source {
+        Source::Member(member) => member_number(model, member, side),
+        Source::Below(column) => on_side(side, None, as_fraction(least_upper(path, column))),
+        Source::Above(column) => on_side(side, as_fraction(greatest_lower(path, column)), None),
+    }
+}
+
+// The number on a side of a member, where it has that side.
+fn member_number(model: &Model, member: Member, side: Side) -> Option<Frac>
+    ensures { result ≡ number model.now member side }
+{
+    if !is_present(model, member) {
+        return None;
+    }
+    match member {
+        Member::Row(index) => {
+            let row = model.row(index);
+            on_side(side, row.lo, row.up)
+        }
+        Member::Lower(index) => on_side(side, model.column(index).lo, None),
+        Member::Upper(index) => on_side(side, None, model.column(index).up),
+        Member::Whole(_) => None,
+    }
+}
+
+// The one of two that stands on the side.
+fn on_side(side: Side, lo: Option<Frac>, up: Option<Frac>) -> Option<Frac>
+    ensures { result ≡ number_on side lo up }
+{
+    match side {
+        Side::Lo => lo,
+        Side::Up => up,
+    }
+}
+
+// The least number that the path's upper branches on a column give.
+fn least_upper(path: &[Branch], column: u32) -> Option<i128>
+    requires { All IsFitting path.now }
+    ensures value { result ≡ least_on path.now column }
+    ensures fits { IfSome result (λ n. unsigned_abs n ≤ limit) }
+{
+    let mut least = None;
+    let mut left = path.len();
+    while left > 0 {
+        left -= 1;
+        let branch = path[left];
+        if branch.column == column && branch.upper {
+            least = Some(lesser(branch.at, least));
+        }
+    }
+    least
+}
+
+// The greatest number that the path's lower branches on a column give.
+fn greatest_lower(path: &[Branch], column: u32) -> Option<i128>
+    requires { All IsFitting path.now }
+    ensures value { result ≡ greatest_on path.now column }
+    ensures fits { IfSome result (λ n. unsigned_abs n ≤ limit) }
+{
+    let mut greatest = None;
+    let mut left = path.len();
+    while left > 0 {
+        left -= 1;
+        let branch = path[left];
+        if branch.column == column && !branch.upper {
+            greatest = Some(greater(branch.at, greatest));
+        }
+    }
+    greatest
+}
+
+// The lesser of a number and one that may be absent.
+fn lesser(at: i128, other: Option<i128>) -> i128
+    ensures { result ≡ lesser_of at other }
+{
+    match other {
+        Some(least) => if least < at { least } else { at },
+        None => at,
+    }
+}
+
+// The greater of a number and one that may be absent.
+fn greater(at: i128, other: Option<i128>) -> i128
+    ensures { result ≡ greater_of at other }
+{
+    match other {
+        Some(greatest) => if at < greatest { greatest } else { at },
+        None => at,
+    }
+}
+
+// The fraction that a whole number is.
+fn as_fraction(at: Option<i128>) -> Option<Frac>
+    requires { IfSome at (λ n. unsigned_abs n ≤ limit) }
+    ensures { result ≡ option_map whole at }
+{
+    match at {
+        Some(number) => Frac::new(number, 1).ok(),
+        None => None,
+    }
+}

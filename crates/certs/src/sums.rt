@@ -1,0 +1,189 @@
+//! Sums of shares: those of the columns, and the right side.
+ghost use Rattle.std.specs.Prelude.{◌≡◌, ◌<◌, ◌↔◌, ◌∷◌, [], MatchResult, Some, None, All, IsTrue, true, false, ℕ, length};
+ghost use Rattle.rational.specs.Rational.{◌+ℚ◌, ◌*ℚ◌, zero_ℚ, eq_ℚ};
+ghost use Rattle.frac128.specs.Limit.{limit};
+ghost use Rattle.frac128.specs.Width.{operation, is_wide};
+ghost use Rattle.frac128.specs.Calculation.{first_wide};
+ghost use Rattle.lp_model.specs.Members.{column_form, form};
+ghost use Rattle.lp_model.specs.Satisfaction.{values_at};
+ghost use Rattle.certs.specs.Combination.{source_form, signed, column_sum, right_side as right_of, IsFitting};
+ghost use Rattle.certs.specs.Checks.{every, sign_of, share_operations, added_at, sums_after, form_operations, column_operations, right_operations};
+
+use crate::evidence::{Branch, Share, Source};
+use crate::numbers::source_number;
+use frac128::{Frac, Wide};
+use lp_model::{Member, Model, Side, Term};
+
+/// Adds the shares to the columns' sums, in order, the terms of each in order.
+pub(crate) fn add_shares(model: &Model, shares: &[Share], sums: &mut [Frac]) -> Result<(), Wide>
+    requires { All (λ s. All (λ t. t.column < length sums.old) (source_form model.now s.source)) shares.now }
+    ensures { MatchResult result
+        (λ done. (first_wide limit (column_operations model.now (values_at sums.old) shares.now) ≡ None)
+        × ((j : ℕ) → values_at sums.new j ≡ values_at sums.old j +ℚ column_sum model.now shares.now j))
+        (λ w. first_wide limit (column_operations model.now (values_at sums.old) shares.now) ≡ Some w) }
+{
+    for share in shares {
+        add_share(model, share, sums)?;
+    }
+    Ok(())
+}
+
+// Adds one share.
+fn add_share(model: &Model, share: &Share, sums: &mut [Frac]) -> Result<(), Wide>
+    requires { All (λ t. t.column < length sums.old) (source_form model.now share.now.source) }
+    ensures { MatchResult result
+        (λ done. (first_wide limit (form_operations (values_at sums.old) share.now.side share.now.weight (source_form model.now share.now.source)) ≡ None)
+        × (values_at sums.new ≡ sums_after (values_at sums.old) share.now.side share.now.weight (source_form model.now share.now.source)))
+        (λ w. first_wide limit (form_operations (values_at sums.old) share.now.side share.now.weight (source_form model.now share.now.source)) ≡ Some w) }
+{
+    match share.source {
+        Source::Member(member) => add_member(model, member, share.side, share.weight, sums),
+        Source::Below(column) => add_column(column, share.side, share.weight, sums),
+        Source::Above(column) => add_column(column, share.side, share.weight, sums),
+    }
+}
+
+// Adds the form of a member.
+fn add_member(
+    model: &Model,
+    member: Member,
+    side: Side,
+    weight: Frac,
+    sums: &mut [Frac],
+) -> Result<(), Wide>
+    requires { All (λ t. t.column < length sums.old) (form model.now member) }
+    ensures { MatchResult result
+        (λ done. (first_wide limit (form_operations (values_at sums.old) side weight (form model.now member)) ≡ None)
+        × (values_at sums.new ≡ sums_after (values_at sums.old) side weight (form model.now member)))
+        (λ w. first_wide limit (form_operations (values_at sums.old) side weight (form model.now member)) ≡ Some w) }
+{
+    match member {
+        Member::Row(index) => add_row(model, index, side, weight, sums),
+        Member::Lower(column) => add_column(column, side, weight, sums),
+        Member::Upper(column) => add_column(column, side, weight, sums),
+        Member::Whole(column) => add_column(column, side, weight, sums),
+    }
+}
+
+// Adds a row, of which one past the last has no terms.
+fn add_row(
+    model: &Model,
+    index: u32,
+    side: Side,
+    weight: Frac,
+    sums: &mut [Frac],
+) -> Result<(), Wide>
+    requires { All (λ t. t.column < length sums.old) (form model.now (Member.Row index)) }
+    ensures { MatchResult result
+        (λ done. (first_wide limit (form_operations (values_at sums.old) side weight (form model.now (Member.Row index))) ≡ None)
+        × (values_at sums.new ≡ sums_after (values_at sums.old) side weight (form model.now (Member.Row index))))
+        (λ w. first_wide limit (form_operations (values_at sums.old) side weight (form model.now (Member.Row index))) ≡ Some w) }
+{
+    if index >= model.row_count() {
+        return Ok(());
+    }
+    add_terms(model.row(index).terms.as_slice(), side, weight, sums)
+}
+
+// Adds terms, in order.
+fn add_terms(terms: &[Term], side: Side, weight: Frac, sums: &mut [Frac]) -> Result<(), Wide>
+    requires { All (λ t. t.column < length sums.old) terms.now }
+    ensures { MatchResult result
+        (λ done. (first_wide limit (form_operations (values_at sums.old) side weight terms.now) ≡ None)
+        × (values_at sums.new ≡ sums_after (values_at sums.old) side weight terms.now))
+        (λ w. first_wide limit (form_operations (values_at sums.old) side weight terms.now) ≡ Some w) }
+{
+    for term in terms {
+        add_term(term.column, term.factor, side, weight, sums)?;
+    }
+    Ok(())
+}
+
+// Adds a column, once.
+fn add_column(column: u32, side: Side, weight: Frac, sums: &mut [Frac]) -> Result<(), Wide>
+    requires { All (λ t. t.column < length sums.old) (column_form column) }
+    ensures { MatchResult result
+        (λ done. (first_wide limit (form_operations (values_at sums.old) side weight (column_form column)) ≡ None)
+        × (values_at sums.new ≡ sums_after (values_at sums.old) side weight (column_form column)))
+        (λ w. first_wide limit (form_operations (values_at sums.old) side weight (column_form column)) ≡ Some w) }
+{
+    add_term(column, Frac::whole(1), side, weight, sums)
+}
+
+// Adds a term.
+fn add_term(
+    column: u32,
+    factor: Frac,
+    side: Side,
+    weight: Frac,
+    sums: &mut [Frac],
+) -> Result<(), Wide>
+    requires { column < length sums.old }
+    ensures { MatchResult result
+        (λ done. (first_wide limit (share_operations (values_at sums.old column) side factor weight) ≡ None)
+        × (values_at sums.new ≡ added_at (values_at sums.old) column (signed side (factor *ℚ weight))))
+        (λ w. first_wide limit (share_operations (values_at sums.old column) side factor weight) ≡ Some w) }
+{
+    let sum = added(sums[column as usize], side, factor, weight)?;
+    sums[column as usize] = sum;
+    Ok(())
+}
+
+// The sum with a number times a weight more on `up`, or less on `lo`.
+fn added(sum: Frac, side: Side, number: Frac, weight: Frac) -> Result<Frac, Wide>
+    ensures { MatchResult result
+        (λ r. (r ≡ sum +ℚ signed side (number *ℚ weight)) × (first_wide limit (share_operations sum side number weight) ≡ None))
+        (λ w. first_wide limit (share_operations sum side number weight) ≡ Some w) }
+{
+    let product = number.times(weight)?;
+    signed_sum(sum, side, product)
+}
+
+// The sum with a number more on `up`, or less on `lo`.
+fn signed_sum(sum: Frac, side: Side, number: Frac) -> Result<Frac, Wide>
+    ensures { MatchResult result
+        (λ r. (r ≡ sum +ℚ signed side number) × (is_wide limit (operation (sign_of side) sum number) ≡ false))
+        (λ w. (w ≡ operation (sign_of side) sum number) × (is_wide limit w ≡ true)) }
+{
+    match side {
+        Side::Lo => sum.minus(number),
+        Side::Up => sum.plus(number),
+    }
+}
+
+/// Whether all sums are 0.
+pub(crate) fn are_zero(sums: &[Frac]) -> bool
+    ensures { result ≡ every (λ q. eq_ℚ q zero_ℚ) sums.now }
+{
+    let zero = Frac::whole(0);
+    for sum in sums {
+        if *sum != zero {
+            return false;
+        }
+    }
+    true
+}
+
+/// Sets all sums to 0.
+pub(crate) fn clear(sums: &mut [Frac])
+    ensures length { length sums.new ≡ length sums.old }
+    ensures zero { All (λ q. q ≡ zero_ℚ) sums.new }
+{
+    sums.fill(Frac::whole(0));
+}
+
+/// The right side: the number of each share times its weight, in order from 0.
+pub(crate) fn right_side(model: &Model, path: &[Branch], shares: &[Share]) -> Result<Frac, Wide>
+    requires { All IsFitting path.now }
+    ensures { MatchResult result
+        (λ r. (r ≡ right_of model.now path.now shares.now) × (first_wide limit (right_operations model.now path.now zero_ℚ shares.now) ≡ None))
+        (λ w. first_wide limit (right_operations model.now path.now zero_ℚ shares.now) ≡ Some w) }
+{
+    let zero = Frac::whole(0);
+    let mut sum = zero;
+    for share in shares {
+        let number = source_number(model, path, share.source, share.side).unwrap_or(zero);
+        sum = added(sum, share.side, number, share.weight)?;
+    }
+    Ok(sum)
+}
