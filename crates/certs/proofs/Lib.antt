@@ -22,3 +22,4 @@ pub mod ColumnSums
 pub mod PathNumbers
 pub mod Combined
 pub mod Sound
+pub mod Walk

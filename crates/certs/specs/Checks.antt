@@ -12,6 +12,7 @@ use Rattle.lp_model.specs.Program.{Program, column_at, IsWellFormed}
 use Rattle.lp_model.specs.Members.{form, value, number, weight, has}
 use Rattle.lp_model.specs.Satisfaction.{values_at, Satisfies, IsSatisfiable, IsUnsatisfiable}
 use Rattle.lp_model.specs.Evaluation.{value_operations, member_operations}
+use Rattle.lp_model.specs.MemberSets.{SetValue}
 use Rattle.frac128.specs.declared.Op.{Op}
 use Rattle.frac128.specs.declared.Op.TheVariants.{Plus, Minus, Times}
 use Rattle.frac128.specs.Limit.{limit}
@@ -53,6 +54,11 @@ abbrev pub checked_of : Result Bool Operation → Checked
 checked_of (Ok true) = Yes
 checked_of (Ok false) = No
 checked_of (Err o) = Wide o
+
+-- the set is one of members of the program
+pub record IsSetOf (model : Program) (set : SetValue) : Type 0 where
+  pub rows : set.rows ≡ length model.rows
+  pub columns : set.columns ≡ length model.columns
 
 -- ---- tests
 -- whether each element passes

@@ -1,14 +1,14 @@
 //! Whether shares are a combination.
 ghost use Rattle.std.specs.Prelude.{◌≡◌, ◌<◌, All, length};
 ghost use Rattle.certs.specs.Combination.{IsFitting};
-ghost use Rattle.certs.specs.Checks.{outcome, combination_steps, checked_of};
+ghost use Rattle.certs.specs.Checks.{IsSetOf, outcome, combination_steps, checked_of};
 
 use crate::evidence::{Branch, Checked, Combo, Share};
 use crate::numbers::are_usable;
 use crate::points::checked;
 use crate::sums::{add_shares, are_zero, clear, right_side};
 use frac128::{Frac, Wide};
-use lp_model::{Member, Model};
+use lp_model::{MemberSet, Model};
 
 /// Whether the combination shows that no point on the path satisfies the set.
 ///
@@ -20,7 +20,7 @@ use lp_model::{Member, Model};
 /// `sums` is room for one number a column: what it held does not matter.
 pub fn check_combo(
     model: &Model,
-    set: &[Member],
+    set: &MemberSet,
     path: &[Branch],
     combo: &Combo,
     sums: &mut [Frac],
@@ -28,7 +28,8 @@ pub fn check_combo(
     requires room { length sums.old ≡ length model.now.columns }
     requires known { All (λ b. b.column < length model.now.columns) path.now }
     requires fitting { All IsFitting path.now }
-    ensures { result ≡ outcome (combination_steps model.now set.now path.now combo.now.shares) }
+    requires same { IsSetOf model.now set.now }
+    ensures { result ≡ outcome (combination_steps model.now set.now.members path.now combo.now.shares) }
 {
     checked(combines(model, set, path, combo.shares.as_slice(), sums))
 }
@@ -36,7 +37,7 @@ pub fn check_combo(
 // Whether the shares do.
 fn combines(
     model: &Model,
-    set: &[Member],
+    set: &MemberSet,
     path: &[Branch],
     shares: &[Share],
     sums: &mut [Frac],
@@ -44,7 +45,8 @@ fn combines(
     requires room { length sums.old ≡ length model.now.columns }
     requires known { All (λ b. b.column < length model.now.columns) path.now }
     requires fitting { All IsFitting path.now }
-    ensures { checked_of result ≡ outcome (combination_steps model.now set.now path.now shares.now) }
+    requires same { IsSetOf model.now set.now }
+    ensures { checked_of result ≡ outcome (combination_steps model.now set.now.members path.now shares.now) }
 {
     if !are_usable(model, set, path, shares) {
         return Ok(false);

@@ -21,5 +21,5 @@ pub use laws::{
     taken_combination_is_unsatisfiable, taken_combination_refutes, taken_values_satisfy,
     wide_is_first, yes_is_all_passed,
 };
-pub use lp_model::{Member, Side};
+pub use lp_model::{Member, MemberSet, Side};
 pub use points::check_point;

@@ -1,21 +1,22 @@
 //! The sides of members and of paths.
-ghost use Rattle.std.specs.Prelude.{◌≡◌, ◌&&◌, Some, None, All, IfSome, ◌≤◌, unsigned_abs};
+ghost use Rattle.std.specs.Prelude.{◌≡◌, ◌&&◌, Some, None, is_some, All, IfSome, ◌≤◌, unsigned_abs};
 ghost use Rattle.std.specs.Option.{option_map};
 ghost use Rattle.rational.specs.Rational.{whole, zero_ℚ, lt_q};
 ghost use Rattle.frac128.specs.Limit.{limit};
 ghost use Rattle.lp_model.specs.Members.{number, has};
 ghost use Rattle.certs.specs.Combination.{source_number as number_of_source, least_upper as least_on, greatest_lower as greatest_on, lesser as lesser_of, greater as greater_of, on_side as number_on, IsFitting};
-ghost use Rattle.certs.specs.Checks.{from_test, there_test, usable_test};
+ghost use Rattle.certs.specs.Checks.{IsSetOf, there_test, usable_test};
 
 use crate::evidence::{Branch, Share, Source};
 use crate::points::is_present;
 use frac128::Frac;
-use lp_model::{Member, Model, Side};
+use lp_model::{Member, MemberSet, Model, Side};
 
 /// Whether each share has a weight above 0, and a side that the set and the path have.
-pub(crate) fn are_usable(model: &Model, set: &[Member], path: &[Branch], shares: &[Share]) -> bool
-    requires { All IsFitting path.now }
-    ensures { result ≡ usable_test model.now set.now path.now shares.now }
+pub(crate) fn are_usable(model: &Model, set: &MemberSet, path: &[Branch], shares: &[Share]) -> bool
+    requires fitting { All IsFitting path.now }
+    requires same { IsSetOf model.now set.now }
+    ensures { result ≡ usable_test model.now set.now.members path.now shares.now }
 {
     for share in shares {
         if !is_usable(model, set, path, share) {
@@ -26,9 +27,10 @@ pub(crate) fn are_usable(model: &Model, set: &[Member], path: &[Branch], shares:
 }
 
 // Whether one share has.
-fn is_usable(model: &Model, set: &[Member], path: &[Branch], share: &Share) -> bool
-    requires { All IsFitting path.now }
-    ensures { result ≡ (lt_q zero_ℚ share.now.weight && there_test model.now set.now path.now share.now) }
+fn is_usable(model: &Model, set: &MemberSet, path: &[Branch], share: &Share) -> bool
+    requires fitting { All IsFitting path.now }
+    requires same { IsSetOf model.now set.now }
+    ensures { result ≡ (lt_q zero_ℚ share.now.weight && there_test model.now set.now.members path.now share.now) }
 {
     is_positive(share.weight) && is_there(model, set, path, share)
 }
@@ -41,34 +43,27 @@ fn is_positive(number: Frac) -> bool
 }
 
 // Whether the set or the path has the side of a share.
-fn is_there(model: &Model, set: &[Member], path: &[Branch], share: &Share) -> bool
-    requires { All IsFitting path.now }
-    ensures { result ≡ there_test model.now set.now path.now share.now }
+fn is_there(model: &Model, set: &MemberSet, path: &[Branch], share: &Share) -> bool
+    requires fitting { All IsFitting path.now }
+    requires same { IsSetOf model.now set.now }
+    ensures { result ≡ there_test model.now set.now.members path.now share.now }
 {
-    is_from(set, share.source) && source_number(model, path, share.source, share.side).is_some()
-}
-
-// Whether the source is a member of the set, or the path.
-fn is_from(set: &[Member], source: Source) -> bool
-    ensures { result ≡ from_test set.now source }
-{
-    match source {
-        Source::Member(member) => is_in(set, member),
-        Source::Below(_) => true,
-        Source::Above(_) => true,
+    match share.source {
+        Source::Member(member) => is_member_there(model, set, member, share.side),
+        Source::Below(_) => source_number(model, path, share.source, share.side).is_some(),
+        Source::Above(_) => source_number(model, path, share.source, share.side).is_some(),
     }
 }
 
-// Whether the set has the member.
-fn is_in(set: &[Member], member: Member) -> bool
-    ensures { result ≡ has set.now member }
+// Whether the set has the member, and the member the side.
+fn is_member_there(model: &Model, set: &MemberSet, member: Member, side: Side) -> bool
+    requires { IsSetOf model.now set.now }
+    ensures { result ≡ (has set.now.members member && is_some (number model.now member side)) }
 {
-    for other in set {
-        if *other == member {
-            return true;
-        }
+    if !is_present(model, member) {
+        return false;
     }
-    false
+    set.contains(member) && member_number(model, member, side).is_some()
 }
 
 /// The number on a side of a source, where it has that side.

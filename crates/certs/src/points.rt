@@ -7,16 +7,16 @@ ghost use Rattle.certs.specs.Checks.{outcome, point_steps, checked_of};
 
 use crate::evidence::{Checked, Point};
 use frac128::{Frac, Wide};
-use lp_model::{Member, Model};
+use lp_model::{Member, MemberSet, Model};
 
 /// Whether every member of the set holds at the point.
 ///
 /// The members are taken in order, and a row's sum over its terms in order, from 0. A member that the program does not
 /// have holds everywhere, with no arithmetic. `Wide` comes with the first operation that is too wide, where no member
 /// before it fails.
-pub fn check_point(model: &Model, set: &[Member], point: &Point) -> Checked
+pub fn check_point(model: &Model, set: &MemberSet, point: &Point) -> Checked
     requires { length point.now.values ≡ length model.now.columns }
-    ensures { result ≡ outcome (point_steps model.now set.now (values_at point.now.values)) }
+    ensures { result ≡ outcome (point_steps model.now set.now.members (values_at point.now.values)) }
 {
     checked(members_hold(model, set, point.values.as_slice()))
 }
@@ -33,15 +33,19 @@ pub(crate) fn checked(answer: Result<bool, Wide>) -> Checked
 }
 
 // Whether every member holds.
-fn members_hold(model: &Model, set: &[Member], values: &[Frac]) -> Result<bool, Wide>
+fn members_hold(model: &Model, set: &MemberSet, values: &[Frac]) -> Result<bool, Wide>
     requires { length values.now ≡ length model.now.columns }
-    ensures { checked_of result ≡ outcome (point_steps model.now set.now (values_at values.now)) }
+    ensures { checked_of result ≡ outcome (point_steps model.now set.now.members (values_at values.now)) }
 {
-    for member in set {
-        let holds = member_holds(model, *member, values)?;
+    // That the members stand in order is told with their count.
+    let _count = set.count();
+    let mut after = None;
+    while let Some(member) = set.next(after) {
+        let holds = member_holds(model, member, values)?;
         if !holds {
             return Ok(false);
         }
+        after = Some(member);
     }
     Ok(true)
 }

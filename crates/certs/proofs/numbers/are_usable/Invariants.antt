@@ -4,4 +4,4 @@ use Rattle.certs.proofs.numbers.are_usable.Given as goal
 
 -- the shares left decide
 abbrev pub invariant-loop-share : goal.invariant-loop-share
-invariant-loop-share l = usable_test l.model l.set l.path (drop l.share-index l.shares) ≡ usable_test l.model l.set l.path l.shares
+invariant-loop-share l = usable_test l.model l.set.members l.path (drop l.share-index l.shares) ≡ usable_test l.model l.set.members l.path l.shares
