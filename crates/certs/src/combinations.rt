@@ -1,6 +1,8 @@
 //! Whether shares are a combination.
-ghost use Rattle.std.specs.Prelude.{◌≡◌, ◌<◌, All, length};
-ghost use Rattle.certs.specs.Combination.{IsFitting};
+ghost use Rattle.std.specs.Prelude.{◌≡◌, ◌<◌, [], All, length};
+ghost use Rattle.rational.specs.Linear.{Assignment};
+ghost use Rattle.lp_model.specs.Satisfaction.{Satisfies, IsUnsatisfiable};
+ghost use Rattle.certs.specs.Combination.{IsFitting, KeepsPath};
 ghost use Rattle.certs.specs.Checks.{IsSetOf, outcome, combination_steps, checked_of};
 
 use crate::evidence::{Branch, Checked, Combo, Share};
@@ -16,6 +18,7 @@ use lp_model::{MemberSet, Model};
 /// is named. Then each column is summed: the shares in order, the terms of each in order, factor times weight, and that
 /// plus on `Up` and minus on `Lo`. All sums must be 0. Last comes the right side in the same way, from the numbers on the
 /// sides: it must be below 0. `Wide` comes with the first operation that is too wide, where no test before it fails.
+/// A yes shows that no point that keeps the path satisfies the set, and without a path that no point does.
 ///
 /// `sums` is room for one number a column: what it held does not matter.
 pub fn check_combo(
@@ -29,8 +32,12 @@ pub fn check_combo(
     requires known { All (λ b. b.column < length model.now.columns) path.now }
     requires fitting { All IsFitting path.now }
     requires same { IsSetOf model.now set.now }
-    ensures { result ≡ outcome (combination_steps model.now set.now.members path.now combo.now.shares) }
+    ensures said { result ≡ outcome (combination_steps model.now set.now.members path.now combo.now.shares) }
+    ensures sound { result ≡ Checked.Yes → (x : Assignment) → Satisfies model.now set.now.members x → KeepsPath x path.now → ⊥ }
+    ensures unsatisfiable { result ≡ Checked.Yes → path.now ≡ [] → IsUnsatisfiable model.now set.now.members }
 {
+    // That the program is well formed is told with the count.
+    let _rows = model.row_count();
     checked(combines(model, set, path, combo.shares.as_slice(), sums))
 }
 

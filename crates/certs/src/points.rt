@@ -1,7 +1,7 @@
 //! Whether a point satisfies a set.
 ghost use Rattle.std.specs.Prelude.{◌≡◌, ◌∷◌, [], IsTrue, length};
 ghost use Rattle.lp_model.specs.Members.{exists};
-ghost use Rattle.lp_model.specs.Satisfaction.{values_at};
+ghost use Rattle.lp_model.specs.Satisfaction.{values_at, IsSatisfiable};
 ghost use Rattle.lp_model.specs.Evaluation.{IsInRange};
 ghost use Rattle.certs.specs.Checks.{outcome, point_steps, checked_of};
 
@@ -13,10 +13,11 @@ use lp_model::{Member, MemberSet, Model};
 ///
 /// The members are taken in order, and a row's sum over its terms in order, from 0. A member that the program does not
 /// have holds everywhere, with no arithmetic. `Wide` comes with the first operation that is too wide, where no member
-/// before it fails.
+/// before it fails. A yes shows that some point satisfies the set.
 pub fn check_point(model: &Model, set: &MemberSet, point: &Point) -> Checked
     requires { length point.now.values ≡ length model.now.columns }
-    ensures { result ≡ outcome (point_steps model.now set.now.members (values_at point.now.values)) }
+    ensures said { result ≡ outcome (point_steps model.now set.now.members (values_at point.now.values)) }
+    ensures sound { result ≡ Checked.Yes → IsSatisfiable model.now set.now.members }
 {
     checked(members_hold(model, set, point.values.as_slice()))
 }
