@@ -23,3 +23,4 @@ pub mod PathNumbers
 pub mod Combined
 pub mod Sound
 pub mod Walk
+pub mod Forms

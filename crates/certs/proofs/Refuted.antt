@@ -1,5 +1,5 @@
 -- A combination, and a tree of them, leaves no point.
-use Rattle.std.proofs.Common.{◌≡◌, sym, ◌∙◌, subst, List, [], ◌∷◌, ◌++◌, append_assoc, append-nil, inl, inr}
+use Rattle.std.proofs.Common.{◌≡◌, ap, sym, ◌∙◌, subst, List, [], ◌∷◌, ◌++◌, append_assoc, append-nil, inl, inr}
 use Rattle.std.specs.Prelude.{All}
 use Rattle.std.proofs.lemmas.List.Elements.{All-weaker, All-contains, All-nil, All-push}
 use lib.IntN.{pos, ◌+ℤ◌}
@@ -14,7 +14,9 @@ use Rattle.lp_model.specs.Satisfaction.{coordinate, Holds, Satisfies}
 use Rattle.certs.specs.declared.evidence.Branch.{Branch}
 use Rattle.certs.specs.declared.evidence.Share.{Share}
 use Rattle.certs.specs.Combination.{KeepsBranch, KeepsPath, right_side, CombinationLaw}
-use Rattle.certs.specs.Proof.{Node, Tree, Tip, Fork, preorder, at_most, at_least, IsTreeProof, ProofLaw, OneTreeLaw}
+use Rattle.certs.specs.declared.evidence.Node.{Node}
+use Rattle.certs.specs.declared.evidence.Combo.{Combo}
+use Rattle.certs.specs.Proof.{Tree, Tip, Fork, preorder, at_most, at_least, IsTreeProof, ProofLaw, OneTreeLaw}
 use Rattle.certs.proofs.Sides.{left_side-is, left-le-right}
 
 pub positive_nonneg : (shares : List Share) → All (λ s. zero_ℚ <ℚ s.weight) shares → All (λ s. zero_ℚ ≤ℚ s.weight) shares
@@ -39,7 +41,11 @@ proof_law model set nodes p s = tree_law model set [] p.tree p.proves (coordinat
 
 -- ---- the nodes tell the tree, whatever follows them
 one_tree : (t u : Tree) (v w : List Node) → preorder t ++ v ≡ preorder u ++ w → (t ≡ u) × (v ≡ w)
-one_tree (Tip s) (Tip t) v w e = ((let p : Tip s ≡ Tip t = cc in p), (let p : v ≡ w = cc in p))
+one_tree (Tip s) (Tip t) v w e =
+    let first : Combo = record { shares = s } in
+    let second : Combo = record { shares = t } in
+    let same : first ≡ second = cc in
+    (ap (λ (c : Combo). Tip c.shares) same, (let p : v ≡ w = cc in p))
 one_tree (Tip s) (Fork j k l u) v w e = cc
 one_tree (Fork j k l u) (Tip s) v w e = cc
 one_tree (Fork j k l u) (Fork i n m o) v w e =

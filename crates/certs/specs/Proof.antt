@@ -7,12 +7,9 @@ use Rattle.lp_model.specs.Members.{exists}
 use Rattle.lp_model.specs.Satisfaction.{IsUnsatisfiable}
 use Rattle.certs.specs.declared.evidence.Branch.{Branch}
 use Rattle.certs.specs.declared.evidence.Share.{Share}
+use Rattle.certs.specs.declared.evidence.Node.{Node}
+use Rattle.certs.specs.declared.evidence.Node.TheVariants.{Split, Leaf}
 use Rattle.certs.specs.Combination.{IsCombination}
-
--- a node as it is listed
-pub data Node : Type 0 where
-  Split : ℕ → ℤ → Node
-  Leaf : List Share → Node
 
 -- a tree of branches
 pub data Tree : Type 0 where
@@ -21,7 +18,7 @@ pub data Tree : Type 0 where
 
 -- the nodes, each before its children, the lower child first
 abbrev pub preorder : Tree → List Node
-preorder (Tip shares) = Leaf shares ∷ []
+preorder (Tip shares) = Leaf (record { shares = shares }) ∷ []
 preorder (Fork j k lower upper) = Split j k ∷ (preorder lower ++ preorder upper)
 
 -- column j is at most k

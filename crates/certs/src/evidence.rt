@@ -115,6 +115,57 @@ pub struct Combo {
     pub shares: Shares,
 }
 
+/// A node of a proof: column number `column` is at most `at` or at least `at + 1`, or the combination of a leaf.
+#[derive(Drop)]
+pub enum Node {
+    Split { column: u32, at: i128 },
+    Leaf(Combo),
+}
+
+/// The nodes of a proof, as a list: each before its children, the lower child first.
+#[derive(Drop)]
+pub struct Nodes {
+    items: Vec<Node>,
+}
+
+impl Model for Nodes {
+    ghost use Rattle.std.specs.Prelude.{List};
+    ghost use Rattle.certs.specs.declared.evidence.Node.{Node};
+
+    ghost Value = { List Node };
+
+    ghost view = { λ n. n.items.items };
+}
+
+impl Nodes {
+    /// These nodes.
+    pub fn new(items: Vec<Node>) -> Nodes
+        ensures { result ≡ items.items }
+    {
+        Nodes { items }
+    }
+
+    /// The nodes.
+    pub fn as_slice(&self) -> &[Node]
+        ensures { result.now ≡ self.now }
+    {
+        self.items.as_slice()
+    }
+
+    /// The nodes, given back.
+    pub fn into_vec(self) -> Vec<Node>
+        ensures { result.items ≡ self }
+    {
+        self.items
+    }
+}
+
+/// A proof by branches that no point satisfies a set.
+#[derive(Drop)]
+pub struct Proof {
+    pub nodes: Nodes,
+}
+
 /// A bound that a path puts on a column: at most `at` where `upper` is true, and else at least `at`.
 #[derive(Clone, Copy, PartialEq, Eq, Debug)]
 pub struct Branch {

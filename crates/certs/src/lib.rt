@@ -9,7 +9,9 @@ mod points;
 mod sums;
 
 pub use combinations::check_combo;
-pub use evidence::{Branch, Checked, Combo, Point, Ray, Share, Shares, Source, Values};
+pub use evidence::{
+    Branch, Checked, Combo, Node, Nodes, Point, Proof, Ray, Share, Shares, Source, Values,
+};
 pub use laws::{
     bound_is_kept, bound_is_valid, checked_bound, checked_combination, checked_least,
     checked_point, checked_price, checked_ray, combination_refutes, early_is_irreducible,
@@ -23,3 +25,6 @@ pub use laws::{
 };
 pub use lp_model::{Member, MemberSet, Side};
 pub use points::check_point;
+
+#[cfg(test)]
+mod tests;

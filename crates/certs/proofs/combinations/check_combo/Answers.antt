@@ -1,4 +1,4 @@
-use Rattle.std.proofs.Common.{sym, ◌∙◌, ap, subst, ◌≡◌, []}
+use Rattle.std.proofs.Common.{subst, ◌≡◌}
 use Rattle.frac128.specs.Limit.{limit}
 use Rattle.certs.specs.Checks.{outcome, combination_steps}
 use Rattle.certs.specs.declared.evidence.Branch.{Branch}

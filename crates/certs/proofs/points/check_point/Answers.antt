@@ -1,4 +1,4 @@
-use Rattle.std.proofs.Common.{sym, ◌∙◌, subst, ◌≡◌}
+use Rattle.std.proofs.Common.{◌≡◌}
 use Rattle.frac128.specs.Limit.{limit}
 use Rattle.lp_model.specs.Satisfaction.{values_at}
 use Rattle.certs.specs.Checks.{outcome, point_steps}
