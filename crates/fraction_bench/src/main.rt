@@ -2,8 +2,7 @@
 #![tactic(auto)]
 
 use frac128::Frac;
-use std::env;
-use std::io;
+use std::{env, io};
 
 // The number that the first word after the program's name says, else 1,000.
 fn read_count(rt: &HostRuntime) -> u64 {
