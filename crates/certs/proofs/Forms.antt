@@ -1,6 +1,6 @@
 -- Forms of two terms.
 use Rattle.std.proofs.Common.{◌≢◌, ◌<◌, ℕ, [], ◌∷◌, arith}
-use Rattle.std.specs.Prelude.{AllPairs}
+use Rattle.std.specs.Prelude.{All, AllPairs}
 use Rattle.std.proofs.lemmas.List.Elements.{All-nil, All-cons}
 use Rattle.std.proofs.lemmas.List.Kept.{AllPairs-cons}
 use Rattle.rational.specs.Rational.{ℚ, zero_ℚ}
@@ -22,3 +22,7 @@ two_terms a b n p q h =
       known = All-cons (λ (t : Term). t.column < n) x (y ∷ []) (let l : 0 < n = omega arith in l) (All-cons (λ (t : Term). t.column < n) y [] h (All-nil (λ (t : Term). t.column < n)));
       nonzero = All-cons (λ (t : Term). t.factor ≢ zero_ℚ) x (y ∷ []) p (All-cons (λ (t : Term). t.factor ≢ zero_ℚ) y [] q (All-nil (λ (t : Term). t.factor ≢ zero_ℚ)));
     }
+
+-- what holds of both holds of all
+pub both_hold : {A : Type 0} (P : A → Type 0) (a b : A) → P a → P b → All P (a ∷ b ∷ [])
+both_hold P a b p q = All-cons P a (b ∷ []) p (All-cons P b [] q (All-nil P))

@@ -224,6 +224,61 @@ fn wide_sums(rt: HostRuntime) -> Result<(), Fail> {
     Ok(())
 }
 
+// What the check says of two shares and no members, on the path of x at most 3 and x at least 4.
+fn say_apart(alloc: Global, shares: [Share; 2]) -> Result<Checked, AllocError> {
+    let Ok(model) = program(alloc) else {
+        return Err(AllocError);
+    };
+    if model.column_count() != 2 {
+        return Err(AllocError);
+    }
+    let set = MemberSet::empty(alloc, &model)?;
+    let combo = Combo {
+        shares: Shares::new(Vec::from_slice(alloc, &shares)?),
+    };
+    let path = [
+        Branch {
+            column: 0,
+            upper: true,
+            at: 3,
+        },
+        Branch {
+            column: 0,
+            upper: false,
+            at: 4,
+        },
+    ];
+    let mut sums = [Frac::whole(0), Frac::whole(0)];
+    Ok(check_combo(&model, &set, &path, &combo, &mut sums))
+}
+
+// What the path says of a column, this many times.
+fn branch_share(source: Source, side: Side, weight: i64) -> Share {
+    Share {
+        source,
+        side,
+        weight: Frac::whole(weight),
+    }
+}
+
+#[test]
+fn branches(rt: HostRuntime) -> Result<(), Fail> {
+    let alloc = rt.alloc();
+    let below = branch_share(Source::Below(0), Side::Up, 1);
+    // The right side is 3 - 4.
+    let above = branch_share(Source::Above(0), Side::Lo, 1);
+    assert_eq!(rt; say_apart(alloc, [below, above])?, Checked::Yes);
+    // The column does not cancel.
+    let twice = branch_share(Source::Above(0), Side::Lo, 2);
+    assert_eq!(rt; say_apart(alloc, [below, twice])?, Checked::No);
+    // The path says nothing of the column y, and no lower side comes from a greatest number.
+    let other = branch_share(Source::Above(1), Side::Lo, 1);
+    assert_eq!(rt; say_apart(alloc, [below, other])?, Checked::No);
+    let turned = branch_share(Source::Below(0), Side::Lo, 1);
+    assert_eq!(rt; say_apart(alloc, [below, turned])?, Checked::No);
+    Ok(())
+}
+
 // What the check says of the point x, y and two members.
 fn say_of(
     alloc: Global,
