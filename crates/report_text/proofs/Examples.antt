@@ -1,10 +1,14 @@
 -- Small reports, whose lines are found by computation.
 use Rattle.std.proofs.Common.{◌≡◌, refl, ℕ, Bool, true, false, List, [], ◌∷◌, Option, None, Some}
-use Rattle.std.specs.Prelude.{codes}
+use Rattle.std.specs.Prelude.{codes, All, AllPairs}
+use Rattle.std.proofs.Common.{arith, sym, ap}
+use Rattle.std.specs.Prelude.{IsTrue}
+use Rattle.std.proofs.lemmas.List.Elements.{All-nil, All-cons}
 use Rattle.std.specs.Fmt.{digits}
 use lib.IntN.{ℤ, pos, negsuc}
 use Rattle.algebra.specs.Gcd.{gcd, gcd_within}
-use Rattle.rational.specs.Rational.{ℚ, frac, whole, zero_ℚ, one_ℚ, eq_ℚ}
+use Rattle.rational.specs.Rational.{ℚ, frac, whole, zero_ℚ, one_ℚ, eq_ℚ, lt_q}
+use Rattle.rational.proofs.Order.{lt_q-true}
 use Rattle.rational.specs.Linear.{Term}
 use Rattle.lp_model.specs.declared.parts.Note.TheVariants.{LowerRemoved, LowerKept}
 use Rattle.lp_model.specs.declared.parts.Weight.TheVariants.{Soft}
@@ -12,7 +16,8 @@ use Rattle.lp_model.specs.declared.members.Member.{Member}
 use Rattle.lp_model.specs.declared.members.Member.TheVariants.{Row, Lower, Upper, Whole}
 use Rattle.lp_model.specs.declared.members.Side.{Side}
 use Rattle.lp_model.specs.declared.members.Side.TheVariants.{Lo, Up}
-use Rattle.lp_model.specs.Program.{Program, NamedRow, NamedColumn}
+use Rattle.lp_model.specs.Program.{Program, NamedRow, NamedColumn, noted_column}
+use Rattle.lp_model.specs.Members.{comes_before}
 use Rattle.lp_model.specs.MemberSets.{SetValue}
 use Rattle.certs.specs.declared.evidence.Source.TheVariants.{Member as Of, Below, Above}
 use Rattle.certs.specs.declared.evidence.Share.{Share}
@@ -25,7 +30,10 @@ use Rattle.report_text.specs.declared.report.Answer.{Answer}
 use Rattle.report_text.specs.declared.report.Answer.TheVariants.{Feasible, Infeasible, Irreducible}
 use Rattle.report_text.specs.declared.report.Entry.{Entry}
 use Rattle.report_text.specs.declared.report.Report.{Report}
-use Rattle.report_text.specs.Grammar.{Line, use_line, report_lines}
+use Rattle.report_text.specs.Grammar.{Line, report_lines, text_of}
+use Rattle.report_text.proofs.Endings.{pair_in_order, nothing_in_form}
+use Rattle.report_text.specs.Form.{IsNamedColumn, share_before, IsNamedMember, IsListed, IsUse, AreUses, IsOneLeaf, IsEntryFor, IsReportFor}
+use Rattle.report_text.specs.Reading.{Reads, IsFront, IsWhole, IsBadLine, IsTruncated}
 
 abbrev term : ℕ → ℤ → Term
 term j n = record { column = j; factor = whole n }
@@ -89,3 +97,56 @@ two_entries_have_lines = refl
 -- ---- a report without entries
 no_entries_have_lines : report_lines two_rows (record { notes = []; entries = [] }) ≡ codes "iisan report 1" ∷ codes "report end" ∷ []
 no_entries_have_lines = refl
+
+-- ---- that report stands in the grammar, and its bytes are read as it
+rows_named : All (IsNamedMember two_rows) (Row 0 ∷ Row 1 ∷ [])
+rows_named = All-cons (IsNamedMember two_rows) (Row 0) (Row 1 ∷ []) (record { known = omega arith; word = refl })
+    (All-cons (IsNamedMember two_rows) (Row 1) [] (record { known = omega arith; word = refl }) (All-nil (IsNamedMember two_rows)))
+
+rows_listed : IsListed two_rows rows_set
+rows_listed = record { of_model = record { rows = refl; columns = refl }; named = rows_named; in_order = pair_in_order (λ m n. IsTrue (comes_before m n)) (Row 0) (Row 1) refl }
+
+first_use : IsUse two_rows (use_of (Row 0) Up one_ℚ)
+unfolding frac gcd gcd_within lt_q
+first_use = record { named = record { known = omega arith; word = refl }; positive = lt_q-true zero_ℚ one_ℚ refl; fits = refl }
+
+second_use : IsUse two_rows (use_of (Row 1) Lo (frac (pos 3) 2))
+unfolding frac gcd gcd_within lt_q
+second_use = record { named = record { known = omega arith; word = refl }; positive = lt_q-true zero_ℚ (frac (pos 3) 2) refl; fits = refl }
+
+both_uses : AreUses two_rows (use_of (Row 0) Up one_ℚ ∷ use_of (Row 1) Lo (frac (pos 3) 2) ∷ [])
+both_uses = record {
+  each = All-cons (IsUse two_rows) (use_of (Row 0) Up one_ℚ) (use_of (Row 1) Lo (frac (pos 3) 2) ∷ []) first_use
+      (All-cons (IsUse two_rows) (use_of (Row 1) Lo (frac (pos 3) 2)) [] second_use (All-nil (IsUse two_rows)));
+  in_order = pair_in_order (λ s t. IsTrue (share_before s.source s.side t.source t.side)) (use_of (Row 0) Up one_ℚ) (use_of (Row 1) Lo (frac (pos 3) 2)) refl;
+}
+
+contradiction_in_form : IsReportFor two_rows contradiction
+contradiction_in_form = record {
+  notes = All-nil (λ note. IsNamedColumn two_rows (noted_column note));
+  entries = All-cons (IsEntryFor two_rows) (record { command = Check; answer = Infeasible rows_set proof; line = 2 }) [] (record { kind = refl; answer = (rows_listed, record { combo = record { shares = use_of (Row 0) Up one_ℚ ∷ use_of (Row 1) Lo (frac (pos 3) 2) ∷ [] }; one = refl; uses = both_uses }) }) (All-nil (IsEntryFor two_rows));
+  numbered = (refl, tt);
+}
+
+contradiction_is_read : Reads two_rows (text_of contradiction_lines) contradiction
+contradiction_is_read = record { form = contradiction_in_form; text = ap text_of (sym contradiction_has_lines) }
+
+-- ---- the order of uses
+lo_before_up : share_before (Of (Row 1)) Lo (Of (Row 1)) Up ≡ true
+lo_before_up = refl
+
+not_twice : share_before (Of (Row 1)) Lo (Of (Row 1)) Lo ≡ false
+not_twice = refl
+
+members_before_branches : share_before (Of (Whole 5)) Lo (Below 0) Up ≡ true
+members_before_branches = refl
+
+below_before_above : share_before (Below 2) Up (Above 2) Lo ≡ true
+below_before_above = refl
+
+by_column : share_before (Above 2) Lo (Below 2) Up ≡ false
+by_column = refl
+
+-- ---- a report that has no last line is truncated, and a line that no report has is bad
+unended_is_front : IsFront two_rows (codes "iisan report 1" ∷ [])
+unended_is_front = (codes "report end" ∷ [], record { report = record { notes = []; entries = [] }; form = nothing_in_form two_rows; lines = refl })
