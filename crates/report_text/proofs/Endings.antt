@@ -30,7 +30,7 @@ pub nothing_in_form : (model : Program) → IsReportFor model (record { notes = 
 nothing_in_form model = record { notes = All-nil (λ note. IsNamedColumn model (noted_column note)); entries = All-nil (IsEntryFor model); numbered = tt }
 
 -- ---- the foot
-abbrev foot : Line
+abbrev pub foot : Line
 foot = codes "report end"
 
 -- two lists that end at their first foot: nothing follows in the one where nothing follows in the other
@@ -54,7 +54,7 @@ all_lines : {X : Type 0} (P : Line → Type 0) (f : X → Line) → ((x : X) →
 all_lines P f h [] = All-nil P
 all_lines P f h (x ∷ xs) = All-cons P (f x) (map f xs) (h x) (all_lines P f h xs)
 
-abbrev NotFoot : Line → Type 0
+abbrev pub NotFoot : Line → Type 0
 NotFoot l = l ≢ foot
 
 -- one line before others
@@ -101,10 +101,10 @@ note_is model (LowerRemoved j) = other_start (note_line model (LowerRemoved j)) 
 note_is model (LowerKept j) = other_start (note_line model (LowerKept j)) refl
 
 -- all that stands before the foot
-abbrev body : Program → Report → List Line
+abbrev pub body : Program → Report → List Line
 body model report = codes "iisan report 1" ∷ (map (note_line model) report.notes ++ flat_map (entry_lines model) report.entries)
 
-body_is : (model : Program) (report : Report) → All NotFoot (body model report)
+pub body_is : (model : Program) (report : Report) → All NotFoot (body model report)
 body_is model report = before (codes "iisan report 1") (map (note_line model) report.notes ++ flat_map (entry_lines model) report.entries) refl
     (All-append NotFoot (map (note_line model) report.notes) (flat_map (entry_lines model) report.entries)
     (all_lines NotFoot (note_line model) (note_is model) report.notes) (all_made NotFoot (entry_lines model) (entry_is model) report.entries))
@@ -114,6 +114,10 @@ body_and_foot : (model : Program) (report : Report) → report_lines model repor
 body_and_foot model report = ap (λ l. codes "iisan report 1" ∷ l) (sym (append_assoc (map (note_line model) report.notes) (flat_map (entry_lines model) report.entries) (foot ∷ [])))
 
 -- ---- fronts
+-- no lines are the front of a report
+pub nothing_is_front : (model : Program) → IsFront model []
+nothing_is_front model = (report_lines model (record { notes = []; entries = [] }), record { report = record { notes = []; entries = [] }; form = nothing_in_form model; lines = refl })
+
 -- what stands before a front is one
 pub shorter_front : (model : Program) (a b : List Line) → IsFront model (a ++ b) → IsFront model a
 shorter_front model a b h = (b ++ h.0, record { report = h.1.report; form = h.1.form; lines = h.1.lines ∙ append_assoc a b h.0 })

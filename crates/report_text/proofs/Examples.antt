@@ -1,7 +1,8 @@
 -- Small reports, whose lines are found by computation.
 use Rattle.std.proofs.Common.{◌≡◌, refl, ℕ, Bool, true, false, List, [], ◌∷◌, Option, None, Some}
 use Rattle.std.specs.Prelude.{codes, All, AllPairs}
-use Rattle.std.proofs.Common.{arith, sym, ap}
+use Rattle.std.proofs.Common.{arith, sym, ap, subst, ◌++◌, inl, inr, true≢false}
+use Rattle.std.specs.Str.{bytes_eq}
 use Rattle.std.specs.Prelude.{IsTrue}
 use Rattle.std.proofs.lemmas.List.Elements.{All-nil, All-cons}
 use Rattle.std.specs.Fmt.{digits}
@@ -31,7 +32,7 @@ use Rattle.report_text.specs.declared.report.Answer.TheVariants.{Feasible, Infea
 use Rattle.report_text.specs.declared.report.Entry.{Entry}
 use Rattle.report_text.specs.declared.report.Report.{Report}
 use Rattle.report_text.specs.Grammar.{Line, report_lines, text_of}
-use Rattle.report_text.proofs.Endings.{pair_in_order, nothing_in_form}
+use Rattle.report_text.proofs.Endings.{pair_in_order, nothing_is_front, foot, NotFoot, body, body_is, needs_foot, needs_head, whole_ends}
 use Rattle.report_text.specs.Form.{IsNamedColumn, share_before, IsNamedMember, IsListed, IsUse, AreUses, IsOneLeaf, IsEntryFor, IsReportFor}
 use Rattle.report_text.specs.Reading.{Reads, IsFront, IsWhole, IsBadLine, IsTruncated}
 
@@ -147,6 +148,40 @@ below_before_above = refl
 by_column : share_before (Above 2) Lo (Below 2) Up ≡ false
 by_column = refl
 
--- ---- a report that has no last line is truncated, and a line that no report has is bad
-unended_is_front : IsFront two_rows (codes "iisan report 1" ∷ [])
-unended_is_front = (codes "report end" ∷ [], record { report = record { notes = []; entries = [] }; form = nothing_in_form two_rows; lines = refl })
+-- ---- the last line is missing, or its end is: truncated
+abbrev unended_lines : List Line
+unended_lines = codes "iisan report 1" ∷ codes "command check" ∷ codes "infeasible" ∷ codes "member row c1" ∷ codes "member row c2"
+    ∷ codes "proof" ∷ codes "leaf" ∷ codes "use row c1 up 1" ∷ codes "use row c2 lo 3/2" ∷ codes "end" ∷ []
+
+unended_is_body : body two_rows contradiction ≡ unended_lines
+unfolding frac gcd gcd_within digits
+unended_is_body = refl
+
+unended_is_front : IsFront two_rows unended_lines
+unended_is_front = (foot ∷ [], record { report = contradiction; form = contradiction_in_form; lines = contradiction_has_lines })
+
+unended_is_unfinished : ¬ (IsWhole two_rows unended_lines)
+unended_is_unfinished = needs_foot two_rows unended_lines (subst (All NotFoot) unended_is_body (body_is two_rows contradiction))
+
+without_last_line : IsTruncated two_rows (text_of unended_lines)
+without_last_line = record { lines = unended_lines; last = []; cut = refl; right = unended_is_front; unfinished = unended_is_unfinished }
+
+without_last_mark : IsTruncated two_rows (text_of unended_lines ++ foot)
+without_last_mark = record { lines = unended_lines; last = foot; cut = refl; right = unended_is_front; unfinished = unended_is_unfinished }
+
+-- ---- no bytes: truncated
+no_bytes : IsTruncated two_rows []
+no_bytes = record { lines = []; last = []; cut = refl; right = nothing_is_front two_rows; unfinished = needs_foot two_rows [] (All-nil NotFoot) }
+
+-- ---- another head: line 1 is bad
+other_head : IsBadLine two_rows (text_of (codes "iisan report 2" ∷ [])) 1
+other_head = record { front = []; line = codes "iisan report 2"; back = [] ∷ []; cut = refl; number = refl; judged = inl (λ e. cc); right = nothing_is_front two_rows;
+    wrong = needs_head two_rows (codes "iisan report 2") [] (λ e. absurd (true≢false (ap (λ l. bytes_eq (codes "iisan report 2") l) e))) }
+
+-- ---- a byte after the end: its line is bad
+contradiction_is_whole : IsWhole two_rows contradiction_lines
+contradiction_is_whole = record { report = contradiction; form = contradiction_in_form; lines = contradiction_has_lines }
+
+byte_after : IsBadLine two_rows (text_of contradiction_lines ++ 65 ∷ []) 12
+byte_after = record { front = contradiction_lines; line = 65 ∷ []; back = []; cut = refl; number = refl; judged = inr (contradiction_is_whole, λ e. cc); right = ([], contradiction_is_whole);
+    wrong = λ h. let e : (65 ∷ []) ∷ [] ≡ [] = whole_ends two_rows contradiction_lines ((65 ∷ []) ∷ []) contradiction_is_whole h in cc }
