@@ -1,5 +1,5 @@
 -- Laws of the grammar: the last line of a report stands nowhere else in it, so bytes have one ending.
-use Rattle.std.proofs.Common.{◌≡◌, refl, sym, ap, ◌∙◌, ℕ, zero, suc, ◌<◌, Bool, true, false, cond, List, [], ◌∷◌, ◌++◌, ◌==◌, true≢false, append_assoc, append-nil, arith, inl, inr}
+use Rattle.std.proofs.Common.{◌≡◌, refl, sym, ap, ◌∙◌, ℕ, suc, true, false, List, [], ◌∷◌, ◌++◌, ◌==◌, true≢false, append_assoc, append-nil, arith}
 use Rattle.std.specs.Prelude.{◌≢◌, All, AllPairs, map, flat_map, zip, codes, slice_index}
 use Rattle.std.proofs.lemmas.List.Elements.{All-nil, All-cons, All-head, All-tail, All-append}
 use Rattle.std.proofs.lemmas.List.Kept.{AllPairs-cons}
@@ -19,7 +19,7 @@ use Rattle.report_text.specs.declared.report.Entry.{Entry}
 use Rattle.report_text.specs.declared.report.Report.{Report}
 use Rattle.report_text.specs.Grammar.{Line, ◌then◌, column_name, member_line, value_line, value_lines, point_lines, use_line, node_lines, proof_lines, witness_lines, answer_lines, command_text, entry_lines, note_line, report_lines}
 use Rattle.report_text.specs.Form.{IsNamedColumn, IsEntryFor, IsReportFor}
-use Rattle.report_text.specs.Reading.{GoesOn, IsFront, IsWhole, IsBadLine, IsTruncated}
+use Rattle.report_text.specs.Reading.{IsFront, IsWhole}
 
 -- two elements of which the first stands before the second
 pub pair_in_order : {X : Type 0} (R : X → X → Type 0) (x y : X) → R x y → AllPairs R (x ∷ y ∷ [])

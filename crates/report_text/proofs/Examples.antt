@@ -1,6 +1,6 @@
 -- Small reports, whose lines are found by computation.
-use Rattle.std.proofs.Common.{◌≡◌, refl, ℕ, Bool, true, false, List, [], ◌∷◌, Option, None, Some}
-use Rattle.std.specs.Prelude.{codes, All, AllPairs}
+use Rattle.std.proofs.Common.{◌≡◌, refl, ℕ, true, false, List, [], ◌∷◌, Option, None, Some}
+use Rattle.std.specs.Prelude.{codes, All}
 use Rattle.std.proofs.Common.{arith, sym, ap, subst, ◌++◌, inl, inr, true≢false}
 use Rattle.std.specs.Str.{bytes_eq}
 use Rattle.std.specs.Prelude.{IsTrue}
@@ -14,7 +14,7 @@ use Rattle.rational.specs.Linear.{Term}
 use Rattle.lp_model.specs.declared.parts.Note.TheVariants.{LowerRemoved, LowerKept}
 use Rattle.lp_model.specs.declared.parts.Weight.TheVariants.{Soft}
 use Rattle.lp_model.specs.declared.members.Member.{Member}
-use Rattle.lp_model.specs.declared.members.Member.TheVariants.{Row, Lower, Upper, Whole}
+use Rattle.lp_model.specs.declared.members.Member.TheVariants.{Row, Whole}
 use Rattle.lp_model.specs.declared.members.Side.{Side}
 use Rattle.lp_model.specs.declared.members.Side.TheVariants.{Lo, Up}
 use Rattle.lp_model.specs.Program.{Program, NamedRow, NamedColumn, noted_column}
@@ -29,11 +29,10 @@ use Rattle.report_text.specs.declared.report.Method.TheVariants.{Deletion}
 use Rattle.report_text.specs.declared.report.Command.TheVariants.{Check, Iis}
 use Rattle.report_text.specs.declared.report.Answer.{Answer}
 use Rattle.report_text.specs.declared.report.Answer.TheVariants.{Feasible, Infeasible, Irreducible}
-use Rattle.report_text.specs.declared.report.Entry.{Entry}
 use Rattle.report_text.specs.declared.report.Report.{Report}
 use Rattle.report_text.specs.Grammar.{Line, report_lines, text_of}
 use Rattle.report_text.proofs.Endings.{pair_in_order, nothing_is_front, foot, NotFoot, body, body_is, needs_foot, needs_head, whole_ends}
-use Rattle.report_text.specs.Form.{IsNamedColumn, share_before, IsNamedMember, IsListed, IsUse, AreUses, IsOneLeaf, IsEntryFor, IsReportFor}
+use Rattle.report_text.specs.Form.{IsNamedColumn, share_before, IsNamedMember, IsListed, IsUse, AreUses, IsEntryFor, IsReportFor}
 use Rattle.report_text.specs.Reading.{Reads, IsFront, IsWhole, IsBadLine, IsTruncated}
 
 abbrev term : ℕ → ℤ → Term
@@ -81,8 +80,10 @@ abbrev irreducible : Answer
 irreducible = Irreducible (record { members = rows_set; witnesses = point (zero_ℚ ∷ frac (pos 1) 2 ∷ []) ∷ point (zero_ℚ ∷ zero_ℚ ∷ []) ∷ []; proof = proof })
 
 abbrev two_entries : Report
-two_entries = record { notes = LowerRemoved 0 ∷ LowerKept 1 ∷ [];
-    entries = record { command = Iis Deletion; answer = irreducible; line = 4 } ∷ record { command = Check; answer = Feasible (point (frac (negsuc 0) 3 ∷ whole (pos 12) ∷ [])); line = 16 } ∷ [] }
+two_entries = record {
+  notes = LowerRemoved 0 ∷ LowerKept 1 ∷ [];
+  entries = record { command = Iis Deletion; answer = irreducible; line = 4 } ∷ record { command = Check; answer = Feasible (point (frac (negsuc 0) 3 ∷ whole (pos 12) ∷ [])); line = 16 } ∷ [];
+}
 
 two_entries_have_lines : report_lines two_rows two_entries
     ≡ codes "iisan report 1" ∷ codes "note x lower removed" ∷ codes "note y lower kept"
@@ -175,13 +176,29 @@ no_bytes = record { lines = []; last = []; cut = refl; right = nothing_is_front 
 
 -- ---- another head: line 1 is bad
 other_head : IsBadLine two_rows (text_of (codes "iisan report 2" ∷ [])) 1
-other_head = record { front = []; line = codes "iisan report 2"; back = [] ∷ []; cut = refl; number = refl; judged = inl (λ e. cc); right = nothing_is_front two_rows;
-    wrong = needs_head two_rows (codes "iisan report 2") [] (λ e. absurd (true≢false (ap (λ l. bytes_eq (codes "iisan report 2") l) e))) }
+other_head = record {
+  front = [];
+  line = codes "iisan report 2";
+  back = [] ∷ [];
+  cut = refl;
+  number = refl;
+  judged = inl (λ e. cc);
+  right = nothing_is_front two_rows;
+  wrong = needs_head two_rows (codes "iisan report 2") [] (λ e. absurd (true≢false (ap (λ l. bytes_eq (codes "iisan report 2") l) e)));
+}
 
 -- ---- a byte after the end: its line is bad
 contradiction_is_whole : IsWhole two_rows contradiction_lines
 contradiction_is_whole = record { report = contradiction; form = contradiction_in_form; lines = contradiction_has_lines }
 
 byte_after : IsBadLine two_rows (text_of contradiction_lines ++ 65 ∷ []) 12
-byte_after = record { front = contradiction_lines; line = 65 ∷ []; back = []; cut = refl; number = refl; judged = inr (contradiction_is_whole, λ e. cc); right = ([], contradiction_is_whole);
-    wrong = λ h. let e : (65 ∷ []) ∷ [] ≡ [] = whole_ends two_rows contradiction_lines ((65 ∷ []) ∷ []) contradiction_is_whole h in cc }
+byte_after = record {
+  front = contradiction_lines;
+  line = 65 ∷ [];
+  back = [];
+  cut = refl;
+  number = refl;
+  judged = inr (contradiction_is_whole, λ e. cc);
+  right = ([], contradiction_is_whole);
+  wrong = λ h. let e : (65 ∷ []) ∷ [] ≡ [] = whole_ends two_rows contradiction_lines ((65 ∷ []) ∷ []) contradiction_is_whole h in cc;
+}
