@@ -1,8 +1,8 @@
 -- No line of a report has the mark that ends lines, so the parts of a report's bytes are its lines.
-use Rattle.std.proofs.Common.{◌≡◌, ◌≢◌, refl, sym, ap, subst, ◌∙◌, ℕ, zero, suc, ◌<◌, ◌^◌, ◌==◌, ◌&&◌, Bool, true, false, not, cond, List, [], ◌∷◌, ◌++◌, append_assoc, arith, inl, inr}
+use Rattle.std.proofs.Common.{◌≡◌, ◌≢◌, refl, sym, ap, subst, ◌∙◌, ℕ, zero, suc, ◌<◌, ◌==◌, Bool, true, false, not, List, [], ◌∷◌, ◌++◌, append_assoc, arith}
 use Rattle.std.specs.Prelude.{All, map, flat_map, zip, codes, decimal}
 use Rattle.std.specs.List.{list_all}
-use Rattle.std.proofs.lemmas.List.Elements.{All-nil, All-cons, All-head, All-tail, All-append, All-weaker}
+use Rattle.std.proofs.lemmas.List.Elements.{All-nil, All-cons, All-head, All-tail, All-append}
 use Rattle.std.proofs.lemmas.List.Splits.{slice_split_at}
 use Rattle.std.proofs.Common.{eqb-true, ltb-false, true≢false, ◌≤◌, ◌+◌, length}
 use Rattle.std.proofs.lemmas.Bool.{and_parts, or_parts, cond_both, false_from_ne_true}
@@ -165,7 +165,7 @@ module _ (model : Program) where
   values_no_mark j (v ∷ vs) h w =
       let rest : All NoMark (value_lines model (suc j) vs) = values_no_mark (suc j) vs (All-tail IsWithinLimit v vs h) (λ i n. subst (λ k. is_word (column_name model k) ≡ true) (omega arith) (w (suc i) n)) in
       cond_both (eq_ℚ v zero_ℚ) (value_lines model (suc j) vs) (value_line model j v ∷ value_lines model (suc j) vs) (All NoMark) (λ _. rest)
-          (λ e. All-cons NoMark (value_line model j v) (value_lines model (suc j) vs) (value_no_mark j v (All-head IsWithinLimit v vs h) (subst (λ k. is_word (column_name model k) ≡ true) (let p : 0 + j ≡ j = omega arith in p) (w zero (not_from_Decides _ (eq-Decides v zero_ℚ) e)))) rest)
+      (λ e. All-cons NoMark (value_line model j v) (value_lines model (suc j) vs) (value_no_mark j v (All-head IsWithinLimit v vs h) (subst (λ k. is_word (column_name model k) ≡ true) (let p : 0 + j ≡ j = omega arith in p) (w zero (not_from_Decides _ (eq-Decides v zero_ℚ) e)))) rest)
 
   point_no_mark : (p : Point) → IsPointFor model p → All NoMark (point_lines model p)
   point_no_mark p h = All-cons NoMark (codes "point") (value_lines model 0 p.values) (plain (codes "point") refl)
