@@ -1,0 +1,4 @@
+pub mod Endings
+pub mod Marks
+pub mod OneEnding
+pub mod Examples

@@ -1,0 +1,145 @@
+-- Which reports stand in the grammar: what is asked of their names, numbers and order.
+use Rattle.std.specs.Prelude.{◌≡◌, ◌≢◌, ℕ, ◌+◌, ◌<◌, nat_lt, nat_le, Bool, true, false, ◌&&◌, ◌||◌, IsTrue, List, [], ◌∷◌, length, All, AllPairs}
+use Rattle.std.specs.List.{list_all}
+use Rattle.lines.specs.Names.{is_shown}
+use Rattle.rational.specs.Rational.{ℚ, zero_ℚ, ◌<ℚ◌}
+use Rattle.frac128.specs.Limit.{limit}
+use Rattle.frac128.specs.Width.{is_too_wide}
+use Rattle.lp_model.specs.Program.{Program, noted_column}
+use Rattle.lp_model.specs.declared.members.Member.{Member}
+use Rattle.lp_model.specs.declared.members.Side.{Side}
+use Rattle.lp_model.specs.declared.members.Side.TheVariants.{Lo, Up}
+use Rattle.lp_model.specs.Members.{comes_before, is_same, IsInOrder}
+use Rattle.lp_model.specs.MemberSets.{SetValue, IsMemberFor}
+use Rattle.lp_model.specs.Satisfaction.{values_at}
+use Rattle.certs.specs.declared.evidence.Source.{Source}
+use Rattle.certs.specs.declared.evidence.Source.TheVariants.{Member as Of, Below, Above}
+use Rattle.certs.specs.declared.evidence.Share.{Share}
+use Rattle.certs.specs.declared.evidence.Point.{Point}
+use Rattle.certs.specs.declared.evidence.Combo.{Combo}
+use Rattle.certs.specs.declared.evidence.Node.TheVariants.{Leaf}
+use Rattle.certs.specs.declared.evidence.Proof.{Proof}
+use Rattle.certs.specs.Checks.{IsSetOf}
+use Rattle.report_text.specs.declared.report.Command.{Command}
+use Rattle.report_text.specs.declared.report.Command.TheVariants.{Check, Iis}
+use Rattle.report_text.specs.declared.report.Core.{Core}
+use Rattle.report_text.specs.declared.report.Answer.{Answer}
+use Rattle.report_text.specs.declared.report.Answer.TheVariants.{Feasible, Infeasible, Irreducible}
+use Rattle.report_text.specs.declared.report.Entry.{Entry}
+use Rattle.report_text.specs.declared.report.Report.{Report}
+use Rattle.report_text.specs.Grammar.{column_name, name_of, entry_lines}
+
+-- ---- names
+-- a word: at least one byte, and each one that may stand in a name
+abbrev pub is_word : List ℕ → Bool
+is_word name = nat_lt 0 (length name) && list_all is_shown name
+
+-- a column that there is, whose name is a word
+pub record IsNamedColumn (model : Program) (j : ℕ) : Type 0 where
+  pub known : j < length model.columns
+  pub word : is_word (column_name model j) ≡ true
+
+-- a row or column that there is, whose name is a word; the member itself need not exist
+pub record IsNamedMember (model : Program) (m : Member) : Type 0 where
+  pub known : IsMemberFor (length model.rows) (length model.columns) m
+  pub word : is_word (name_of model m) ≡ true
+
+-- a set of such members, in member order, none twice
+pub record IsListed (model : Program) (set : SetValue) : Type 0 where
+  pub of_model : IsSetOf model set
+  pub named : All (IsNamedMember model) set.members
+  pub in_order : IsInOrder set.members
+
+-- ---- points
+-- a number whose parts are within the limit
+abbrev pub IsWithinLimit : ℚ → Type 0
+IsWithinLimit q = is_too_wide limit q ≡ false
+
+-- a value for each column, and a word for the name of each whose value is printed
+pub record IsPointFor (model : Program) (p : Point) : Type 0 where
+  pub len : length p.values ≡ length model.columns
+  pub fits : All IsWithinLimit p.values
+  pub named : (j : ℕ) → values_at p.values j ≢ zero_ℚ → is_word (column_name model j) ≡ true
+
+-- ---- proofs
+-- where a share comes from, on a side that the line tells: what is below bounds a column above, and what is above, below
+abbrev pub IsNamedSource : Program → Source → Side → Type 0
+IsNamedSource model (Of m) side = IsNamedMember model m
+IsNamedSource model (Below j) side = IsNamedColumn model j × (side ≡ Up)
+IsNamedSource model (Above j) side = IsNamedColumn model j × (side ≡ Lo)
+
+-- a share with a weight above 0
+pub record IsUse (model : Program) (s : Share) : Type 0 where
+  pub named : IsNamedSource model s.source s.side
+  pub positive : zero_ℚ <ℚ s.weight
+  pub fits : IsWithinLimit s.weight
+
+-- the lower side stands before the upper one
+abbrev pub side_before : Side → Side → Bool
+side_before Lo Up = true
+side_before _ _ = false
+
+-- a member's side stands before another's, by member order and then `lo` before `up`
+abbrev pub member_side_before : Member → Side → Member → Side → Bool
+member_side_before m side n other = comes_before m n || (is_same m n && side_before side other)
+
+-- what stands before what: the members' sides, then the branches by column, below before above
+abbrev pub share_before : Source → Side → Source → Side → Bool
+share_before (Of m) side (Of n) other = member_side_before m side n other
+share_before (Of m) side _ other = true
+share_before _ side (Of n) other = false
+share_before (Below j) side (Below k) other = nat_lt j k
+share_before (Below j) side (Above k) other = nat_le j k
+share_before (Above j) side (Below k) other = nat_lt j k
+share_before (Above j) side (Above k) other = nat_lt j k
+
+-- shares in their order, none twice
+pub record AreUses (model : Program) (shares : List Share) : Type 0 where
+  pub each : All (IsUse model) shares
+  pub in_order : AllPairs (λ s t. IsTrue (share_before s.source s.side t.source t.side)) shares
+
+-- a proof of one leaf
+pub record IsOneLeaf (model : Program) (proof : Proof) : Type 0 where
+  pub combo : Combo
+  pub one : proof.nodes ≡ Leaf combo ∷ []
+  pub uses : AreUses model combo.shares
+
+-- ---- answers
+-- an irreducible set: a witness for each member, and a proof
+pub record IsCoreFor (model : Program) (core : Core) : Type 0 where
+  pub members : IsListed model core.members
+  pub each : length core.witnesses ≡ length core.members.members
+  pub points : All (IsPointFor model) core.witnesses
+  pub proof : IsOneLeaf model core.proof
+
+-- what is asked of each answer
+abbrev pub IsAnswerFor : Program → Answer → Type 0
+IsAnswerFor model (Feasible p) = IsPointFor model p
+IsAnswerFor model (Infeasible set proof) = IsListed model set × IsOneLeaf model proof
+IsAnswerFor model (Irreducible core) = IsCoreFor model core
+
+-- whether the answer is of a kind that the command may have
+abbrev pub can_answer : Command → Answer → Bool
+can_answer Check (Feasible p) = true
+can_answer Check (Infeasible set proof) = true
+can_answer Check (Irreducible core) = false
+can_answer (Iis method) (Feasible p) = true
+can_answer (Iis method) (Infeasible set proof) = false
+can_answer (Iis method) (Irreducible core) = true
+
+-- ---- reports
+-- an entry whose answer is one to its command
+pub record IsEntryFor (model : Program) (e : Entry) : Type 0 where
+  pub kind : can_answer e.command e.answer ≡ true
+  pub answer : IsAnswerFor model e.answer
+
+-- each entry has the number of its first line, where line number n is that of the first entry
+abbrev pub AreNumbered : Program → ℕ → List Entry → Type 0
+AreNumbered model n [] = Unit {0}
+AreNumbered model n (e ∷ entries) = (e.line ≡ n) × AreNumbered model (n + length (entry_lines model e)) entries
+
+-- a report in the grammar: before the first entry stand the head and the notes
+pub record IsReportFor (model : Program) (report : Report) : Type 0 where
+  pub notes : All (λ note. IsNamedColumn model (noted_column note)) report.notes
+  pub entries : All (IsEntryFor model) report.entries
+  pub numbered : AreNumbered model (2 + length report.notes) report.entries

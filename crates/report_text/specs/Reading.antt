@@ -1,0 +1,49 @@
+-- What bytes say: a report, or where they cease to be one.
+use Rattle.std.specs.Prelude.{◌≡◌, ◌≢◌, ◌⊎◌, ℕ, suc, List, [], ◌∷◌, ◌++◌, length}
+use Rattle.lines.specs.Parts.{parts}
+use Rattle.lp_model.specs.Program.{Program}
+use Rattle.report_text.specs.declared.report.Report.{Report}
+use Rattle.report_text.specs.Grammar.{Line, report_lines, text_of}
+use Rattle.report_text.specs.Form.{IsReportFor}
+
+-- the bytes are the lines of a report that stands in the grammar
+pub record Reads (model : Program) (bytes : List ℕ) (report : Report) : Type 0 where
+  pub form : IsReportFor model report
+  pub text : bytes ≡ text_of (report_lines model report)
+
+-- some report in the grammar begins with these lines, and goes on with the rest
+pub record GoesOn (model : Program) (front : List Line) (rest : List Line) : Type 0 where
+  pub report : Report
+  pub form : IsReportFor model report
+  pub lines : report_lines model report ≡ front ++ rest
+
+-- these lines are the front of a report
+abbrev pub IsFront : Program → List Line → Type 0
+IsFront model front = (rest : List Line) × GoesOn model front rest
+
+-- these lines are a report
+abbrev pub IsWhole : Program → List Line → Type 0
+IsWhole model lines = GoesOn model lines []
+
+-- A line that is not the last part ends with its mark. After a whole report the last part counts as a line too, where it has a byte.
+abbrev pub IsJudged : Program → List Line → Line → List Line → Type 0
+IsJudged model front line back = (back ≢ []) ⊎ (IsWhole model front × (line ≢ []))
+
+-- line number n is the first with which no report goes on
+pub record IsBadLine (model : Program) (bytes : List ℕ) (n : ℕ) : Type 0 where
+  pub front : List Line
+  pub line : Line
+  pub back : List Line
+  pub cut : parts 10 bytes ≡ front ++ line ∷ back
+  pub number : n ≡ suc (length front)
+  pub judged : IsJudged model front line back
+  pub right : IsFront model front
+  pub wrong : ¬ (IsFront model (front ++ line ∷ []))
+
+-- every whole line is right, and the bytes end before the report does
+pub record IsTruncated (model : Program) (bytes : List ℕ) : Type 0 where
+  pub lines : List Line
+  pub last : Line
+  pub cut : parts 10 bytes ≡ lines ++ last ∷ []
+  pub right : IsFront model lines
+  pub unfinished : ¬ (IsWhole model lines)

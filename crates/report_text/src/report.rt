@@ -1,0 +1,180 @@
+//! What a report says: notes, and for each command its answer.
+ghost use Rattle.std.specs.Prelude.{◌≡◌};
+
+use certs::{Point, Proof};
+use lp_model::{MemberSet, Note};
+use std::marker::Model;
+
+/// How an irreducible set of members is looked for.
+#[derive(Clone, Copy, PartialEq, Eq, Debug)]
+pub enum Method {
+    Deletion,
+    Additive,
+    Sensitivity,
+}
+
+/// What is asked of a program: whether some point satisfies its active members, or which of them no point satisfies
+/// though each part of them has one.
+#[derive(Clone, Copy, PartialEq, Eq, Debug)]
+pub enum Command {
+    Check,
+    Iis(Method),
+}
+
+/// Points, as a list.
+#[derive(Drop)]
+pub struct Witnesses {
+    items: Vec<Point>,
+}
+
+impl Model for Witnesses {
+    ghost use Rattle.std.specs.Prelude.{List};
+    ghost use Rattle.certs.specs.declared.evidence.Point.{Point};
+
+    ghost Value = { List Point };
+
+    ghost view = { λ w. w.items.items };
+}
+
+impl Witnesses {
+    /// These points.
+    pub fn new(items: Vec<Point>) -> Witnesses
+        ensures { result ≡ items.items }
+    {
+        Witnesses { items }
+    }
+
+    /// The points.
+    pub fn as_slice(&self) -> &[Point]
+        ensures { result.now ≡ self.now }
+    {
+        self.items.as_slice()
+    }
+
+    /// The points, given back.
+    pub fn into_vec(self) -> Vec<Point>
+        ensures { result.items ≡ self }
+    {
+        self.items
+    }
+}
+
+/// An irreducible set: its members, for each of them in member order a point that is to satisfy all the others, and a
+/// proof that no point satisfies them all.
+#[derive(Drop)]
+pub struct Core {
+    pub members: MemberSet,
+    pub witnesses: Witnesses,
+    pub proof: Proof,
+}
+
+/// What a report answers to a command: a point, members with a proof that no point satisfies them, or an irreducible
+/// set. Members are the printed ones. In a report that was read, a proof is one leaf.
+#[derive(Drop)]
+pub enum Answer {
+    Feasible(Point),
+    Infeasible(MemberSet, Proof),
+    Irreducible(Core),
+}
+
+/// A command with its answer, and the number of the line on which the command stands. The first line has number 1.
+#[derive(Drop)]
+pub struct Entry {
+    pub command: Command,
+    pub answer: Answer,
+    pub line: u64,
+}
+
+/// Entries, as a list.
+#[derive(Drop)]
+pub struct Entries {
+    items: Vec<Entry>,
+}
+
+impl Model for Entries {
+    ghost use Rattle.std.specs.Prelude.{List};
+    ghost use Rattle.report_text.specs.declared.report.Entry.{Entry};
+
+    ghost Value = { List Entry };
+
+    ghost view = { λ e. e.items.items };
+}
+
+impl Entries {
+    /// These entries.
+    pub fn new(items: Vec<Entry>) -> Entries
+        ensures { result ≡ items.items }
+    {
+        Entries { items }
+    }
+
+    /// The entries.
+    pub fn as_slice(&self) -> &[Entry]
+        ensures { result.now ≡ self.now }
+    {
+        self.items.as_slice()
+    }
+
+    /// The entries, given back.
+    pub fn into_vec(self) -> Vec<Entry>
+        ensures { result.items ≡ self }
+    {
+        self.items
+    }
+}
+
+/// Notes of a reader of programs, as a list.
+#[derive(Drop)]
+pub struct Notes {
+    items: Vec<Note>,
+}
+
+impl Model for Notes {
+    ghost use Rattle.std.specs.Prelude.{List};
+    ghost use Rattle.lp_model.specs.declared.parts.Note.{Note};
+
+    ghost Value = { List Note };
+
+    ghost view = { λ n. n.items.items };
+}
+
+impl Notes {
+    /// These notes.
+    pub fn new(items: Vec<Note>) -> Notes
+        ensures { result ≡ items.items }
+    {
+        Notes { items }
+    }
+
+    /// The notes.
+    pub fn as_slice(&self) -> &[Note]
+        ensures { result.now ≡ self.now }
+    {
+        self.items.as_slice()
+    }
+
+    /// The notes, given back.
+    pub fn into_vec(self) -> Vec<Note>
+        ensures { result.items ≡ self }
+    {
+        self.items
+    }
+}
+
+/// A report: the notes of the program's reader, and then the entries in the order of the commands.
+#[derive(Drop)]
+pub struct Report {
+    pub notes: Notes,
+    pub entries: Entries,
+}
+
+/// Why a text was not read as a report.
+///
+/// `BadLine` has the number of the first whole line with which no report goes on. `Truncated` comes where every whole
+/// line is right and the bytes end before the report does. `Memory` comes where memory was refused.
+#[derive(Clone, Copy, PartialEq, Eq, Debug)]
+pub enum ReportStop {
+    BadLine(u64),
+    Truncated,
+    Memory,
+}
