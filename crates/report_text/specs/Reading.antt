@@ -47,3 +47,20 @@ pub record IsTruncated (model : Program) (bytes : List ℕ) : Type 0 where
   pub cut : parts 10 bytes ≡ lines ++ last ∷ []
   pub right : IsFront model lines
   pub unfinished : ¬ (IsWhole model lines)
+
+-- ---- bytes come to at most one end
+-- what is read has no bad line
+abbrev pub ReadNotBadLaw : Type 0
+ReadNotBadLaw = (model : Program) (bytes : List ℕ) (report : Report) (n : ℕ) → Reads model bytes report → ¬ (IsBadLine model bytes n)
+
+-- nor is it truncated
+abbrev pub ReadNotTruncatedLaw : Type 0
+ReadNotTruncatedLaw = (model : Program) (bytes : List ℕ) (report : Report) → Reads model bytes report → ¬ (IsTruncated model bytes)
+
+-- what has a bad line is not truncated
+abbrev pub BadNotTruncatedLaw : Type 0
+BadNotTruncatedLaw = (model : Program) (bytes : List ℕ) (n : ℕ) → IsBadLine model bytes n → ¬ (IsTruncated model bytes)
+
+-- the bad line is one
+abbrev pub OneBadLineLaw : Type 0
+OneBadLineLaw = (model : Program) (bytes : List ℕ) (n m : ℕ) → IsBadLine model bytes n → IsBadLine model bytes m → n ≡ m

@@ -1,8 +1,10 @@
 //! Reports: their commands, answers and entries, and the text that they are printed as.
 #![tactic(auto)]
 
+mod laws;
 mod report;
 
+pub use laws::{bad_is_not_truncated, one_bad_line, read_is_not_bad, read_is_not_truncated};
 pub use report::{
     Answer, Command, Core, Entries, Entry, Method, Notes, Report, ReportStop, Witnesses,
 };

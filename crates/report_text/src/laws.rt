@@ -1,0 +1,22 @@
+//! Laws of reports: bytes come to at most one end.
+ghost use Rattle.report_text.specs.Reading.{BadNotTruncatedLaw, OneBadLineLaw, ReadNotBadLaw, ReadNotTruncatedLaw};
+
+/// Bytes that are a report have no bad line.
+pub fn read_is_not_bad()
+    ensures { ReadNotBadLaw }
+{}
+
+/// Bytes that are a report are not truncated.
+pub fn read_is_not_truncated()
+    ensures { ReadNotTruncatedLaw }
+{}
+
+/// Bytes with a bad line are not truncated.
+pub fn bad_is_not_truncated()
+    ensures { BadNotTruncatedLaw }
+{}
+
+/// Bytes have at most one bad line.
+pub fn one_bad_line()
+    ensures { OneBadLineLaw }
+{}
