@@ -6,3 +6,4 @@ pub mod Unambiguous
 pub mod Statuses
 pub mod Active
 pub mod Decided
+pub mod Counts

@@ -1,5 +1,5 @@
 -- The endings of a run, with their causes and what is written.
-use Rattle.std.specs.Prelude.{◌≡◌, ◌≢◌, ◌<◌, ◌⊎◌, ⊤, ℕ, List, [], ◌++◌, length, take, Option, Some, None, option_map, IfSome}
+use Rattle.std.specs.Prelude.{◌≡◌, ◌≢◌, ◌<◌, ◌≤◌, ◌⊎◌, ⊤, ℕ, List, [], ◌++◌, length, take, Option, Some, None, option_map, IfSome}
 use Rattle.iis_edge.specs.Causes.{Rose}
 use Rattle.iis_run.specs.Words.{Request}
 use Rattle.iis_run.specs.Lines.{usage_line, read_fault_line, too_long_line, model_refused_line, report_refused_line, accepted_line, rejected_line, wide_line}
@@ -44,6 +44,7 @@ pub record PutWhole {K : Type 0} (faults : K → ℕ) (taken : K → Option (Lis
 pub record PutFailed {K : Type 0} (faults : K → ℕ) (taken : K → Option (List ℕ)) (old new : K) (text : List ℕ) : Type 0 where
   pub bytes : (n : ℕ) × (taken new ≡ option_map (λ b. b ++ take n text) (taken old))
   pub rose : Rose (faults old) (faults new)
+  pub kept : faults old ≤ faults new
 
 -- one or the other
 abbrev pub Puts : {K : Type 0} → (K → ℕ) → (K → Option (List ℕ)) → K → K → List ℕ → Type 0

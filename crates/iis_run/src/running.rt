@@ -1,5 +1,5 @@
 //! A run: what is asked for is fetched, read and checked, and its line is put.
-ghost use Rattle.std.specs.Prelude.{◌≡◌, ◌≢◌, ◌≤◌, ◌↔◌, None};
+ghost use Rattle.std.specs.Prelude.{◌≡◌, ◌≢◌, ◌≤◌, ◌↔◌, ℕ, List, None};
 ghost use Rattle.iis_edge.specs.Causes.{Rose};
 ghost use Rattle.iis_run.specs.Words.{request_of};
 ghost use Rattle.iis_run.specs.Causes.{IsReportEnding};
@@ -34,7 +34,9 @@ fn check_report(alloc: Global, model: &Model, bytes: &[u8]) -> Ending
 
 // Fetches the files, reads them and checks.
 fn decide<S: Shelf>(alloc: Global, words: &[String], shelf: &mut S) -> Ending
-    ensures { IsCaused (S.file shelf.old) (S.faults shelf.old) (S.faults shelf.new) (request_of words.now) result }
+    ensures cause { IsCaused (S.file shelf.old) (S.faults shelf.old) (S.faults shelf.new) (request_of words.now) result }
+    ensures counts { (n : List ℕ) → S.faults shelf.old n ≤ S.faults shelf.new n }
+    ensures files { (n : List ℕ) → S.file shelf.new n ≡ S.file shelf.old n }
 {
     let Some(asked) = words::parse(words) else {
         return Ending::Usage;
@@ -87,6 +89,10 @@ pub fn run<S: Shelf, W: Sink>(alloc: Global, words: &[String], shelf: &mut S, ou
     ensures statuses { (result ≤ 8) × (result ≢ 1) }
     // Where no fetch and no put fails, what the told files call for is done: its line and its status, or want of memory.
     ensures settles { Settles S.file S.faults W.faults W.taken shelf.old shelf.new out.old out.new (request_of words.now) result }
+    // The counts of faults never fall, and the told files stay.
+    ensures fetch_counts { (n : List ℕ) → S.faults shelf.old n ≤ S.faults shelf.new n }
+    ensures put_count { W.faults out.old ≤ W.faults out.new }
+    ensures files { (n : List ℕ) → S.file shelf.new n ≡ S.file shelf.old n }
     // Each status comes with its cause, and its line, or a front of it after a fault, is what is written.
     ensures ran { IsRun S.file S.faults W.faults W.taken shelf.old shelf.new out.old out.new (request_of words.now) result }
 {

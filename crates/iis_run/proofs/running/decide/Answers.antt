@@ -7,11 +7,12 @@ use Rattle.iis_run.specs.Words.{Request}
 use Rattle.iis_run.specs.Asked.{request_asked}
 use Rattle.iis_run.specs.Causes.{IsReportEnding}
 use Rattle.iis_run.specs.Run.{IsCaused}
+use Rattle.iis_run.proofs.Counts.{after}
 use Rattle.iis_run.proofs.Decided.{IsFetched, model_refused, report_caused}
 use Rattle.iis_run.proofs.running.decide.Goals as goal
 
-pub returns-in_default-found : goal.returns-in_default-found
-returns-in_default-found g c =
+pub returns-in_default-found-clause-cause : goal.returns-in_default-found-clause-cause
+returns-in_default-found-clause-cause g c =
     let file = g.S.Shelf.file c.args.shelf.now in
     let asked = ap (option_map request_asked) c.in-Some.is in
     let none = rw c.in_default-found.is at c.in-Ok-read_model.ensures in
@@ -19,8 +20,8 @@ returns-in_default-found g c =
     (model_refused (file c.in-Some.asked.model.now) c.in-Ok.bytes.items c.in-Ok.ensures.bytes
     (λ p h. none p (subst (λ (bs : List ℕ). DeclaresModel bs p) (sym c.as_slice.ensures.value) h)))
 
-pub returns : goal.returns
-returns g c =
+pub returns-clause-cause : goal.returns-clause-cause
+returns-clause-cause g c =
     let file = g.S.Shelf.file c.args.shelf.now in
     let before = g.S.Shelf.faults c.args.shelf.now in
     let now = g.S.Shelf.faults c.fetch_file-2.new.shelf in
@@ -31,3 +32,9 @@ returns g c =
     (report_caused file before now (request_asked c.in-Some.asked) c.in-Ok.bytes.items c.in-Ok-fetch_file.bytes.items c.in-Some-found.model c.check_report.result c.in-Ok.ensures.bytes fetched
     (subst (λ (bs : List ℕ). DeclaresModel bs c.in-Some-found.model) c.as_slice.ensures.value declared)
     (subst (λ (bs : List ℕ). IsReportEnding c.in-Some-found.model bs c.check_report.result) c.as_slice-2.ensures.value c.check_report.ensures))
+
+pub returns-clause-counts : goal.returns-clause-counts
+returns-clause-counts g c = λ n. after _ _ _ (c.fetch_file.ensures.counts n) (c.fetch_file-2.ensures.counts n)
+
+pub returns-clause-files : goal.returns-clause-files
+returns-clause-files g c = λ n. c.fetch_file-2.ensures.files n ∙ c.fetch_file.ensures.files n
