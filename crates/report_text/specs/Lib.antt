@@ -1,3 +1,5 @@
 pub mod Grammar
 pub mod Form
 pub mod Reading
+pub mod Phrases
+pub mod Drafts

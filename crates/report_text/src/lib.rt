@@ -1,7 +1,9 @@
 //! Reports: their commands, answers and entries, and the text that they are printed as.
 #![tactic(auto)]
 
+mod drafts;
 mod laws;
+mod phrases;
 mod report;
 
 pub use laws::{bad_is_not_truncated, one_bad_line, read_is_not_bad, read_is_not_truncated};

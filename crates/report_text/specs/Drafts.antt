@@ -1,0 +1,178 @@
+-- What may follow in a report, line by line: the draft that a phrase makes of a draft.
+use Rattle.std.specs.Prelude.{◌≡◌, ◌≢◌, ⊤, ℕ, ◌+◌, ◌-◌, ◌≤◌, nat_le, Bool, true, false, List, [], ◌∷◌, ◌++◌, length, replicate, Option, Some, None, option_map, flat_map, All}
+use Rattle.std.specs.List.{list_all}
+use Rattle.rational.specs.Rational.{ℚ, zero_ℚ}
+use Rattle.lp_model.specs.Program.{Program, noted_column}
+use Rattle.lp_model.specs.declared.members.Member.{Member}
+use Rattle.lp_model.specs.Members.{comes_before, IsInOrder}
+use Rattle.lp_model.specs.MemberSets.{SetValue}
+use Rattle.lp_model.specs.Satisfaction.{values_at}
+use Rattle.lp_model.specs.declared.parts.Note.{Note}
+use Rattle.certs.specs.declared.evidence.Share.{Share}
+use Rattle.certs.specs.declared.evidence.Point.{Point}
+use Rattle.certs.specs.declared.evidence.Node.TheVariants.{Leaf}
+use Rattle.certs.specs.declared.evidence.Proof.{Proof}
+use Rattle.report_text.specs.declared.report.Command.{Command}
+use Rattle.report_text.specs.declared.report.Command.TheVariants.{Check, Iis}
+use Rattle.report_text.specs.declared.report.Answer.{Answer}
+use Rattle.report_text.specs.declared.report.Entry.{Entry}
+use Rattle.report_text.specs.declared.phrases.Phrase.{Phrase}
+use Rattle.report_text.specs.declared.drafts.Found.{Found}
+use Rattle.report_text.specs.declared.drafts.Question.{Question}
+use Rattle.report_text.specs.declared.drafts.Part.{Part}
+use Rattle.report_text.specs.declared.drafts.Next.{Next}
+use Rattle.report_text.specs.declared.drafts.Stage.{Stage}
+use Rattle.report_text.specs.declared.drafts.Draft.{Draft}
+use Rattle.report_text.specs.Grammar.{column_name, entry_lines}
+use Rattle.report_text.specs.Form.{is_word, IsNamedColumn, IsNamedMember, IsWithinLimit, IsPointFor, IsEntryFor, AreUses, AreNumbered, share_before}
+
+-- values with zeros behind them, up to so many
+abbrev pub filled : ℕ → List ℚ → List ℚ
+filled n values = values ++ replicate (n - length values) zero_ℚ
+
+-- the point of these values, with 0 for each further column
+abbrev pub point_of : Program → List ℚ → Point
+point_of model values = record { values = filled (length model.columns) values }
+
+-- the set of listed members
+abbrev pub set_of : Program → List Member → SetValue
+set_of model members = record { rows = length model.rows; columns = length model.columns; members = members }
+
+-- the proof of one leaf
+abbrev pub leaf_of : List Share → Proof
+leaf_of shares = record { nodes = Leaf (record { shares = shares }) ∷ [] }
+
+-- the answer that a set with its leaf is
+abbrev pub answer_of : Program → Found → List Share → Answer
+answer_of model (Found.Members members) shares = Answer.Infeasible (set_of model members) (leaf_of shares)
+answer_of model (Found.Witnessed members witnesses) shares =
+    Answer.Irreducible (record { members = set_of model members; witnesses = witnesses; proof = leaf_of shares })
+
+-- so far, if it may be
+abbrev pub only_if : {X : Type 0} → Bool → X → Option X
+only_if true x = Some x
+only_if false x = None
+
+-- the values with one more, where its column comes after theirs
+abbrev pub with_value : List ℚ → ℕ → ℚ → Option (List ℚ)
+with_value values j v = only_if (nat_le (length values) j) (filled j values ++ v ∷ [])
+
+-- the members with one more, where it comes after all of them
+abbrev pub with_member : List Member → Member → Option (List Member)
+with_member members m = only_if (list_all (λ n. comes_before n m) members) (members ++ m ∷ [])
+
+-- the shares with one more, where it comes after all of them
+abbrev pub with_share : List Share → Share → Option (List Share)
+with_share shares s = only_if (list_all (λ t. share_before t.source t.side s.source s.side) shares) (shares ++ s ∷ [])
+
+-- what a list with witnesses is with one phrase more: a member, or the start of the proof
+abbrev pub witnessed_with : List Member → List Point → Phrase → Option Next
+witnessed_with members witnesses (Phrase.Member m) = only_if (list_all (λ n. comes_before n m) members) (Next.More (Part.Member members witnesses m))
+witnessed_with members witnesses Phrase.Proof = Some (Next.More (Part.Proof (Found.Witnessed members witnesses)))
+witnessed_with members witnesses _ = None
+
+-- the answer that a part of one becomes by a phrase, if it may follow
+abbrev pub extended : Program → Command → Part → Phrase → Option Next
+extended model command Part.Nothing Phrase.Feasible = Some (Next.More Part.Feasible)
+extended model Check Part.Nothing Phrase.Infeasible = Some (Next.More (Part.Listed (Found.Members [])))
+extended model (Iis method) Part.Nothing Phrase.Irreducible = Some (Next.More (Part.Listed (Found.Witnessed [] [])))
+extended model command Part.Feasible Phrase.Point = Some (Next.More (Part.Point []))
+extended model command (Part.Point values) (Phrase.Value j v) = option_map (λ vs. Next.More (Part.Point vs)) (with_value values j v)
+extended model command (Part.Point values) Phrase.End = Some (Next.Whole (Answer.Feasible (point_of model values)))
+extended model command (Part.Listed (Found.Members members)) (Phrase.Member m) = option_map (λ ms. Next.More (Part.Listed (Found.Members ms))) (with_member members m)
+extended model command (Part.Listed (Found.Members members)) Phrase.Proof = Some (Next.More (Part.Proof (Found.Members members)))
+extended model command (Part.Listed (Found.Witnessed members witnesses)) p = witnessed_with members witnesses p
+extended model command (Part.Member members witnesses m) Phrase.Point = Some (Next.More (Part.Witness members witnesses m []))
+extended model command (Part.Witness members witnesses m values) (Phrase.Value j v) = option_map (λ vs. Next.More (Part.Witness members witnesses m vs)) (with_value values j v)
+extended model command (Part.Witness members witnesses m values) p = witnessed_with (members ++ m ∷ []) (witnesses ++ point_of model values ∷ []) p
+extended model command (Part.Proof found) Phrase.Leaf = Some (Next.More (Part.Leaf found []))
+extended model command (Part.Leaf found shares) (Phrase.Use s) = option_map (λ ss. Next.More (Part.Leaf found ss)) (with_share shares s)
+extended model command (Part.Leaf found shares) Phrase.End = Some (Next.Whole (answer_of model found shares))
+extended model command _ _ = None
+
+-- the draft that an answer, or more of it, makes
+abbrev pub placed : Draft → Question → Next → Draft
+placed draft question (Next.More part) = record draft { stage = Stage.Answering question part }
+placed draft question (Next.Whole answer) = record draft {
+  entries = draft.entries ++ (record { command = question.command; answer = answer; line = question.line }) ∷ [];
+  stage = Stage.Between;
+}
+
+-- what may stand between entries: a note before the first, a command, or the last line
+abbrev pub between : ℕ → Draft → Phrase → Option Draft
+between n draft (Phrase.Note note) = only_if (no_entries draft.entries) (record draft { notes = draft.notes ++ note ∷ [] })
+  where
+    no_entries : List Entry → Bool
+    no_entries [] = true
+    no_entries _ = false
+between n draft (Phrase.Command command) = Some (record draft { stage = Stage.Answering (record { command = command; line = n }) Part.Nothing })
+between n draft Phrase.Foot = Some (record draft { stage = Stage.Done })
+between n draft _ = None
+
+-- the draft that a draft becomes by the phrase of line number n, if it may follow
+abbrev pub advanced : Program → ℕ → Draft → Phrase → Option Draft
+advanced model n draft p = by draft.stage p
+  where
+    by : Stage → Phrase → Option Draft
+    by Stage.Start Phrase.Head = Some (record draft { stage = Stage.Between })
+    by Stage.Between q = between n draft q
+    by (Stage.Answering question part) q = option_map (placed draft question) (extended model question.command part q)
+    by _ _ = None
+
+-- nothing is read
+abbrev pub nothing_read : Draft
+nothing_read = record { notes = []; entries = []; stage = Stage.Start }
+
+-- ---- what is asked of a draft
+-- values of the first columns, as a point may have them
+pub record AreValues (model : Program) (values : List ℚ) : Type 0 where
+  pub few : length values ≤ length model.columns
+  pub fits : All IsWithinLimit values
+  pub named : (j : ℕ) → values_at values j ≢ zero_ℚ → is_word (column_name model j) ≡ true
+
+-- members in order, with words for names
+pub record AreMembers (model : Program) (members : List Member) : Type 0 where
+  pub named : All (IsNamedMember model) members
+  pub in_order : IsInOrder members
+
+-- so many witnesses as members
+pub record AreWitnesses (model : Program) (members : List Member) (witnesses : List Point) : Type 0 where
+  pub each : length witnesses ≡ length members
+  pub points : All (IsPointFor model) witnesses
+
+-- a set of the kind that the command may be answered with
+abbrev pub IsFound : Program → Command → Found → Type 0
+IsFound model Check (Found.Members members) = AreMembers model members
+IsFound model (Iis method) (Found.Witnessed members witnesses) = AreMembers model members × AreWitnesses model members witnesses
+IsFound model command _ = ⊥
+
+-- members with witnesses, and one member more
+abbrev pub IsOneMore : Program → Command → List Member → List Point → Member → Type 0
+IsOneMore model Check members witnesses m = ⊥
+IsOneMore model (Iis method) members witnesses m = AreMembers model (members ++ m ∷ []) × AreWitnesses model members witnesses
+
+-- a part of an answer to the command
+abbrev pub IsPartFor : Program → Command → Part → Type 0
+IsPartFor model command Part.Nothing = ⊤
+IsPartFor model command Part.Feasible = ⊤
+IsPartFor model command (Part.Point values) = AreValues model values
+IsPartFor model command (Part.Listed found) = IsFound model command found
+IsPartFor model command (Part.Member members witnesses m) = IsOneMore model command members witnesses m
+IsPartFor model command (Part.Witness members witnesses m values) = IsOneMore model command members witnesses m × AreValues model values
+IsPartFor model command (Part.Proof found) = IsFound model command found
+IsPartFor model command (Part.Leaf found shares) = IsFound model command found × AreUses model shares
+
+-- nothing is read at the start; a command stands on the line after what is read before it
+abbrev pub IsStageFor : Program → List Note → List Entry → Stage → Type 0
+IsStageFor model notes entries Stage.Start = (notes ≡ []) × (entries ≡ [])
+IsStageFor model notes entries Stage.Between = ⊤
+IsStageFor model notes entries Stage.Done = ⊤
+IsStageFor model notes entries (Stage.Answering question part) =
+    (question.line ≡ 2 + (length notes + length (flat_map (entry_lines model) entries))) × IsPartFor model question.command part
+
+-- notes and entries as a report has them, and a part of one more
+pub record IsDraftFor (model : Program) (draft : Draft) : Type 0 where
+  pub notes : All (λ note. IsNamedColumn model (noted_column note)) draft.notes
+  pub entries : All (IsEntryFor model) draft.entries
+  pub numbered : AreNumbered model (2 + length draft.notes) draft.entries
+  pub stage : IsStageFor model draft.notes draft.entries draft.stage
