@@ -6,3 +6,5 @@ pub mod Said
 pub mod Runs
 pub mod Fronts
 pub mod Progress
+pub mod Named
+pub mod Lexed

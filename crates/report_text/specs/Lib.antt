@@ -3,3 +3,4 @@ pub mod Form
 pub mod Reading
 pub mod Phrases
 pub mod Drafts
+pub mod Words

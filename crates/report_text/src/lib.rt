@@ -2,7 +2,10 @@
 #![tactic(auto)]
 
 mod drafts;
+mod keywords;
 mod laws;
+mod lexing;
+mod naming;
 mod phrases;
 mod report;
 
