@@ -1,11 +1,11 @@
 -- The members of a set, one after another.
-use Rattle.std.proofs.Common.{◌≡◌, ◌<◌, refl, sym, ◌∙◌, ap, subst, ℕ, zero, suc, Bool, true, false, true≢false, cond, ltb, ◌==◌, ◌&&◌, ◌||◌, List, [], ◌∷◌, ◌++◌, length, filter, find, Option, Some, None, arith}
+use Rattle.std.proofs.Common.{◌≡◌, ◌<◌, refl, sym, ◌∙◌, ap, subst, ℕ, zero, suc, Bool, true, false, cond, List, [], ◌∷◌, ◌++◌, length, filter, find, Option, Some, None, arith}
 use Rattle.std.specs.Prelude.{All}
-use Rattle.std.proofs.lemmas.Bool.Decides.{nat_tests}
 use Rattle.std.proofs.lemmas.List.Elements.{All-head, All-tail, All-nil, All-append, All-push, All-filter, All-weaker}
 use Rattle.lp_model.specs.declared.members.Member.{Member}
 use Rattle.lp_model.specs.declared.members.Member.TheVariants.{Row, Lower, Upper, Whole}
-use Rattle.lp_model.specs.Members.{comes_before, kind, place, numbered, IsInOrder, has}
+use Rattle.lp_model.specs.Members.{comes_before, numbered, IsInOrder, has}
+use Rattle.lp_model.proofs.Orders.{over, back, not_itself}
 use Rattle.lp_model.specs.MemberSets.{SetValue, IsMemberFor, IsPossibleIn, members_for, possible_in, follows, next_after}
 use Rattle.rational.specs.Linear.{Assignment}
 use Rattle.lp_model.specs.Program.{Program}
@@ -16,33 +16,6 @@ use Rattle.frac128.specs.Calculation.{first_wide}
 use Rattle.certs.specs.declared.evidence.Checked.{Checked}
 use Rattle.certs.specs.declared.evidence.Checked.TheVariants.{Yes, No, Wide}
 use Rattle.certs.specs.Checks.{Step, unless_wide, outcome_within, outcome, holds_test, point_steps}
-
--- the order by kind and number
-lex : ℕ → ℕ → ℕ → ℕ → Bool
-lex a b c d = ltb a c || ((a == c) && ltb b d)
-
-lex_over : (a b c d e f : ℕ) → lex a b c d ≡ true → lex c d e f ≡ true → lex a b e f ≡ true
-unfolding lex
-lex_over a b c d e f h k = grind (arith, nat_tests)
-
-lex_back : (a b c d : ℕ) → lex a b c d ≡ true → lex c d a b ≡ false
-unfolding lex
-lex_back a b c d h = grind (arith, nat_tests)
-
-over : (l m n : Member) → comes_before l m ≡ true → comes_before m n ≡ true → comes_before l n ≡ true
-unfolding lex
-over l m n h k = lex_over (kind l) (place l) (kind m) (place m) (kind n) (place n) h k
-
-back : (m n : Member) → comes_before m n ≡ true → comes_before n m ≡ false
-unfolding lex
-back m n h = lex_back (kind m) (place m) (kind n) (place n) h
-
-not_itself : (m : Member) → comes_before m m ≡ false
-not_itself m = by (comes_before m m) refl
-  where
-    by : (b : Bool) → comes_before m m ≡ b → b ≡ false
-    by true t = absurd (true≢false (sym t ∙ back m m t))
-    by false t = refl
 
 -- ---- lists in order
 pairs_head : (m : Member) (list : List Member) → IsInOrder (m ∷ list) → All (λ n. comes_before m n ≡ true) list

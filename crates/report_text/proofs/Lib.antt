@@ -8,3 +8,5 @@ pub mod Fronts
 pub mod Progress
 pub mod Named
 pub mod Lexed
+pub mod Lasts
+pub mod Listed

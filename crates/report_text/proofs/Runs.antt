@@ -105,7 +105,7 @@ grown_runs model n d q part more (p ∷ ps) h =
 abbrev Fills : List ℚ → List ℚ → Type 0
 Fills values whole = (length values ≤ length whole) × (filled (length whole) values ≡ whole)
 
-filled_whole : (values : List ℚ) → filled (length values) values ≡ values
+pub filled_whole : (values : List ℚ) → filled (length values) values ≡ values
 filled_whole values = ap (λ k. values ++ replicate k zero_ℚ) (let e : length values - length values ≡ 0 = omega arith in e) ∙ append-nil values
 
 pub filled_more : (n : ℕ) (values : List ℚ) → length values ≤ n → filled (n + 1) values ≡ filled n values ++ zero_ℚ ∷ []

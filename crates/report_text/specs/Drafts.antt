@@ -42,6 +42,11 @@ set_of model members = record { rows = length model.rows; columns = length model
 abbrev pub leaf_of : List Share → Proof
 leaf_of shares = record { nodes = Leaf (record { shares = shares }) ∷ [] }
 
+-- the members that are found
+abbrev pub members_of : Found → List Member
+members_of (Found.Members members) = members
+members_of (Found.Witnessed members witnesses) = members
+
 -- the answer that a set with its leaf is
 abbrev pub answer_of : Program → Found → List Share → Answer
 answer_of model (Found.Members members) shares = Answer.Infeasible (set_of model members) (leaf_of shares)

@@ -1,11 +1,14 @@
 //! Reports: their commands, answers and entries, and the text that they are printed as.
 #![tactic(auto)]
 
+mod building;
 mod drafts;
+mod following;
 mod keywords;
 mod laws;
 mod lexing;
 mod naming;
+mod ordering;
 mod phrases;
 mod report;
 

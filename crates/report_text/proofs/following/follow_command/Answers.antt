@@ -1,0 +1,10 @@
+use Rattle.std.proofs.Common.{sym, ap, ◌∙◌}
+use Rattle.report_text.specs.declared.drafts.Part.{Part}
+use Rattle.report_text.specs.Drafts.{extended}
+use Rattle.report_text.proofs.following.follow_command.Goals as goal
+
+pub returns-in-Infeasible : goal.returns-in-Infeasible
+returns-in-Infeasible c = λ model. c.open_infeasible.ensures model ∙ ap (extended model c.args.command Part.Nothing) (sym c.in-Infeasible.is)
+
+pub returns-in-Irreducible : goal.returns-in-Irreducible
+returns-in-Irreducible c = λ model. c.open_irreducible.ensures model ∙ ap (extended model c.args.command Part.Nothing) (sym c.in-Irreducible.is)
