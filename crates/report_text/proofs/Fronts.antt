@@ -1,22 +1,20 @@
 -- Each phrase that is taken stands behind what is read, and what is read is the front of a report.
-use Rattle.std.proofs.Common.{◌≡◌, ◌≢◌, ◌<◌, ◌≤◌, refl, sym, ap, subst, ◌∙◌, ℕ, zero, suc, ◌+◌, ◌-◌, Bool, true, false, true≢false, cond, List, [], ◌∷◌, ◌++◌, length, get_or, append_assoc, append-nil, Option, Some, None, arith, ◌⊎◌, inl, inr}
-use Rattle.std.specs.Prelude.{map, flat_map, zip, replicate, option_map, All, AllPairs, IsTrue, nat_le}
+use Rattle.std.proofs.Common.{◌≡◌, ◌≢◌, ◌<◌, ◌≤◌, refl, sym, ap, subst, ◌∙◌, ℕ, zero, suc, ◌+◌, ◌-◌, Bool, true, false, cond, List, [], ◌∷◌, ◌++◌, length, append_assoc, append-nil, Option, Some, None, arith, ◌⊎◌, inl, inr}
+use Rattle.std.specs.Prelude.{map, flat_map, zip, replicate, option_map, All, IsTrue, nat_le}
 use Rattle.std.specs.List.{list_all}
-use Rattle.std.proofs.lemmas.List.{length-append, length-replicate, length-map, get_or_append_left, get_or-replicate, map-append}
-use Rattle.std.proofs.lemmas.List.Elements.{All-nil, All-cons, All-head, All-tail, All-append, All-push, All-replicate}
+use Rattle.std.proofs.lemmas.List.{length-append, length-replicate, length-map, map-append}
+use Rattle.std.proofs.lemmas.List.Elements.{All-nil, All-head, All-tail, All-append, All-push, All-replicate}
 use Rattle.std.proofs.lemmas.List.Quantifiers.{all_pairs_push}
 use Rattle.std.proofs.lemmas.List.Concat.{flat_map-append}
 use Rattle.std.proofs.lemmas.List.Sums.{AllPass-from_list_all}
 use Rattle.std.proofs.lemmas.Bool.{leb-true}
-use Rattle.std.proofs.lemmas.Bool.Decides.{not_from_Decides}
 use Rattle.algebra.specs.Gcd.{gcd, gcd_within}
 use Rattle.rational.specs.Rational.{ℚ, frac, zero_ℚ, eq_ℚ}
 use Rattle.rational.proofs.Compare.{eq-Decides}
-use Rattle.frac128.specs.Limit.{limit}
 use Rattle.lp_model.specs.Program.{Program, noted_column}
 use Rattle.lp_model.specs.declared.parts.Note.{Note}
 use Rattle.lp_model.specs.declared.members.Member.{Member}
-use Rattle.lp_model.specs.Members.{comes_before, IsInOrder}
+use Rattle.lp_model.specs.Members.{comes_before}
 use Rattle.lp_model.specs.Satisfaction.{values_at}
 use Rattle.certs.specs.declared.evidence.Share.{Share}
 use Rattle.certs.specs.declared.evidence.Point.{Point}
@@ -24,7 +22,6 @@ use Rattle.report_text.specs.declared.report.Command.{Command}
 use Rattle.report_text.specs.declared.report.Command.TheVariants.{Check, Iis}
 use Rattle.report_text.specs.declared.report.Answer.{Answer}
 use Rattle.report_text.specs.declared.report.Entry.{Entry}
-use Rattle.report_text.specs.declared.report.Report.{Report}
 use Rattle.report_text.specs.declared.phrases.Phrase.{Phrase}
 use Rattle.report_text.specs.declared.drafts.Found.{Found}
 use Rattle.report_text.specs.declared.drafts.Question.{Question}
@@ -32,11 +29,11 @@ use Rattle.report_text.specs.declared.drafts.Part.{Part}
 use Rattle.report_text.specs.declared.drafts.Next.{Next}
 use Rattle.report_text.specs.declared.drafts.Stage.{Stage}
 use Rattle.report_text.specs.declared.drafts.Draft.{Draft}
-use Rattle.report_text.specs.Grammar.{Line, column_name, entry_lines}
-use Rattle.report_text.specs.Form.{is_word, IsNamedColumn, IsNamedMember, IsWithinLimit, IsUse, AreUses, IsListed, IsOneLeaf, IsPointFor, IsAnswerFor, IsEntryFor, AreNumbered, IsReportFor, can_answer, share_before}
+use Rattle.report_text.specs.Grammar.{column_name, entry_lines}
+use Rattle.report_text.specs.Form.{is_word, IsNamedColumn, IsNamedMember, IsWithinLimit, IsUse, AreUses, IsListed, IsOneLeaf, IsPointFor, IsAnswerFor, IsEntryFor, AreNumbered, can_answer, share_before}
 use Rattle.report_text.specs.Phrases.{IsPhraseFor, phrase_line}
-use Rattle.report_text.specs.Drafts.{filled, point_of, leaf_of, set_of, answer_of, only_if, with_value, with_member, with_share, witnessed_with, extended, placed, between, advanced, nothing_read, AreValues, AreMembers, AreWitnesses, IsFound, IsOneMore, IsPartFor, IsStageFor, IsDraftFor}
-use Rattle.report_text.proofs.Said.{value_phrases, point_phrases, node_phrases, proof_phrases, witness_phrases, answer_front, entry_phrases, body_phrases, report_phrases, entry_spelled}
+use Rattle.report_text.specs.Drafts.{filled, point_of, leaf_of, set_of, answer_of, only_if, witnessed_with, extended, placed, between, advanced, AreValues, AreMembers, AreWitnesses, IsFound, IsOneMore, IsPartFor, IsDraftFor}
+use Rattle.report_text.proofs.Said.{value_phrases, point_phrases, proof_phrases, witness_phrases, answer_front, entry_phrases, body_phrases, entry_spelled}
 
 -- ---- what is read, as phrases
 abbrev pub found_phrases : Found → List Phrase

@@ -6,7 +6,6 @@ use Rattle.std.proofs.lemmas.Slice.Eq.{bytes_eq-Decides}
 use Rattle.std.proofs.lemmas.List.Splits.{length-slice_split}
 use Rattle.lines.specs.Parts.{parts}
 use Rattle.rational.specs.Rational.{ℚ, zero_ℚ}
-use Rattle.frac128.specs.Printed.{printed}
 use Rattle.lp_model.specs.Program.{Program}
 use Rattle.report_text.specs.declared.phrases.Keyword.{Keyword}
 use Rattle.report_text.specs.declared.phrases.Phrase.{Phrase}

@@ -1,14 +1,14 @@
 -- Lists of members in order: two with the same members are one, and a set with one member more behind the others.
-use Rattle.std.proofs.Common.{◌≡◌, refl, sym, ap, subst, ◌∙◌, ℕ, zero, suc, ◌+◌, ◌<◌, Bool, true, false, true≢false, ◌||◌, List, [], ◌∷◌, ◌++◌, length, take, get_or, filter, arith, ◌⊎◌, inl, inr}
-use Rattle.std.specs.Prelude.{All, AllPairs, IsTrue, Contains}
+use Rattle.std.proofs.Common.{◌≡◌, refl, sym, ap, subst, ◌∙◌, ℕ, suc, ◌+◌, ◌<◌, Bool, true, false, true≢false, ◌||◌, List, [], ◌∷◌, ◌++◌, length, take, get_or, filter, arith, ◌⊎◌, inl, inr}
+use Rattle.std.specs.Prelude.{All, IsTrue}
 use Rattle.std.proofs.lemmas.Bool.{or_left, or_right}
 use Rattle.std.proofs.lemmas.List.{take_more, length-take, get_or-take}
-use Rattle.std.proofs.lemmas.List.Elements.{All-head, All-tail, All-contains, All-take, filter_passes}
+use Rattle.std.proofs.lemmas.List.Elements.{All-contains, All-take, filter_passes}
 use Rattle.std.proofs.lemmas.List.Kept.{AllPairs-filter}
 use Rattle.lp_model.specs.declared.members.Member.{Member}
 use Rattle.lp_model.specs.Program.{Program}
 use Rattle.lp_model.specs.Members.{comes_before, is_same, has, IsInOrder}
-use Rattle.lp_model.specs.MemberSets.{SetValue, IsMemberFor, members_for, set_with}
+use Rattle.lp_model.specs.MemberSets.{IsMemberFor, members_for, set_with}
 use Rattle.lp_model.proofs.Sets.{same_members, same_self, contains_of_has, has_of_contains, Contains-filter, possible_in_order}
 use Rattle.lp_model.proofs.Marked.{possible_of}
 use Rattle.lp_model.proofs.Orders.{back, not_itself}

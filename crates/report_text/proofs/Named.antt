@@ -1,21 +1,19 @@
 -- Where a name stands among names that differ, and what single words say.
-use Rattle.std.proofs.Common.{◌≡◌, ◌≢◌, refl, sym, ap, subst, ◌∙◌, ℕ, zero, suc, ◌<◌, ◌≤◌, Bool, true, false, true≢false, cond, ltb, List, [], ◌∷◌, length, get_or, Option, Some, None, arith, position, ◌⊎◌, inl, inr}
-use Rattle.std.specs.Prelude.{map, AllPairs, Result, Ok, Err, codes, nat_lt}
+use Rattle.std.proofs.Common.{◌≡◌, ◌≢◌, refl, sym, ap, subst, ◌∙◌, ℕ, zero, suc, ◌<◌, ◌≤◌, Bool, true, false, true≢false, cond, ltb, List, [], length, get_or, Option, Some, None, arith, position, ◌⊎◌, inl, inr}
+use Rattle.std.specs.Prelude.{map, AllPairs, Result, Ok, Err, codes}
 use Rattle.std.specs.Option.{ok_or}
 use Rattle.std.specs.List.{position_or_len}
 use Rattle.std.specs.Str.{bytes_eq}
-use Rattle.std.proofs.lemmas.Bool.{ltb-true, ltb-false, cases_lt}
+use Rattle.std.proofs.lemmas.Bool.{ltb-true, ltb-false}
 use Rattle.std.proofs.lemmas.List.{get_or-map, length-map}
 use Rattle.std.proofs.lemmas.List.Sums.{fails_before_first, passes_at_first}
 use Rattle.std.proofs.lemmas.Slice.Eq.{bytes_eq-Decides}
 use Rattle.lp_model.specs.declared.models.ModelStop.{ModelStop}
 use Rattle.lp_model.specs.declared.models.ModelStop.TheVariants.{UnknownName}
-use Rattle.lp_model.specs.declared.members.Member.{Member}
-use Rattle.lp_model.specs.declared.members.Member.TheVariants.{Row, Lower, Upper, Whole}
+use Rattle.lp_model.specs.declared.members.Member.TheVariants.{Row}
 use Rattle.lp_model.specs.Program.{Program, NamedRow, NamedColumn, empty_row, empty_column, IsWellFormed}
 use Rattle.lp_model.specs.Shown.{row_names, column_names}
-use Rattle.report_text.specs.Form.{is_word, IsNamedColumn, IsNamedMember}
-use Rattle.report_text.specs.Grammar.{column_name, name_of, kind_word}
+use Rattle.report_text.specs.Form.{is_word}
 use Rattle.report_text.specs.Words.{IsColumnSaid, IsMemberSaid}
 
 some_is : (i j : ℕ) → Some i ≡ Some j → i ≡ j

@@ -1,8 +1,9 @@
 -- What the lines so far have led to, and what one line more, or the end, makes of it.
-use Rattle.std.proofs.Common.{◌≡◌, ◌≢◌, refl, sym, ap, subst, ◌∙◌, ℕ, zero, suc, ◌+◌, List, [], ◌∷◌, ◌++◌, length, append_assoc, append-nil, Option, Some, None, arith, inl, inr}
-use Rattle.std.specs.Prelude.{map, flat_map, All, option_and_then, option_map}
-use Rattle.std.proofs.lemmas.List.{length-map, map-append, append_cancel_left, append_cancel_right}
-use Rattle.std.proofs.lemmas.List.Elements.{All-nil, All-cons, All-head, All-tail, All-append, All-push}
+use Rattle.std.proofs.Common.{◌≡◌, ◌≢◌, ◌<◌, ◌≤◌, ◌==◌, refl, sym, ap, subst, ◌∙◌, ℕ, suc, ◌+◌, List, [], ◌∷◌, ◌++◌, length, append_assoc, append-nil, Some, None, arith, inl, inr}
+use Rattle.std.specs.Prelude.{map, All, option_and_then, option_map, count_by, Result, Ok, Err}
+use Rattle.std.proofs.lemmas.List.{length-append, length-map, map-append, append_cancel_left, append_cancel_right}
+use Rattle.std.proofs.lemmas.List.Elements.{All-nil, All-cons, All-head, All-tail}
+use Rattle.std.proofs.lemmas.List.Splits.{length-slice_split}
 use Rattle.lines.specs.Parts.{parts}
 use Rattle.lp_model.specs.Program.{Program}
 use Rattle.lp_model.specs.declared.parts.Note.{Note}
@@ -10,8 +11,6 @@ use Rattle.lp_model.specs.declared.members.Member.{Member}
 use Rattle.certs.specs.declared.evidence.Share.{Share}
 use Rattle.certs.specs.declared.evidence.Point.{Point}
 use Rattle.rational.specs.Rational.{ℚ}
-use Rattle.report_text.specs.declared.report.Command.{Command}
-use Rattle.report_text.specs.declared.report.Command.TheVariants.{Check, Iis}
 use Rattle.report_text.specs.declared.report.Answer.{Answer}
 use Rattle.report_text.specs.declared.report.Entry.{Entry}
 use Rattle.report_text.specs.declared.report.Report.{Report}
@@ -24,14 +23,16 @@ use Rattle.report_text.specs.declared.drafts.Stage.{Stage}
 use Rattle.report_text.specs.declared.drafts.Draft.{Draft}
 use Rattle.report_text.specs.Grammar.{Line, text_of, report_lines}
 use Rattle.report_text.specs.Form.{IsReportFor}
-use Rattle.report_text.specs.Reading.{Reads, IsFront, IsWhole, IsBadLine, IsTruncated}
+use Rattle.report_text.specs.Reading.{Reads, IsFront, IsWhole, IsBadLine, IsTruncated, IsReportStop}
 use Rattle.report_text.specs.Phrases.{IsPhraseFor, phrase_line, Says}
-use Rattle.report_text.specs.Drafts.{point_of, answer_of, extended, placed, advanced, nothing_read, IsDraftFor}
-use Rattle.report_text.proofs.Said.{body_phrases, report_phrases, report_spelled, report_for}
+use Rattle.report_text.specs.Drafts.{point_of, answer_of, extended, placed, advanced, nothing_read, Takes, IsLineStop, ended, IsDraftFor}
+use Rattle.report_text.proofs.Said.{report_phrases, report_spelled, report_for}
 use Rattle.report_text.proofs.Spelling.{parts_of_read, text_of_parts}
 use Rattle.report_text.proofs.Runs.{run, run_append, run_step, done, report_read}
 use Rattle.report_text.proofs.Fronts.{draft_phrases, taken}
-use Rattle.report_text.proofs.Endings.{shorter_front}
+use Rattle.report_text.specs.declared.report.ReportStop.{ReportStop}
+use Rattle.report_text.specs.declared.report.ReportStop.TheVariants.{BadLine, Truncated, Memory}
+use Rattle.report_text.proofs.Endings.{shorter_front, whole_ends}
 
 -- the lines of phrases
 abbrev lines_of : Program → List Phrase → List Line
@@ -126,12 +127,6 @@ pub record HasRead (model : Program) (front : List Line) (draft : Draft) : Type 
   pub form : IsDraftFor model draft
   pub said : front ≡ map (phrase_line model) (draft_phrases draft)
   pub only : (ps : List Phrase) → All (IsPhraseFor model) ps → map (phrase_line model) ps ≡ front → run model 1 nothing_read ps ≡ Some draft
-
--- a line was taken: some phrase says it, and each that says it leads to the next draft
-pub record Takes (model : Program) (n : ℕ) (draft : Draft) (line : Line) (next : Draft) : Type 0 where
-  pub phrase : Phrase
-  pub says : Says model line phrase
-  pub all : (p : Phrase) → Says model line p → advanced model n draft p ≡ Some next
 
 -- a list of lines that phrases say, cut before a line
 cut_at : (model : Program) (ps : List Phrase) (front : List Line) (line : Line) (rest : List Line) → map (phrase_line model) ps ≡ front ++ line ∷ rest
@@ -257,3 +252,95 @@ module _ (model : Program) where
       let lines : report_lines model report ++ [] ∷ [] ≡ front ++ [] ∷ [] = sym (parts_of_read model bytes report r) ∙ cut in
       let same : draft ≡ done model report = led_to front draft report h r.form (append_cancel_right (report_lines model report) front ([] ∷ []) lines) in
       sym (ap report_of same)
+
+-- ---- the reader's loop
+-- so many lines are read, and these bytes are left
+pub record HasCome (model : Program) (bytes rest : List ℕ) (number : ℕ) (draft : Draft) : Type 0 where
+  pub front : List Line
+  pub cut : parts 10 bytes ≡ front ++ parts 10 rest
+  pub count : number ≡ length front
+  pub read : HasRead model front draft
+  pub within : number + length rest ≤ length bytes
+
+module _ (model : Program) (bytes : List ℕ) where
+  pub come_start : HasCome model bytes bytes 0 nothing_read
+  come_start = record { front = []; cut = refl; count = refl; read = nothing_led model; within = omega arith }
+
+  pub come_further : (rest after : List ℕ) (line : Line) (number : ℕ) (draft next : Draft) → HasCome model bytes rest number draft → parts 10 rest ≡ line ∷ parts 10 after → length after < length rest
+      → Takes model (number + 1) draft line next → HasCome model bytes after (number + 1) next
+  come_further rest after line number draft next h e short t = record {
+      front = h.front ++ line ∷ [];
+      cut = h.cut ∙ ap (λ l. h.front ++ l) e ∙ sym (append_assoc h.front (line ∷ []) (parts 10 after));
+      count = (let c = h.count in let l = length-append h.front (line ∷ []) in omega arith);
+      read = one_line_more model h.front line draft next h.read (subst (λ n. Takes model n draft line next) (let c = h.count in let g : number + 1 ≡ suc (length h.front) = omega arith in g) t);
+      within = (let w = h.within in omega arith);
+    }
+
+  some_parts : (text : List ℕ) → parts 10 text ≢ []
+  some_parts text e = let l : length (parts 10 text) ≡ count_by (λ b. b == 10) text + 1 = length-slice_split (λ b. b == 10) text in let k : length (parts 10 text) ≡ 0 = ap length e in absurd (omega arith)
+
+  pub come_wrong : (rest after : List ℕ) (line : Line) (number : ℕ) (draft : Draft) (stop : ReportStop) → HasCome model bytes rest number draft → parts 10 rest ≡ line ∷ parts 10 after
+      → IsLineStop model (number + 1) draft line stop → IsReportStop model bytes stop
+  come_wrong rest after line number draft (BadLine m) h e s =
+      let n : number + 1 ≡ suc (length h.front) = let c = h.count in omega arith in
+      record {
+        front = h.front;
+        line = line;
+        back = parts 10 after;
+        cut = h.cut ∙ ap (λ l. h.front ++ l) e;
+        number = s.0 ∙ n;
+        judged = inl (some_parts after);
+        right = is_front model h.front draft h.read;
+        wrong = line_is_wrong model h.front line draft h.read (subst (λ (k : ℕ). (p : Phrase) → Says model line p → advanced model k draft p ≡ None) n s.1);
+      }
+  come_wrong rest after line number draft Truncated h e s = absurd s
+  come_wrong rest after line number draft Memory h e s = tt
+
+  module _ (rest : List ℕ) (number : ℕ) (draft : Draft) (h : HasCome model bytes rest number draft) (last : parts 10 rest ≡ rest ∷ []) where
+    cut_last : parts 10 bytes ≡ h.front ++ rest ∷ []
+    cut_last = h.cut ∙ ap (λ l. h.front ++ l) last
+
+    -- cut before the last line
+    truncated : draft.stage ≢ Stage.Done → IsTruncated model bytes
+    truncated n = record { lines = h.front; last = rest; cut = cut_last; right = is_front model h.front draft h.read; unfinished = is_unfinished model h.front draft h.read n }
+
+    -- a byte behind the last line
+    byte_behind : (b : ℕ) (more : List ℕ) → rest ≡ b ∷ more → draft.stage ≡ Stage.Done → IsBadLine model bytes (number + 1)
+    byte_behind b more e f =
+        let whole = is_whole model h.front draft h.read f in
+        record {
+          front = h.front;
+          line = rest;
+          back = [];
+          cut = cut_last;
+          number = (let c = h.count in omega arith);
+          judged = inr (whole, (λ z. absurd (cc)));
+          right = is_front model h.front draft h.read;
+          wrong = λ goes. (let z : rest ∷ [] ≡ [] = whole_ends model h.front (rest ∷ []) whole goes in absurd (cc));
+        }
+
+    pub end_reads : (r : Report) → ended number draft rest ≡ Ok r → Reads model bytes r × ((other : Report) → Reads model bytes other → other ≡ r)
+    end_reads r e = by draft.stage refl rest refl e
+      where
+        by : (stage : Stage) → draft.stage ≡ stage → (text : List ℕ) → rest ≡ text → ended number (draft_of draft.notes draft.entries stage) text ≡ Ok r → Reads model bytes r × ((other : Report) → Reads model bytes other → other ≡ r)
+        by Stage.Done f [] g k =
+            let same : report_of model draft ≡ r = cc in
+            let cut : parts 10 bytes ≡ h.front ++ [] ∷ [] = cut_last ∙ ap (λ t. h.front ++ t ∷ []) g in
+            (subst (Reads model bytes) same (reads_whole model bytes h.front draft h.read f cut), λ other reads. reads_once model bytes h.front draft other h.read cut reads ∙ same)
+        by Stage.Done f (b ∷ more) g k = absurd (cc)
+        by Stage.Start f text g k = absurd (cc)
+        by Stage.Between f text g k = absurd (cc)
+        by (Stage.Answering question part) f text g k = absurd (cc)
+
+    pub end_stops : (stop : ReportStop) → ended number draft rest ≡ Err stop → IsReportStop model bytes stop
+    end_stops stop e = by draft.stage refl rest refl e
+      where
+        same : (a b : ReportStop) → (let r : Result Report ReportStop = Err a in r) ≡ Err b → a ≡ b
+        same a b k = cc
+
+        by : (stage : Stage) → draft.stage ≡ stage → (text : List ℕ) → rest ≡ text → ended number (draft_of draft.notes draft.entries stage) text ≡ Err stop → IsReportStop model bytes stop
+        by Stage.Done f [] g k = absurd (cc)
+        by Stage.Done f (b ∷ more) g k = subst (IsReportStop model bytes) (same (BadLine (number + 1)) stop k) (byte_behind b more g f)
+        by Stage.Start f text g k = subst (IsReportStop model bytes) (same Truncated stop k) (truncated (λ d. absurd (let z : Stage.Start ≡ Stage.Done = sym f ∙ d in cc)))
+        by Stage.Between f text g k = subst (IsReportStop model bytes) (same Truncated stop k) (truncated (λ d. absurd (let z : Stage.Between ≡ Stage.Done = sym f ∙ d in cc)))
+        by (Stage.Answering question part) f text g k = subst (IsReportStop model bytes) (same Truncated stop k) (truncated (λ d. absurd (let z : Stage.Answering question part ≡ Stage.Done = sym f ∙ d in cc)))

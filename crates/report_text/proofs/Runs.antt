@@ -1,10 +1,10 @@
 -- The phrases of a report lead from nothing to the whole report.
-use Rattle.std.proofs.Common.{◌≡◌, ◌≢◌, ◌≤◌, refl, sym, ap, subst, ◌∙◌, ℕ, zero, suc, ◌+◌, ◌-◌, Bool, true, false, true≢false, cond, List, [], ◌∷◌, ◌++◌, length, append_assoc, append-nil, Option, Some, None, arith}
+use Rattle.std.proofs.Common.{◌≡◌, ◌≤◌, refl, sym, ap, subst, ◌∙◌, ℕ, suc, ◌+◌, ◌-◌, Bool, true, false, true≢false, cond, List, [], ◌∷◌, ◌++◌, length, append_assoc, append-nil, Option, Some, None, arith}
 use Rattle.std.specs.Prelude.{map, flat_map, zip, replicate, option_and_then, option_map, All, AllPairs, nat_le}
 use Rattle.std.specs.List.{list_all}
 use Rattle.std.proofs.lemmas.List.{replicate_more, length-append, length-map}
 use Rattle.report_text.specs.Phrases.{phrase_line}
-use Rattle.report_text.proofs.Said.{value_phrases, point_phrases, node_phrases, proof_phrases, witness_phrases, answer_front, entry_phrases, body_phrases, report_phrases, entry_spelled}
+use Rattle.report_text.proofs.Said.{value_phrases, point_phrases, node_phrases, proof_phrases, witness_phrases, answer_front, entry_phrases, report_phrases, entry_spelled}
 use Rattle.std.proofs.lemmas.List.Elements.{All-head, All-tail, All-contains, Contains-append_right}
 use Rattle.std.proofs.lemmas.Bool.{and_from, le-leb}
 use Rattle.rational.proofs.Compare.{eq-Decides}
@@ -14,10 +14,7 @@ use Rattle.lp_model.specs.Program.{Program}
 use Rattle.lp_model.specs.declared.parts.Note.{Note}
 use Rattle.lp_model.specs.declared.members.Member.{Member}
 use Rattle.lp_model.specs.Members.{comes_before, IsInOrder}
-use Rattle.certs.specs.declared.evidence.Share.{Share}
 use Rattle.certs.specs.declared.evidence.Point.{Point}
-use Rattle.certs.specs.declared.evidence.Node.{Node}
-use Rattle.certs.specs.declared.evidence.Node.TheVariants.{Split, Leaf}
 use Rattle.certs.specs.declared.evidence.Proof.{Proof}
 use Rattle.report_text.specs.declared.report.Command.{Command}
 use Rattle.report_text.specs.declared.report.Command.TheVariants.{Check, Iis}
@@ -34,8 +31,7 @@ use Rattle.report_text.specs.declared.drafts.Stage.{Stage}
 use Rattle.report_text.specs.declared.drafts.Draft.{Draft}
 use Rattle.lp_model.specs.MemberSets.{SetValue}
 use Rattle.report_text.specs.Form.{IsListed, IsOneLeaf, IsPointFor, IsAnswerFor, IsEntryFor, AreNumbered, IsReportFor, can_answer, share_before}
-use Rattle.report_text.specs.Grammar.{entry_lines}
-use Rattle.report_text.specs.Drafts.{filled, point_of, leaf_of, set_of, only_if, with_value, with_member, with_share, witnessed_with, extended, placed, advanced, nothing_read}
+use Rattle.report_text.specs.Drafts.{filled, point_of, leaf_of, set_of, only_if, with_value, witnessed_with, extended, placed, advanced, nothing_read}
 
 -- ---- runs
 -- the draft that phrases lead to, where the first is that of line number n

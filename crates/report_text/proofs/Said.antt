@@ -1,8 +1,7 @@
 -- The phrases of a report, and that its lines are theirs.
-use Rattle.std.proofs.Common.{◌≡◌, ◌≢◌, ◌<◌, refl, sym, ap, subst, ◌∙◌, ℕ, zero, suc, ◌+◌, Bool, true, false, cond, List, [], ◌∷◌, ◌++◌, length, get_or, append_assoc, append-nil, arith}
+use Rattle.std.proofs.Common.{◌≡◌, ◌≢◌, ◌<◌, refl, sym, ap, subst, ◌∙◌, ℕ, zero, suc, ◌+◌, Bool, true, false, cond, List, [], ◌∷◌, ◌++◌, length, get_or, append_assoc, arith}
 use Rattle.std.proofs.lemmas.List.{map-append}
 use Rattle.std.specs.Prelude.{map, flat_map, zip, codes, All}
-use Rattle.std.proofs.lemmas.Bool.{cond_both}
 use Rattle.std.proofs.lemmas.Bool.Decides.{not_from_Decides}
 use Rattle.std.proofs.lemmas.List.Elements.{All-head, All-tail, All-nil, All-cons, All-append, All-push}
 use Rattle.rational.specs.Rational.{ℚ, zero_ℚ, eq_ℚ}
@@ -28,7 +27,7 @@ use Rattle.report_text.specs.declared.report.Entry.{Entry}
 use Rattle.report_text.specs.declared.report.Report.{Report}
 use Rattle.report_text.specs.declared.phrases.Phrase.{Phrase}
 use Rattle.lp_model.specs.Satisfaction.{values_at}
-use Rattle.report_text.specs.Form.{is_word, IsWithinLimit, IsNamedColumn, IsNamedMember, IsUse, IsListed, IsOneLeaf, IsPointFor, IsAnswerFor, IsEntryFor, IsReportFor}
+use Rattle.report_text.specs.Form.{is_word, IsWithinLimit, IsNamedColumn, IsNamedMember, IsUse, IsOneLeaf, IsPointFor, IsAnswerFor, IsEntryFor, IsReportFor}
 use Rattle.report_text.specs.Grammar.{Line, ◌then◌, column_name, name_of, kind_word, member_line, side_word, source_text, command_text, value_line, value_lines, point_lines, use_line, node_lines, proof_lines, witness_lines, answer_lines, entry_lines, note_line, report_lines}
 use Rattle.report_text.specs.Phrases.{spelled, source_words, phrase_line, IsPhraseFor}
 

@@ -1,8 +1,8 @@
 -- The words of a line: each has shown bytes alone, so the parts of a line are its words, and those of a text its lines.
-use Rattle.std.proofs.Common.{◌≡◌, ◌≢◌, refl, sym, ap, subst, ◌∙◌, ℕ, zero, suc, ◌<◌, ◌≤◌, ◌==◌, Bool, true, false, not, true≢false, List, [], ◌∷◌, ◌++◌, append_assoc, append-nil, arith, eqb-true, ltb-false, ltb-true, length}
-use Rattle.std.specs.Prelude.{All, map, flat_map, zip, codes, decimal, nat_lt, nat_le, unsigned_abs}
+use Rattle.std.proofs.Common.{◌≡◌, refl, sym, ap, subst, ◌∙◌, ℕ, suc, ◌<◌, ◌≤◌, ◌==◌, true, false, true≢false, List, [], ◌∷◌, ◌++◌, append_assoc, append-nil, arith, eqb-true, ltb-false, length}
+use Rattle.std.specs.Prelude.{All, map, codes, decimal, nat_lt, unsigned_abs}
 use Rattle.std.specs.List.{list_all, join_with_byte}
-use Rattle.std.proofs.lemmas.Bool.{and_parts, and_from, or_parts, cond_both, false_from_ne_true, lt-ltb, le-leb, leb-true}
+use Rattle.std.proofs.lemmas.Bool.{and_parts, or_parts, cond_both, false_from_ne_true}
 use Rattle.std.proofs.lemmas.Bool.Decides.{nat_tests}
 use Rattle.std.proofs.lemmas.Fmt.{decimal_is_IsNumeral_wide}
 use Rattle.std.proofs.lemmas.List.Elements.{All-nil, All-cons, All-head, All-tail, All-append, All-weaker}
@@ -17,8 +17,7 @@ use Rattle.frac128.specs.Width.{is_too_wide}
 use Rattle.frac128.specs.Printed.{printed}
 use Rattle.lines.specs.Names.{is_shown}
 use Rattle.lines.specs.Parts.{parts}
-use Rattle.lp_model.specs.Program.{Program, noted_column}
-use Rattle.lp_model.specs.declared.parts.Note.{Note}
+use Rattle.lp_model.specs.Program.{Program}
 use Rattle.lp_model.specs.declared.parts.Note.TheVariants.{LowerRemoved, LowerKept}
 use Rattle.lp_model.specs.declared.members.Member.{Member}
 use Rattle.lp_model.specs.declared.members.Member.TheVariants.{Row, Lower, Upper, Whole}
@@ -26,13 +25,12 @@ use Rattle.lp_model.specs.declared.members.Side.{Side}
 use Rattle.lp_model.specs.declared.members.Side.TheVariants.{Lo, Up}
 use Rattle.certs.specs.declared.evidence.Source.{Source}
 use Rattle.certs.specs.declared.evidence.Source.TheVariants.{Member as Of, Below, Above}
-use Rattle.certs.specs.declared.evidence.Share.{Share}
 use Rattle.report_text.specs.declared.report.Command.TheVariants.{Check, Iis}
 use Rattle.report_text.specs.declared.report.Method.TheVariants.{Deletion, Additive, Sensitivity}
 use Rattle.report_text.specs.declared.report.Report.{Report}
 use Rattle.report_text.specs.declared.phrases.Keyword.{Keyword}
 use Rattle.report_text.specs.declared.phrases.Phrase.{Phrase}
-use Rattle.report_text.specs.Form.{is_word, IsNamedColumn, IsNamedMember, IsNamedSource, IsReportFor}
+use Rattle.report_text.specs.Form.{is_word, IsNamedSource}
 use Rattle.report_text.specs.Grammar.{Line, ◌then◌, text_of, column_name, name_of, kind_word, side_word, report_lines}
 use Rattle.report_text.specs.Reading.{Reads}
 use Rattle.report_text.specs.Phrases.{keyword_text, keyword_of, source_words, details, spelled, phrase_line, IsPhraseFor, Says}

@@ -1,5 +1,5 @@
 -- What may follow in a report, line by line: the draft that a phrase makes of a draft.
-use Rattle.std.specs.Prelude.{◌≡◌, ◌≢◌, ⊤, ℕ, ◌+◌, ◌-◌, ◌≤◌, nat_le, Bool, true, false, List, [], ◌∷◌, ◌++◌, length, replicate, Option, Some, None, option_map, flat_map, All}
+use Rattle.std.specs.Prelude.{◌≡◌, ◌≢◌, ⊤, ℕ, ◌+◌, ◌-◌, ◌≤◌, nat_le, Bool, true, false, List, [], ◌∷◌, ◌++◌, length, replicate, Option, Some, None, option_map, Result, Ok, Err, flat_map, All}
 use Rattle.std.specs.List.{list_all}
 use Rattle.rational.specs.Rational.{ℚ, zero_ℚ}
 use Rattle.lp_model.specs.Program.{Program, noted_column}
@@ -23,7 +23,11 @@ use Rattle.report_text.specs.declared.drafts.Part.{Part}
 use Rattle.report_text.specs.declared.drafts.Next.{Next}
 use Rattle.report_text.specs.declared.drafts.Stage.{Stage}
 use Rattle.report_text.specs.declared.drafts.Draft.{Draft}
-use Rattle.report_text.specs.Grammar.{column_name, entry_lines}
+use Rattle.report_text.specs.declared.report.Report.{Report}
+use Rattle.report_text.specs.declared.report.ReportStop.{ReportStop}
+use Rattle.report_text.specs.declared.report.ReportStop.TheVariants.{BadLine, Truncated, Memory}
+use Rattle.report_text.specs.Phrases.{Says}
+use Rattle.report_text.specs.Grammar.{Line, column_name, entry_lines}
 use Rattle.report_text.specs.Form.{is_word, IsNamedColumn, IsNamedMember, IsWithinLimit, IsPointFor, IsEntryFor, AreUses, AreNumbered, share_before}
 
 -- values with zeros behind them, up to so many
@@ -123,6 +127,27 @@ advanced model n draft p = by draft.stage p
     by Stage.Between q = between n draft q
     by (Stage.Answering question part) q = option_map (placed draft question) (extended model question.command part q)
     by _ _ = None
+
+-- a line is taken: some phrase says it, and each that says it leads to the next draft
+pub record Takes (model : Program) (n : ℕ) (draft : Draft) (line : Line) (next : Draft) : Type 0 where
+  pub phrase : Phrase
+  pub says : Says model line phrase
+  pub all : (p : Phrase) → Says model line p → advanced model n draft p ≡ Some next
+
+-- a line is not taken: no phrase that says it may follow, or memory was refused
+abbrev pub IsLineStop : Program → ℕ → Draft → Line → ReportStop → Type 0
+IsLineStop model n draft line (BadLine m) = (m ≡ n) × ((p : Phrase) → Says model line p → advanced model n draft p ≡ None)
+IsLineStop model n draft line Truncated = ⊥
+IsLineStop model n draft line Memory = ⊤
+
+-- what n lines and the bytes behind the last of them have come to: the report where the last line was read and nothing is behind it
+abbrev pub ended : ℕ → Draft → List ℕ → Result Report ReportStop
+ended n draft rest = by draft.stage rest
+  where
+    by : Stage → List ℕ → Result Report ReportStop
+    by Stage.Done [] = Ok (record { notes = draft.notes; entries = draft.entries })
+    by Stage.Done _ = Err (BadLine (n + 1))
+    by _ _ = Err Truncated
 
 -- nothing is read
 abbrev pub nothing_read : Draft

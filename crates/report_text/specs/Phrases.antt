@@ -6,9 +6,7 @@ use Rattle.lp_model.specs.Program.{Program, noted_column}
 use Rattle.lp_model.specs.declared.parts.Note.TheVariants.{LowerRemoved, LowerKept}
 use Rattle.certs.specs.declared.evidence.Source.{Source}
 use Rattle.certs.specs.declared.evidence.Source.TheVariants.{Member as Of, Below, Above}
-use Rattle.certs.specs.declared.evidence.Share.{Share}
 use Rattle.lp_model.specs.declared.members.Side.{Side}
-use Rattle.report_text.specs.declared.report.Command.{Command}
 use Rattle.report_text.specs.declared.report.Command.TheVariants.{Check, Iis}
 use Rattle.report_text.specs.declared.phrases.Keyword.{Keyword}
 use Rattle.report_text.specs.declared.phrases.Phrase.{Phrase}

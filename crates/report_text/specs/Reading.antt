@@ -1,8 +1,10 @@
 -- What bytes say: a report, or where they cease to be one.
-use Rattle.std.specs.Prelude.{◌≡◌, ◌≢◌, ◌⊎◌, ℕ, suc, List, [], ◌∷◌, ◌++◌, length}
+use Rattle.std.specs.Prelude.{◌≡◌, ◌≢◌, ◌⊎◌, ⊤, ℕ, suc, List, [], ◌∷◌, ◌++◌, length}
 use Rattle.lines.specs.Parts.{parts}
 use Rattle.lp_model.specs.Program.{Program}
 use Rattle.report_text.specs.declared.report.Report.{Report}
+use Rattle.report_text.specs.declared.report.ReportStop.{ReportStop}
+use Rattle.report_text.specs.declared.report.ReportStop.TheVariants.{BadLine, Truncated, Memory}
 use Rattle.report_text.specs.Grammar.{Line, report_lines, text_of}
 use Rattle.report_text.specs.Form.{IsReportFor}
 
@@ -47,6 +49,12 @@ pub record IsTruncated (model : Program) (bytes : List ℕ) : Type 0 where
   pub cut : parts 10 bytes ≡ lines ++ last ∷ []
   pub right : IsFront model lines
   pub unfinished : ¬ (IsWhole model lines)
+
+-- why bytes were not read as a report; memory may be refused at any time
+abbrev pub IsReportStop : Program → List ℕ → ReportStop → Type 0
+IsReportStop model bytes (BadLine n) = IsBadLine model bytes n
+IsReportStop model bytes Truncated = IsTruncated model bytes
+IsReportStop model bytes Memory = ⊤
 
 -- ---- bytes come to at most one end
 -- what is read has no bad line

@@ -1,6 +1,7 @@
 //! Reports: their commands, answers and entries, and the text that they are printed as.
 #![tactic(auto)]
 
+mod advancing;
 mod building;
 mod drafts;
 mod following;
@@ -10,9 +11,11 @@ mod lexing;
 mod naming;
 mod ordering;
 mod phrases;
+mod reader;
 mod report;
 
 pub use laws::{bad_is_not_truncated, one_bad_line, read_is_not_bad, read_is_not_truncated};
+pub use reader::read_report;
 pub use report::{
     Answer, Command, Core, Entries, Entry, Method, Notes, Report, ReportStop, Witnesses,
 };

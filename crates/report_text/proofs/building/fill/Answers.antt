@@ -1,4 +1,4 @@
-use Rattle.std.proofs.Common.{◌≡◌, ◌≤◌, ◌<◌, sym, ap, ◌∙◌, ◌+◌, ◌∷◌, [], ◌++◌, length, arith}
+use Rattle.std.proofs.Common.{◌≡◌, ◌≤◌, ◌<◌, sym, ap, ◌∙◌, ◌∷◌, [], ◌++◌, length, arith}
 use Rattle.rational.specs.Rational.{zero_ℚ}
 use Rattle.report_text.specs.Drafts.{filled}
 use Rattle.report_text.proofs.Runs.{filled_whole, filled_more}

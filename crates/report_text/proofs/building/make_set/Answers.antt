@@ -1,4 +1,4 @@
-use Rattle.std.proofs.Common.{◌≡◌, sym, ap, ◌∙◌, subst, get_or, length}
+use Rattle.std.proofs.Common.{sym, ap, ◌∙◌, subst, get_or}
 use Rattle.std.proofs.lemmas.List.{take_all}
 use Rattle.lp_model.specs.declared.members.Member.TheVariants.{Row}
 use Rattle.lp_model.specs.MemberSets.{SetValue, IsMemberFor, set_with}

@@ -1,4 +1,4 @@
-use Rattle.std.proofs.Common.{◌≡◌, refl, sym, ap, ◌∙◌, Bool, true, false, true≢false, Option, Some, None, List}
+use Rattle.std.proofs.Common.{◌≡◌, refl, sym, ap, ◌∙◌, Bool, true, false, true≢false, None, List}
 use Rattle.lp_model.specs.declared.members.Member.{Member}
 use Rattle.std.specs.List.{list_all}
 use Rattle.lp_model.specs.Members.{comes_before}

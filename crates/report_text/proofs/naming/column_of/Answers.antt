@@ -1,4 +1,4 @@
-use Rattle.std.proofs.Common.{◌≡◌, sym, ◌∙◌, Some}
+use Rattle.std.proofs.Common.{sym, ◌∙◌}
 use Rattle.report_text.proofs.Named.{column_found, column_all}
 use Rattle.report_text.proofs.naming.column_of.Goals as goal
 

@@ -1,4 +1,4 @@
-use Rattle.std.proofs.Common.{◌≡◌, sym, ◌∙◌, Some}
+use Rattle.std.proofs.Common.{sym, ◌∙◌}
 use Rattle.report_text.proofs.Named.{row_found, row_all}
 use Rattle.report_text.proofs.naming.row_of.Goals as goal
 
