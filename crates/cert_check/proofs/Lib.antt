@@ -1,0 +1,8 @@
+pub mod Firsts
+pub mod Pairs
+pub mod Named
+pub mod Numbers
+pub mod Witnessed
+pub mod Entered
+pub mod Ended
+pub mod Believed

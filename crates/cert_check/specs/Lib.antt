@@ -1,0 +1,4 @@
+pub mod Trials
+pub mod Stops
+pub mod Uses
+pub mod Truth
