@@ -6,3 +6,4 @@ pub mod Witnessed
 pub mod Entered
 pub mod Ended
 pub mod Believed
+mod Examples
