@@ -7,3 +7,4 @@ pub mod Entered
 pub mod Ended
 pub mod Believed
 mod Examples
+pub mod SampleForms

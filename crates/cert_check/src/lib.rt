@@ -10,3 +10,6 @@ mod witnesses;
 
 pub use outcome::Outcome;
 pub use reports::verify;
+
+#[cfg(test)]
+mod tests;
