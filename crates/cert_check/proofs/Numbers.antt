@@ -11,7 +11,7 @@ use Rattle.report_text.specs.declared.report.Core.{Core}
 use Rattle.report_text.specs.declared.report.Entry.{Entry}
 use Rattle.report_text.specs.declared.report.Report.{Report}
 use Rattle.report_text.specs.declared.report.Answer.TheVariants.{Infeasible, Irreducible}
-use Rattle.report_text.specs.Grammar.{value_line, value_lines, member_line, witness_lines, proof_lines, answer_lines, note_line, entry_lines, report_lines}
+use Rattle.report_text.specs.Grammar.{Line, text_of, value_line, value_lines, member_line, witness_lines, proof_lines, answer_lines, note_line, entry_lines, report_lines}
 use Rattle.report_text.specs.Form.{AreNumbered}
 use Rattle.cert_check.specs.Trials.{witnesses_of}
 
@@ -68,3 +68,14 @@ report_short model report h l =
     let within : (2 + length report.notes) + length lines ≤ 2147483648 = omega (arith, a, b, c, d, one, l) in
     All-weaker (λ e. e.line + length (entry_lines model e) ≤ 2147483648) (λ e. e.line + length (entry_lines model e) < 4294967280) (λ e k. omega (arith, k)) report.entries
     (entries_short model (2 + length report.notes) 2147483648 report.entries h within)
+
+-- ---- for callers
+-- lines are no more than the bytes of their text
+pub lines_fit : (lines : List Line) → length lines ≤ length (text_of lines)
+lines_fit [] = omega arith
+lines_fit (line ∷ lines) =
+    let a : length (text_of (line ∷ lines)) ≡ length (line ++ 10 ∷ []) + length (text_of lines) = length-append (line ++ 10 ∷ []) (text_of lines) in
+    let b : length (line ++ 10 ∷ []) ≡ length line + 1 = length-append line (10 ∷ []) in
+    let rest : length lines ≤ length (text_of lines) = lines_fit lines in
+    let one : length (line ∷ lines) ≡ suc (length lines) = refl in
+    omega (arith, a, b, rest, one)
