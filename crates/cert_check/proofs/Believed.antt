@@ -1,0 +1,159 @@
+-- What is so where nothing stops the check.
+use Rattle.std.proofs.Common.{◌≡◌, ◌+◌, refl, sym, ◌∙◌, ap, subst, ℕ, suc, Bool, true, false, true≢false, cond, not, ltb, ◌==◌, ◌&&◌, ◌||◌, List, [], ◌∷◌, ◌++◌, length, filter, zip, flat_map, None, arith, eqb→eq, T}
+use Rattle.std.specs.Prelude.{All}
+use Rattle.std.proofs.lemmas.Bool.{and_parts}
+use Rattle.std.proofs.lemmas.Bool.Decides.{nat_tests}
+use Rattle.std.proofs.lemmas.List.Elements.{All-head, All-tail, All-nil, All-cons, All-weaker}
+use Rattle.frac128.specs.Limit.{limit}
+use Rattle.lp_model.specs.declared.parts.Note.{Note}
+use Rattle.lp_model.specs.declared.parts.Note.TheVariants.{LowerRemoved, LowerKept}
+use Rattle.lp_model.specs.declared.members.Member.{Member}
+use Rattle.lp_model.specs.Program.{Program, IsWellFormed}
+use Rattle.lp_model.specs.Members.{comes_before, is_same, kind, place, is_active, active_members, IsInOrder}
+use Rattle.lp_model.specs.Satisfaction.{values_at, Satisfies, IsSatisfiable, IsPart}
+use Rattle.lp_model.proofs.Sets.{same_self, members_law}
+use Rattle.certs.specs.declared.evidence.Checked.TheVariants.{Yes}
+use Rattle.certs.specs.declared.evidence.Point.{Point}
+use Rattle.certs.specs.Checks.{outcome, point_steps}
+use Rattle.certs.proofs.Passed.{point_check_law}
+use Rattle.certs.proofs.Sound.{satisfiable_law, unsatisfiable_law}
+use Rattle.report_text.specs.declared.report.Answer.{Answer}
+use Rattle.report_text.specs.declared.report.Answer.TheVariants.{Feasible, Infeasible, Irreducible}
+use Rattle.report_text.specs.declared.report.Entry.{Entry}
+use Rattle.report_text.specs.Form.{IsAnswerFor, IsEntryFor}
+use Rattle.report_text.specs.Grammar.{witness_lines}
+use Rattle.cert_check.specs.Trials.{said, paired_trials, same_note, is_active_use, leaf_shares, leaf_trial, others, witness_trials, witnesses_of, used_members, answer_trials, entry_trials}
+use Rattle.cert_check.specs.Stops.{first_stop, stop_or}
+use Rattle.cert_check.specs.Truth.{IsTrueAnswer, IsTrueOf}
+use Rattle.cert_check.proofs.Firsts.{found_yes, parts_pass}
+
+said_yes : (b : Bool) → said b ≡ Yes → b ≡ true
+said_yes true e = refl
+said_yes false e = absurd (cc)
+
+-- ---- notes
+one_note : (m n : Note) → same_note m n ≡ true → m ≡ n
+one_note (LowerRemoved j) (LowerRemoved k) e = ap (λ (i : ℕ). LowerRemoved i) (eqb→eq j k (subst T (sym e) tt))
+one_note (LowerRemoved j) (LowerKept k) e = absurd (true≢false (sym e))
+one_note (LowerKept j) (LowerRemoved k) e = absurd (true≢false (sym e))
+one_note (LowerKept j) (LowerKept k) e = ap (λ (i : ℕ). LowerKept i) (eqb→eq j k (subst T (sym e) tt))
+
+pub same_notes : (n : ℕ) (printed known : List Note) → first_stop (paired_trials same_note n printed known) ≡ None → printed ≡ known
+same_notes n [] [] e = refl
+same_notes n [] (k ∷ known) e = absurd (cc)
+same_notes n (p ∷ printed) [] e = absurd (cc)
+same_notes n (p ∷ printed) (k ∷ known) e =
+    let both = found_yes n (said (same_note p k)) (first_stop (paired_trials same_note (n + 1) printed known)) e in
+    ap (λ (m : Note). m ∷ printed) (one_note p k (said_yes (same_note p k) both.0)) ∙ ap (λ (l : List Note). k ∷ l) (same_notes (n + 1) printed known both.1)
+
+-- ---- members
+module _ (model : Program) where
+  pairs_on : (n : ℕ) (printed used : List Member) → first_stop (paired_trials (is_active_use model) n printed used) ≡ None → All (λ m. is_active model m ≡ true) printed
+  pairs_on n [] used e = All-nil (λ m. is_active model m ≡ true)
+  pairs_on n (p ∷ printed) [] e = absurd (cc)
+  pairs_on n (p ∷ printed) (u ∷ used) e =
+      let both = found_yes n (said (is_active_use model p u)) (first_stop (paired_trials (is_active_use model) (n + 1) printed used)) e in
+      All-cons (λ m. is_active model m ≡ true) p printed (and_parts (is_active model p) (is_same p u) (said_yes (is_active_use model p u) both.0)).0 (pairs_on (n + 1) printed used both.1)
+
+  part_of_active : (set : List Member) → All (λ m. is_active model m ≡ true) set → IsPart set (active_members model)
+  part_of_active set h = λ k d l. ((members_law model).1 _).1 (h k d l)
+
+-- ---- members and witnesses
+all_zip : (P : Member → Type 0) (xs : List Member) (ys : List Point) → length ys ≡ length xs → All (λ w. P w.0) (zip xs ys) → All P xs
+all_zip P [] ys e h = All-nil P
+all_zip P (x ∷ xs) [] e h = absurd (cc)
+all_zip P (x ∷ xs) (y ∷ ys) e h =
+    let less : length ys ≡ length xs = (let k : suc (length ys) ≡ suc (length xs) = e in omega (arith, k)) in
+    All-cons P x xs (All-head (λ (w : Member × Point). P w.0) (x, y) (zip xs ys) h) (all_zip P xs ys less (All-tail (λ (w : Member × Point). P w.0) (x, y) (zip xs ys) h))
+
+zip_at : (Q : Member × Point → Type 0) (front : List Member) (x : Member) (back : List Member) (ys : List Point) → length ys ≡ length (front ++ x ∷ back) → All Q (zip (front ++ x ∷ back) ys) → (y : Point) × Q (x, y)
+zip_at Q [] x back [] e h = absurd (cc)
+zip_at Q [] x back (y ∷ ys) e h = (y, All-head Q (x, y) (zip back ys) h)
+zip_at Q (f ∷ front) x back [] e h = absurd (cc)
+zip_at Q (f ∷ front) x back (y ∷ ys) e h =
+    let less : length ys ≡ length (front ++ x ∷ back) = (let k : suc (length ys) ≡ suc (length (front ++ x ∷ back)) = e in omega (arith, k)) in
+    zip_at Q front x back ys less (All-tail Q (f, y) (zip (front ++ x ∷ back) ys) h)
+
+differs : (a b c d : ℕ) → (ltb a c || ((a == c) && ltb b d)) ≡ true → ((a == c) && (b == d)) ≡ false
+differs a b c d h = grind (arith, nat_tests)
+
+differs_back : (a b c d : ℕ) → (ltb a c || ((a == c) && ltb b d)) ≡ true → ((c == a) && (d == b)) ≡ false
+differs_back a b c d h = grind (arith, nat_tests)
+
+not_same : (m n : Member) → comes_before m n ≡ true → is_same m n ≡ false
+not_same m n h = differs (kind m) (place m) (kind n) (place n) h
+
+not_same_back : (m n : Member) → comes_before m n ≡ true → is_same n m ≡ false
+not_same_back m n h = differs_back (kind m) (place m) (kind n) (place n) h
+
+pairs_head : (m : Member) (list : List Member) → IsInOrder (m ∷ list) → All (λ n. comes_before m n ≡ true) list
+pairs_head m list h k d l = h 0 (suc k) d (omega arith) (omega arith)
+
+pairs_tail : (m : Member) (list : List Member) → IsInOrder (m ∷ list) → IsInOrder list
+pairs_tail m list h i j d lt l = h (suc i) (suc j) d (omega arith) (omega arith)
+
+keeps_all : (test : Member → Bool) (list : List Member) → All (λ n. test n ≡ true) list → filter test list ≡ list
+keeps_all test [] h = refl
+keeps_all test (n ∷ list) h = ap (λ b. cond b (n ∷ filter test list) (filter test list)) (All-head (λ m. test m ≡ true) n list h) ∙ ap (λ l. n ∷ l) (keeps_all test list (All-tail (λ m. test m ≡ true) n list h))
+
+at_middle : (P : Member → Type 0) (front : List Member) (x : Member) (back : List Member) → All P (front ++ x ∷ back) → P x
+at_middle P [] x back h = All-head P x back h
+at_middle P (f ∷ front) x back h = at_middle P front x back (All-tail P f (front ++ x ∷ back) h)
+
+-- the others of one member are those before it and after it
+others_are : (front : List Member) (x : Member) (back : List Member) → IsInOrder (front ++ x ∷ back) → others (front ++ x ∷ back) x ≡ front ++ back
+others_are [] x back h =
+    ap (λ b. cond (not b) (x ∷ others back x) (others back x)) (same_self x)
+    ∙ keeps_all (λ n. not (is_same n x)) back (All-weaker (λ n. comes_before x n ≡ true) (λ n. not (is_same n x) ≡ true) (λ n k. ap not (not_same_back x n k)) back (pairs_head x back h))
+others_are (f ∷ front) x back h =
+    ap (λ b. cond (not b) (f ∷ others (front ++ x ∷ back) x) (others (front ++ x ∷ back) x)) (not_same f x (at_middle (λ n. comes_before f n ≡ true) front x back (pairs_head f (front ++ x ∷ back) h)))
+    ∙ ap (λ l. f ∷ l) (others_are front x back (pairs_tail f (front ++ x ∷ back) h))
+
+module _ (model : Program) (set : List Member) where
+  abbrev pub Tried : Member × Point → Type 0
+  Tried w = (is_active model w.0 ≡ true) × (outcome (point_steps model (others set w.0) (values_at w.1.values)) ≡ Yes)
+
+  tried : (n : ℕ) (witnesses : List (Member × Point)) → first_stop (witness_trials model set n witnesses) ≡ None → All Tried witnesses
+  tried n [] e = All-nil Tried
+  tried n (w ∷ witnesses) e =
+      let rest = first_stop (witness_trials model set (n + length (witness_lines model w)) witnesses) in
+      let point = outcome (point_steps model (others set w.0) (values_at w.1.values)) in
+      let one = found_yes n (said (is_active model w.0)) (stop_or (n + 1) point rest) e in
+      let two = found_yes (n + 1) point rest one.1 in
+      All-cons Tried w witnesses (said_yes (is_active model w.0) one.0, two.0) (tried (n + length (witness_lines model w)) witnesses two.1)
+
+  irreducible_by : (witnesses : List Point) → IsInOrder set → length witnesses ≡ length set → All Tried (zip set witnesses) → (front : List Member) (x : Member) (back : List Member) → set ≡ front ++ x ∷ back → IsSatisfiable model (front ++ back)
+  irreducible_by witnesses in_order each h front x back e =
+      let found = zip_at Tried front x back witnesses (each ∙ ap length e) (subst (λ (l : List Member). All Tried (zip l witnesses)) e h) in
+      let rest = ap (λ (l : List Member). others l x) e ∙ others_are front x back (subst IsInOrder e in_order) in
+      subst (IsSatisfiable model) rest (satisfiable_law limit model (others set x) found.0.values found.1.1)
+
+-- ---- answers
+pub true_answer : (model : Program) (n : ℕ) (a : Answer) → IsWellFormed model → IsAnswerFor model a → first_stop (answer_trials model n a) ≡ None → IsTrueAnswer model a
+true_answer model n (Feasible p) f h e =
+    point_check_law limit model (active_members model) (values_at p.values) (found_yes (n + 2) (outcome (point_steps model (active_members model) (values_at p.values))) None e).0
+true_answer model n (Infeasible set proof) f h e =
+    let leaf = leaf_trial model set.members (n + (3 + length set.members)) proof in
+    let both = parts_pass (paired_trials (is_active_use model) (n + 2) set.members (used_members model (leaf_shares proof.nodes))) (leaf ∷ []) e in
+    record {
+      active = part_of_active model set.members (pairs_on model (n + 2) set.members (used_members model (leaf_shares proof.nodes)) both.0);
+      unsatisfiable = unsatisfiable_law limit model set.members (leaf_shares proof.nodes) f (found_yes leaf.line leaf.found None both.1).0;
+    }
+true_answer model n (Irreducible core) f h e =
+    let set = core.members.members in
+    let leaf = leaf_trial model set (n + (3 + length (flat_map (witness_lines model) (witnesses_of core)))) core.proof in
+    let both = parts_pass (witness_trials model set (n + 2) (witnesses_of core)) (leaf ∷ []) e in
+    let each = tried model set (n + 2) (witnesses_of core) both.0 in
+    let cannot = unsatisfiable_law limit model set (leaf_shares core.proof.nodes) f (found_yes leaf.line leaf.found None both.1).0 in
+    record {
+      active = part_of_active model set (all_zip (λ m. is_active model m ≡ true) set core.witnesses h.each (All-weaker (Tried model set) (λ w. is_active model w.0 ≡ true) (λ w t. t.0) (witnesses_of core) each));
+      unsatisfiable = cannot;
+      witnessed = All-weaker (Tried model set) (λ w. Satisfies model (others set w.0) (values_at w.1.values)) (λ w t. point_check_law limit model (others set w.0) (values_at w.1.values) t.1) (witnesses_of core) each;
+      irreducible = record { cannot = cannot; minimal = irreducible_by model set core.witnesses h.members.in_order h.each each };
+    }
+
+pub true_entries : (model : Program) (entries : List Entry) → IsWellFormed model → All (IsEntryFor model) entries → first_stop (flat_map (entry_trials model) entries) ≡ None → All (IsTrueOf model) entries
+true_entries model [] f h e = All-nil (IsTrueOf model)
+true_entries model (t ∷ entries) f h e =
+    let both = parts_pass (entry_trials model t) (flat_map (entry_trials model) entries) e in
+    All-cons (IsTrueOf model) t entries (true_answer model t.line t.answer f (All-head (IsEntryFor model) t entries h).answer both.0) (true_entries model entries f (All-tail (IsEntryFor model) t entries h) both.1)

@@ -1,0 +1,10 @@
+pub mod Firsts
+pub mod Pairs
+pub mod Named
+pub mod Numbers
+pub mod Witnessed
+pub mod Entered
+pub mod Ended
+pub mod Believed
+mod Examples
+pub mod SampleForms

@@ -1,0 +1,81 @@
+-- How many lines there are.
+use Rattle.std.proofs.Common.{◌≡◌, ◌≤◌, ◌<◌, ◌+◌, refl, ap, ℕ, suc, Bool, true, false, cond, not, List, [], ◌∷◌, ◌++◌, length, filter, map, flat_map, codes, length-append, arith}
+use Rattle.std.proofs.lemmas.List.{length-map}
+use Rattle.std.proofs.lemmas.List.Elements.{All-nil, All-cons, All-weaker}
+use Rattle.std.specs.Prelude.{All}
+use Rattle.rational.specs.Rational.{ℚ, zero_ℚ, eq_ℚ}
+use Rattle.lp_model.specs.Program.{Program}
+use Rattle.lp_model.specs.MemberSets.{SetValue}
+use Rattle.certs.specs.declared.evidence.Proof.{Proof}
+use Rattle.report_text.specs.declared.report.Core.{Core}
+use Rattle.report_text.specs.declared.report.Entry.{Entry}
+use Rattle.report_text.specs.declared.report.Report.{Report}
+use Rattle.report_text.specs.declared.report.Answer.TheVariants.{Infeasible, Irreducible}
+use Rattle.report_text.specs.Grammar.{Line, text_of, value_line, value_lines, member_line, witness_lines, proof_lines, answer_lines, note_line, entry_lines, report_lines}
+use Rattle.report_text.specs.Form.{AreNumbered}
+use Rattle.cert_check.specs.Trials.{witnesses_of}
+
+-- a line for each value that is not 0
+pub value_count : (model : Program) (j : ℕ) (values : List ℚ) → length (value_lines model j values) ≡ length (filter (λ v. not (eq_ℚ v zero_ℚ)) values)
+value_count model j [] = refl
+value_count model j (v ∷ values) = by (eq_ℚ v zero_ℚ) (value_count model (suc j) values)
+  where
+    by : (b : Bool) → length (value_lines model (suc j) values) ≡ length (filter (λ v. not (eq_ℚ v zero_ℚ)) values) → length (cond b (value_lines model (suc j) values) (value_line model j v ∷ value_lines model (suc j) values)) ≡ length (cond (not b) (v ∷ filter (λ v. not (eq_ℚ v zero_ℚ)) values) (filter (λ v. not (eq_ℚ v zero_ℚ)) values))
+    by true e = e
+    by false e = ap suc e
+
+-- the members are fewer than the lines
+pub members_fit : (model : Program) (set : SetValue) (proof : Proof) → length set.members ≤ length (answer_lines model (Infeasible set proof))
+members_fit model set proof =
+    let rest = proof_lines model proof ++ codes "end" ∷ [] in
+    let a : length (map (member_line model) set.members ++ rest) ≡ length (map (member_line model) set.members) + length rest = length-append (map (member_line model) set.members) rest in
+    let b : length (map (member_line model) set.members) ≡ length set.members = length-map set.members (member_line model) in
+    let c : length (answer_lines model (Infeasible set proof)) ≡ suc (length (map (member_line model) set.members ++ rest)) = refl in
+    omega (arith, a, b, c)
+
+-- and so are the lines of members and witnesses
+pub witnesses_fit : (model : Program) (core : Core) → length (flat_map (witness_lines model) (witnesses_of core)) ≤ length (answer_lines model (Irreducible core))
+witnesses_fit model core =
+    let lines = flat_map (witness_lines model) (witnesses_of core) in
+    let rest = proof_lines model core.proof ++ codes "end" ∷ [] in
+    let a : length (lines ++ rest) ≡ length lines + length rest = length-append lines rest in
+    let c : length (answer_lines model (Irreducible core)) ≡ suc (length (lines ++ rest)) = refl in
+    omega (arith, a, c)
+
+-- ---- the lines of entries, where line number n is that of the first
+pub entries_short : (model : Program) (n most : ℕ) (entries : List Entry) → AreNumbered model n entries → n + length (flat_map (entry_lines model) entries) ≤ most
+    → All (λ e. e.line + length (entry_lines model e) ≤ most) entries
+entries_short model n most [] h l = All-nil (λ e. e.line + length (entry_lines model e) ≤ most)
+entries_short model n most (e ∷ entries) h l =
+    let a : length (flat_map (entry_lines model) (e ∷ entries)) ≡ length (entry_lines model e) + length (flat_map (entry_lines model) entries) = length-append (entry_lines model e) (flat_map (entry_lines model) entries) in
+    let line : e.line ≡ n = h.0 in
+    let first : e.line + length (entry_lines model e) ≤ most = omega (arith, a, l, line) in
+    let rest : (n + length (entry_lines model e)) + length (flat_map (entry_lines model) entries) ≤ most = omega (arith, a, l) in
+    All-cons (λ e. e.line + length (entry_lines model e) ≤ most) e entries first (entries_short model (n + length (entry_lines model e)) most entries h.1 rest)
+
+-- of a report: before the first entry stand the head and the notes, and after the last the foot
+pub report_short : (model : Program) (report : Report) → AreNumbered model (2 + length report.notes) report.entries → length (report_lines model report) < 2147483648
+    → All (λ e. e.line + length (entry_lines model e) < 4294967280) report.entries
+report_short model report h l =
+    let notes = map (note_line model) report.notes in
+    let lines = flat_map (entry_lines model) report.entries in
+    let foot = codes "report end" ∷ [] in
+    let a : length (report_lines model report) ≡ suc (length (notes ++ (lines ++ foot))) = refl in
+    let b : length (notes ++ (lines ++ foot)) ≡ length notes + length (lines ++ foot) = length-append notes (lines ++ foot) in
+    let c : length (lines ++ foot) ≡ length lines + length foot = length-append lines foot in
+    let d : length notes ≡ length report.notes = length-map report.notes (note_line model) in
+    let one : length foot ≡ 1 = refl in
+    let within : (2 + length report.notes) + length lines ≤ 2147483648 = omega (arith, a, b, c, d, one, l) in
+    All-weaker (λ e. e.line + length (entry_lines model e) ≤ 2147483648) (λ e. e.line + length (entry_lines model e) < 4294967280) (λ e k. omega (arith, k)) report.entries
+    (entries_short model (2 + length report.notes) 2147483648 report.entries h within)
+
+-- ---- for callers
+-- lines are no more than the bytes of their text
+pub lines_fit : (lines : List Line) → length lines ≤ length (text_of lines)
+lines_fit [] = omega arith
+lines_fit (line ∷ lines) =
+    let a : length (text_of (line ∷ lines)) ≡ length (line ++ 10 ∷ []) + length (text_of lines) = length-append (line ++ 10 ∷ []) (text_of lines) in
+    let b : length (line ++ 10 ∷ []) ≡ length line + 1 = length-append line (10 ∷ []) in
+    let rest : length lines ≤ length (text_of lines) = lines_fit lines in
+    let one : length (line ∷ lines) ≡ suc (length lines) = refl in
+    omega (arith, a, b, rest, one)

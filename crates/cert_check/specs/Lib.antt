@@ -1,0 +1,5 @@
+pub mod Trials
+pub mod Stops
+pub mod Uses
+pub mod Samples
+pub mod Truth

@@ -1,0 +1,146 @@
+-- The trials of a report: which lines can fail against a program, in the order of the lines, and what is found there.
+use Rattle.std.specs.Prelude.{ℕ, ◌+◌, ◌==◌, Bool, true, false, ◌&&◌, not, List, [], ◌∷◌, ◌++◌, length, zip, filter, flat_map}
+use Rattle.std.specs.List.{list_any}
+use Rattle.lp_model.specs.declared.parts.Note.{Note}
+use Rattle.lp_model.specs.declared.parts.Note.TheVariants.{LowerRemoved, LowerKept}
+use Rattle.lp_model.specs.declared.members.Member.{Member}
+use Rattle.lp_model.specs.Program.{Program}
+use Rattle.lp_model.specs.Members.{is_same, is_active, possible_members, active_members}
+use Rattle.lp_model.specs.MemberSets.{SetValue}
+use Rattle.lp_model.specs.Satisfaction.{values_at}
+use Rattle.certs.specs.declared.evidence.Share.{Share}
+use Rattle.certs.specs.declared.evidence.Point.{Point}
+use Rattle.certs.specs.declared.evidence.Node.{Node}
+use Rattle.certs.specs.declared.evidence.Node.TheVariants.{Split, Leaf}
+use Rattle.certs.specs.declared.evidence.Proof.{Proof}
+use Rattle.certs.specs.declared.evidence.Checked.{Checked}
+use Rattle.certs.specs.declared.evidence.Checked.TheVariants.{Yes, No, Wide}
+use Rattle.certs.specs.Violation.{is_of}
+use Rattle.certs.specs.Checks.{outcome, point_steps, combination_steps}
+use Rattle.report_text.specs.declared.report.Core.{Core}
+use Rattle.report_text.specs.declared.report.Answer.{Answer}
+use Rattle.report_text.specs.declared.report.Answer.TheVariants.{Feasible, Infeasible, Irreducible}
+use Rattle.report_text.specs.declared.report.Entry.{Entry}
+use Rattle.report_text.specs.declared.report.Report.{Report}
+use Rattle.report_text.specs.Grammar.{witness_lines}
+use Rattle.cert_check.specs.declared.outcome.Outcome.{Outcome}
+use Rattle.cert_check.specs.declared.outcome.Outcome.TheVariants.{Accepted, Rejected, Wide as TooWide, Memory}
+
+-- a line, by its number from 1, and what is found there
+pub record Trial : Type 0 where
+  pub line : ℕ
+  pub found : Checked
+
+-- what is found on line n
+abbrev pub on_line : ℕ → Checked → Trial
+on_line n found = record { line = n; found = found }
+
+-- a yes or a no
+abbrev pub said : Bool → Checked
+said true = Yes
+said false = No
+
+-- ---- lists position by position
+-- The first position stands on line n, each on a line of its own. A position fails where the two do not agree, and where one list has ended and the other has not.
+abbrev pub paired_trials : {A : Type 0} → (A → A → Bool) → ℕ → List A → List A → List Trial
+paired_trials agree n [] [] = []
+paired_trials agree n (a ∷ left) [] = on_line n No ∷ []
+paired_trials agree n [] (b ∷ right) = on_line n No ∷ []
+paired_trials agree n (a ∷ left) (b ∷ right) = on_line n (said (agree a b)) ∷ paired_trials agree (n + 1) left right
+
+-- whether two notes are one
+abbrev pub same_note : Note → Note → Bool
+same_note (LowerRemoved j) (LowerRemoved k) = j == k
+same_note (LowerRemoved j) (LowerKept k) = false
+same_note (LowerKept j) (LowerRemoved k) = false
+same_note (LowerKept j) (LowerKept k) = j == k
+
+-- ---- points
+-- a point against members, on the line of its `point`
+abbrev pub point_trial : Program → List Member → ℕ → Point → Trial
+point_trial model set n p = on_line n (outcome (point_steps model set (values_at p.values)))
+
+-- ---- proofs
+-- the shares of a proof whose first node is a leaf
+abbrev pub leaf_shares : List Node → List Share
+leaf_shares [] = []
+leaf_shares (Split j k ∷ nodes) = []
+leaf_shares (Leaf combo ∷ nodes) = combo.shares
+
+-- the leaf of a proof against members, on the line of its `leaf`
+abbrev pub leaf_trial : Program → List Member → ℕ → Proof → Trial
+leaf_trial model set n proof = on_line n (outcome (combination_steps model set [] (leaf_shares proof.nodes)))
+
+-- the members that some share names, each once, in member order
+abbrev pub used_members : Program → List Share → List Member
+used_members model shares = filter (λ m. list_any (λ s. is_of m s.source) shares) (possible_members model)
+
+-- a printed member is active, and is the one that the proof uses
+abbrev pub is_active_use : Program → Member → Member → Bool
+is_active_use model printed used = is_active model printed && is_same printed used
+
+-- ---- answers, of which the command stands on line n
+-- the point against the active members
+abbrev pub feasible_trials : Program → ℕ → Point → List Trial
+feasible_trials model n p = point_trial model (active_members model) (n + 2) p ∷ []
+
+-- the members against those that the leaf uses, and the leaf
+abbrev pub infeasible_trials : Program → ℕ → SetValue → Proof → List Trial
+infeasible_trials model n set proof =
+    paired_trials (is_active_use model) (n + 2) set.members (used_members model (leaf_shares proof.nodes))
+    ++ leaf_trial model set.members (n + (3 + length set.members)) proof ∷ []
+
+-- the members of a set but one
+abbrev pub others : List Member → Member → List Member
+others set m = filter (λ n. not (is_same n m)) set
+
+-- each member with its witness, the first on line n: the member is active, and the witness satisfies the others
+abbrev pub witness_trials : Program → List Member → ℕ → List (Member × Point) → List Trial
+witness_trials model set n [] = []
+witness_trials model set n (w ∷ witnesses) =
+    on_line n (said (is_active model w.0))
+    ∷ point_trial model (others set w.0) (n + 1) w.1
+    ∷ witness_trials model set (n + length (witness_lines model w)) witnesses
+
+-- each member of an irreducible set with its witness
+abbrev pub witnesses_of : Core → List (Member × Point)
+witnesses_of core = zip core.members.members core.witnesses
+
+-- the members with their witnesses, and the leaf
+abbrev pub irreducible_trials : Program → ℕ → Core → List Trial
+irreducible_trials model n core =
+    witness_trials model core.members.members (n + 2) (witnesses_of core)
+    ++ leaf_trial model core.members.members (n + (3 + length (flat_map (witness_lines model) (witnesses_of core)))) core.proof ∷ []
+
+-- those of an answer
+abbrev pub answer_trials : Program → ℕ → Answer → List Trial
+answer_trials model n (Feasible p) = feasible_trials model n p
+answer_trials model n (Infeasible set proof) = infeasible_trials model n set proof
+answer_trials model n (Irreducible core) = irreducible_trials model n core
+
+-- those of an entry, from the line of its command
+abbrev pub entry_trials : Program → Entry → List Trial
+entry_trials model e = answer_trials model e.line e.answer
+
+-- ---- reports
+-- The notes against the program's: the head is line 1. Then the entries.
+abbrev pub trials : Program → Report → List Trial
+trials model report = paired_trials same_note 2 report.notes model.notes ++ flat_map (entry_trials model) report.entries
+
+-- what a line makes of the check: a yes leaves it to what follows
+abbrev pub unless_failed : ℕ → Checked → Outcome → Outcome
+unless_failed n Yes rest = rest
+unless_failed n No rest = Rejected n
+unless_failed n (Wide o) rest = TooWide n o
+
+-- The first line that does not pass decides. Where all pass, so many entries are settled, and none is unsettled.
+abbrev pub outcome_of : ℕ → List Trial → Outcome
+outcome_of settled [] = Accepted settled 0
+outcome_of settled (t ∷ rest) = unless_failed t.line t.found (outcome_of settled rest)
+
+-- the report was accepted
+abbrev pub IsAccepted : Outcome → Type 0
+IsAccepted (Accepted settled unsettled) = Unit {0}
+IsAccepted (Rejected n) = ⊥
+IsAccepted (TooWide n o) = ⊥
+IsAccepted Memory = ⊥

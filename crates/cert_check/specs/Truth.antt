@@ -1,0 +1,33 @@
+-- What a report claims of a program, apart from any check.
+use Rattle.std.specs.Prelude.{List, All, zip}
+use Rattle.lp_model.specs.Program.{Program}
+use Rattle.lp_model.specs.declared.members.Member.{Member}
+use Rattle.lp_model.specs.Members.{active_members}
+use Rattle.lp_model.specs.Satisfaction.{values_at, Satisfies, IsUnsatisfiable, IsIrreducible, IsPart}
+use Rattle.certs.specs.declared.evidence.Point.{Point}
+use Rattle.report_text.specs.declared.report.Answer.{Answer}
+use Rattle.report_text.specs.declared.report.Answer.TheVariants.{Feasible, Infeasible, Irreducible}
+use Rattle.report_text.specs.declared.report.Entry.{Entry}
+use Rattle.cert_check.specs.Trials.{others}
+
+-- members that are active, and that no point satisfies
+pub record IsRefuted (model : Program) (set : List Member) : Type 0 where
+  pub active : IsPart set (active_members model)
+  pub unsatisfiable : IsUnsatisfiable model set
+
+-- Members that are active, that no point satisfies, and of which each may be left out: its own witness satisfies all the others.
+pub record IsIrreducibleBy (model : Program) (set : List Member) (witnesses : List Point) : Type 0 where
+  pub active : IsPart set (active_members model)
+  pub unsatisfiable : IsUnsatisfiable model set
+  pub witnessed : All (λ w. Satisfies model (others set w.0) (values_at w.1.values)) (zip set witnesses)
+  pub irreducible : IsIrreducible model set
+
+-- what an answer claims: its point satisfies the active members, or its members are refuted, or irreducible by its witnesses
+abbrev pub IsTrueAnswer : Program → Answer → Type 0
+IsTrueAnswer model (Feasible p) = Satisfies model (active_members model) (values_at p.values)
+IsTrueAnswer model (Infeasible set proof) = IsRefuted model set.members
+IsTrueAnswer model (Irreducible core) = IsIrreducibleBy model core.members.members core.witnesses
+
+-- what an entry claims is so
+abbrev pub IsTrueOf : Program → Entry → Type 0
+IsTrueOf model e = IsTrueAnswer model e.answer

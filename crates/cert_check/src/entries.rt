@@ -1,0 +1,135 @@
+//! Whether the entries of a report hold.
+ghost use Rattle.std.specs.Prelude.{◌≡◌, ◌+◌, ◌<◌, All, length, flat_map};
+ghost use Rattle.lp_model.specs.MemberSets.{active_set};
+ghost use Rattle.report_text.specs.Form.{IsOneLeaf, IsPointFor, IsListed, IsCoreFor, IsAnswerFor, IsEntryFor};
+ghost use Rattle.report_text.specs.Grammar.{answer_lines, witness_lines};
+ghost use Rattle.cert_check.specs.Trials.{leaf_shares, witnesses_of, feasible_trials, infeasible_trials, irreducible_trials, answer_trials, entry_trials};
+ghost use Rattle.cert_check.specs.Stops.{first_stop, Says};
+ghost use Rattle.cert_check.specs.Uses.{IsLeaf, IsShort};
+
+use crate::members::{check_members, used_members};
+use crate::outcome::{Stop, settle};
+use crate::witnesses::check_witnesses;
+use certs::{Combo, Node, Point, Proof, check_combo, check_point};
+use frac128::Frac;
+use lp_model::{MemberSet, Model};
+use report_text::{Answer, Core, Entry};
+use std::alloc::Global;
+
+/// Checks the entries, in order.
+pub(crate) fn check_entries(alloc: Global, model: &Model, entries: &[Entry]) -> Result<(), Stop>
+    requires form { All (IsEntryFor model.now) entries.now }
+    requires short { All (IsShort model.now) entries.now }
+    ensures { Says (first_stop (flat_map (entry_trials model.now) entries.now)) result }
+{
+    let Ok(active) = model.members(alloc) else {
+        return Err(Stop::Memory);
+    };
+    let Ok(mut sums) = vec![in alloc; Frac::whole(0); model.column_count() as usize] else {
+        return Err(Stop::Memory);
+    };
+    for entry in entries {
+        check_answer(
+            alloc,
+            model,
+            &active,
+            &entry.answer,
+            entry.line,
+            sums.as_mut_slice(),
+        )?;
+    }
+    Ok(())
+}
+
+// Checks an answer, of which the command stands on the given line.
+fn check_answer(
+    alloc: Global,
+    model: &Model,
+    active: &MemberSet,
+    answer: &Answer,
+    line: u64,
+    sums: &mut [Frac],
+) -> Result<(), Stop>
+    requires active { active.now ≡ active_set model.now }
+    requires room { length sums.old ≡ length model.now.columns }
+    requires form { IsAnswerFor model.now answer.now }
+    requires short { line + length (answer_lines model.now answer.now) < 4294967280 }
+    ensures { Says (first_stop (answer_trials model.now line answer.now)) result }
+{
+    match answer {
+        Answer::Feasible(point) => check_feasible(model, active, point, line),
+        Answer::Infeasible(members, proof) => {
+            check_infeasible(alloc, model, members, proof, line, sums)
+        }
+        Answer::Irreducible(core) => check_core(alloc, model, core, line, sums),
+    }
+}
+
+// Checks a point against the active members.
+fn check_feasible(model: &Model, active: &MemberSet, point: &Point, line: u64) -> Result<(), Stop>
+    requires active { active.now ≡ active_set model.now }
+    requires form { IsPointFor model.now point.now }
+    requires short { line < 4294967296 }
+    ensures { Says (first_stop (feasible_trials model.now line point.now)) result }
+{
+    settle(line + 2, check_point(model, active, point))
+}
+
+// Checks members and a proof that no point satisfies them.
+fn check_infeasible(
+    alloc: Global,
+    model: &Model,
+    members: &MemberSet,
+    proof: &Proof,
+    line: u64,
+    sums: &mut [Frac],
+) -> Result<(), Stop>
+    requires room { length sums.old ≡ length model.now.columns }
+    requires members { IsListed model.now members.now }
+    requires proof { IsOneLeaf model.now proof.now }
+    requires short { line + length members.now.members < 4294967290 }
+    ensures { Says (first_stop (infeasible_trials model.now line members.now proof.now)) result }
+{
+    let combo = leaf_of(proof);
+    let Ok(used) = used_members(alloc, model, combo.shares.as_slice()) else {
+        return Err(Stop::Memory);
+    };
+    check_members(model, members, &used, line + 2)?;
+    settle(
+        line + (3 + members.count()),
+        check_combo(model, members, &[], combo, sums),
+    )
+}
+
+// Checks an irreducible set: its members with their witnesses, and its proof.
+fn check_core(
+    alloc: Global,
+    model: &Model,
+    core: &Core,
+    line: u64,
+    sums: &mut [Frac],
+) -> Result<(), Stop>
+    requires room { length sums.old ≡ length model.now.columns }
+    requires form { IsCoreFor model.now core.now }
+    requires short { line + length (flat_map (witness_lines model.now) (witnesses_of core.now)) < 4294967290 }
+    ensures { Says (first_stop (irreducible_trials model.now line core.now)) result }
+{
+    let Ok(mut others) = core.members.copy(alloc) else {
+        return Err(Stop::Memory);
+    };
+    let witnesses = core.witnesses.as_slice();
+    let end = check_witnesses(model, &core.members, &mut others, witnesses, line + 2)?;
+    let combo = leaf_of(&core.proof);
+    settle(end + 1, check_combo(model, &core.members, &[], combo, sums))
+}
+
+// The combination of the one leaf.
+fn leaf_of(proof: &Proof) -> &Combo
+    requires { IsLeaf proof.now.nodes }
+    ensures { result.now.shares ≡ leaf_shares proof.now.nodes }
+{
+    match &proof.nodes.as_slice()[0] {
+        Node::Leaf(combo) => combo,
+        Node::Split { .. } => unreachable!(),
+    }
+}

@@ -1,0 +1,15 @@
+//! Checks a report against a program: which of its lines is the first that fails.
+#![tactic(auto)]
+
+mod entries;
+mod members;
+mod notes;
+mod outcome;
+mod reports;
+mod witnesses;
+
+pub use outcome::Outcome;
+pub use reports::verify;
+
+#[cfg(test)]
+mod tests;

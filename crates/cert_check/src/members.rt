@@ -1,0 +1,85 @@
+//! Whether printed members are active, and those that a proof uses.
+ghost use Rattle.std.specs.Prelude.{◌≡◌, ◌+◌, ◌<◌, ◌↔◌, ⊤, All, IfOk, IsTrue, MatchOption, Option, Some, length};
+ghost use Rattle.lp_model.specs.MemberSets.{IsPossibleIn, next_after};
+ghost use Rattle.certs.specs.Checks.{IsSetOf};
+ghost use Rattle.cert_check.specs.Trials.{paired_trials, is_active_use, used_members as used_by};
+ghost use Rattle.cert_check.specs.Stops.{first_stop, Says};
+ghost use Rattle.cert_check.specs.Uses.{IsSourceFor, IsSourceIn, with_source};
+
+use crate::outcome::Stop;
+use certs::{Share, Source};
+use lp_model::{Member, MemberSet, Model};
+use std::alloc::{AllocError, Global};
+
+/// The members that some share names.
+pub(crate) fn used_members(
+    alloc: Global,
+    model: &Model,
+    shares: &[Share],
+) -> Result<MemberSet, AllocError>
+    requires { All (λ s. IsSourceFor model.now s.source) shares.now }
+    ensures same { IfOk result (λ set. IsSetOf model.now set) }
+    ensures used { IfOk result (λ set. set.members ≡ used_by model.now shares.now) }
+{
+    let mut used = MemberSet::empty(alloc, model)?;
+    for share in shares {
+        insert_source(&mut used, share.source);
+    }
+    let _count = used.count();
+    Ok(used)
+}
+
+// Puts the member that a source names into the set.
+fn insert_source(set: &mut MemberSet, source: Source)
+    requires { IsSourceIn set.old source }
+    ensures { set.new ≡ with_source set.old source }
+{
+    if let Source::Member(member) = source {
+        set.insert(member);
+    }
+}
+
+/// Compares the printed members with the used ones position by position, the first on the given line. Each is to be
+/// active.
+pub(crate) fn check_members(
+    model: &Model,
+    printed: &MemberSet,
+    used: &MemberSet,
+    start: u64,
+) -> Result<(), Stop>
+    requires printed { IsSetOf model.now printed.now }
+    requires used { IsSetOf model.now used.now }
+    requires short { start + length printed.now.members < 4294967296 }
+    ensures { Says (first_stop (paired_trials (is_active_use model.now) start printed.now.members used.now.members)) result }
+{
+    // That the members stand in order is told with their count.
+    let _printed = printed.count();
+    let _used = used.count();
+    let mut line = start;
+    let mut after = None;
+    while let Some(member) = printed.next(after) {
+        if !model.is_active(member) {
+            return Err(Stop::Rejected(line));
+        }
+        if !is_next(used, after, member) {
+            return Err(Stop::Rejected(line));
+        }
+        line += 1;
+        after = Some(member);
+    }
+    if used.next(after).is_some() {
+        return Err(Stop::Rejected(line));
+    }
+    Ok(())
+}
+
+// Whether the member is the first of the set that comes after the given one.
+fn is_next(set: &MemberSet, after: Option<Member>, member: Member) -> bool
+    requires { MatchOption after ⊤ (IsPossibleIn set.now) }
+    ensures { IsTrue result ↔ (next_after set.now after ≡ Some member) }
+{
+    match set.next(after) {
+        Some(next) => next == member,
+        None => false,
+    }
+}

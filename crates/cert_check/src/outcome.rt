@@ -1,0 +1,39 @@
+//! What a check of a report answers, and how it stops.
+ghost use Rattle.std.specs.Prelude.{[], ◌∷◌};
+ghost use Rattle.cert_check.specs.Trials.{on_line};
+ghost use Rattle.cert_check.specs.Stops.{first_stop, Says};
+
+use certs::Checked;
+use frac128::Wide;
+
+/// What the check of a report answers.
+///
+/// `Accepted` tells how many entries were checked and hold, and how many were not checked. `Rejected` has the number of
+/// the first line that fails, and `Wide` of the first line on which an operation is too wide, with that operation,
+/// where no line before it fails. The first line of a report has number 1. `Memory` comes where memory was refused.
+#[derive(Clone, Copy, PartialEq, Eq, Debug)]
+pub enum Outcome {
+    Accepted { settled: u64, unsettled: u64 },
+    Rejected { line: u64 },
+    Wide { line: u64, wide: Wide },
+    Memory,
+}
+
+/// Why a check goes no further: a line fails, a line has an operation that is too wide, or memory was refused.
+#[derive(Clone, Copy)]
+pub(crate) enum Stop {
+    Rejected(u64),
+    Wide(u64, Wide),
+    Memory,
+}
+
+/// Goes on where a line passes, and stops where it does not.
+pub(crate) fn settle(line: u64, found: Checked) -> Result<(), Stop>
+    ensures { Says (first_stop (on_line line found ∷ [])) result }
+{
+    match found {
+        Checked::Yes => Ok(()),
+        Checked::No => Err(Stop::Rejected(line)),
+        Checked::Wide(wide) => Err(Stop::Wide(line, wide)),
+    }
+}

@@ -1,0 +1,69 @@
+//! Whether a report holds of a program.
+ghost use Rattle.std.specs.Prelude.{◌≡◌, ◌⊎◌, ◌<◌, All, length};
+ghost use Rattle.report_text.specs.Form.{IsReportFor};
+ghost use Rattle.report_text.specs.Grammar.{report_lines};
+ghost use Rattle.cert_check.specs.Trials.{trials, outcome_of, IsAccepted};
+ghost use Rattle.cert_check.specs.Stops.{first_stop, Says, ending};
+ghost use Rattle.cert_check.specs.Truth.{IsTrueOf};
+
+use crate::entries::check_entries;
+use crate::notes::check_notes;
+use crate::outcome::{Outcome, Stop};
+use lp_model::Model;
+use report_text::Report;
+use std::alloc::Global;
+
+/// Checks a report against a program, line by line, and answers with the first line that fails or has an operation that
+/// is too wide.
+///
+/// The notes are compared with the program's position by position; where one is missing, the line in its place fails. A
+/// point fails on its `point` line where it does not satisfy the active members, and a witness where it does not
+/// satisfy the other members of its set. A member fails on its line where it is not active, and in `infeasible` also
+/// where it is not the one that the proof uses in its place; where one is missing, the line in its place fails, which
+/// may be the `proof` line. A proof fails on its `leaf` line where its shares are no combination of the printed
+/// members.
+///
+/// `Accepted` shows that the notes are those of the program, and that what each entry says is so. All entries are
+/// settled.
+///
+/// The report is to stand in the grammar for the program, as one that was read for it does, and to have fewer than 2^31
+/// lines.
+pub fn verify(alloc: Global, model: &Model, report: &Report) -> Outcome
+    requires form { IsReportFor model.now report.now }
+    requires short { length (report_lines model.now report.now) < 2147483648 }
+    ensures said { (result ≡ Outcome.Memory) ⊎ (result ≡ outcome_of (length report.now.entries) (trials model.now report.now)) }
+    ensures notes { IsAccepted result → report.now.notes ≡ model.now.notes }
+    ensures true_answers { IsAccepted result → All (IsTrueOf model.now) report.now.entries }
+    ensures settled { IsAccepted result → result ≡ Outcome.Accepted (length report.now.entries) 0 }
+{
+    // That the program is well formed is told with the count.
+    let _rows = model.row_count();
+    match check_report(alloc, model, report) {
+        Ok(()) => Outcome::Accepted {
+            settled: report.entries.as_slice().len() as u64,
+            unsettled: 0,
+        },
+        Err(stop) => ending_of(stop),
+    }
+}
+
+// Checks the notes, and then the entries.
+fn check_report(alloc: Global, model: &Model, report: &Report) -> Result<(), Stop>
+    requires form { IsReportFor model.now report.now }
+    requires short { length (report_lines model.now report.now) < 2147483648 }
+    ensures { Says (first_stop (trials model.now report.now)) result }
+{
+    check_notes(report.notes.as_slice(), model.notes())?;
+    check_entries(alloc, model, report.entries.as_slice())
+}
+
+// What a stop is answered as.
+fn ending_of(stop: Stop) -> Outcome
+    ensures { result ≡ ending stop }
+{
+    match stop {
+        Stop::Rejected(line) => Outcome::Rejected { line },
+        Stop::Wide(line, wide) => Outcome::Wide { line, wide },
+        Stop::Memory => Outcome::Memory,
+    }
+}

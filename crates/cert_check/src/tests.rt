@@ -1,0 +1,158 @@
+//! A program of the rows x <= 1 and x >= 2, and reports that no point satisfies them.
+ghost use Rattle.std.specs.Prelude.{◌≡◌, ℕ, List, IfOk, pos, ◌≤◌};
+ghost use Rattle.rational.specs.Rational.{whole, zero_ℚ, ◌<ℚ◌};
+ghost use Rattle.lp_model.specs.Program.{IsWellFormedColumn, NamedRow};
+ghost use Rattle.lp_model.specs.Shown.{named_row, named_column};
+ghost use Rattle.cert_check.specs.Samples.{sample, sample_column, sample_terms, sample_row, sample_nodes, sample_set, sample_report};
+
+use super::*;
+use certs::{Combo, Node, Nodes, Proof, Share, Shares, Source};
+use frac128::{Exact, Frac};
+use lp_model::{Column, Member, MemberSet, Model, ModelStop, Row, Side, Term, Terms, Weight};
+use report_text::{Answer, Command, Entries, Entry, Notes, Report};
+use std::alloc::{AllocError, Global};
+use std::test::Fail;
+
+// A column from 0 to 3.
+fn column() -> Column
+    ensures is { (name : List ℕ) → named_column name result ≡ sample_column name }
+    ensures well_formed { (name : List ℕ) → IsWellFormedColumn (named_column name result) }
+{
+    Column {
+        lo: Some(Frac::whole(0)),
+        up: Some(Frac::whole(3)),
+        whole: false,
+        lower_active: true,
+        upper_active: true,
+        whole_active: true,
+        lower_weight: Weight::Rigid,
+        upper_weight: Weight::Rigid,
+    }
+}
+
+// The first column, once.
+fn terms(alloc: Global) -> Result<Terms, AllocError>
+    ensures { IfOk result (λ t. t ≡ sample_terms) }
+{
+    let mut items = Vec::new(alloc);
+    items.push(Term {
+        column: 0,
+        factor: Frac::whole(1),
+    })?;
+    Ok(Terms::new(items))
+}
+
+// A row of these terms.
+fn row(terms: Terms, lo: Option<Frac>, up: Option<Frac>) -> Row
+    requires { terms ≡ sample_terms }
+    ensures { (name : List ℕ) → named_row name result ≡ sample_row name lo up }
+{
+    Row {
+        terms,
+        lo,
+        up,
+        active: true,
+        weight: Weight::Rigid,
+    }
+}
+
+// The program.
+fn program(alloc: Global) -> Result<Model, ModelStop>
+    ensures { IfOk result (λ m. m ≡ sample) }
+{
+    let mut model = Model::new(alloc, false);
+    model.add_column(alloc, b"x", column())?;
+    let Ok(first) = terms(alloc) else {
+        return Err(ModelStop::Memory);
+    };
+    let Ok(second) = terms(alloc) else {
+        return Err(ModelStop::Memory);
+    };
+    model.add_row(alloc, b"a", row(first, None, Some(Frac::whole(1))))?;
+    model.add_row(alloc, b"b", row(second, Some(Frac::whole(2)), None))?;
+    Ok(model)
+}
+
+// Both rows, the second so many times.
+fn proof(alloc: Global, weight: Frac) -> Result<Proof, AllocError>
+    ensures { IfOk result (λ p. p.nodes ≡ sample_nodes weight) }
+{
+    let mut items = Vec::new(alloc);
+    items.push(Share {
+        source: Source::Member(Member::Row(0)),
+        side: Side::Up,
+        weight: Frac::whole(1),
+    })?;
+    items.push(Share {
+        source: Source::Member(Member::Row(1)),
+        side: Side::Lo,
+        weight,
+    })?;
+    let mut nodes = Vec::new(alloc);
+    nodes.push(Node::Leaf(Combo {
+        shares: Shares::new(items),
+    }))?;
+    Ok(Proof {
+        nodes: Nodes::new(nodes),
+    })
+}
+
+// The set of both rows.
+fn both(alloc: Global, model: &Model) -> Result<MemberSet, AllocError>
+    requires { model.now ≡ sample }
+    ensures { IfOk result (λ set. set ≡ sample_set) }
+{
+    let mut set = MemberSet::empty(alloc, model)?;
+    set.insert(Member::Row(0));
+    set.insert(Member::Row(1));
+    Ok(set)
+}
+
+// A report that no point satisfies both rows.
+fn report(
+    alloc: Global,
+    members: MemberSet,
+    proof: Proof,
+    weight: Frac,
+) -> Result<Report, AllocError>
+    requires members { members ≡ sample_set }
+    requires proof { proof.nodes ≡ sample_nodes weight }
+    ensures { IfOk result (λ r. r ≡ sample_report weight) }
+{
+    let mut items = Vec::new(alloc);
+    items.push(Entry {
+        command: Command::Check,
+        answer: Answer::Infeasible(members, proof),
+        line: 2,
+    })?;
+    Ok(Report {
+        notes: Notes::new(Vec::new(alloc)),
+        entries: Entries::new(items),
+    })
+}
+
+// What is said of it.
+fn say(alloc: Global, weight: Frac) -> Result<Outcome, AllocError>
+    requires { zero_ℚ <ℚ weight }
+{
+    let Ok(model) = program(alloc) else {
+        return Err(AllocError);
+    };
+    let members = both(alloc, &model)?;
+    let report = report(alloc, members, proof(alloc, weight)?, weight)?;
+    let _fits = weight.widen();
+    Ok(verify(alloc, &model, &report))
+}
+
+#[test]
+fn contradiction(rt: HostRuntime) -> Result<(), Fail> {
+    let alloc = rt.alloc();
+    let accepted = Outcome::Accepted {
+        settled: 1,
+        unsettled: 0,
+    };
+    assert_eq!(rt; say(alloc, Frac::whole(1))?, accepted);
+    // The columns do not cancel.
+    assert_eq!(rt; say(alloc, Frac::whole(2))?, Outcome::Rejected { line: 7 });
+    Ok(())
+}
