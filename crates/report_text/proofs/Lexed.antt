@@ -28,7 +28,7 @@ value_said model name number _ h = absurd (let e = h.keyword in cc)
 
 -- ---- the keyword of a line
 -- a phrase with words behind its keyword has a keyword that may have them
-leads : (model : Program) (p : Phrase) → details model p ≢ [] → leading_said (keyword_text (keyword_of p)) ≡ Some (keyword_of p)
+pub leads : (model : Program) (p : Phrase) → details model p ≢ [] → leading_said (keyword_text (keyword_of p)) ≡ Some (keyword_of p)
 leads model Phrase.Head h = refl
 leads model (Phrase.Note n) h = refl
 leads model (Phrase.Command c) h = refl

@@ -10,3 +10,4 @@ pub mod Named
 pub mod Lexed
 pub mod Lasts
 pub mod Listed
+pub mod OneReport

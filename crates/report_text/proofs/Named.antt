@@ -43,7 +43,7 @@ module _ {X : Type 0} (called : X → List ℕ) (items : List X) (past : X) wher
       by false h k = absurd (let s : None ≡ Some i = k in cc)
 
   -- names that differ stand at one place
-  one_place : AllPairs (λ x y. called x ≢ called y) items → (i j : ℕ) → i < length items → j < length items → called (get_or items i past) ≡ called (get_or items j past) → i ≡ j
+  pub one_place : AllPairs (λ x y. called x ≢ called y) items → (i j : ℕ) → i < length items → j < length items → called (get_or items i past) ≡ called (get_or items j past) → i ≡ j
   one_place apart i j l k e = elim (cases i j) [
       | inl h ↦ absurd (apart i j past h k e)
       | inr h ↦ elim h [

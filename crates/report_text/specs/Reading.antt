@@ -1,7 +1,7 @@
 -- What bytes say: a report, or where they cease to be one.
 use Rattle.std.specs.Prelude.{◌≡◌, ◌≢◌, ◌⊎◌, ⊤, ℕ, suc, List, [], ◌∷◌, ◌++◌, length}
 use Rattle.lines.specs.Parts.{parts}
-use Rattle.lp_model.specs.Program.{Program}
+use Rattle.lp_model.specs.Program.{Program, IsWellFormed}
 use Rattle.report_text.specs.declared.report.Report.{Report}
 use Rattle.report_text.specs.declared.report.ReportStop.{ReportStop}
 use Rattle.report_text.specs.declared.report.ReportStop.TheVariants.{BadLine, Truncated, Memory}
@@ -72,3 +72,7 @@ BadNotTruncatedLaw = (model : Program) (bytes : List ℕ) (n : ℕ) → IsBadLin
 -- the bad line is one
 abbrev pub OneBadLineLaw : Type 0
 OneBadLineLaw = (model : Program) (bytes : List ℕ) (n m : ℕ) → IsBadLine model bytes n → IsBadLine model bytes m → n ≡ m
+
+-- bytes are those of one report, where the names of the program differ
+abbrev pub OneReportLaw : Type 0
+OneReportLaw = (model : Program) (bytes : List ℕ) (r s : Report) → IsWellFormed model → Reads model bytes r → Reads model bytes s → r ≡ s

@@ -1,5 +1,5 @@
 //! Laws of reports: bytes come to at most one end.
-ghost use Rattle.report_text.specs.Reading.{BadNotTruncatedLaw, OneBadLineLaw, ReadNotBadLaw, ReadNotTruncatedLaw};
+ghost use Rattle.report_text.specs.Reading.{BadNotTruncatedLaw, OneBadLineLaw, OneReportLaw, ReadNotBadLaw, ReadNotTruncatedLaw};
 
 /// Bytes that are a report have no bad line.
 pub fn read_is_not_bad()
@@ -19,4 +19,9 @@ pub fn bad_is_not_truncated()
 /// Bytes have at most one bad line.
 pub fn one_bad_line()
     ensures { OneBadLineLaw }
+{}
+
+/// Bytes are those of one report.
+pub fn one_report()
+    ensures { OneReportLaw }
 {}

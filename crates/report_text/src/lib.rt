@@ -14,7 +14,7 @@ mod phrases;
 mod reader;
 mod report;
 
-pub use laws::{bad_is_not_truncated, one_bad_line, read_is_not_bad, read_is_not_truncated};
+pub use laws::{bad_is_not_truncated, one_bad_line, one_report, read_is_not_bad, read_is_not_truncated};
 pub use reader::read_report;
 pub use report::{
     Answer, Command, Core, Entries, Entry, Method, Notes, Report, ReportStop, Witnesses,
