@@ -1,8 +1,7 @@
 -- No count of faults falls.
 use Rattle.std.proofs.Common.{◌≡◌, ◌≤◌, ℕ, List, Option, arith, inl, inr}
-use Rattle.iis_run.specs.declared.checking.Verdict.TheVariants.{Accepted, Rejected, Wide}
 use Rattle.iis_run.specs.declared.endings.Ending.{Ending}
-use Rattle.iis_run.specs.declared.endings.Ending.TheVariants.{Usage, ReadFault, TooLong, Memory, ModelRefused, ReportRefused, Checked}
+use Rattle.iis_run.specs.declared.endings.Ending.TheVariants.{Usage, ReadFault, TooLong, Memory, ModelRefused, BadReport, CutReport, Checked}
 use Rattle.iis_run.specs.Run.{IsSaid, EndsInWant, Ends}
 
 stays : (a b : ℕ) → b ≡ a → a ≤ b
@@ -26,8 +25,8 @@ module _ {K : Type 0} (faults : K → ℕ) (taken : K → Option (List ℕ)) (ol
   put_kept (TooLong which) status h = said_kept (TooLong which) status h
   put_kept Memory status h = want_kept status h
   put_kept ModelRefused status h = said_kept ModelRefused status h
-  put_kept ReportRefused status h = said_kept ReportRefused status h
-  put_kept (Checked Accepted) status h = said_kept (Checked Accepted) status h
-  put_kept (Checked Rejected) status h = said_kept (Checked Rejected) status h
-  put_kept (Checked (Wide w)) status (inl said) = said_kept (Checked (Wide w)) status said
-  put_kept (Checked (Wide w)) status (inr want) = want_kept status want
+  put_kept CutReport status h = said_kept CutReport status h
+  put_kept (BadReport n) status (inl said) = said_kept (BadReport n) status said
+  put_kept (BadReport n) status (inr want) = want_kept status want
+  put_kept (Checked outcome) status (inl said) = said_kept (Checked outcome) status said
+  put_kept (Checked outcome) status (inr want) = want_kept status want

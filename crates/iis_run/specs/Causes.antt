@@ -1,17 +1,19 @@
 -- What the told files call for.
-use Rattle.std.specs.Prelude.{◌≡◌, ⊤, ℕ, ◌<◌, ◌≤◌, List, length, Option, IfSome, IsSome}
-use Rattle.rational.specs.Rational.{ℚ}
+use Rattle.std.specs.Prelude.{◌≡◌, ⊤, ℕ, ◌<◌, ◌≤◌, List, length, Option, IfSome, IsSome, All}
 use Rattle.lp_model.specs.Program.{Program}
-use Rattle.lp_model.specs.Members.{active_members}
-use Rattle.lp_model.specs.Satisfaction.{values_at}
-use Rattle.lp_model.specs.Shown.{column_names}
-use Rattle.small_forms.specs.Meaning.{DeclaresModel, ReportsValues}
+use Rattle.small_forms.specs.Meaning.{DeclaresModel}
+use Rattle.report_text.specs.declared.report.Report.{Report as Entries}
+use Rattle.report_text.specs.Reading.{Reads, IsBadLine, IsTruncated}
+use Rattle.cert_check.specs.declared.outcome.Outcome.{Outcome}
+use Rattle.cert_check.specs.declared.outcome.Outcome.TheVariants.{Accepted, Rejected, Wide, Memory as Want}
+use Rattle.cert_check.specs.Trials.{trials, outcome_of, IsAccepted}
+use Rattle.cert_check.specs.Truth.{IsTrueOf}
+use Rattle.report_text.specs.declared.report.ReportStop.{ReportStop}
+use Rattle.report_text.specs.declared.report.ReportStop.TheVariants.{BadLine, Truncated, Memory as NoMemory}
 use Rattle.iis_run.specs.Limits.{limit_of}
-use Rattle.iis_run.specs.Checking.{IsJudged}
-use Rattle.iis_run.specs.declared.checking.Verdict.{Verdict}
 use Rattle.iis_run.specs.declared.endings.Which.TheVariants.{Model, Report}
 use Rattle.iis_run.specs.declared.endings.Ending.{Ending}
-use Rattle.iis_run.specs.declared.endings.Ending.TheVariants.{TooLong, Memory, ModelRefused, ReportRefused, Checked}
+use Rattle.iis_run.specs.declared.endings.Ending.TheVariants.{TooLong, Memory, ModelRefused, BadReport, CutReport, Checked}
 
 -- the bytes of a model are within the limit and declare a program
 pub record IsModel (bytes : List ℕ) : Type 0 where
@@ -24,29 +26,51 @@ pub record IsNoModel (bytes : List ℕ) : Type 0 where
   pub short : length bytes ≤ limit_of Model
   pub none : (program : Program) → ¬ (DeclaresModel bytes program)
 
--- the bytes of a report are within the limit, and give no point for the columns of the program that the model declares
-pub record IsNoReport (model report : List ℕ) : Type 0 where
-  pub short : length report ≤ limit_of Report
-  pub program : Program
-  pub declares : DeclaresModel model program
-  pub none : (values : List ℚ) → ¬ (ReportsValues (column_names program) report values)
+-- what a check that was not stopped by want of memory may come to: as yet it leaves no entry unsettled
+abbrev pub IsDecided : Outcome → Type 0
+IsDecided (Accepted settled unsettled) = unsettled ≡ 0
+IsDecided (Rejected n) = ⊤
+IsDecided (Wide n o) = ⊤
+IsDecided Want = ⊥
 
--- they give a point, and the check of the active members at that point comes out so
-pub record IsChecked (model report : List ℕ) (verdict : Verdict) : Type 0 where
+-- the notes are the program's, and what each entry claims is so
+pub record IsTrueReport (program : Program) (report : Entries) : Type 0 where
+  pub notes : report.notes ≡ program.notes
+  pub entries : All (IsTrueOf program) report.entries
+
+-- The bytes are a report, and its check against the program comes out so. What it accepts is true.
+pub record IsChecked (program : Program) (bytes : List ℕ) (outcome : Outcome) : Type 0 where
+  pub report : Entries
+  pub reads : Reads program bytes report
+  pub found : outcome ≡ outcome_of (length report.entries) (trials program report)
+  pub so : IsAccepted outcome → IsTrueReport program report
+
+-- what the bytes of a report come to, for a program: a line with which no report goes on, an end that comes too soon, or a check
+abbrev pub IsReportEnding : Program → List ℕ → Ending → Type 0
+IsReportEnding program bytes (BadReport n) = IsBadLine program bytes n
+IsReportEnding program bytes CutReport = IsTruncated program bytes
+IsReportEnding program bytes (Checked outcome) = IsDecided outcome × IsChecked program bytes outcome
+IsReportEnding program bytes _ = ⊥
+
+-- the bytes of a report are within the limit, and come to this ending for the program that the model declares
+pub record IsReported (model report : List ℕ) (ending : Ending) : Type 0 where
   pub short : length report ≤ limit_of Report
   pub program : Program
   pub declares : DeclaresModel model program
-  pub values : List ℚ
-  pub reports : ReportsValues (column_names program) report values
-  pub judged : IsJudged program (values_at values) (active_members program) verdict
+  pub comes : IsReportEnding program report ending
+
+-- both files are told to be a model and a report that comes to this ending, where they are told
+abbrev pub AreReported : Option (List ℕ) → Option (List ℕ) → Ending → Type 0
+AreReported model report ending = IfSome model IsModel × IfSome model (λ m. IfSome report (λ r. IsReported m r ending))
 
 -- the two files, as far as they are told, call for this ending
 abbrev pub CallsFor : Option (List ℕ) → Option (List ℕ) → Ending → Type 0
 CallsFor model report (TooLong Model) = IfSome model (λ m. limit_of Model < length m)
 CallsFor model report (TooLong Report) = IfSome model IsModel × IfSome report (λ r. limit_of Report < length r)
 CallsFor model report ModelRefused = IfSome model IsNoModel
-CallsFor model report ReportRefused = IfSome model IsModel × IfSome model (λ m. IfSome report (IsNoReport m))
-CallsFor model report (Checked verdict) = IfSome model IsModel × IfSome model (λ m. IfSome report (λ r. IsChecked m r verdict))
+CallsFor model report (BadReport n) = AreReported model report (BadReport n)
+CallsFor model report CutReport = AreReported model report CutReport
+CallsFor model report (Checked outcome) = IsDecided outcome × AreReported model report (Checked outcome)
 CallsFor model report _ = ⊥
 
 -- the files that the ending speaks of are told
@@ -59,9 +83,18 @@ IsToldFor model report _ = IsSome model × IsSome report
 abbrev pub OneEndingLaw : Type 0
 OneEndingLaw = (model report : Option (List ℕ)) (e f : Ending) → IsToldFor model report e → CallsFor model report e → CallsFor model report f → e ≡ f
 
--- what a report calls for, for a program
-abbrev pub IsReportEnding : Program → List ℕ → Ending → Type 0
-IsReportEnding program bytes Memory = ⊤
-IsReportEnding program bytes ReportRefused = (values : List ℚ) → ¬ (ReportsValues (column_names program) bytes values)
-IsReportEnding program bytes (Checked verdict) = (values : List ℚ) × ReportsValues (column_names program) bytes values × IsJudged program (values_at values) (active_members program) verdict
-IsReportEnding program bytes _ = ⊥
+-- the outcome of a check as an ending, and a refused report as one
+abbrev pub checked_ending : Outcome → Ending
+checked_ending Want = Memory
+checked_ending outcome = Checked outcome
+
+-- a report that was not read
+abbrev pub refused_ending : ReportStop → Ending
+refused_ending (BadLine n) = BadReport n
+refused_ending Truncated = CutReport
+refused_ending NoMemory = Memory
+
+-- what a report comes to, or want of memory
+abbrev pub ComesTo : Program → List ℕ → Ending → Type 0
+ComesTo program bytes Memory = ⊤
+ComesTo program bytes ending = IsReportEnding program bytes ending

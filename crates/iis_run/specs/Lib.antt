@@ -1,8 +1,6 @@
 pub mod Words
 pub mod Asked
 pub mod Lines
-pub mod Checking
-pub mod Kinds
 pub mod Limits
 pub mod Fetches
 pub mod Causes

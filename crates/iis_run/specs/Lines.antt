@@ -1,5 +1,5 @@
 -- The lines that are printed.
-use Rattle.std.specs.Prelude.{ℕ, List, ◌++◌, codes}
+use Rattle.std.specs.Prelude.{ℕ, List, ◌++◌, codes, decimal}
 use Rattle.frac128.specs.declared.Op.{Op}
 use Rattle.frac128.specs.declared.Op.TheVariants.{Plus, Minus, Times, Over}
 use Rattle.frac128.specs.Printed.{printed}
@@ -21,14 +21,21 @@ too_long_line Report = codes "too long report\n"
 abbrev pub model_refused_line : List ℕ
 model_refused_line = codes "model refused line 1 unsupported\n"
 
-abbrev pub report_refused_line : List ℕ
-report_refused_line = codes "report refused line 1\n"
+-- a whole line of the report with which no report goes on
+abbrev pub bad_report_line : ℕ → List ℕ
+bad_report_line n = codes "report refused line " ++ (decimal n ++ codes "\n")
 
-abbrev pub accepted_line : List ℕ
-accepted_line = codes "accepted settled 1 unsettled 0\n"
+-- the report ends too soon
+abbrev pub cut_report_line : List ℕ
+cut_report_line = codes "report refused truncated\n"
 
-abbrev pub rejected_line : List ℕ
-rejected_line = codes "rejected line 4\n"
+-- how many entries were checked and hold, and how many were not checked
+abbrev pub accepted_line : ℕ → ℕ → List ℕ
+accepted_line settled unsettled = codes "accepted settled " ++ (decimal settled ++ (codes " unsettled " ++ (decimal unsettled ++ codes "\n")))
+
+-- the line of the report that fails
+abbrev pub rejected_line : ℕ → List ℕ
+rejected_line n = codes "rejected line " ++ (decimal n ++ codes "\n")
 
 -- the word of a kind of operation
 abbrev pub op_word : Op → List ℕ
@@ -37,6 +44,6 @@ op_word Minus = codes "minus"
 op_word Times = codes "times"
 op_word Over = codes "over"
 
--- the operation that is too wide, with its operands
-abbrev pub wide_line : Operation → List ℕ
-wide_line w = codes "wide line 4 " ++ (op_word w.op ++ (codes " " ++ (printed w.left ++ (codes " " ++ (printed w.right ++ codes "\n")))))
+-- the line of the report on which an operation is too wide, and the operation with its operands
+abbrev pub wide_line : ℕ → Operation → List ℕ
+wide_line n w = codes "wide line " ++ (decimal n ++ (codes " " ++ (op_word w.op ++ (codes " " ++ (printed w.left ++ (codes " " ++ (printed w.right ++ codes "\n")))))))

@@ -1,16 +1,21 @@
 -- The endings of a run, with their causes and what is written.
-use Rattle.std.specs.Prelude.{◌≡◌, ◌≢◌, ◌<◌, ◌≤◌, ◌⊎◌, ⊤, ℕ, List, [], ◌++◌, length, take, Option, Some, None, option_map, IfSome}
+use Rattle.std.specs.Prelude.{◌≡◌, ◌<◌, ◌≤◌, ◌⊎◌, ⊤, ℕ, ◌==◌, cond, List, [], ◌++◌, length, take, Option, Some, None, option_map, IfSome}
+use Rattle.frac128.specs.declared.Wide.{Wide as Operation}
 use Rattle.iis_edge.specs.Causes.{Rose}
 use Rattle.iis_run.specs.Words.{Request}
-use Rattle.iis_run.specs.Lines.{usage_line, read_fault_line, too_long_line, model_refused_line, report_refused_line, accepted_line, rejected_line, wide_line}
+use Rattle.iis_run.specs.Lines.{usage_line, read_fault_line, too_long_line, model_refused_line, bad_report_line, cut_report_line, accepted_line, rejected_line, wide_line}
 use Rattle.iis_run.specs.Limits.{limit_of}
-use Rattle.iis_run.specs.Causes.{IsModel, CallsFor, IsToldFor}
-use Rattle.iis_run.specs.declared.checking.Verdict.{Verdict}
-use Rattle.iis_run.specs.declared.checking.Verdict.TheVariants.{Accepted, Rejected, Wide}
+use Rattle.iis_run.specs.Causes.{IsModel, IsTrueReport, CallsFor, IsToldFor}
+use Rattle.lp_model.specs.Program.{Program}
+use Rattle.small_forms.specs.Meaning.{DeclaresModel}
+use Rattle.report_text.specs.declared.report.Report.{Report as Entries}
+use Rattle.report_text.specs.Reading.{Reads}
+use Rattle.cert_check.specs.declared.outcome.Outcome.{Outcome}
+use Rattle.cert_check.specs.declared.outcome.Outcome.TheVariants.{Accepted, Rejected, Wide, Memory as Want}
 use Rattle.iis_run.specs.declared.endings.Which.{Which}
 use Rattle.iis_run.specs.declared.endings.Which.TheVariants.{Model, Report}
 use Rattle.iis_run.specs.declared.endings.Ending.{Ending}
-use Rattle.iis_run.specs.declared.endings.Ending.TheVariants.{Usage, ReadFault, TooLong, Memory, ModelRefused, ReportRefused, Checked}
+use Rattle.iis_run.specs.declared.endings.Ending.TheVariants.{Usage, ReadFault, TooLong, Memory, ModelRefused, BadReport, CutReport, Checked}
 
 -- the word that names the file
 abbrev pub name_of : Request → Which → List ℕ
@@ -62,10 +67,12 @@ line_of (ReadFault which) = read_fault_line which
 line_of (TooLong which) = too_long_line which
 line_of Memory = []
 line_of ModelRefused = model_refused_line
-line_of ReportRefused = report_refused_line
-line_of (Checked Accepted) = accepted_line
-line_of (Checked Rejected) = rejected_line
-line_of (Checked (Wide w)) = wide_line w
+line_of (BadReport n) = bad_report_line n
+line_of CutReport = cut_report_line
+line_of (Checked (Accepted settled unsettled)) = accepted_line settled unsettled
+line_of (Checked (Rejected n)) = rejected_line n
+line_of (Checked (Wide n w)) = wide_line n w
+line_of (Checked Want) = []
 
 abbrev pub status_of : Ending → ℕ
 status_of Usage = 2
@@ -73,14 +80,16 @@ status_of (ReadFault which) = 3
 status_of (TooLong which) = 3
 status_of Memory = 7
 status_of ModelRefused = 5
-status_of ReportRefused = 6
-status_of (Checked Accepted) = 0
-status_of (Checked Rejected) = 8
-status_of (Checked (Wide w)) = 8
+status_of (BadReport n) = 6
+status_of CutReport = 6
+status_of (Checked (Accepted settled unsettled)) = cond (unsettled == 0) 0 1
+status_of (Checked (Rejected n)) = 8
+status_of (Checked (Wide n w)) = 8
+status_of (Checked Want) = 7
 
 -- the status where the put of the line fails: that of a refusal stays, but an accepted report is not said to be one
 abbrev pub status_after_fault : Ending → ℕ
-status_after_fault (Checked Accepted) = 4
+status_after_fault (Checked (Accepted settled unsettled)) = 4
 status_after_fault ending = status_of ending
 
 -- the line is put
@@ -93,10 +102,11 @@ IsSaid faults taken old new ending status =
 abbrev pub EndsInWant : {K : Type 0} → (K → ℕ) → (K → Option (List ℕ)) → K → K → ℕ → Type 0
 EndsInWant faults taken old new status = (status ≡ 7) × PutsNothing faults taken old new
 
--- what an ending writes, and its status; the line with operands takes memory
+-- what an ending writes, and its status; a line with numbers takes memory
 abbrev pub Ends : {K : Type 0} → (K → ℕ) → (K → Option (List ℕ)) → K → K → Ending → ℕ → Type 0
 Ends faults taken old new Memory status = EndsInWant faults taken old new status
-Ends faults taken old new (Checked (Wide w)) status = IsSaid faults taken old new (Checked (Wide w)) status ⊎ EndsInWant faults taken old new status
+Ends faults taken old new (BadReport n) status = IsSaid faults taken old new (BadReport n) status ⊎ EndsInWant faults taken old new status
+Ends faults taken old new (Checked outcome) status = IsSaid faults taken old new (Checked outcome) status ⊎ EndsInWant faults taken old new status
 Ends faults taken old new ending status = IsSaid faults taken old new ending status
 
 -- ---- the whole run
@@ -116,11 +126,30 @@ abbrev pub AskedFor : (List ℕ → Option (List ℕ)) → Option Request → En
 AskedFor file None ending = ⊥
 AskedFor file (Some request) ending = CallsFor (told file request Model) (told file request Report) ending
 
--- the check of told files came out as a refusal
+-- the told files call for one of two refusals of the report
+pub record IsReportRefused (file : List ℕ → Option (List ℕ)) (request : Option Request) : Type 0 where
+  pub ending : Ending
+  pub refused : (ending ≡ CutReport) ⊎ ((n : ℕ) × (ending ≡ BadReport n))
+  pub asked : AskedFor file request ending
+
+-- the check of told files accepts all the entries of the report, each of them settled
+pub record IsAccepted (file : List ℕ → Option (List ℕ)) (request : Option Request) : Type 0 where
+  pub settled : ℕ
+  pub asked : AskedFor file request (Checked (Accepted settled 0))
+
+-- what the told report says of the told model is true: its notes, and what each entry claims
+abbrev pub IsBorneOut : (List ℕ → Option (List ℕ)) → Option Request → Type 0
+IsBorneOut file None = ⊥
+IsBorneOut file (Some request) =
+    IfSome (told file request Model) (λ m. IfSome (told file request Report) (λ r.
+    (program : Program) (report : Entries) → DeclaresModel m program → Reads program r report → IsTrueReport program report))
+
+-- the check of told files came out as a refusal, on a line of the report
 pub record IsRefuted (file : List ℕ → Option (List ℕ)) (request : Option Request) : Type 0 where
-  pub verdict : Verdict
-  pub refused : verdict ≢ Accepted
-  pub asked : AskedFor file request (Checked verdict)
+  pub line : ℕ
+  pub outcome : Outcome
+  pub refused : (outcome ≡ Rejected line) ⊎ ((w : Operation) × (outcome ≡ Wide line w))
+  pub asked : AskedFor file request (Checked outcome)
 
 -- no fetch of the two files and no put failed in this run
 pub record IsCalm {S K : Type 0} (fetch_faults : S → List ℕ → ℕ) (put_faults : K → ℕ) (shelf_old shelf_new : S) (out_old out_new : K) (request : Request) : Type 0 where

@@ -1,6 +1,6 @@
 //! How a run ends.
 
-use crate::checking::Verdict;
+use cert_check::Outcome;
 
 /// The file that a refusal names.
 #[derive(Clone, Copy, Debug, PartialEq, Eq)]
@@ -17,6 +17,10 @@ pub enum Ending {
     TooLong(Which),
     Memory,
     ModelRefused,
-    ReportRefused,
-    Checked(Verdict),
+    /// A whole line of the report, by its number, with which no report goes on.
+    BadReport(u64),
+    /// The report ends too soon.
+    CutReport,
+    /// The report was checked.
+    Checked(Outcome),
 }

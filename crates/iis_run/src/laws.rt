@@ -1,11 +1,5 @@
-//! Laws of verdicts and endings.
-ghost use Rattle.iis_run.specs.Checking.{OneVerdictLaw};
+//! Laws of endings.
 ghost use Rattle.iis_run.specs.Causes.{OneEndingLaw};
-
-/// A point has one verdict.
-pub fn one_verdict()
-    ensures { OneVerdictLaw }
-{}
 
 /// Files that are told call for one ending.
 pub fn one_ending()

@@ -1,9 +1,10 @@
 //! The lines that are printed.
-ghost use Rattle.std.specs.Prelude.{◌≡◌, IfOk};
-ghost use Rattle.iis_run.specs.Lines.{read_fault_line, too_long_line, op_word, wide_line};
+ghost use Rattle.std.specs.Prelude.{◌≡◌, ◌++◌, IfOk, OnOk, decimal};
+ghost use Rattle.iis_run.specs.Lines.{read_fault_line, too_long_line, bad_report_line, accepted_line, rejected_line, op_word, wide_line};
 
 use crate::endings::Which;
 use frac128::{Op, Wide};
+use itoa::Buffer;
 use std::alloc::{AllocError, Global};
 
 pub(crate) const USAGE: &str = "usage: iisan analyse MODEL SCRIPT | verify MODEL REPORT | make N\n";
@@ -37,16 +38,62 @@ fn op_text(op: Op) -> &'static str
     }
 }
 
-/// The line that names an operation that is too wide.
-pub(crate) fn print_wide(alloc: Global, wide: Wide) -> Result<Vec<u8>, AllocError>
-    ensures { IfOk result (λ line. line.items ≡ wide_line wide) }
+// Appends words and a whole number.
+fn print_part(words: &[u8], number: u64, into: &mut Vec<u8>) -> Result<(), AllocError>
+    ensures { OnOk result (into.new.items ≡ into.old.items ++ (words.now ++ decimal number)) }
 {
-    let mut line = Vec::from_slice(alloc, b"wide line 4 ".as_slice())?;
-    line.extend_from_slice(op_text(wide.op).as_bytes())?;
-    line.push(b' ')?;
-    wide.left.print(&mut line)?;
-    line.push(b' ')?;
-    wide.right.print(&mut line)?;
-    line.push(b'\n')?;
-    Ok(line)
+    let mut buffer = Buffer::new();
+    into.extend_from_slice(words)?;
+    into.extend_from_slice(buffer.format(number).as_bytes())
+}
+
+/// The line that names a line of the report with which no report goes on.
+pub(crate) fn print_bad_report(alloc: Global, line: u64) -> Result<Vec<u8>, AllocError>
+    ensures { IfOk result (λ text. text.items ≡ bad_report_line line) }
+{
+    let mut text = Vec::new(alloc);
+    print_part(b"report refused line ", line, &mut text)?;
+    text.push(b'\n')?;
+    Ok(text)
+}
+
+/// The line of an accepted report.
+pub(crate) fn print_accepted(
+    alloc: Global,
+    settled: u64,
+    unsettled: u64,
+) -> Result<Vec<u8>, AllocError>
+    ensures { IfOk result (λ text. text.items ≡ accepted_line settled unsettled) }
+{
+    let mut text = Vec::new(alloc);
+    print_part(b"accepted settled ", settled, &mut text)?;
+    print_part(b" unsettled ", unsettled, &mut text)?;
+    text.push(b'\n')?;
+    Ok(text)
+}
+
+/// The line that names a line of the report that fails.
+pub(crate) fn print_rejected(alloc: Global, line: u64) -> Result<Vec<u8>, AllocError>
+    ensures { IfOk result (λ text. text.items ≡ rejected_line line) }
+{
+    let mut text = Vec::new(alloc);
+    print_part(b"rejected line ", line, &mut text)?;
+    text.push(b'\n')?;
+    Ok(text)
+}
+
+/// The line that names an operation that is too wide, and the line of the report on which it is.
+pub(crate) fn print_wide(alloc: Global, line: u64, wide: Wide) -> Result<Vec<u8>, AllocError>
+    ensures { IfOk result (λ text. text.items ≡ wide_line line wide) }
+{
+    let mut text = Vec::new(alloc);
+    print_part(b"wide line ", line, &mut text)?;
+    text.push(b' ')?;
+    text.extend_from_slice(op_text(wide.op).as_bytes())?;
+    text.push(b' ')?;
+    wide.left.print(&mut text)?;
+    text.push(b' ')?;
+    wide.right.print(&mut text)?;
+    text.push(b'\n')?;
+    Ok(text)
 }

@@ -1,35 +1,51 @@
 //! A run: what is asked for is fetched, read and checked, and its line is put.
-ghost use Rattle.std.specs.Prelude.{◌≡◌, ◌≢◌, ◌≤◌, ◌↔◌, ℕ, List, None};
+ghost use Rattle.std.specs.Prelude.{◌≡◌, ◌≢◌, ◌≤◌, ◌↔◌, ℕ, List, None, length};
 ghost use Rattle.iis_edge.specs.Causes.{Rose};
 ghost use Rattle.iis_run.specs.Words.{request_of};
-ghost use Rattle.iis_run.specs.Causes.{IsReportEnding};
-ghost use Rattle.iis_run.specs.Run.{IsCaused, IsRun, HasFetchStop, AskedFor, IsRefuted, Settles};
+ghost use Rattle.iis_run.specs.Causes.{ComesTo, checked_ending, refused_ending};
+ghost use Rattle.iis_run.specs.Run.{IsCaused, IsRun, HasFetchStop, AskedFor, IsReportRefused, IsAccepted, IsRefuted, IsBorneOut, Settles};
 
-use crate::checking::{Verdict, judge};
 use crate::endings::{Ending, Which};
 use crate::fetching::fetch_file;
-use crate::members::list_active;
 use crate::saying::say;
 use crate::words;
+use cert_check::{Outcome, verify};
 use iis_edge::{Shelf, Sink};
 use lp_model::Model;
-use small_forms::{read_model, read_values};
+use report_text::{ReportStop, read_report};
+use small_forms::read_model;
 use std::alloc::Global;
 
-// Reads a report and checks its point.
-fn check_report(alloc: Global, model: &Model, bytes: &[u8]) -> Ending
-    ensures { IsReportEnding model.now bytes.now result }
+// What the check of a report comes to.
+fn checked(outcome: Outcome) -> Ending
+    ensures { result ≡ checked_ending outcome }
 {
-    let Ok(found) = read_values(alloc, bytes, model) else {
-        return Ending::Memory;
-    };
-    let Some(values) = found else {
-        return Ending::ReportRefused;
-    };
-    let Ok(members) = list_active(alloc, model) else {
-        return Ending::Memory;
-    };
-    Ending::Checked(judge(model, members.as_slice(), values.as_slice()))
+    match outcome {
+        Outcome::Memory => Ending::Memory,
+        _ => Ending::Checked(outcome),
+    }
+}
+
+// Why a report was not read.
+fn refused(stop: ReportStop) -> Ending
+    ensures { result ≡ refused_ending stop }
+{
+    match stop {
+        ReportStop::BadLine(line) => Ending::BadReport(line),
+        ReportStop::Truncated => Ending::CutReport,
+        ReportStop::Memory => Ending::Memory,
+    }
+}
+
+// Reads a report and checks it.
+fn check_report(alloc: Global, model: &Model, bytes: &[u8]) -> Ending
+    requires { length bytes.now ≤ 67108864 }
+    ensures { ComesTo model.now bytes.now result }
+{
+    match read_report(alloc, bytes, model) {
+        Ok(report) => checked(verify(alloc, model, &report)),
+        Err(stop) => refused(stop),
+    }
 }
 
 // Fetches the files, reads them and checks.
@@ -63,16 +79,18 @@ fn decide<S: Shelf>(alloc: Global, words: &[String], shelf: &mut S) -> Ending
 /// `words` are the command line without the program's name. The form that is built is `verify MODEL REPORT`. The
 /// statuses are:
 ///
-/// - 0: the report is accepted; `accepted settled 1 unsettled 0`.
+/// - 0: the report is accepted: `accepted settled N unsettled 0` for its N entries. What each of them claims of the
+///   model is true.
 /// - 2: the words are none of the forms; the usage line.
 /// - 3: `read fault WHICH`, only where the shelf's count of faults of that file's own name rose; or `too long WHICH`,
 ///   exactly where a told file is longer than its limit.
 /// - 4: the put of the `accepted` line failed.
 /// - 5: `model refused line 1 unsupported`, exactly where the bytes are not in the small form.
-/// - 6: `report refused line 1`, exactly where the bytes are not in the small form for that model.
+/// - 6: `report refused line N`, where no report on that model goes on with whole line N, the first such one; or
+///   `report refused truncated`, where every whole line is right and the report ends too soon.
 /// - 7: want of memory; nothing is written.
-/// - 8: the first member, in order, that does not hold or has a product or partial sum that is too wide is
-///   `rejected line 4`, or `wide line 4 OP LEFT RIGHT`.
+/// - 8: `rejected line N`, where line N of the report is the first that does not hold of the model; or `wide line N OP
+///   LEFT RIGHT`, where the check of line N comes to an operation that is too wide, and no line before it fails.
 pub fn run<S: Shelf, W: Sink>(alloc: Global, words: &[String], shelf: &mut S, out: &mut W) -> u8
     // Status 2 comes exactly where the words are none of the forms that are built.
     ensures usage { (result ≡ 2) ↔ (request_of words.now ≡ None) }
@@ -82,9 +100,11 @@ pub fn run<S: Shelf, W: Sink>(alloc: Global, words: &[String], shelf: &mut S, ou
     ensures write_fault { result ≡ 4 → Rose (W.faults out.old) (W.faults out.new) }
     // Statuses 5, 6, 0 and 8 come only where the told files call for them.
     ensures model_refused { result ≡ 5 → AskedFor (S.file shelf.old) (request_of words.now) Ending.ModelRefused }
-    ensures report_refused { result ≡ 6 → AskedFor (S.file shelf.old) (request_of words.now) Ending.ReportRefused }
-    ensures accepted { result ≡ 0 → AskedFor (S.file shelf.old) (request_of words.now) (Ending.Checked Verdict.Accepted) }
+    ensures report_refused { result ≡ 6 → IsReportRefused (S.file shelf.old) (request_of words.now) }
+    ensures accepted { result ≡ 0 → IsAccepted (S.file shelf.old) (request_of words.now) }
     ensures refuted { result ≡ 8 → IsRefuted (S.file shelf.old) (request_of words.now) }
+    // What an accepted report claims of the model is true.
+    ensures borne_out { result ≡ 0 → IsBorneOut (S.file shelf.old) (request_of words.now) }
     // No other status is answered.
     ensures statuses { (result ≤ 8) × (result ≢ 1) }
     // Where no fetch and no put fails, what the told files call for is done: its line and its status, or want of memory.

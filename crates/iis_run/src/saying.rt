@@ -1,11 +1,14 @@
 //! What an ending writes, and its status.
-ghost use Rattle.std.specs.Prelude.{◌≡◌, MatchResult};
-ghost use Rattle.iis_run.specs.Lines.{accepted_line, wide_line};
+ghost use Rattle.std.specs.Prelude.{◌≡◌, ◌==◌, cond, MatchResult};
+ghost use Rattle.cert_check.specs.declared.outcome.Outcome.TheVariants.{Accepted, Rejected, Wide as TooWide};
 ghost use Rattle.iis_run.specs.Run.{PutWhole, PutFailed, Puts, IsSaid, EndsInWant, Ends};
 
-use crate::checking::Verdict;
 use crate::endings::Ending;
-use crate::printing::{USAGE, print_wide, read_fault_text, too_long_text};
+use crate::printing::{
+    USAGE, print_accepted, print_bad_report, print_rejected, print_wide, read_fault_text,
+    too_long_text,
+};
+use cert_check::Outcome;
 use frac128::Wide;
 use iis_edge::{PutFault, Sink};
 use std::alloc::Global;
@@ -25,24 +28,56 @@ fn put_any<W: Sink>(out: &mut W, line: &[u8])
 }
 
 // Puts the line of an accepted report, and gives the status.
-fn say_accepted<W: Sink>(out: &mut W) -> u8
-    ensures { IsSaid W.faults W.taken out.old out.new (Ending.Checked Verdict.Accepted) result }
+fn say_accepted<W: Sink>(alloc: Global, settled: u64, unsettled: u64, out: &mut W) -> u8
+    ensures { Ends W.faults W.taken out.old out.new (Ending.Checked (Accepted settled unsettled)) result }
 {
-    match put_line(out, b"accepted settled 1 unsettled 0\n") {
-        Ok(()) => 0,
+    let Ok(line) = print_accepted(alloc, settled, unsettled) else {
+        return 7;
+    };
+    match put_line(out, line.as_slice()) {
+        Ok(()) => accepted_status(unsettled),
         Err(PutFault) => 4,
     }
 }
 
-// Puts the line that names an operation, and gives the status.
-fn say_wide<W: Sink>(alloc: Global, wide: Wide, out: &mut W) -> u8
-    ensures { Ends W.faults W.taken out.old out.new (Ending.Checked (Verdict.Wide wide)) result }
+// The status of an accepted report: 1 where entries are unsettled.
+fn accepted_status(unsettled: u64) -> u8
+    ensures { result ≡ cond (unsettled == 0) 0 1 }
 {
-    let Ok(line) = print_wide(alloc, wide) else {
+    if unsettled == 0 { 0 } else { 1 }
+}
+
+// Puts the line that names a line of the report that fails, and gives the status.
+fn say_rejected<W: Sink>(alloc: Global, line: u64, out: &mut W) -> u8
+    ensures { Ends W.faults W.taken out.old out.new (Ending.Checked (Rejected line)) result }
+{
+    let Ok(text) = print_rejected(alloc, line) else {
         return 7;
     };
-    put_any(out, line.as_slice());
+    put_any(out, text.as_slice());
     8
+}
+
+// Puts the line that names an operation, and gives the status.
+fn say_wide<W: Sink>(alloc: Global, line: u64, wide: Wide, out: &mut W) -> u8
+    ensures { Ends W.faults W.taken out.old out.new (Ending.Checked (TooWide line wide)) result }
+{
+    let Ok(text) = print_wide(alloc, line, wide) else {
+        return 7;
+    };
+    put_any(out, text.as_slice());
+    8
+}
+
+// Puts the line that names a bad line of the report, and gives the status.
+fn say_bad_report<W: Sink>(alloc: Global, line: u64, out: &mut W) -> u8
+    ensures { Ends W.faults W.taken out.old out.new (Ending.BadReport line) result }
+{
+    let Ok(text) = print_bad_report(alloc, line) else {
+        return 7;
+    };
+    put_any(out, text.as_slice());
+    6
 }
 
 /// Puts the line of an ending, and gives its status.
@@ -67,24 +102,23 @@ pub(crate) fn say<W: Sink>(alloc: Global, ending: Ending, out: &mut W) -> u8
             put_any(out, b"model refused line 1 unsupported\n");
             5
         }
-        Ending::ReportRefused => {
-            put_any(out, b"report refused line 1\n");
+        Ending::BadReport(line) => say_bad_report(alloc, line, out),
+        Ending::CutReport => {
+            put_any(out, b"report refused truncated\n");
             6
         }
-        Ending::Checked(verdict) => say_verdict(alloc, verdict, out),
+        Ending::Checked(outcome) => say_outcome(alloc, outcome, out),
     }
 }
 
-// Puts the line of a verdict, and gives its status.
-fn say_verdict<W: Sink>(alloc: Global, verdict: Verdict, out: &mut W) -> u8
-    ensures { Ends W.faults W.taken out.old out.new (Ending.Checked verdict) result }
+// Puts the line of a check, and gives its status.
+fn say_outcome<W: Sink>(alloc: Global, outcome: Outcome, out: &mut W) -> u8
+    ensures { Ends W.faults W.taken out.old out.new (Ending.Checked outcome) result }
 {
-    match verdict {
-        Verdict::Accepted => say_accepted(out),
-        Verdict::Rejected => {
-            put_any(out, b"rejected line 4\n");
-            8
-        }
-        Verdict::Wide(wide) => say_wide(alloc, wide, out),
+    match outcome {
+        Outcome::Accepted { settled, unsettled } => say_accepted(alloc, settled, unsettled, out),
+        Outcome::Rejected { line } => say_rejected(alloc, line, out),
+        Outcome::Wide { line, wide } => say_wide(alloc, line, wide, out),
+        Outcome::Memory => 7,
     }
 }

@@ -119,12 +119,15 @@ fn refusals(rt: HostRuntime) -> Result<(), Fail> {
         let line = "model refused line 1 unsupported\n";
         expect(&rt, &run_values(alloc, model, "value x 2\n")?, 5, line);
     }
-    let line = "report refused line 1\n";
-    for values in ["value y 2\n", "value x 0\n", "value x 2\nvalue x 2\n"] {
+    for values in ["value y 2\n", "value x 0\n", "value x 2/4\n"] {
+        let line = "report refused line 5\n";
         expect(&rt, &run_values(alloc, MODEL, values)?, 6, line);
     }
+    let twice = run_values(alloc, MODEL, "value x 2\nvalue x 2\n")?;
+    expect(&rt, &twice, 6, "report refused line 6\n");
     let cut = "iisan report 1\ncommand check\nfeasible\npoint\nvalue x 2\nend\n";
-    expect(&rt, &run_over(alloc, BOTH, MODEL, cut, &[], &[])?, 6, line);
+    let truncated = run_over(alloc, BOTH, MODEL, cut, &[], &[])?;
+    expect(&rt, &truncated, 6, "report refused truncated\n");
     Ok(())
 }
 
@@ -154,6 +157,120 @@ fn fetches(rt: HostRuntime) -> Result<(), Fail> {
     let absent: &[&str] = &["verify", "n.mps", "r.txt"];
     let third = run_over(alloc, absent, MODEL, report, &[], &[])?;
     expect(&rt, &third, 3, "read fault model\n");
+    Ok(())
+}
+
+// Two rows that contradict one another, with these right sides.
+fn two_rows(alloc: Global, sides: i64) -> Result<String, AllocError> {
+    format!(in alloc;
+        "ROWS\n L c1\n G c2\nCOLUMNS\n x c1 3\n x c2 2\n y c1 3\n y c2 2\nRHS\n c1 {sides}\n c2 {sides}\nENDATA\n"
+    )
+}
+
+const CHECK: &str = "iisan report 1\ncommand check\n";
+
+const TWO_MEMBERS: &str = "infeasible\nmember row c1\nmember row c2\n";
+
+const PROOF: &str = "proof\nleaf\nuse row c1 up 1\nuse row c2 lo 3/2\nend\n";
+
+// The run of these pieces of a report on the two rows.
+fn run_pieces(alloc: Global, sides: i64, pieces: &[&str]) -> Result<Outcome, AllocError> {
+    let model = two_rows(alloc, sides)?;
+    let mut report = String::new(alloc);
+    for piece in pieces {
+        report.push_str(piece)?;
+    }
+    run_over(alloc, BOTH, model.as_str(), report.as_str(), &[], &[])
+}
+
+#[test]
+fn combinations(rt: HostRuntime) -> Result<(), Fail> {
+    let alloc = rt.alloc();
+    let whole = [CHECK, TWO_MEMBERS, PROOF, "report end\n"];
+    expect(&rt, &run_pieces(alloc, 1, &whole)?, 0, ACCEPTED);
+    let zero = run_pieces(alloc, 0, &whole)?;
+    expect(&rt, &zero, 8, "rejected line 7\n");
+    let cut = run_pieces(alloc, 1, &[CHECK, TWO_MEMBERS, PROOF])?;
+    expect(&rt, &cut, 6, "report refused truncated\n");
+    let light = "proof\nleaf\nuse row c1 up 1\nuse row c2 lo 1\nend\n";
+    let unequal = run_pieces(alloc, 1, &[CHECK, TWO_MEMBERS, light, "report end\n"])?;
+    expect(&rt, &unequal, 8, "rejected line 7\n");
+    let one = "proof\nleaf\nuse row c1 up 1\nend\n";
+    let departs = run_pieces(alloc, 1, &[CHECK, TWO_MEMBERS, one, "report end\n"])?;
+    expect(&rt, &departs, 8, "rejected line 5\n");
+    Ok(())
+}
+
+// A point, and then the combination: two entries.
+const FEASIBLE: &str = "command check\nfeasible\npoint\nend\n";
+
+#[test]
+fn entries(rt: HostRuntime) -> Result<(), Fail> {
+    let alloc = rt.alloc();
+    let head = "iisan report 1\n";
+    let second = "command check\n";
+    let both = [head, FEASIBLE, second, TWO_MEMBERS, PROOF, "report end\n"];
+    let point_fails = run_pieces(alloc, 1, &both)?;
+    expect(&rt, &point_fails, 8, "rejected line 4\n");
+    let leaf_fails = run_pieces(alloc, 0, &both)?;
+    expect(&rt, &leaf_fails, 8, "rejected line 11\n");
+    let twice = [
+        CHECK,
+        TWO_MEMBERS,
+        PROOF,
+        second,
+        TWO_MEMBERS,
+        PROOF,
+        "report end\n",
+    ];
+    let accepted = run_pieces(alloc, 1, &twice)?;
+    expect(&rt, &accepted, 0, "accepted settled 2 unsettled 0\n");
+    let none = run_pieces(alloc, 1, &[head, "report end\n"])?;
+    expect(&rt, &none, 0, "accepted settled 0 unsettled 0\n");
+    let noted = [head, "note x lower removed\n", "report end\n"];
+    let note_too_much = run_pieces(alloc, 1, &noted)?;
+    expect(&rt, &note_too_much, 8, "rejected line 2\n");
+    Ok(())
+}
+
+// The run of an irreducible set of two rows with these witnesses and weights.
+fn run_core(alloc: Global, first: &str, second: &str, weight: &str) -> Result<Outcome, AllocError> {
+    let model = "ROWS\n L a\n G b\nCOLUMNS\n x a 1\n x b 1\nRHS\n a 1\n b 2\nENDATA\n";
+    let members = format!(in alloc;
+        "member row a\npoint\nvalue x {first}\nmember row b\npoint\nvalue x {second}\n"
+    )?;
+    let members = members.as_str();
+    let report = format!(in alloc;
+        "iisan report 1\ncommand iis deletion\nirreducible\n{members}proof\nleaf\nuse row a up 1\nuse row b lo {weight}\nend\nreport end\n"
+    )?;
+    run_over(alloc, BOTH, model, report.as_str(), &[], &[])
+}
+
+#[test]
+fn irreducible_sets(rt: HostRuntime) -> Result<(), Fail> {
+    let alloc = rt.alloc();
+    expect(&rt, &run_core(alloc, "2", "1", "1")?, 0, ACCEPTED);
+    expect(
+        &rt,
+        &run_core(alloc, "3/2", "1", "1")?,
+        8,
+        "rejected line 5\n",
+    );
+    expect(
+        &rt,
+        &run_core(alloc, "2", "2", "1")?,
+        8,
+        "rejected line 8\n",
+    );
+    expect(
+        &rt,
+        &run_core(alloc, "2", "1", "2")?,
+        8,
+        "rejected line 11\n",
+    );
+    let greatest = "170141183460469231731687303715884105727";
+    let outcome = run_core(alloc, "2", "1", greatest)?;
+    expect(&rt, &outcome, 8, "rejected line 11\n");
     Ok(())
 }
 

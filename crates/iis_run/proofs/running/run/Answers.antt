@@ -1,7 +1,7 @@
 use Rattle.iis_run.specs.Run.{IsRun}
 use Rattle.iis_run.specs.Words.{request_of}
 use Rattle.iis_run.proofs.Counts.{put_kept}
-use Rattle.iis_run.proofs.Statuses.{usage_clause, fetch_stop_clause, write_fault_clause, model_clause, report_clause, accepted_clause, refuted_clause, bounds_clause, settles_clause}
+use Rattle.iis_run.proofs.Statuses.{usage_clause, fetch_stop_clause, write_fault_clause, model_clause, report_clause, accepted_clause, refuted_clause, borne_out_clause, bounds_clause, settles_clause}
 use Rattle.iis_run.proofs.running.run.Goals as goal
 
 pub returns : goal.returns
@@ -24,6 +24,7 @@ returns g c =
       report_refused = report_clause file fetches puts taken shelf shelf' out out' request c.say.result run;
       accepted = accepted_clause file fetches puts taken shelf shelf' out out' request c.say.result run;
       refuted = refuted_clause file fetches puts taken shelf shelf' out out' request c.say.result run;
+      borne_out = borne_out_clause file fetches puts taken shelf shelf' out out' request c.say.result run;
       statuses = bounds_clause file fetches puts taken shelf shelf' out out' request c.say.result run;
       settles = settles_clause file fetches puts taken shelf shelf' out out' request c.say.result run;
       fetch_counts = c.decide-ending.ensures.counts;
