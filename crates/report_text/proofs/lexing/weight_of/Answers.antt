@@ -1,4 +1,4 @@
-use Rattle.std.proofs.Common.{◌≡◌, sym, ap, ◌∙◌, is_lt, Some, Bool, true, false, true≢false, subst}
+use Rattle.std.proofs.Common.{◌≡◌, sym, ap, ◌∙◌, is_lt, Bool, true, false, true≢false, subst}
 use Rattle.std.proofs.lemmas.Option.{same_Some}
 use Rattle.rational.specs.Rational.{ℚ, zero_ℚ, cmp_ℚ, ◌<ℚ◌}
 use Rattle.rational.proofs.Compare.{lt-Decides}
