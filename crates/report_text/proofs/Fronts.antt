@@ -110,9 +110,9 @@ in_one : (xs ys : List ℚ) (j : ℕ) → values_at (xs ++ ys) j ≢ zero_ℚ �
 in_one [] ys j h = inr (j, omega arith, h)
 in_one (x ∷ xs) ys zero h = inl h
 in_one (x ∷ xs) ys (suc j) h = elim (in_one xs ys j h) [
-    | inl k ↦ inl k
-    | inr k ↦ inr (k.0, (let e : j ≡ length xs + k.0 = k.1 in omega arith), k.2)
-  ]
+  | inl k ↦ inl k
+  | inr k ↦ inr (k.0, (let e : j ≡ length xs + k.0 = k.1 in omega arith), k.2)
+]
 
 zeros_at : (n i : ℕ) → values_at (replicate n zero_ℚ) i ≡ zero_ℚ
 zeros_at zero i = refl
@@ -130,9 +130,9 @@ module _ (model : Program) where
   filled_named : (n : ℕ) (values : List ℚ) → Named values → Named (filled n values)
   unfolding Named
   filled_named n values h j k = elim (in_one values (replicate (n - length values) zero_ℚ) j k) [
-      | inl e ↦ h j e
-      | inr e ↦ absurd (e.2 (zeros_at (n - length values) e.0))
-    ]
+    | inl e ↦ h j e
+    | inr e ↦ absurd (e.2 (zeros_at (n - length values) e.0))
+  ]
 
   filled_fits : (n : ℕ) (values : List ℚ) → All IsWithinLimit values → All IsWithinLimit (filled n values)
   filled_fits n values h = All-append IsWithinLimit values (replicate (n - length values) zero_ℚ) h (All-replicate IsWithinLimit (n - length values) zero_ℚ zero_fits)
@@ -144,13 +144,13 @@ module _ (model : Program) where
   value_taken : (values : List ℚ) (j : ℕ) (v : ℚ) → AreValues model values → IsPhraseFor model (Phrase.Value j v) → length values ≤ j → AreValues model (filled j values ++ v ∷ [])
   unfolding Named
   value_taken values j v h p le = record {
-      few = (let f = filled_length j values le in let a : length (filled j values ++ v ∷ []) ≡ length (filled j values) + 1 = length-append (filled j values) (v ∷ []) in let k : j < length model.columns = p.0.known in omega arith);
-      fits = All-push IsWithinLimit (filled j values) v (filled_fits j values h.fits) p.1.0;
-      named = λ i k. elim (in_one (filled j values) (v ∷ []) i k) [
-        | inl e ↦ filled_named j values h.named i e
-        | inr e ↦ here i e.0 e.1 e.2
-      ];
-    }
+    few = (let f = filled_length j values le in let a : length (filled j values ++ v ∷ []) ≡ length (filled j values) + 1 = length-append (filled j values) (v ∷ []) in let k : j < length model.columns = p.0.known in omega arith);
+    fits = All-push IsWithinLimit (filled j values) v (filled_fits j values h.fits) p.1.0;
+    named = λ i k. elim (in_one (filled j values) (v ∷ []) i k) [
+      | inl e ↦ filled_named j values h.named i e
+      | inr e ↦ here i e.0 e.1 e.2
+    ];
+  }
     where
       here : (i n : ℕ) → i ≡ length (filled j values) + n → values_at (v ∷ []) n ≢ zero_ℚ → is_word (column_name model i) ≡ true
       here i zero e k = subst (λ m. is_word (column_name model m) ≡ true) (let f = filled_length j values le in let g : j ≡ i = omega arith in g) p.0.word
@@ -167,21 +167,21 @@ module _ (model : Program) where
   -- ---- members, witnesses and shares
   member_taken : (members : List Member) (m : Member) → AreMembers model members → IsNamedMember model m → list_all (λ n. comes_before n m) members ≡ true → AreMembers model (members ++ m ∷ [])
   member_taken members m h named after = record {
-      named = All-push (IsNamedMember model) members m h.named named;
-      in_order = all_pairs_push (λ a b. IsTrue (comes_before a b)) members m h.in_order (AllPass-from_list_all (λ n. comes_before n m) members after);
-    }
+    named = All-push (IsNamedMember model) members m h.named named;
+    in_order = all_pairs_push (λ a b. IsTrue (comes_before a b)) members m h.in_order (AllPass-from_list_all (λ n. comes_before n m) members after);
+  }
 
   witness_taken : (members : List Member) (witnesses : List Point) (m : Member) (p : Point) → AreWitnesses model members witnesses → IsPointFor model p → AreWitnesses model (members ++ m ∷ []) (witnesses ++ p ∷ [])
   witness_taken members witnesses m p h k = record {
-      each = length-append witnesses (p ∷ []) ∙ ap (λ n. n + 1) h.each ∙ sym (length-append members (m ∷ []));
-      points = All-push (IsPointFor model) witnesses p h.points k;
-    }
+    each = length-append witnesses (p ∷ []) ∙ ap (λ n. n + 1) h.each ∙ sym (length-append members (m ∷ []));
+    points = All-push (IsPointFor model) witnesses p h.points k;
+  }
 
   share_taken : (shares : List Share) (s : Share) → AreUses model shares → IsUse model s → list_all (λ t. share_before t.source t.side s.source s.side) shares ≡ true → AreUses model (shares ++ s ∷ [])
   share_taken shares s h k after = record {
-      each = All-push (IsUse model) shares s h.each k;
-      in_order = all_pairs_push (λ t u. IsTrue (share_before t.source t.side u.source u.side)) shares s h.in_order (AllPass-from_list_all (λ t. share_before t.source t.side s.source s.side) shares after);
-    }
+    each = All-push (IsUse model) shares s h.each k;
+    in_order = all_pairs_push (λ t u. IsTrue (share_before t.source t.side u.source u.side)) shares s h.in_order (AllPass-from_list_all (λ t. share_before t.source t.side s.source s.side) shares after);
+  }
 
   zip_push : (members : List Member) (witnesses : List Point) (m : Member) (p : Point) → length witnesses ≡ length members → zip (members ++ m ∷ []) (witnesses ++ p ∷ []) ≡ zip members witnesses ++ (m, p) ∷ []
   zip_push [] [] m p e = refl
@@ -272,10 +272,11 @@ module _ (model : Program) where
   more_taken c (Part.Witness members witnesses m values) (Phrase.Value j v) next h k e =
       let t = mapped_told (λ vs. Next.More (Part.Witness members witnesses m vs)) (nat_le (length values) j) (filled j values ++ v ∷ []) (Next.More next) e in
       let le : length values ≤ j = leb-true (length values) j t.0 in
-      subst (Took c (Part.Witness members witnesses m values) (Phrase.Value j v)) (same_more (Part.Witness members witnesses m (filled j values ++ v ∷ [])) next t.1)
-      ((h.0, value_taken values j v h.1 k le),
+      subst (Took c (Part.Witness members witnesses m values) (Phrase.Value j v)) (same_more (Part.Witness members witnesses m (filled j values ++ v ∷ [])) next t.1) (
+        (h.0, value_taken values j v h.1 k le),
         ap (λ l. found_phrases (Found.Witnessed members witnesses) ++ Phrase.Member m ∷ Phrase.Point ∷ l) (value_said values j v le k.1.1)
-        ∙ sym (append_assoc (found_phrases (Found.Witnessed members witnesses)) (Phrase.Member m ∷ Phrase.Point ∷ value_phrases 0 values) (Phrase.Value j v ∷ [])))
+            ∙ sym (append_assoc (found_phrases (Found.Witnessed members witnesses)) (Phrase.Member m ∷ Phrase.Point ∷ value_phrases 0 values) (Phrase.Value j v ∷ [])),
+      )
   more_taken c (Part.Witness members witnesses m values) p next h k e =
       let t = witnessed_taken c (members ++ m ∷ []) (witnesses ++ point_of model values ∷ []) p next (one_more_found c members witnesses m values h.0 h.1) k e in
       (t.0, t.1 ∙ ap (λ l. l ++ p ∷ []) (witnessed_said members witnesses m values (one_more_each c members witnesses m h.0)))
@@ -284,10 +285,11 @@ module _ (model : Program) where
   more_taken c (Part.Proof found) _ next h k e = absurd (cc)
   more_taken c (Part.Leaf found shares) (Phrase.Use s) next h k e =
       let t = mapped_told (λ ss. Next.More (Part.Leaf found ss)) (list_all (λ u. share_before u.source u.side s.source s.side) shares) (shares ++ s ∷ []) (Next.More next) e in
-      subst (Took c (Part.Leaf found shares) (Phrase.Use s)) (same_more (Part.Leaf found (shares ++ s ∷ [])) next t.1)
-      ((h.0, share_taken shares s h.1 k t.0),
+      subst (Took c (Part.Leaf found shares) (Phrase.Use s)) (same_more (Part.Leaf found (shares ++ s ∷ [])) next t.1) (
+        (h.0, share_taken shares s h.1 k t.0),
         ap (λ l. found_phrases found ++ Phrase.Proof ∷ Phrase.Leaf ∷ l) (map_push Phrase.Use shares s)
-        ∙ sym (append_assoc (found_phrases found) (Phrase.Proof ∷ Phrase.Leaf ∷ map Phrase.Use shares) (Phrase.Use s ∷ [])))
+            ∙ sym (append_assoc (found_phrases found) (Phrase.Proof ∷ Phrase.Leaf ∷ map Phrase.Use shares) (Phrase.Use s ∷ [])),
+      )
   more_taken c (Part.Leaf found shares) _ next h k e = absurd (cc)
 
   -- ---- answers
@@ -361,9 +363,11 @@ module _ (model : Program) where
   -- one entry more on the line after those before it
   numbered_push : (n : ℕ) (entries : List Entry) (e : Entry) → AreNumbered model n entries → e.line ≡ n + length (flat_map (entry_lines model) entries) → AreNumbered model n (entries ++ e ∷ [])
   numbered_push n [] e h l = (l ∙ (omega arith), tt)
-  numbered_push n (f ∷ entries) e h l =
-      (h.0, numbered_push (n + length (entry_lines model f)) entries e h.1
-        (l ∙ ap (λ k. n + k) (length-append (entry_lines model f) (flat_map (entry_lines model) entries)) ∙ (omega arith)))
+  numbered_push n (f ∷ entries) e h l = (
+    h.0,
+    numbered_push (n + length (entry_lines model f)) entries e h.1
+        (l ∙ ap (λ k. n + k) (length-append (entry_lines model f) (flat_map (entry_lines model) entries)) ∙ (omega arith)),
+  )
 
   entries_length : (entries : List Entry) → All (IsEntryFor model) entries → length (flat_map (entry_lines model) entries) ≡ length (flat_map entry_phrases entries)
   entries_length [] h = refl
@@ -396,9 +400,10 @@ module _ (model : Program) where
       → n ≡ suc (length (body_phrases notes entries)) → between n (record { notes = notes; entries = entries; stage = Stage.Between }) p ≡ Some next
       → Draws (record { notes = notes; entries = entries; stage = Stage.Between }) p next
   between_taken n notes [] (Phrase.Note note) next h k l e =
-      drawn (record { notes = notes; entries = []; stage = Stage.Between }) (Phrase.Note note) (record { notes = notes ++ note ∷ []; entries = []; stage = Stage.Between }) next e
-      (record { notes = All-push (λ x. IsNamedColumn model (noted_column x)) notes note h.notes k; entries = All-nil (IsEntryFor model); numbered = tt; stage = tt },
-        ap (λ m. Phrase.Head ∷ m) (append-nil (map Phrase.Note (notes ++ note ∷ [])) ∙ map_push Phrase.Note notes note ∙ ap (λ m. m ++ Phrase.Note note ∷ []) (sym (append-nil (map Phrase.Note notes)))))
+      drawn (record { notes = notes; entries = []; stage = Stage.Between }) (Phrase.Note note) (record { notes = notes ++ note ∷ []; entries = []; stage = Stage.Between }) next e (
+        record { notes = All-push (λ x. IsNamedColumn model (noted_column x)) notes note h.notes k; entries = All-nil (IsEntryFor model); numbered = tt; stage = tt },
+        ap (λ m. Phrase.Head ∷ m) (append-nil (map Phrase.Note (notes ++ note ∷ [])) ∙ map_push Phrase.Note notes note ∙ ap (λ m. m ++ Phrase.Note note ∷ []) (sym (append-nil (map Phrase.Note notes)))),
+      )
   between_taken n notes (f ∷ entries) (Phrase.Note note) next h k l e = absurd (cc)
   between_taken n notes entries (Phrase.Command c) next h k l e =
       drawn (record { notes = notes; entries = entries; stage = Stage.Between }) (Phrase.Command c) (record { notes = notes; entries = entries; stage = Stage.Answering (record { command = c; line = n }) Part.Nothing }) next e
@@ -418,22 +423,24 @@ module _ (model : Program) where
       → Draws (record { notes = notes; entries = entries; stage = Stage.Answering question part }) p (placed (record { notes = notes; entries = entries; stage = Stage.Answering question part }) question next)
   unfolding Took
   answering_taken notes entries question part p (Next.More more) h k e =
-      let t = more_taken question.command part p more h.stage.1 k e in
-      (record { notes = h.notes; entries = h.entries; numbered = h.numbered; stage = (h.stage.0, t.0) },
-        ap (λ l. body_phrases notes entries ++ Phrase.Command question.command ∷ l) t.1 ∙ sym (append_assoc (body_phrases notes entries) (Phrase.Command question.command ∷ part_phrases part) (p ∷ [])))
+      let t = more_taken question.command part p more h.stage.1 k e in (
+        record { notes = h.notes; entries = h.entries; numbered = h.numbered; stage = (h.stage.0, t.0) },
+        ap (λ l. body_phrases notes entries ++ Phrase.Command question.command ∷ l) t.1 ∙ sym (append_assoc (body_phrases notes entries) (Phrase.Command question.command ∷ part_phrases part) (p ∷ [])),
+      )
   answering_taken notes entries question part p (Next.Whole answer) h k e =
       let t = whole_taken question.command part p answer h.stage.1 e in
-      let entry : Entry = record { command = question.command; answer = answer; line = question.line } in
-      (record {
-        notes = h.notes;
-        entries = All-push (IsEntryFor model) entries entry h.entries (record { kind = t.kind; answer = t.form });
-        numbered = numbered_push (2 + length notes) entries entry h.numbered (h.stage.0 ∙ (omega arith));
-        stage = tt;
-      },
+      let entry : Entry = record { command = question.command; answer = answer; line = question.line } in (
+        record {
+          notes = h.notes;
+          entries = All-push (IsEntryFor model) entries entry h.entries (record { kind = t.kind; answer = t.form });
+          numbered = numbered_push (2 + length notes) entries entry h.numbered (h.stage.0 ∙ (omega arith));
+          stage = tt;
+        },
         body_push notes entries entry
-        ∙ ap (λ l. body_phrases notes entries ++ Phrase.Command question.command ∷ (l ++ Phrase.End ∷ [])) t.said
-        ∙ ap (λ q. body_phrases notes entries ++ Phrase.Command question.command ∷ (part_phrases part ++ q ∷ [])) (sym t.ended)
-        ∙ sym (append_assoc (body_phrases notes entries) (Phrase.Command question.command ∷ part_phrases part) (p ∷ [])))
+            ∙ ap (λ l. body_phrases notes entries ++ Phrase.Command question.command ∷ (l ++ Phrase.End ∷ [])) t.said
+            ∙ ap (λ q. body_phrases notes entries ++ Phrase.Command question.command ∷ (part_phrases part ++ q ∷ [])) (sym t.ended)
+            ∙ sym (append_assoc (body_phrases notes entries) (Phrase.Command question.command ∷ part_phrases part) (p ∷ [])),
+      )
 
   pub taken : (n : ℕ) (notes : List Note) (entries : List Entry) (stage : Stage) (p : Phrase) (next : Draft) → IsDraftFor model (record { notes = notes; entries = entries; stage = stage }) → IsPhraseFor model p
       → n ≡ suc (length (draft_phrases (record { notes = notes; entries = entries; stage = stage }))) → advanced model n (record { notes = notes; entries = entries; stage = stage }) p ≡ Some next

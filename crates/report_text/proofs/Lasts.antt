@@ -1,9 +1,9 @@
 -- What comes after the last of a list in order comes after all of it.
-use Rattle.std.proofs.Common.{◌≡◌, refl, sym, ap, subst, ◌∙◌, ℕ, ◌-◌, ◌<◌, ◌≤◌, Bool, true, false, true≢false, ◌&&◌, ◌||◌, List, length, get_or, Some, arith, ◌⊎◌, inl, inr}
+use Rattle.std.proofs.Common.{◌≡◌, refl, sym, ap, subst, ◌∙◌, ℕ, ◌-◌, ◌<◌, ◌≤◌, Bool, true, false, true≢false, ◌&&◌, List, length, get_or, Some, arith, ◌⊎◌, inl, inr}
 use Rattle.std.specs.Prelude.{AllPairs, IsTrue}
 use Rattle.std.specs.List.{list_all, slice_get}
 use Rattle.std.proofs.lemmas.Bool.Decides.{nat_tests}
-use Rattle.std.proofs.lemmas.Bool.{cases_lt, or_left, and_parts}
+use Rattle.std.proofs.lemmas.Bool.{cases_lt, or_cases, or_left, and_parts}
 use Rattle.std.proofs.lemmas.Option.{slice_get_within, get_or_from_slice_get}
 use Rattle.std.proofs.lemmas.List.Sums.{list_all-from_AllPass}
 use Rattle.std.proofs.lemmas.List.Folds.{list_all_at}
@@ -39,17 +39,13 @@ last_member members l m h e = last_decides comes_before over members l m h e
 
 -- ---- shares
 -- a pair of a member and a side, or of a column and below or above
-either : (a b : Bool) → (a || b) ≡ true → (a ≡ true) ⊎ (b ≡ true)
-either true b h = inl refl
-either false b h = inr h
-
 no_third_side : (s t u : Side) → side_before s t ≡ true → side_before t u ≡ true → ⊥
 no_third_side Lo Up u h k = true≢false (sym k)
 no_third_side Lo Lo u h k = true≢false (sym h)
 no_third_side Up t u h k = true≢false (sym h)
 
 side_over : (l m n : Member) (s t u : Side) → member_side_before l s m t ≡ true → member_side_before m t n u ≡ true → member_side_before l s n u ≡ true
-side_over l m n s t u h k = by (either (comes_before l m) (is_same l m && side_before s t) h) (either (comes_before m n) (is_same m n && side_before t u) k)
+side_over l m n s t u h k = by (or_cases (comes_before l m) (is_same l m && side_before s t) h) (or_cases (comes_before m n) (is_same m n && side_before t u) k)
   where
     same : (a b : Member) (p q : Side) → (is_same a b && side_before p q) ≡ true → (a ≡ b) × (side_before p q ≡ true)
     same a b p q e = let both = and_parts (is_same a b) (side_before p q) e in (same_members a b both.0, both.1)

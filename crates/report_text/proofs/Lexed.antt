@@ -1,9 +1,8 @@
 -- What the words of a value are, and what the words of a line are.
-use Rattle.std.proofs.Common.{◌≡◌, ◌≢◌, refl, sym, ap, ◌∙◌, ℕ, ◌+◌, ◌==◌, Bool, true, false, cond, List, [], ◌∷◌, length, Option, Some, None, arith}
-use Rattle.std.specs.Prelude.{IfSome, find, count_by}
+use Rattle.std.proofs.Common.{◌≡◌, ◌≢◌, refl, sym, ap, ◌∙◌, ℕ, Bool, true, false, cond, List, [], ◌∷◌, Option, Some, None}
+use Rattle.std.specs.Prelude.{IfSome, find}
 use Rattle.std.specs.Str.{bytes_eq}
 use Rattle.std.proofs.lemmas.Slice.Eq.{bytes_eq-Decides}
-use Rattle.std.proofs.lemmas.List.Splits.{length-slice_split}
 use Rattle.lines.specs.Parts.{parts}
 use Rattle.rational.specs.Rational.{ℚ, zero_ℚ}
 use Rattle.lp_model.specs.Program.{Program}
@@ -11,7 +10,7 @@ use Rattle.report_text.specs.declared.phrases.Keyword.{Keyword}
 use Rattle.report_text.specs.declared.phrases.Phrase.{Phrase}
 use Rattle.report_text.specs.Phrases.{keyword_text, keyword_of, details, Says}
 use Rattle.report_text.specs.Words.{IsSpelled, IsColumnSaid, IsFractionSaid, Finds, leading_keywords, leading_said}
-use Rattle.report_text.proofs.Spelling.{words_of_line, line_of_words}
+use Rattle.report_text.proofs.Spelling.{some_parts, words_of_line, line_of_words}
 
 -- the column and the value that two words say
 pub record ValueSaid (model : Program) (name number : List ℕ) (p : Phrase) : Type 0 where
@@ -38,17 +37,13 @@ leads model (Phrase.Use s) h = refl
 leads model Phrase.Foot h = refl
 leads model _ h = absurd (h refl)
 
--- some words behind a blank
-some_words : (text : List ℕ) → parts 32 text ≢ []
-some_words text e = let l : length (parts 32 text) ≡ count_by (λ b. b == 32) text + 1 = length-slice_split (λ b. b == 32) text in let k : length (parts 32 text) ≡ 0 = ap length e in absurd (omega arith)
-
 module _ (model : Program) (line first rest : List ℕ) (cut : parts 32 line ≡ first ∷ parts 32 rest) where
   -- what is said behind the keyword
   behind_first : (p : Phrase) → Says model line p → (first ≡ keyword_text (keyword_of p)) × (parts 32 rest ≡ details model p)
   behind_first p h = let e : first ∷ parts 32 rest ≡ keyword_text (keyword_of p) ∷ details model p = sym cut ∙ words_of_line model line p h in (cc, cc)
 
   pub keyword_is : (p : Phrase) → Says model line p → leading_said first ≡ Some (keyword_of p)
-  keyword_is p h = let b = behind_first p h in ap leading_said b.0 ∙ leads model p (λ e. some_words rest (b.1 ∙ e))
+  keyword_is p h = let b = behind_first p h in ap leading_said b.0 ∙ leads model p (λ e. some_parts 32 rest (b.1 ∙ e))
 
   -- the keyword that a word is
   pub spelled_so : (k : Keyword) → leading_said first ≡ Some k → first ≡ keyword_text k

@@ -5,6 +5,7 @@ use Rattle.std.specs.Option.{ok_or}
 use Rattle.std.specs.List.{position_or_len}
 use Rattle.std.specs.Str.{bytes_eq}
 use Rattle.std.proofs.lemmas.Bool.{ltb-true, ltb-false}
+use Rattle.std.proofs.lemmas.Option.{same_Some}
 use Rattle.std.proofs.lemmas.List.{get_or-map, length-map}
 use Rattle.std.proofs.lemmas.List.Sums.{fails_before_first, passes_at_first}
 use Rattle.std.proofs.lemmas.Slice.Eq.{bytes_eq-Decides}
@@ -15,9 +16,6 @@ use Rattle.lp_model.specs.Program.{Program, NamedRow, NamedColumn, empty_row, em
 use Rattle.lp_model.specs.Shown.{row_names, column_names}
 use Rattle.report_text.specs.Form.{is_word}
 use Rattle.report_text.specs.Words.{IsColumnSaid, IsMemberSaid}
-
-some_is : (i j : ℕ) → Some i ≡ Some j → i ≡ j
-some_is i j e = cc
 
 module _ {X : Type 0} (called : X → List ℕ) (items : List X) (past : X) where
   names : List (List ℕ)
@@ -39,18 +37,18 @@ module _ {X : Type 0} (called : X → List ℕ) (items : List X) (past : X) wher
   place_told name i e = by (ltb (first name) (length names)) refl e
     where
       by : (b : Bool) → ltb (first name) (length names) ≡ b → cond b (Some (first name)) None ≡ Some i → (i < length items) × (name ≡ called (get_or items i past))
-      by true h k = subst (λ (n : ℕ). (n < length items) × (name ≡ called (get_or items n past))) (some_is (first name) i k) (at_first name (ltb-true (first name) (length names) h))
+      by true h k = subst (λ (n : ℕ). (n < length items) × (name ≡ called (get_or items n past))) (same_Some (first name) i k) (at_first name (ltb-true (first name) (length names) h))
       by false h k = absurd (let s : None ≡ Some i = k in cc)
 
   -- names that differ stand at one place
   pub one_place : AllPairs (λ x y. called x ≢ called y) items → (i j : ℕ) → i < length items → j < length items → called (get_or items i past) ≡ called (get_or items j past) → i ≡ j
   one_place apart i j l k e = elim (cases i j) [
-      | inl h ↦ absurd (apart i j past h k e)
-      | inr h ↦ elim h [
-        | inl g ↦ absurd (apart j i past g l (sym e))
-        | inr g ↦ g
-      ]
+    | inl h ↦ absurd (apart i j past h k e)
+    | inr h ↦ elim h [
+      | inl g ↦ absurd (apart j i past g l (sym e))
+      | inr g ↦ g
     ]
+  ]
     where
       cases : (i j : ℕ) → (i < j) ⊎ ((j < i) ⊎ (i ≡ j))
       cases zero zero = inr (inr refl)
@@ -58,7 +56,7 @@ module _ {X : Type 0} (called : X → List ℕ) (items : List X) (past : X) wher
       cases (suc i) zero = inr (inl (omega arith))
       cases (suc i) (suc j) = elim (cases i j) [
         | inl h ↦ inl (omega arith)
-        | inr h ↦ elim h [ | inl g ↦ inr (inl (omega arith)) | inr g ↦ inr (inr (ap suc g)) ]
+        | inr h ↦ elim h [ inl g ↦ inr (inl (omega arith)) | inr g ↦ inr (inr (ap suc g)) ]
       ]
 
   pub place_is : AllPairs (λ x y. called x ≢ called y) items → (name : List ℕ) (i : ℕ) → i < length items → name ≡ called (get_or items i past) → position (bytes_eq name) (map called items) ≡ Some i

@@ -84,15 +84,15 @@ fraction_one q r h k e =
 
     dens : (slash : ℕ) → slash ≡ position_or_len (λ b. b == 47) (printed q) → q.den ≡ r.den
     dens slash at = elim (cases_eq q.den 1) [
-        | inl a ↦ elim (cases_eq r.den 1) [
-          | inl b ↦ a ∙ sym b
-          | inr b ↦ (let s = (slash_whole q (top q h) (printed q) slash refl at a).0 in let t = (slash_part r (top r k) (printed q) slash e at b).0 in absurd (omega arith))
-        ]
-        | inr a ↦ elim (cases_eq r.den 1) [
-          | inl b ↦ (let s = (slash_whole r (top r k) (printed q) slash e at b).0 in let t = (slash_part q (top q h) (printed q) slash refl at a).0 in absurd (omega arith))
-          | inr b ↦ decimal_one q.den r.den (bottom q h) (bottom r k) (sym (slash_part q (top q h) (printed q) slash refl at a).2 ∙ (slash_part r (top r k) (printed q) slash e at b).2)
-        ]
+      | inl a ↦ elim (cases_eq r.den 1) [
+        | inl b ↦ a ∙ sym b
+        | inr b ↦ (let s = (slash_whole q (top q h) (printed q) slash refl at a).0 in let t = (slash_part r (top r k) (printed q) slash e at b).0 in absurd (omega arith))
       ]
+      | inr a ↦ elim (cases_eq r.den 1) [
+        | inl b ↦ (let s = (slash_whole r (top r k) (printed q) slash e at b).0 in let t = (slash_part q (top q h) (printed q) slash refl at a).0 in absurd (omega arith))
+        | inr b ↦ decimal_one q.den r.den (bottom q h) (bottom r k) (sym (slash_part q (top q h) (printed q) slash refl at a).2 ∙ (slash_part r (top r k) (printed q) slash e at b).2)
+      ]
+    ]
 
 -- ---- names
 module _ (model : Program) (f : IsWellFormed model) where

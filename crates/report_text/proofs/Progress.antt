@@ -1,9 +1,8 @@
 -- What the lines so far have led to, and what one line more, or the end, makes of it.
-use Rattle.std.proofs.Common.{◌≡◌, ◌≢◌, ◌<◌, ◌≤◌, ◌==◌, refl, sym, ap, subst, ◌∙◌, ℕ, suc, ◌+◌, List, [], ◌∷◌, ◌++◌, length, append_assoc, append-nil, Some, None, arith, inl, inr}
-use Rattle.std.specs.Prelude.{map, All, option_and_then, option_map, count_by, Result, Ok, Err}
+use Rattle.std.proofs.Common.{◌≡◌, ◌≢◌, ◌<◌, ◌≤◌, refl, sym, ap, subst, ◌∙◌, ℕ, suc, ◌+◌, List, [], ◌∷◌, ◌++◌, length, append_assoc, append-nil, Some, None, arith, inl, inr}
+use Rattle.std.specs.Prelude.{map, All, option_and_then, option_map, Result, Ok, Err}
 use Rattle.std.proofs.lemmas.List.{length-append, length-map, map-append, append_cancel_left, append_cancel_right}
 use Rattle.std.proofs.lemmas.List.Elements.{All-nil, All-cons, All-head, All-tail}
-use Rattle.std.proofs.lemmas.List.Splits.{length-slice_split}
 use Rattle.lines.specs.Parts.{parts}
 use Rattle.lp_model.specs.Program.{Program}
 use Rattle.lp_model.specs.declared.parts.Note.{Note}
@@ -27,7 +26,7 @@ use Rattle.report_text.specs.Reading.{Reads, IsFront, IsWhole, IsBadLine, IsTrun
 use Rattle.report_text.specs.Phrases.{IsPhraseFor, phrase_line, Says}
 use Rattle.report_text.specs.Drafts.{point_of, answer_of, extended, placed, advanced, nothing_read, Takes, IsLineStop, ended, IsDraftFor}
 use Rattle.report_text.proofs.Said.{report_phrases, report_spelled, report_for}
-use Rattle.report_text.proofs.Spelling.{parts_of_read, text_of_parts}
+use Rattle.report_text.proofs.Spelling.{some_parts, parts_of_read, text_of_parts}
 use Rattle.report_text.proofs.Runs.{run, run_append, run_step, done, report_read}
 use Rattle.report_text.proofs.Fronts.{draft_phrases, taken}
 use Rattle.report_text.specs.declared.report.ReportStop.{ReportStop}
@@ -128,24 +127,40 @@ pub record HasRead (model : Program) (front : List Line) (draft : Draft) : Type 
   pub said : front ≡ map (phrase_line model) (draft_phrases draft)
   pub only : (ps : List Phrase) → All (IsPhraseFor model) ps → map (phrase_line model) ps ≡ front → run model 1 nothing_read ps ≡ Some draft
 
--- a list of lines that phrases say, cut before a line
-cut_at : (model : Program) (ps : List Phrase) (front : List Line) (line : Line) (rest : List Line) → map (phrase_line model) ps ≡ front ++ line ∷ rest
-    → (qs : List Phrase) × ((p : Phrase) × ((more : List Phrase) × ((ps ≡ qs ++ p ∷ more) × ((map (phrase_line model) qs ≡ front) × (phrase_line model p ≡ line)))))
+-- phrases, cut where one says a line
+record CutAt (model : Program) (ps : List Phrase) (front : List Line) (line : Line) : Type 0 where
+  pub before : List Phrase
+  pub phrase : Phrase
+  pub behind : List Phrase
+  pub whole : ps ≡ before ++ phrase ∷ behind
+  pub said : map (phrase_line model) before ≡ front
+  pub spelled : phrase_line model phrase ≡ line
+
+-- the same cut behind one phrase more
+cut_behind : (model : Program) (p : Phrase) (ps : List Phrase) (l : Line) (front : List Line) (line : Line) → phrase_line model p ≡ l → CutAt model ps front line → CutAt model (p ∷ ps) (l ∷ front) line
+cut_behind model p ps l front line first t = record {
+  before = p ∷ t.before;
+  phrase = t.phrase;
+  behind = t.behind;
+  whole = ap (λ qs. p ∷ qs) t.whole;
+  said = ap (λ k. k ∷ map (phrase_line model) t.before) first ∙ ap (λ ls. l ∷ ls) t.said;
+  spelled = t.spelled;
+}
+
+-- phrases that say lines can be cut where one says a given one of these
+cut_at : (model : Program) (ps : List Phrase) (front : List Line) (line : Line) (rest : List Line) → map (phrase_line model) ps ≡ front ++ line ∷ rest → CutAt model ps front line
 cut_at model [] [] line rest e = absurd (cc)
 cut_at model [] (l ∷ front) line rest e = absurd (cc)
-cut_at model (p ∷ ps) [] line rest e = ([], (p, (ps, (refl, (refl, cc)))))
-cut_at model (p ∷ ps) (l ∷ front) line rest e =
-    let first : phrase_line model p ≡ l = cc in
-    let t = cut_at model ps front line rest (cc) in
-    (p ∷ t.0, (t.1.0, (t.1.1.0, (ap (λ l. p ∷ l) t.1.1.1.0, (ap (λ k. k ∷ map (phrase_line model) t.0) first ∙ ap (λ k. l ∷ k) t.1.1.1.1.0, t.1.1.1.1.1)))))
+cut_at model (p ∷ ps) [] line rest e = record { before = []; phrase = p; behind = ps; whole = refl; said = refl; spelled = cc }
+cut_at model (p ∷ ps) (l ∷ front) line rest e = cut_behind model p ps l front line (cc) (cut_at model ps front line rest (cc))
 
 module _ (model : Program) where
   pub nothing_led : HasRead model [] nothing_read
   nothing_led = record {
-      form = record { notes = λ k d l. absurd (omega arith); entries = λ k d l. absurd (omega arith); numbered = tt; stage = (refl, refl) };
-      said = refl;
-      only = λ ps h e. empty ps e;
-    }
+    form = record { notes = λ k d l. absurd (omega arith); entries = λ k d l. absurd (omega arith); numbered = tt; stage = (refl, refl) };
+    said = refl;
+    only = λ ps h e. empty ps e;
+  }
     where
       empty : (ps : List Phrase) → map (phrase_line model) ps ≡ [] → run model 1 nothing_read ps ≡ Some nothing_read
       empty [] e = refl
@@ -179,13 +194,13 @@ module _ (model : Program) where
         form = made.0;
         said = ap (λ l. l ++ line ∷ []) h.said ∙ ap (λ l. map (phrase_line model) (draft_phrases draft) ++ l ∷ []) t.says.text ∙ sym (map-append (phrase_line model) (draft_phrases draft) (t.phrase ∷ [])) ∙ ap (map (phrase_line model)) (sym made.1);
         only = λ ps all e.
-          let c = cut_at model ps front line [] e in
-          let qs = c.0 in let p = c.1.0 in let more = c.1.1.0 in let is = c.1.1.1.0 in let spelled = c.1.1.1.1.0 in
-          let same : All (IsPhraseFor model) (qs ++ p ∷ more) = subst (All (IsPhraseFor model)) is all in
-          let none : more ≡ [] = no_more qs p more spelled (ap (map (phrase_line model)) (sym is) ∙ e) in
-          ap (run model 1 nothing_read) (is ∙ ap (λ l. qs ++ p ∷ l) none)
-          ∙ next_run front draft qs [] p h (all_front qs (p ∷ more) same) spelled
-          ∙ run_step model (suc (length front)) draft next p [] (t.all p (record { form = all_middle qs p more same; text = sym c.1.1.1.1.1 }));
+            let c = cut_at model ps front line [] e in
+            let qs = c.before in let p = c.phrase in let more = c.behind in let is = c.whole in let spelled = c.said in
+            let same : All (IsPhraseFor model) (qs ++ p ∷ more) = subst (All (IsPhraseFor model)) is all in
+            let none : more ≡ [] = no_more qs p more spelled (ap (map (phrase_line model)) (sym is) ∙ e) in
+            ap (run model 1 nothing_read) (is ∙ ap (λ l. qs ++ p ∷ l) none)
+            ∙ next_run front draft qs [] p h (all_front qs (p ∷ more) same) spelled
+            ∙ run_step model (suc (length front)) draft next p [] (t.all p (record { form = all_middle qs p more same; text = sym c.spelled }));
       }
     where
       no_more : (qs : List Phrase) (p : Phrase) (more : List Phrase) → map (phrase_line model) qs ≡ front → map (phrase_line model) (qs ++ p ∷ more) ≡ front ++ line ∷ [] → more ≡ []
@@ -202,11 +217,11 @@ module _ (model : Program) where
       let report = goes.1.report in
       let all = report_for model report goes.1.form in
       let c = cut_at model (report_phrases report) front line goes.0 (sym (report_spelled model report goes.1.form) ∙ goes.1.lines ∙ append_assoc front (line ∷ []) goes.0) in
-      let qs = c.0 in let p = c.1.0 in let more = c.1.1.0 in
-      let same : All (IsPhraseFor model) (qs ++ p ∷ more) = subst (All (IsPhraseFor model)) c.1.1.1.0 all in
-      let ends : run model 1 nothing_read (qs ++ p ∷ more) ≡ Some (done model report) = ap (run model 1 nothing_read) (sym c.1.1.1.0) ∙ report_read model report goes.1.form in
-      let stops : run model (suc (length front)) draft (p ∷ more) ≡ None = ap (option_and_then (λ d. run model (suc (suc (length front))) d more)) (none p (record { form = all_middle qs p more same; text = sym c.1.1.1.1.1 })) in
-      let wrong : Some (done model report) ≡ None = sym ends ∙ next_run front draft qs more p h (all_front qs (p ∷ more) same) c.1.1.1.1.0 ∙ stops in
+      let qs = c.before in let p = c.phrase in let more = c.behind in
+      let same : All (IsPhraseFor model) (qs ++ p ∷ more) = subst (All (IsPhraseFor model)) c.whole all in
+      let ends : run model 1 nothing_read (qs ++ p ∷ more) ≡ Some (done model report) = ap (run model 1 nothing_read) (sym c.whole) ∙ report_read model report goes.1.form in
+      let stops : run model (suc (length front)) draft (p ∷ more) ≡ None = ap (option_and_then (λ d. run model (suc (suc (length front))) d more)) (none p (record { form = all_middle qs p more same; text = sym c.spelled })) in
+      let wrong : Some (done model report) ≡ None = sym ends ∙ next_run front draft qs more p h (all_front qs (p ∷ more) same) c.said ∙ stops in
       cc
 
   -- the report that the lines are, if they are one
@@ -269,15 +284,12 @@ module _ (model : Program) (bytes : List ℕ) where
   pub come_further : (rest after : List ℕ) (line : Line) (number : ℕ) (draft next : Draft) → HasCome model bytes rest number draft → parts 10 rest ≡ line ∷ parts 10 after → length after < length rest
       → Takes model (number + 1) draft line next → HasCome model bytes after (number + 1) next
   come_further rest after line number draft next h e short t = record {
-      front = h.front ++ line ∷ [];
-      cut = h.cut ∙ ap (λ l. h.front ++ l) e ∙ sym (append_assoc h.front (line ∷ []) (parts 10 after));
-      count = (let c = h.count in let l = length-append h.front (line ∷ []) in omega arith);
-      read = one_line_more model h.front line draft next h.read (subst (λ n. Takes model n draft line next) (let c = h.count in let g : number + 1 ≡ suc (length h.front) = omega arith in g) t);
-      within = (let w = h.within in omega arith);
-    }
-
-  some_parts : (text : List ℕ) → parts 10 text ≢ []
-  some_parts text e = let l : length (parts 10 text) ≡ count_by (λ b. b == 10) text + 1 = length-slice_split (λ b. b == 10) text in let k : length (parts 10 text) ≡ 0 = ap length e in absurd (omega arith)
+    front = h.front ++ line ∷ [];
+    cut = h.cut ∙ ap (λ l. h.front ++ l) e ∙ sym (append_assoc h.front (line ∷ []) (parts 10 after));
+    count = (let c = h.count in let l = length-append h.front (line ∷ []) in omega arith);
+    read = one_line_more model h.front line draft next h.read (subst (λ n. Takes model n draft line next) (let c = h.count in let g : number + 1 ≡ suc (length h.front) = omega arith in g) t);
+    within = (let w = h.within in omega arith);
+  }
 
   pub come_wrong : (rest after : List ℕ) (line : Line) (number : ℕ) (draft : Draft) (stop : ReportStop) → HasCome model bytes rest number draft → parts 10 rest ≡ line ∷ parts 10 after
       → IsLineStop model (number + 1) draft line stop → IsReportStop model bytes stop
@@ -289,7 +301,7 @@ module _ (model : Program) (bytes : List ℕ) where
         back = parts 10 after;
         cut = h.cut ∙ ap (λ l. h.front ++ l) e;
         number = s.0 ∙ n;
-        judged = inl (some_parts after);
+        judged = inl (some_parts 10 after);
         right = is_front model h.front draft h.read;
         wrong = line_is_wrong model h.front line draft h.read (subst (λ (k : ℕ). (p : Phrase) → Says model line p → advanced model k draft p ≡ None) n s.1);
       }

@@ -141,14 +141,21 @@ module _ (model : Program) (c : Command) (make : List ℚ → Part)
           let zero : v ≡ zero_ℚ = (eq-Decides v zero_ℚ).0 e in
           let l : length values ≤ length whole = h.0 in
           let p = length_push whole v in
-          let f : Fills values (whole ++ v ∷ []) = ((let q : length (whole ++ v ∷ []) ≡ length whole + 1 = p in omega arith),
-            ap (λ n. filled n values) p ∙ filled_more (length whole) values l ∙ ap (λ w. w ++ zero_ℚ ∷ []) h.1 ∙ ap (λ z. whole ++ z ∷ []) (sym zero)) in
+          let f : Fills values (whole ++ v ∷ []) = (
+            (let q : length (whole ++ v ∷ []) ≡ length whole + 1 = p in omega arith),
+            ap (λ n. filled n values) p ∙ filled_more (length whole) values l ∙ ap (λ w. w ++ zero_ℚ ∷ []) h.1 ∙ ap (λ z. whole ++ z ∷ []) (sym zero),
+          ) in
           let r = moved values (skip f) in
           (r.0, (ap (λ b. grown model c (make values) (cond b (value_phrases (suc (length whole)) rest) (Phrase.Value (length whole) v ∷ value_phrases (suc (length whole)) rest))) e ∙ r.1.0, r.1.1))
       by false e skip take =
-          let r = moved (whole ++ v ∷ []) take in
-          (r.0, (ap (λ b. grown model c (make values) (cond b (value_phrases (suc (length whole)) rest) (Phrase.Value (length whole) v ∷ value_phrases (suc (length whole)) rest))) e
-          ∙ grown_step model c (make values) (make (whole ++ v ∷ [])) (Phrase.Value (length whole) v) (value_phrases (suc (length whole)) rest) (one_value values whole v h) ∙ r.1.0, r.1.1))
+          let r = moved (whole ++ v ∷ []) take in (
+            r.0,
+            (
+              ap (λ b. grown model c (make values) (cond b (value_phrases (suc (length whole)) rest) (Phrase.Value (length whole) v ∷ value_phrases (suc (length whole)) rest))) e
+                  ∙ grown_step model c (make values) (make (whole ++ v ∷ [])) (Phrase.Value (length whole) v) (value_phrases (suc (length whole)) rest) (one_value values whole v h) ∙ r.1.0,
+              r.1.1,
+            ),
+          )
 
   -- all the values of a point
   point_read : (p : Point) → IsPointFor model p → (end : List ℚ) × ((grown model c (make []) (value_phrases 0 p.values) ≡ Some (make end)) × (point_of model end ≡ p))
@@ -189,11 +196,14 @@ module _ (model : Program) (c : Command) where
       → list_all (λ n. comes_before n m) members ≡ true → IsPointFor model p
       → (end : Part) × ((grown model c part (witness_phrases (m, p)) ≡ Some end) × ActsAs model c end (members ++ m ∷ []) (witnesses ++ p ∷ []))
   witness_read part members witnesses m p acts after h =
-      let r = point_read model c (λ vs. Part.Witness members witnesses m vs) (λ values j v. refl) p h in
-      (Part.Witness members witnesses m r.0, (
-        grown_step model c part (Part.Member members witnesses m) (Phrase.Member m) (point_phrases p) (acts.0 m ∙ only_true (list_all (λ n. comes_before n m) members) (Next.More (Part.Member members witnesses m)) after)
-        ∙ r.1.0,
-        subst (λ q. ActsAs model c (Part.Witness members witnesses m r.0) (members ++ m ∷ []) (witnesses ++ q ∷ [])) r.1.1 ((λ n. refl), refl)))
+      let r = point_read model c (λ vs. Part.Witness members witnesses m vs) (λ values j v. refl) p h in (
+        Part.Witness members witnesses m r.0,
+        (
+          grown_step model c part (Part.Member members witnesses m) (Phrase.Member m) (point_phrases p) (acts.0 m ∙ only_true (list_all (λ n. comes_before n m) members) (Next.More (Part.Member members witnesses m)) after)
+              ∙ r.1.0,
+          subst (λ q. ActsAs model c (Part.Witness members witnesses m r.0) (members ++ m ∷ []) (witnesses ++ q ∷ [])) r.1.1 ((λ n. refl), refl),
+        ),
+      )
 
   witnesses_read : (part : Part) (members rest : List Member) (witnesses more : List Point) → ActsAs model c part members witnesses → IsInOrder (members ++ rest)
       → length more ≡ length rest → All (IsPointFor model) more
@@ -203,11 +213,14 @@ module _ (model : Program) (c : Command) where
   witnesses_read part members (m ∷ rest) witnesses [] acts order e h = absurd (omega arith)
   witnesses_read part members (m ∷ rest) witnesses (p ∷ more) acts order e h =
       let first = witness_read part members witnesses m p acts (all_before model c comes_before (λ ms. Part.Listed (Found.Members ms)) Phrase.Member (λ ms n t. ap (option_map (λ l. Next.More (Part.Listed (Found.Members l)))) (only_true (list_all (λ k. comes_before k n) ms) (ms ++ n ∷ []) t)) members m rest order) (All-head (IsPointFor model) p more h) in
-      let others = witnesses_read first.0 (members ++ m ∷ []) rest (witnesses ++ p ∷ []) more first.1.1 (subst IsInOrder (sym (append_assoc members (m ∷ []) rest)) order) (let l : length more ≡ length rest = omega arith in l) (All-tail (IsPointFor model) p more h) in
-      (others.0, (
-        grown_append model c part first.0 (witness_phrases (m, p)) (flat_map witness_phrases (zip rest more)) first.1.0 ∙ others.1.0,
-        subst (λ l. ActsAs model c others.0 l (witnesses ++ p ∷ more)) (append_assoc members (m ∷ []) rest)
-        (subst (ActsAs model c others.0 ((members ++ m ∷ []) ++ rest)) (append_assoc witnesses (p ∷ []) more) others.1.1)))
+      let others = witnesses_read first.0 (members ++ m ∷ []) rest (witnesses ++ p ∷ []) more first.1.1 (subst IsInOrder (sym (append_assoc members (m ∷ []) rest)) order) (let l : length more ≡ length rest = omega arith in l) (All-tail (IsPointFor model) p more h) in (
+        others.0,
+        (
+          grown_append model c part first.0 (witness_phrases (m, p)) (flat_map witness_phrases (zip rest more)) first.1.0 ∙ others.1.0,
+          subst (λ l. ActsAs model c others.0 l (witnesses ++ p ∷ more)) (append_assoc members (m ∷ []) rest)
+              (subst (ActsAs model c others.0 ((members ++ m ∷ []) ++ rest)) (append_assoc witnesses (p ∷ []) more) others.1.1),
+        ),
+      )
 
 -- ---- answers
 -- the shares of a leaf, and before them its two lines
@@ -234,29 +247,38 @@ same_set model set h = ap (λ r. record { rows = r; columns = length model.colum
 answer_read : (model : Program) (c : Command) (a : Answer) → can_answer c a ≡ true → IsAnswerFor model a
     → (end : Part) × ((grown model c Part.Nothing (answer_front a) ≡ Some end) × (extended model c end Phrase.End ≡ Some (Next.Whole a)))
 answer_read model c (Feasible p) can h =
-    let r = point_read model c (λ vs. Part.Point vs) (λ values j v. refl) p h in
-    (Part.Point r.0, (
-      grown_step model c Part.Nothing Part.Feasible Phrase.Feasible (point_phrases p) refl ∙ grown_step model c Part.Feasible (Part.Point []) Phrase.Point (value_phrases 0 p.values) refl ∙ r.1.0,
-      ap (λ q. Some (Next.Whole (Feasible q))) r.1.1))
+    let r = point_read model c (λ vs. Part.Point vs) (λ values j v. refl) p h in (
+      Part.Point r.0,
+      (
+        grown_step model c Part.Nothing Part.Feasible Phrase.Feasible (point_phrases p) refl ∙ grown_step model c Part.Feasible (Part.Point []) Phrase.Point (value_phrases 0 p.values) refl ∙ r.1.0,
+        ap (λ q. Some (Next.Whole (Feasible q))) r.1.1,
+      ),
+    )
 answer_read model Check (Infeasible set proof) can h =
     let members = set.members in
     let found = Found.Members members in
-    let listed = list_read model Check comes_before (λ ms. Part.Listed (Found.Members ms)) Phrase.Member (λ ms n t. ap (option_map (λ l. Next.More (Part.Listed (Found.Members l)))) (only_true (list_all (λ k. comes_before k n) ms) (ms ++ n ∷ []) t)) [] members h.0.in_order in
-    (Part.Leaf found h.1.combo.shares, (
-      grown_step model Check Part.Nothing (Part.Listed (Found.Members [])) Phrase.Infeasible (map Phrase.Member members ++ proof_phrases proof) refl
-      ∙ grown_append model Check (Part.Listed (Found.Members [])) (Part.Listed found) (map Phrase.Member members) (proof_phrases proof) listed
-      ∙ leaf_read model Check (Part.Listed found) found proof h.1 refl,
-      ap (λ s. Some (Next.Whole (Infeasible s (leaf_of h.1.combo.shares)))) (same_set model set h.0) ∙ ap (λ q. Some (Next.Whole (Infeasible set q))) (same_proof model proof h.1)))
+    let listed = list_read model Check comes_before (λ ms. Part.Listed (Found.Members ms)) Phrase.Member (λ ms n t. ap (option_map (λ l. Next.More (Part.Listed (Found.Members l)))) (only_true (list_all (λ k. comes_before k n) ms) (ms ++ n ∷ []) t)) [] members h.0.in_order in (
+      Part.Leaf found h.1.combo.shares,
+      (
+        grown_step model Check Part.Nothing (Part.Listed (Found.Members [])) Phrase.Infeasible (map Phrase.Member members ++ proof_phrases proof) refl
+            ∙ grown_append model Check (Part.Listed (Found.Members [])) (Part.Listed found) (map Phrase.Member members) (proof_phrases proof) listed
+            ∙ leaf_read model Check (Part.Listed found) found proof h.1 refl,
+        ap (λ s. Some (Next.Whole (Infeasible s (leaf_of h.1.combo.shares)))) (same_set model set h.0) ∙ ap (λ q. Some (Next.Whole (Infeasible set q))) (same_proof model proof h.1),
+      ),
+    )
 answer_read model (Iis method) (Irreducible core) can h =
     let members = core.members.members in
     let found = Found.Witnessed members core.witnesses in
-    let w = witnesses_read model (Iis method) (Part.Listed (Found.Witnessed [] [])) [] members [] core.witnesses ((λ m. refl), refl) h.members.in_order h.each h.points in
-    (Part.Leaf found h.proof.combo.shares, (
-      grown_step model (Iis method) Part.Nothing (Part.Listed (Found.Witnessed [] [])) Phrase.Irreducible (flat_map witness_phrases (zip members core.witnesses) ++ proof_phrases core.proof) refl
-      ∙ grown_append model (Iis method) (Part.Listed (Found.Witnessed [] [])) w.0 (flat_map witness_phrases (zip members core.witnesses)) (proof_phrases core.proof) w.1.0
-      ∙ leaf_read model (Iis method) w.0 found core.proof h.proof w.1.1.1,
-      ap (λ s. Some (Next.Whole (Irreducible (record { members = s; witnesses = core.witnesses; proof = leaf_of h.proof.combo.shares })))) (same_set model core.members h.members)
-      ∙ ap (λ q. Some (Next.Whole (Irreducible (record { members = core.members; witnesses = core.witnesses; proof = q })))) (same_proof model core.proof h.proof)))
+    let w = witnesses_read model (Iis method) (Part.Listed (Found.Witnessed [] [])) [] members [] core.witnesses ((λ m. refl), refl) h.members.in_order h.each h.points in (
+      Part.Leaf found h.proof.combo.shares,
+      (
+        grown_step model (Iis method) Part.Nothing (Part.Listed (Found.Witnessed [] [])) Phrase.Irreducible (flat_map witness_phrases (zip members core.witnesses) ++ proof_phrases core.proof) refl
+            ∙ grown_append model (Iis method) (Part.Listed (Found.Witnessed [] [])) w.0 (flat_map witness_phrases (zip members core.witnesses)) (proof_phrases core.proof) w.1.0
+            ∙ leaf_read model (Iis method) w.0 found core.proof h.proof w.1.1.1,
+        ap (λ s. Some (Next.Whole (Irreducible (record { members = s; witnesses = core.witnesses; proof = leaf_of h.proof.combo.shares })))) (same_set model core.members h.members)
+            ∙ ap (λ q. Some (Next.Whole (Irreducible (record { members = core.members; witnesses = core.witnesses; proof = q })))) (same_proof model core.proof h.proof),
+      ),
+    )
 answer_read model Check (Irreducible core) can h = absurd (true≢false (sym can))
 answer_read model (Iis method) (Infeasible set proof) can h = absurd (true≢false (sym can))
 
@@ -306,9 +328,9 @@ module _ (model : Program) where
       let entries = flat_map entry_phrases report.entries in
       let middle = between report.notes report.entries in
       let two : run model 2 (between [] []) (notes ++ entries) ≡ Some middle =
-        run_append model 2 (between [] []) (between report.notes []) notes entries (notes_read 2 [] report.notes)
-        ∙ ap (λ k. run model (2 + k) (between report.notes []) entries) (length-map report.notes Phrase.Note)
-        ∙ entries_read (2 + length report.notes) report.notes [] report.entries h.entries h.numbered in
+      run_append model 2 (between [] []) (between report.notes []) notes entries (notes_read 2 [] report.notes)
+      ∙ ap (λ k. run model (2 + k) (between report.notes []) entries) (length-map report.notes Phrase.Note)
+      ∙ entries_read (2 + length report.notes) report.notes [] report.entries h.entries h.numbered in
       run_step model 1 nothing_read (between [] []) Phrase.Head ((notes ++ entries) ++ Phrase.Foot ∷ []) refl
       ∙ run_append model 2 (between [] []) middle (notes ++ entries) (Phrase.Foot ∷ []) two
       ∙ run_step model (2 + length (notes ++ entries)) middle (done report) Phrase.Foot [] refl

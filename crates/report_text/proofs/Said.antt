@@ -120,7 +120,7 @@ module _ (model : Program) where
   proof_spelled : (proof : Proof) → IsOneLeaf model proof → proof_lines model proof ≡ map (phrase_line model) (proof_phrases proof)
   proof_spelled proof h =
       let uses : map (use_line model) h.combo.shares ++ [] ≡ map (phrase_line model) (map Phrase.Use h.combo.shares ++ []) =
-        ap (λ l. l ++ []) (map_map model Phrase.Use (use_line model) (use_spelled model) h.combo.shares) ∙ sym (map-append (phrase_line model) (map Phrase.Use h.combo.shares) []) in
+      ap (λ l. l ++ []) (map_map model Phrase.Use (use_line model) (use_spelled model) h.combo.shares) ∙ sym (map-append (phrase_line model) (map Phrase.Use h.combo.shares) []) in
       ap (λ nodes. codes "proof" ∷ flat_map (node_lines model) nodes) h.one
       ∙ ap (λ l. codes "proof" ∷ codes "leaf" ∷ l) uses
       ∙ ap (λ nodes. codes "proof" ∷ map (phrase_line model) (flat_map node_phrases nodes)) (sym h.one)
@@ -179,8 +179,8 @@ module _ (model : Program) where
   point_for : (p : Point) → IsPointFor model p → All For (point_phrases p)
   unfolding For
   point_for p h = All-cons For Phrase.Point (value_phrases 0 p.values) tt (values_for 0 p.values h.fits (λ i n.
-    let l = in_range p.values i n in
-    record { known = (let e : length p.values ≡ length model.columns = h.len in omega arith); word = subst (λ k. is_word (column_name model k) ≡ true) (omega arith) (h.named i n) }))
+      let l = in_range p.values i n in
+      record { known = (let e : length p.values ≡ length model.columns = h.len in omega arith); word = subst (λ k. is_word (column_name model k) ≡ true) (omega arith) (h.named i n) }))
 
   each_for : {X : Type 0} (Q : X → Type 0) (say : X → Phrase) → ((x : X) → Q x → For (say x)) → (xs : List X) → All Q xs → All For (map say xs)
   each_for Q say f [] h = All-nil For

@@ -1,12 +1,12 @@
 -- The words of a line: each has shown bytes alone, so the parts of a line are its words, and those of a text its lines.
-use Rattle.std.proofs.Common.{◌≡◌, refl, sym, ap, subst, ◌∙◌, ℕ, suc, ◌<◌, ◌≤◌, ◌==◌, true, false, true≢false, List, [], ◌∷◌, ◌++◌, append_assoc, append-nil, arith, eqb-true, ltb-false, length}
-use Rattle.std.specs.Prelude.{All, map, codes, decimal, nat_lt, unsigned_abs}
+use Rattle.std.proofs.Common.{◌≡◌, ◌≢◌, refl, sym, ap, subst, ◌∙◌, ℕ, suc, ◌+◌, ◌<◌, ◌≤◌, ◌==◌, true, false, true≢false, List, [], ◌∷◌, ◌++◌, append_assoc, append-nil, arith, eqb-true, ltb-false, length}
+use Rattle.std.specs.Prelude.{All, map, count_by, codes, decimal, nat_lt, unsigned_abs}
 use Rattle.std.specs.List.{list_all, join_with_byte}
 use Rattle.std.proofs.lemmas.Bool.{and_parts, or_parts, cond_both, false_from_ne_true}
 use Rattle.std.proofs.lemmas.Bool.Decides.{nat_tests}
 use Rattle.std.proofs.lemmas.Fmt.{decimal_is_IsNumeral_wide}
 use Rattle.std.proofs.lemmas.List.Elements.{All-nil, All-cons, All-head, All-tail, All-append, All-weaker}
-use Rattle.std.proofs.lemmas.List.Splits.{slice_split_at, slice_split_none, join_with_byte-slice_split}
+use Rattle.std.proofs.lemmas.List.Splits.{length-slice_split, slice_split_at, slice_split_none, join_with_byte-slice_split}
 use Rattle.std.specs.Fmt.{signed_decimal}
 use Rattle.std.specs.Char.{digit_value}
 use Rattle.std.specs.Str.Parse.{AllDigits}
@@ -35,6 +35,10 @@ use Rattle.report_text.specs.Grammar.{Line, ◌then◌, text_of, column_name, na
 use Rattle.report_text.specs.Reading.{Reads}
 use Rattle.report_text.specs.Phrases.{keyword_text, keyword_of, source_words, details, spelled, phrase_line, IsPhraseFor, Says}
 use Rattle.report_text.proofs.Said.{report_phrases, report_spelled, report_for}
+
+-- a text has a part
+pub some_parts : (mark : ℕ) (text : List ℕ) → parts mark text ≢ []
+some_parts mark text e = let l : length (parts mark text) ≡ count_by (λ b. b == mark) text + 1 = length-slice_split (λ b. b == mark) text in let k : length (parts mark text) ≡ 0 = ap length e in absurd (omega arith)
 
 -- each byte of the word may stand in a name
 abbrev pub Shown : List ℕ → Type 0

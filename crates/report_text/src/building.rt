@@ -25,7 +25,11 @@ fn fill(mut values: Vec<Frac>, count: usize) -> Result<Vec<Frac>, AllocError>
 }
 
 /// The values with one more, where its column comes after theirs.
-pub(crate) fn add_value(values: Values, column: u32, value: Frac) -> Result<Option<Values>, AllocError>
+pub(crate) fn add_value(
+    values: Values,
+    column: u32,
+    value: Frac,
+) -> Result<Option<Values>, AllocError>
     ensures { IfOk result (λ v. v ≡ with_value values column value) }
 {
     let items = values.into_vec();

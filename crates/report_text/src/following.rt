@@ -64,11 +64,7 @@ fn follow_feasible(alloc: Global, phrase: Phrase) -> Option<Next>
 }
 
 // What may follow a point.
-fn follow_point(
-    model: &Model,
-    values: Values,
-    phrase: Phrase,
-) -> Result<Option<Next>, AllocError>
+fn follow_point(model: &Model, values: Values, phrase: Phrase) -> Result<Option<Next>, AllocError>
     requires { length values ≤ length model.now.columns }
     ensures { (command : Command) → IfOk result (λ n. n ≡ extended model.now command (Part.Point values) phrase) }
 {
@@ -128,9 +124,7 @@ fn follow_list(found: Found, phrase: Phrase) -> Result<Option<Next>, AllocError>
 {
     match found {
         Found::Members(members) => follow_members(members, phrase),
-        Found::Witnessed(members, witnesses) => {
-            Ok(follow_witnessed(members, witnesses, phrase))
-        }
+        Found::Witnessed(members, witnesses) => { Ok(follow_witnessed(members, witnesses, phrase)) }
     }
 }
 
@@ -189,9 +183,7 @@ fn follow_witness(
         let Some(values) = add_value(values, column, value)? else {
             return Ok(None);
         };
-        return Ok(Some(Next::More(Part::Witness(
-            members, witnesses, member, values,
-        ))));
+        return Ok(Some(Next::More(Part::Witness(members, witnesses, member, values))));
     }
     let (members, witnesses) = close_witness(model, members, witnesses, member, values)?;
     Ok(follow_witnessed(members, witnesses, phrase))

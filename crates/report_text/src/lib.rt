@@ -13,8 +13,12 @@ mod ordering;
 mod phrases;
 mod reader;
 mod report;
+#[cfg(test)]
+mod tests;
 
-pub use laws::{bad_is_not_truncated, one_bad_line, one_report, read_is_not_bad, read_is_not_truncated};
+pub use laws::{
+    bad_is_not_truncated, one_bad_line, one_report, read_is_not_bad, read_is_not_truncated,
+};
 pub use reader::read_report;
 pub use report::{
     Answer, Command, Core, Entries, Entry, Method, Notes, Report, ReportStop, Witnesses,

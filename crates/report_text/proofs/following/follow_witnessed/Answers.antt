@@ -17,11 +17,11 @@ returns-then-not-member_follows c =
     let test : List Member → Bool = λ members. list_all (λ n. comes_before n c.in-Member.member) members in
     let more = Next.More (Part.Member c.args.members c.args.witnesses c.in-Member.member) in
     sym (ap (witnessed_with c.args.members c.args.witnesses) c.in-Member.is
-      ∙ only_false (test c.args.members) more (ap test (sym c.as_slice.ensures) ∙ sym c.member_follows.ensures ∙ c.if-not-member_follows.true))
+    ∙ only_false (test c.args.members) more (ap test (sym c.as_slice.ensures) ∙ sym c.member_follows.ensures ∙ c.if-not-member_follows.true))
 
 pub returns-else-not-member_follows : goal.returns-else-not-member_follows
 returns-else-not-member_follows c =
     let test : List Member → Bool = λ members. list_all (λ n. comes_before n c.in-Member.member) members in
     let more = Next.More (Part.Member c.args.members c.args.witnesses c.in-Member.member) in
     sym (ap (witnessed_with c.args.members c.args.witnesses) c.in-Member.is
-      ∙ only_true (test c.args.members) more (ap test (sym c.as_slice.ensures) ∙ sym c.member_follows.ensures ∙ c.if-not-member_follows.false))
+    ∙ only_true (test c.args.members) more (ap test (sym c.as_slice.ensures) ∙ sym c.member_follows.ensures ∙ c.if-not-member_follows.false))

@@ -1,13 +1,11 @@
 use Rattle.std.proofs.Common.{◌≡◌, refl, sym, ap, ◌∙◌, Some, ℕ, [], ◌∷◌}
+use Rattle.std.proofs.lemmas.Option.{same_Some}
 use Rattle.rational.specs.Rational.{ℚ, zero_ℚ}
 use Rattle.rational.proofs.Compare.{eq-Decides, apart_from_test}
 use Rattle.report_text.specs.declared.phrases.Phrase.{Phrase}
 use Rattle.report_text.specs.Grammar.{column_name}
 use Rattle.report_text.proofs.Lexed.{value_said}
 use Rattle.report_text.proofs.lexing.read_value.Goals as goal
-
-same : (a b : ℚ) → Some a ≡ Some b → a ≡ b
-same a b e = cc
 
 both : (i j : ℕ) (v w : ℚ) (p : Phrase) → Some i ≡ Some j → Some v ≡ Some w → p ≡ Phrase.Value j w → Some (Phrase.Value i v) ≡ Some p
 both i j v w p e f g = cc
@@ -19,8 +17,8 @@ returns-then-eq c =
     record {
       found = tt;
       all = λ p h. absurd (
-        let s = value_said c.args.model.now c.args.name.now c.args.number.now p h in
-        s.apart (sym (same v s.value (c.in-Some-fraction_of.ensures.all s.value s.printed)) ∙ zero));
+          let s = value_said c.args.model.now c.args.name.now c.args.number.now p h in
+          s.apart (sym (same_Some v s.value (c.in-Some-fraction_of.ensures.all s.value s.printed)) ∙ zero));
     }
 
 pub returns : goal.returns
@@ -35,6 +33,6 @@ returns c =
         behind = ap (λ l. l ∷ c.args.number.now ∷ []) column.1 ∙ ap (λ l. column_name c.args.model.now c.in-Some.column ∷ l ∷ []) number.1;
       };
       all = λ p h. (
-        let s = value_said c.args.model.now c.args.name.now c.args.number.now p h in
-        both c.in-Some.column s.column v s.value p (c.in-Some.ensures.all s.column s.named) (c.in-Some-fraction_of.ensures.all s.value s.printed) s.is);
+          let s = value_said c.args.model.now c.args.name.now c.args.number.now p h in
+          both c.in-Some.column s.column v s.value p (c.in-Some.ensures.all s.column s.named) (c.in-Some-fraction_of.ensures.all s.value s.printed) s.is);
     }

@@ -1,0 +1,254 @@
+//! Reports on a program with the rows c1 and c2 and the columns x and y.
+ghost use Rattle.std.specs.Prelude.{◌≡◌, ℕ, List, []};
+ghost use Rattle.lp_model.specs.Program.{IsWellFormedColumn};
+ghost use Rattle.lp_model.specs.Shown.{named_column};
+
+use super::*;
+use certs::{Node, Proof, Share, Source};
+use frac128::Frac;
+use lp_model::{Column, Member, MemberSet, Model, ModelStop, Note, Row, Side, Terms, Weight};
+use std::alloc::{AllocError, Global};
+use std::process::Abort;
+use std::test::Fail;
+
+const COMBINATION: &[u8] =
+    b"iisan report 1\ncommand check\ninfeasible\nmember row c1\nmember row c2\nproof\nleaf\nuse row c1 up 1\nuse row c2 lo 3/2\nend\nreport end\n";
+
+const TWO_ENTRIES: &[u8] =
+    b"iisan report 1\nnote y lower kept\ncommand check\nfeasible\npoint\nvalue y -1/2\nend\ncommand iis deletion\nirreducible\nmember lower x\npoint\nvalue x -1\nproof\nleaf\nend\nreport end\n";
+
+// A column from 0 to 3.
+fn box_column() -> Column
+    ensures { (name : List ℕ) → IsWellFormedColumn (named_column name result) }
+{
+    Column {
+        lo: Some(Frac::whole(0)),
+        up: Some(Frac::whole(3)),
+        whole: false,
+        lower_active: true,
+        upper_active: true,
+        whole_active: true,
+        lower_weight: Weight::Rigid,
+        upper_weight: Weight::Rigid,
+    }
+}
+
+// A row without terms and sides.
+fn free_row(alloc: Global) -> Row
+    ensures terms { result.terms ≡ [] }
+    ensures weight { result.weight ≡ Weight.Rigid }
+{
+    Row {
+        terms: Terms::new(Vec::new(alloc)),
+        lo: None,
+        up: None,
+        active: true,
+        weight: Weight::Rigid,
+    }
+}
+
+// Puts a column last.
+fn add_box(model: &mut Model, alloc: Global, name: &[u8]) -> Result<u32, ModelStop> {
+    model.add_column(alloc, name, box_column())
+}
+
+// The program.
+fn make(alloc: Global) -> Result<Model, ModelStop> {
+    let mut model = Model::new(alloc, false);
+    add_box(&mut model, alloc, b"x")?;
+    add_box(&mut model, alloc, b"y")?;
+    model.add_row(alloc, b"c1", free_row(alloc))?;
+    model.add_row(alloc, b"c2", free_row(alloc))?;
+    Ok(model)
+}
+
+// What is read of a text.
+fn read(alloc: Global, text: &[u8]) -> Result<Report, ReportStop> {
+    let Ok(model) = make(alloc) else {
+        return Err(ReportStop::Memory);
+    };
+    read_report(alloc, text, &model)
+}
+
+// The text is not read, for this reason.
+fn stops(rt: &(impl Abort + AllocGlobal), text: &[u8], stop: ReportStop) {
+    match read(rt.alloc(), text) {
+        Ok(_) => assert!(rt; false, "read: {text:?}"),
+        Err(found) => assert_eq!(rt; found, stop, "{text:?}"),
+    }
+}
+
+// The line with this number is bad where these lines follow the first one.
+fn bad(rt: &(impl Abort + AllocGlobal), line: u64, text: &str) -> Result<(), AllocError> {
+    let text = format!(in rt.alloc(); "iisan report 1\n{text}")?;
+    stops(rt, text.as_bytes(), ReportStop::BadLine(line));
+    Ok(())
+}
+
+// The same, of lines that follow the point of a `check`.
+fn bad_value(rt: &(impl Abort + AllocGlobal), line: u64, text: &str) -> Result<(), AllocError> {
+    let text = format!(in rt.alloc(); "command check\nfeasible\npoint\n{text}\n")?;
+    bad(rt, line, text.as_str())
+}
+
+// The same, of lines that follow the proof of a `check`.
+fn bad_proof(rt: &(impl Abort + AllocGlobal), line: u64, text: &str) -> Result<(), AllocError> {
+    let text = format!(in rt.alloc(); "command check\ninfeasible\nproof\n{text}\n")?;
+    bad(rt, line, text.as_str())
+}
+
+// So many halves.
+fn halves(count: i128) -> Frac {
+    match Frac::new(count, 2) {
+        Ok(value) => value,
+        Err(_) => Frac::whole(0),
+    }
+}
+
+// The set has so many members, of which this is the first.
+fn expect_members(rt: &impl Abort, set: &MemberSet, count: u64, first: Member) {
+    assert_eq!(rt; set.count(), count);
+    assert_eq!(rt; set.next(None), Some(first));
+}
+
+// The proof is one leaf with these shares.
+fn expect_shares(rt: &impl Abort, proof: &Proof, shares: &[Share]) {
+    let nodes = proof.nodes.as_slice();
+    assert_eq!(rt; nodes.len(), 1);
+    for node in nodes {
+        match node {
+            Node::Leaf(combo) => assert_eq!(rt; combo.shares.as_slice(), shares),
+            Node::Split { .. } => assert!(rt; false, "a split"),
+        }
+    }
+}
+
+// The first answer is that of the worked combination.
+fn expect_combination(rt: &impl Abort, answer: &Answer) {
+    let shares = [
+        Share {
+            source: Source::Member(Member::Row(0)),
+            side: Side::Up,
+            weight: Frac::whole(1),
+        },
+        Share {
+            source: Source::Member(Member::Row(1)),
+            side: Side::Lo,
+            weight: halves(3),
+        },
+    ];
+    match answer {
+        Answer::Infeasible(set, proof) => {
+            expect_members(rt, set, 2, Member::Row(0));
+            expect_shares(rt, proof, &shares);
+        }
+        Answer::Feasible(_) | Answer::Irreducible(_) => assert!(rt; false, "another answer"),
+    }
+}
+
+#[test]
+fn combination(rt: HostRuntime) -> Result<(), Fail> {
+    let Ok(report) = read(rt.alloc(), COMBINATION) else {
+        return Err(Fail::from(AllocError));
+    };
+    assert!(rt; report.notes.as_slice().is_empty());
+    let entries = report.entries.as_slice();
+    assert_eq!(rt; entries.len(), 1);
+    for entry in entries {
+        assert_eq!(rt; entry.command, Command::Check);
+        assert_eq!(rt; entry.line, 2);
+        expect_combination(&rt, &entry.answer);
+    }
+    Ok(())
+}
+
+// An irreducible set of one member, whose witness has the value -1 in the first of two columns, and an empty leaf.
+fn expect_core(rt: &impl Abort, answer: &Answer) {
+    let values = [Frac::whole(-1), Frac::whole(0)];
+    match answer {
+        Answer::Irreducible(core) => {
+            expect_members(rt, &core.members, 1, Member::Lower(0));
+            for witness in core.witnesses.as_slice() {
+                assert_eq!(rt; witness.values.as_slice(), values.as_slice());
+            }
+            expect_shares(rt, &core.proof, &[]);
+        }
+        Answer::Feasible(_) | Answer::Infeasible(_, _) => assert!(rt; false, "another answer"),
+    }
+}
+
+// A point.
+fn expect_point(rt: &impl Abort, answer: &Answer, values: &[Frac]) {
+    match answer {
+        Answer::Feasible(point) => assert_eq!(rt; point.values.as_slice(), values),
+        Answer::Infeasible(_, _) | Answer::Irreducible(_) => assert!(rt; false, "another answer"),
+    }
+}
+
+#[test]
+fn two_entries(rt: HostRuntime) -> Result<(), Fail> {
+    let Ok(report) = read(rt.alloc(), TWO_ENTRIES) else {
+        return Err(Fail::from(AllocError));
+    };
+    assert_eq!(rt; report.notes.as_slice(), [Note::LowerKept(1)].as_slice());
+    let entries = report.entries.as_slice();
+    assert_eq!(rt; entries.len(), 2);
+    if entries.len() == 2 {
+        assert_eq!(rt; entries[0].line, 3);
+        expect_point(&rt, &entries[0].answer, &[Frac::whole(0), halves(-1)]);
+        assert_eq!(rt; entries[1].line, 8);
+        assert_eq!(rt; entries[1].command, Command::Iis(Method::Deletion));
+        expect_core(&rt, &entries[1].answer);
+    }
+    Ok(())
+}
+
+#[test]
+fn bad_lines(rt: HostRuntime) -> Result<(), Fail> {
+    stops(&rt, b"iisan report 2\n", ReportStop::BadLine(1));
+    bad(&rt, 3, "command check\nirreducible\n")?;
+    bad(&rt, 3, "command iis additive\ninfeasible\n")?;
+    bad(
+        &rt,
+        5,
+        "command check\ninfeasible\nmember row c1\nmember row c1\n",
+    )?;
+    bad(
+        &rt,
+        6,
+        "command check\nfeasible\npoint\nend\nnote x lower kept\n",
+    )?;
+    bad(&rt, 3, "report end\n\n")?;
+    bad(&rt, 3, "report end\n ")?;
+    Ok(())
+}
+
+#[test]
+fn bad_values(rt: HostRuntime) -> Result<(), Fail> {
+    bad_value(&rt, 5, "value x 0")?;
+    bad_value(&rt, 5, "value x 2/4")?;
+    bad_value(&rt, 5, "value x 01")?;
+    bad_value(&rt, 5, "value z 1")?;
+    bad_value(&rt, 5, "value c1 1")?;
+    bad_value(&rt, 6, "value y 1\nvalue x 1")?;
+    Ok(())
+}
+
+#[test]
+fn bad_proofs(rt: HostRuntime) -> Result<(), Fail> {
+    bad_proof(&rt, 5, "split x 1")?;
+    bad_proof(&rt, 6, "leaf\nleaf")?;
+    bad_proof(&rt, 6, "leaf\nuse row c1 up 0")?;
+    bad_proof(&rt, 7, "leaf\nuse row c1 up 1\nuse row c1 lo 1")?;
+    bad_proof(&rt, 7, "leaf\nuse below x 1\nuse row c2 lo 1")?;
+    Ok(())
+}
+
+// Each front of a report is truncated: nothing at all, without the last line, without the last byte.
+#[test]
+fn fronts(rt: HostRuntime) -> Result<(), Fail> {
+    for count in 0..COMBINATION.len() {
+        stops(&rt, &COMBINATION[..count], ReportStop::Truncated);
+    }
+    Ok(())
+}
