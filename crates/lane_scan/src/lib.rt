@@ -5,4 +5,4 @@ mod bits;
 mod scans;
 
 pub use bits::{count, meets, subset};
-pub use scans::{first_foreign, next_end, next_nonblank};
+pub use scans::{first_foreign, is_blank_byte, next_end, next_nonblank};

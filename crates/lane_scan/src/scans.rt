@@ -2,8 +2,8 @@
 ghost use Rattle.std.specs.Prelude.{◌≡◌, ◌≤◌, ◌+◌, ◌||◌, ◌==◌, Bool, length, not};
 ghost use Rattle.lane_scan.specs.Bytes.{is_end, is_blank, is_allowed, end_from, nonblank_within, foreign_within};
 
-// Whether the byte is a blank.
-fn is_blank_byte(byte: u8) -> bool
+/// Whether the byte is a blank: 32, 9 or 13.
+pub fn is_blank_byte(byte: u8) -> bool
     ensures { result ≡ is_blank byte }
 {
     byte == b' ' || byte == b'\t' || byte == b'\r'

@@ -1,0 +1,4 @@
+pub mod Ranges
+pub mod LineLists
+pub mod FieldLists
+pub mod FieldFaults

@@ -1,0 +1,13 @@
+//! The text of models: its lines, their fields, the tokens of the LP format and decimal literals, each with its first fault.
+//! Only `fields` takes memory.
+#![tactic(auto)]
+
+mod faults;
+mod line_fields;
+mod numbers;
+mod spans;
+
+pub use faults::{FieldStop, ReadFault, ReadKind, ReadStop, TextFault, TextKind};
+pub use line_fields::fields;
+pub use numbers::{fitting, number};
+pub use spans::{Line, Span, after_line, next_line};
