@@ -19,7 +19,9 @@ fn is_allowed_byte(byte: u8) -> bool
 /// The first place from `from` on where byte 10 stands, or the length where there is none.
 pub fn next_end(bytes: &[u8], from: usize) -> usize
     requires { from ≤ length bytes.now }
-    ensures { result ≡ end_from bytes.now from }
+    ensures place { result ≡ end_from bytes.now from }
+    ensures low { from ≤ result }
+    ensures high { result ≤ length bytes.now }
 {
     for (i, byte) in bytes[from..].iter().enumerate() {
         if *byte == b'\n' {
@@ -33,7 +35,9 @@ pub fn next_end(bytes: &[u8], from: usize) -> usize
 pub fn next_nonblank(bytes: &[u8], from: usize, to: usize) -> usize
     requires in_order { from ≤ to }
     requires within { to ≤ length bytes.now }
-    ensures { result ≡ nonblank_within bytes.now from to }
+    ensures place { result ≡ nonblank_within bytes.now from to }
+    ensures low { from ≤ result }
+    ensures high { result ≤ to }
 {
     for (blanks, byte) in bytes[from..to].iter().enumerate() {
         if !is_blank_byte(*byte) {
@@ -47,7 +51,9 @@ pub fn next_nonblank(bytes: &[u8], from: usize, to: usize) -> usize
 pub fn first_foreign(bytes: &[u8], from: usize, to: usize) -> usize
     requires in_order { from ≤ to }
     requires within { to ≤ length bytes.now }
-    ensures { result ≡ foreign_within bytes.now from to }
+    ensures place { result ≡ foreign_within bytes.now from to }
+    ensures low { from ≤ result }
+    ensures high { result ≤ to }
 {
     for (allowed, byte) in bytes[from..to].iter().enumerate() {
         if !is_allowed_byte(*byte) {

@@ -1,9 +1,10 @@
 -- The first field of a line, and the rest.
 use Rattle.std.proofs.Common.{◌≡◌, ℕ, ◌+◌, ◌-◌, ◌<◌, ◌≤◌, Bool, true, false, not, cond, List, [], ◌∷◌, ◌++◌, length, get_or, take, drop, None, refl, sym, ap, ◌∙◌, arith, length-take, inl, inr, filter, map}
 use Rattle.std.proofs.Math.Numerals.{one-add}
-use Rattle.std.specs.List.{slice_split, slice_range, position_or_len, before_first, after_first}
+use Rattle.std.specs.List.{All, slice_split, slice_range, position_or_len, before_first, after_first}
 use Rattle.std.proofs.lemmas.Bool.{cases_lt, lt-ltb, not-true}
 use Rattle.std.proofs.lemmas.List.{take_all, drop_all, drop_more, get_or-take, get_or-drop, append-nil, append_assoc, map_push, nil_from_length}
+use Rattle.std.proofs.lemmas.List.Elements.{All-nil, All-cons}
 use Rattle.std.proofs.lemmas.List.Sums.{fails_before_first, passes_at_first, prefix_len-le-length}
 use Rattle.std.proofs.lemmas.List.Splits.{slice_split_none, slice_split_first, slice_split-cons_yes}
 use Rattle.lane_scan.specs.Bytes.{is_blank, is_nonblank, nonblank_within}
@@ -11,7 +12,7 @@ use Rattle.lane_scan.proofs.Firsts.{length-range}
 use Rattle.text_fields.specs.declared.spans.Span.{Span}
 use Rattle.text_fields.specs.declared.spans.Line.{Line}
 use Rattle.text_fields.specs.Lines.{text_of, line_text}
-use Rattle.text_fields.specs.Fields.{is_filled, fields_of, field_fault, AddsFields, AreInOrder, blank_within}
+use Rattle.text_fields.specs.Fields.{is_filled, fields_of, field_fault, AddsFields, AreInOrder, IsInside, blank_within}
 use Rattle.text_fields.proofs.Ranges.{range-front, range-rest, get_or-range}
 
 -- a blank before the fields changes nothing
@@ -160,9 +161,18 @@ so_far-more bytes line old new more at end next high h l e f m =
       begins = n.begins;
     }
 
+-- spans in order up to the end of a line stand within the text
+inside : (bytes : List ℕ) (from to : ℕ) (spans : List Span) → AreInOrder from to spans → to ≤ length bytes → All (IsInside bytes) spans
+inside bytes from to [] h l = All-nil (IsInside bytes)
+inside bytes from to (s ∷ spans) h l = All-cons (IsInside bytes) s spans (h.1, (let a = order s.to to spans h.2 in omega arith)) (inside bytes s.to to spans h.2 l)
+  where
+    order : (from to : ℕ) (spans : List Span) → AreInOrder from to spans → from ≤ to
+    order from to [] h = h
+    order from to (s ∷ spans) h = (let a = order s.to to spans h.2 in let b = h.0 in let c = h.1 in omega arith)
+
 -- no field is left
-pub so_far-all : (bytes : List ℕ) (line : Line) (old new : List Span) (at : ℕ) → FieldsSoFar bytes line old new at → line.to ≤ at → field_fault (line_text bytes line) ≡ None → AddsFields bytes line old new
-so_far-all bytes line old new at h l e =
+pub so_far-all : (bytes : List ℕ) (line : Line) (old new : List Span) (at : ℕ) → line.to ≤ length bytes → FieldsSoFar bytes line old new at → line.to ≤ at → field_fault (line_text bytes line) ≡ None → AddsFields bytes line old new
+so_far-all bytes line old new at high h l e =
     let none : slice_range bytes at line.to ≡ [] = nil_from_length (slice_range bytes at line.to) (simp length-take (omega arith)) in
     record {
       spans = h.spans;
@@ -170,4 +180,5 @@ so_far-all bytes line old new at h l e =
       appended = h.appended;
       texts = sym (append-nil (map (text_of bytes) h.spans)) ∙ ap (λ fs. map (text_of bytes) h.spans ++ fs) (sym fields_of-nil ∙ ap fields_of (sym none)) ∙ h.texts;
       in_order = AreInOrder-further line.from at line.to h.spans h.in_order h.high;
+      inside = inside bytes line.from line.to h.spans (AreInOrder-further line.from at line.to h.spans h.in_order h.high) high;
     }

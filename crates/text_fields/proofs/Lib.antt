@@ -2,3 +2,8 @@ pub mod Ranges
 pub mod LineLists
 pub mod FieldLists
 pub mod FieldFaults
+pub mod PieceLists
+pub mod Cuts
+pub mod Solids
+pub mod Scans
+pub mod TokenFaults

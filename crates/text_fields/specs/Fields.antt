@@ -1,6 +1,6 @@
 -- The fields of a line.
 use Rattle.std.specs.Prelude.{◌≡◌, ℕ, ◌+◌, ◌<◌, ◌≤◌, ◌==◌, nat_lt, Bool, cond, List, [], ◌∷◌, ◌++◌, length, map, filter, slice_index, slice_range, Option, Some, None}
-use Rattle.std.specs.List.{slice_split, list_any, position_or_len}
+use Rattle.std.specs.List.{All, slice_split, list_any, position_or_len}
 use Rattle.lane_scan.specs.Bytes.{is_blank, is_foreign}
 use Rattle.text_fields.specs.declared.spans.Span.{Span}
 use Rattle.text_fields.specs.declared.spans.Line.{Line}
@@ -39,6 +39,10 @@ abbrev pub AreInOrder : ℕ → ℕ → List Span → Type 0
 AreInOrder from to [] = from ≤ to
 AreInOrder from to (span ∷ spans) = (from ≤ span.from) × (span.from < span.to) × AreInOrder span.to to spans
 
+-- the span has something in it, and stands within the text
+abbrev pub IsInside : List ℕ → Span → Type 0
+IsInside bytes span = (span.from < span.to) × (span.to ≤ length bytes)
+
 -- the line has no fault, and its fields, as spans in order, are appended
 pub record AddsFields (bytes : List ℕ) (line : Line) (old new : List Span) : Type 0 where
   pub spans : List Span
@@ -46,6 +50,7 @@ pub record AddsFields (bytes : List ℕ) (line : Line) (old new : List Span) : T
   pub appended : new ≡ old ++ spans
   pub texts : map (text_of bytes) spans ≡ fields_of (line_text bytes line)
   pub in_order : AreInOrder line.from line.to spans
+  pub inside : All (IsInside bytes) spans
 
 -- the line's fault, with nothing appended; or memory was refused, the line has no fault, and some of the first fields are appended
 abbrev pub StopsFields : List ℕ → Line → List Span → List Span → FieldStop → Type 0

@@ -2,3 +2,5 @@ pub mod Faults
 pub mod Lines
 pub mod Fields
 pub mod Numbers
+pub mod Pieces
+pub mod Tokens

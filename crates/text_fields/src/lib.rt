@@ -5,9 +5,13 @@
 mod faults;
 mod line_fields;
 mod numbers;
+mod pieces;
 mod spans;
+mod tokens;
 
 pub use faults::{FieldStop, ReadFault, ReadKind, ReadStop, TextFault, TextKind};
 pub use line_fields::fields;
 pub use numbers::{fitting, number};
+pub use pieces::TokenKind;
 pub use spans::{Line, Span, after_line, next_line};
+pub use tokens::{Place, Token, next_token};

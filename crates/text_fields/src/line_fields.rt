@@ -3,17 +3,17 @@ ghost use Rattle.std.specs.Prelude.{◌≡◌, ◌≤◌, ◌+◌, Option, lengt
 ghost use Rattle.text_fields.specs.Lines.{line_text};
 ghost use Rattle.text_fields.specs.Fields.{blank_within, field_fault, AddsFields, StopsFields};
 
+use crate::spans::MOST_BYTES;
 use crate::{FieldStop, Line, Span, TextFault, TextKind};
 use lane_scan::{first_foreign, is_blank_byte, next_nonblank};
-
-// The most bytes that a line may have, its end not counted.
-const MOST_BYTES: usize = 65_536;
 
 // The first place from `from` on that has a blank, or `to`.
 fn next_blank(bytes: &[u8], from: usize, to: usize) -> usize
     requires in_order { from ≤ to }
     requires within { to ≤ length bytes.now }
-    ensures { result ≡ blank_within bytes.now from to }
+    ensures place { result ≡ blank_within bytes.now from to }
+    ensures low { from ≤ result }
+    ensures high { result ≤ to }
 {
     for (letters, byte) in bytes[from..to].iter().enumerate() {
         if is_blank_byte(*byte) {

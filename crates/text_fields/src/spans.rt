@@ -4,6 +4,9 @@ ghost use Rattle.text_fields.specs.Lines.{IsLineAt};
 
 use lane_scan::next_end;
 
+/// The most bytes that a line may have, its end not counted.
+pub const MOST_BYTES: usize = 65_536;
+
 /// A part of a text: the bytes from `from` on and before `to`.
 #[derive(Clone, Copy, PartialEq, Eq, Debug)]
 pub struct Span {
