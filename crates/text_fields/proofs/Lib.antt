@@ -7,3 +7,4 @@ pub mod Cuts
 pub mod Solids
 pub mod Scans
 pub mod TokenFaults
+pub mod Longest

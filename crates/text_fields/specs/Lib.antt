@@ -4,3 +4,4 @@ pub mod Fields
 pub mod Numbers
 pub mod Pieces
 pub mod Tokens
+pub mod Laws

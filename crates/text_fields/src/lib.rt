@@ -3,6 +3,7 @@
 #![tactic(auto)]
 
 mod faults;
+mod laws;
 mod line_fields;
 mod numbers;
 mod pieces;
@@ -10,6 +11,7 @@ mod spans;
 mod tokens;
 
 pub use faults::{FieldStop, ReadFault, ReadKind, ReadStop, TextFault, TextKind};
+pub use laws::token_laws;
 pub use line_fields::fields;
 pub use numbers::{fitting, number};
 pub use pieces::TokenKind;
