@@ -132,11 +132,8 @@ impl From<FieldStop> for ReadFault {
 
     fn from(stop: FieldStop) -> ReadFault {
         match stop {
-            FieldStop::Text(fault) => ReadFault::Stop(ReadStop {
-                line: fault.line,
-                kind: ReadKind::Text(fault.kind),
-            }),
-            FieldStop::Memory => ReadFault::Memory,
+            FieldStop::Text(fault) => ReadFault::from(fault),
+            FieldStop::Memory => ReadFault::from(AllocError),
         }
     }
 }

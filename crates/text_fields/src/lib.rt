@@ -17,3 +17,6 @@ pub use numbers::{fitting, number};
 pub use pieces::TokenKind;
 pub use spans::{Line, Span, after_line, next_line};
 pub use tokens::{Place, Token, next_token};
+
+#[cfg(test)]
+mod tests;
