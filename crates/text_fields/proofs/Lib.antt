@@ -8,3 +8,4 @@ pub mod Solids
 pub mod Scans
 pub mod TokenFaults
 pub mod Longest
+pub mod Floors

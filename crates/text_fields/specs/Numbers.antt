@@ -1,5 +1,6 @@
 -- Decimal literals in a text.
-use Rattle.std.specs.Prelude.{◌≡◌, ℕ, List, Option, None, option_map}
+use Rattle.std.specs.Prelude.{◌≡◌, ◌⊎◌, ◌^◌, pos, true, ℕ, List, Option, None, option_map}
+use Rattle.rational.specs.Rational.{ℚ, whole, neg_ℚ, ◌≤ℚ◌}
 use Rattle.frac128.specs.Literal.{spelling_of, reading}
 use Rattle.frac128.specs.declared.literal.Literal.{Literal}
 use Rattle.frac128.specs.declared.literal.Literal.TheVariants.{Fits, TooWide}
@@ -26,3 +27,12 @@ pub record IsWideAt (line : ℕ) (literal : Literal) (fault : TextFault) : Type 
   pub wide : IsWide literal
   pub line_is : fault.line ≡ line
   pub kind_is : fault.kind ≡ NumberWide
+
+-- a value that is at least 10^20
+abbrev pub IsFar : ℚ → Type 0
+IsFar value = whole (pos (10 ^ 20)) ≤ℚ value
+
+-- a literal whose magnitude is at least 10^20: its value or the opposite is, or it says so of one that does not fit
+abbrev pub IsHuge : Literal → Type 0
+IsHuge (Fits value) = IsFar value ⊎ IsFar (neg_ℚ value)
+IsHuge (TooWide huge negative) = huge ≡ true

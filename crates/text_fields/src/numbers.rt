@@ -1,7 +1,8 @@
 //! Decimal literals in a text.
-ghost use Rattle.std.specs.Prelude.{◌≡◌, ◌≤◌, length, MatchResult, Some, None};
+ghost use Rattle.std.specs.Prelude.{◌≡◌, ◌≤◌, length, ◌↔◌, ◌≤ℤ◌, pos, IsTrue, MatchResult, Some, None};
+ghost use Rattle.rational.specs.Rational.{floor};
 ghost use Rattle.text_fields.specs.Lines.{text_of};
-ghost use Rattle.text_fields.specs.Numbers.{literal_in, IsWideAt, IsBadAt};
+ghost use Rattle.text_fields.specs.Numbers.{literal_in, IsWideAt, IsBadAt, IsHuge, IsFar};
 
 use crate::{Span, TextFault, TextKind};
 use frac128::{Frac, Literal, read_decimal};
@@ -33,5 +34,25 @@ pub fn fitting(literal: Literal, line: u32) -> Result<Frac, TextFault>
             line,
             kind: TextKind::NumberWide,
         }),
+    }
+}
+
+// 10^20.
+const FAR: i128 = 100_000_000_000_000_000_000;
+
+// Whether a value is at least 10^20.
+fn is_far(value: Frac) -> bool
+    ensures { IsTrue result ↔ IsFar value }
+{
+    value.floor() >= FAR
+}
+
+/// Whether the magnitude of a literal is at least 10^20: as a bound or a side it is none.
+pub fn is_huge(literal: Literal) -> bool
+    ensures { IsTrue result ↔ IsHuge literal }
+{
+    match literal {
+        Literal::Fits(value) => is_far(value) || is_far(value.negate()),
+        Literal::TooWide { huge, .. } => huge,
     }
 }

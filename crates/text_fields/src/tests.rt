@@ -215,6 +215,24 @@ fn fits(text: &[u8], want: &[u8], alloc: Global) -> Result<bool, AllocError> {
     Ok(told.as_slice() == want)
 }
 
+fn is_huge_text(text: &[u8]) -> bool {
+    match reads(text) {
+        Ok(literal) => is_huge(literal),
+        Err(_) => false,
+    }
+}
+
+#[test]
+fn huge_numbers(rt: HostRuntime) {
+    assert!(rt; is_huge_text(b"1e20"));
+    assert!(rt; is_huge_text(b"-1e20"));
+    assert!(rt; !is_huge_text(b"99999999999999999999.5"));
+    assert!(rt; !is_huge_text(b"-99999999999999999999"));
+    assert!(rt; is_huge_text(b"-1e99999999999999999999"));
+    assert!(rt; !is_huge_text(b"1e-39"));
+    assert!(rt; !is_huge_text(b"-0"));
+}
+
 #[test]
 fn numbers_of_fields(rt: HostRuntime) -> Result<(), Fail> {
     let alloc = rt.alloc();
