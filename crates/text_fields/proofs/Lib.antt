@@ -9,3 +9,4 @@ pub mod Scans
 pub mod TokenFaults
 pub mod Longest
 pub mod Floors
+pub mod Words

@@ -1,8 +1,19 @@
--- What holds of the tokens of a text.
+-- What holds of the fields of a line and of the tokens of a text.
 use Rattle.std.specs.Prelude.{◌≡◌, ℕ, ◌<◌, ◌≤◌, false, List, length, take, slice_index, Some}
+use Rattle.std.specs.List.{All, list_any}
+use Rattle.lane_scan.specs.Bytes.{is_blank}
+use Rattle.text_fields.specs.Fields.{fields_of}
 use Rattle.frac128.specs.Literal.{Spelling, spelling_of}
 use Rattle.text_fields.specs.Pieces.{is_sign, number_len}
 use Rattle.text_fields.specs.Tokens.{scan_of, scan_at}
+
+-- at least one byte, and no blank
+abbrev pub IsField : List ℕ → Type 0
+IsField field = (0 < length field) × (list_any is_blank field ≡ false)
+
+-- each field of a line is one
+abbrev pub FieldLaw : Type 0
+FieldLaw = (line : List ℕ) → All IsField (fields_of line)
 
 -- the bytes are a decimal literal, and begin with no sign
 pub record IsUnsigned (bs : List ℕ) : Type 0 where

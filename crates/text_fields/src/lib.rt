@@ -11,7 +11,7 @@ mod spans;
 mod tokens;
 
 pub use faults::{FieldStop, ReadFault, ReadKind, ReadStop, TextFault, TextKind};
-pub use laws::token_laws;
+pub use laws::{field_law, token_laws};
 pub use line_fields::fields;
 pub use numbers::{fitting, is_huge, number};
 pub use pieces::TokenKind;

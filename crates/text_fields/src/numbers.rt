@@ -15,7 +15,7 @@ pub fn number(bytes: &[u8], span: &Span, line: u32) -> Result<Literal, TextFault
         (λ literal. literal_in (text_of bytes.now span.now) ≡ Some literal)
         (IsBadAt line (text_of bytes.now span.now)) }
 {
-    let Ok(literal) = read_decimal(&bytes[span.from..span.to]) else {
+    let Ok(literal) = read_decimal(span.text(bytes)) else {
         return Err(TextFault {
             line,
             kind: TextKind::BadNumber,

@@ -1,6 +1,6 @@
 //! Lines, and places in a text.
 ghost use Rattle.std.specs.Prelude.{◌≡◌, ◌≤◌, ◌+◌, min, length, MatchOption};
-ghost use Rattle.text_fields.specs.Lines.{IsLineAt};
+ghost use Rattle.text_fields.specs.Lines.{IsLineAt, text_of};
 
 use lane_scan::next_end;
 
@@ -12,6 +12,17 @@ pub const MOST_BYTES: usize = 65_536;
 pub struct Span {
     pub from: usize,
     pub to: usize,
+}
+
+impl Span {
+    /// The bytes of the span.
+    pub fn text(self, bytes: &[u8]) -> &[u8]
+        requires in_order { self.from ≤ self.to }
+        requires within { self.to ≤ length bytes.now }
+        ensures { result.now ≡ text_of bytes.now self }
+    {
+        &bytes[self.from..self.to]
+    }
 }
 
 /// A line of a text, without its end: its number, from 1, and where its bytes stand.
