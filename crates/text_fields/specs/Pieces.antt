@@ -64,6 +64,7 @@ pub record Piece : Type 0 where
   pub kind : TokenKind
   pub len : ℕ
 
+-- the piece of this kind and length
 abbrev pub piece : TokenKind → ℕ → Piece
 piece kind len = record { kind = kind; len = len }
 
