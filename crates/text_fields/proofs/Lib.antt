@@ -1,0 +1,12 @@
+pub mod Ranges
+pub mod LineLists
+pub mod FieldLists
+pub mod FieldFaults
+pub mod PieceLists
+pub mod Cuts
+pub mod Solids
+pub mod Scans
+pub mod TokenFaults
+pub mod Longest
+pub mod Floors
+pub mod Words

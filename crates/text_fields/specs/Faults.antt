@@ -1,0 +1,16 @@
+-- What a fault of a text is to a reader.
+use Rattle.text_fields.specs.declared.faults.TextFault.{TextFault}
+use Rattle.text_fields.specs.declared.faults.FieldStop.{FieldStop}
+use Rattle.text_fields.specs.declared.faults.FieldStop.TheVariants.{Text as FieldText, Memory as FieldMemory}
+use Rattle.text_fields.specs.declared.faults.ReadKind.TheVariants.{Text as ReadText}
+use Rattle.text_fields.specs.declared.faults.ReadFault.{ReadFault}
+use Rattle.text_fields.specs.declared.faults.ReadFault.TheVariants.{Stop, Memory as ReadMemory}
+
+-- a fault of the text, at its line
+abbrev pub fault_of_text : TextFault → ReadFault
+fault_of_text fault = Stop (record { line = fault.line; kind = ReadText fault.kind })
+
+-- the same of a line's fields, or want of memory
+abbrev pub fault_of_fields : FieldStop → ReadFault
+fault_of_fields (FieldText fault) = fault_of_text fault
+fault_of_fields FieldMemory = ReadMemory

@@ -1,0 +1,7 @@
+pub mod Faults
+pub mod Lines
+pub mod Fields
+pub mod Numbers
+pub mod Pieces
+pub mod Tokens
+pub mod Laws
