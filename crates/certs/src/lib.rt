@@ -6,6 +6,7 @@ mod evidence;
 mod laws;
 mod numbers;
 mod points;
+mod run_laws;
 mod sums;
 
 pub use combinations::check_combo;
@@ -25,6 +26,7 @@ pub use laws::{
 };
 pub use lp_model::{Member, MemberSet, Side};
 pub use points::check_point;
+pub use run_laws::{one_table, pivot_keeps_system, start_is_of_system};
 
 #[cfg(test)]
 mod tests;

@@ -1,0 +1,18 @@
+//! Laws of tableaus and of runs.
+ghost use Rattle.certs.specs.Tableau.{StartLaw, TableLaw};
+ghost use Rattle.certs.specs.Turns.{PivotLaw};
+
+/// The tableau at the start is one of the system.
+pub fn start_is_of_system()
+    ensures { StartLaw }
+{}
+
+/// A basis has one table.
+pub fn one_table()
+    ensures { TableLaw }
+{}
+
+/// After a pivot a tableau of a system is one of it again.
+pub fn pivot_keeps_system()
+    ensures { PivotLaw }
+{}
