@@ -149,19 +149,25 @@ settle_values t = operations_to_outside t (limited_basics t)
 abbrev pub others : ℕ → List ℕ → List ℕ
 others j list = filter (λ k. not (k == j)) list
 
--- the quotients by the pivot of the leaving row's other factors
-abbrev pub quotient_operations : Tableau → ℕ → ℕ → Calculation
-quotient_operations t i j = flat_map (λ k. counted Over (t.factor i k) (t.factor i j)) (others j (nonbasics t.basis))
+-- the quotients of the factors of a row by the pivot
+abbrev pub quotient_operations : (ℕ → ℚ) → ℚ → List ℕ → Calculation
+quotient_operations f p list = flat_map (λ k. counted Over (f k) p) list
 
--- another row whose factor of the entering variable is not 0: that factor over the pivot, and then each other factor less a product
-abbrev pub row_operations : Tableau → ℕ → ℕ → ℕ → Calculation
-row_operations t i j r =
-    cond (eq_ℚ (t.factor r j) zero_ℚ) [] (counted Times (t.factor r j) (one_ℚ /ℚ t.factor i j)
-    ++ flat_map (λ k. counted Times (t.factor r j) (t.factor i k /ℚ t.factor i j) ++ counted Minus (t.factor r k) (t.factor r j *ℚ (t.factor i k /ℚ t.factor i j))) (others j (nonbasics t.basis)))
+-- from the factors f k a row takes the products of a and q k
+abbrev pub reduce_operations : ℚ → (ℕ → ℚ) → (ℕ → ℚ) → List ℕ → Calculation
+reduce_operations a f q list = flat_map (λ k. counted Times a (q k) ++ counted Minus (f k) (a *ℚ q k)) list
 
--- the pivot where i leaves and j enters
+-- Another row, whose factor a of the entering variable is not 0: a times the inverse of the pivot, and then its other factors.
+abbrev pub row_operations : ℚ → ℚ → (ℕ → ℚ) → (ℕ → ℚ) → List ℕ → Calculation
+row_operations a inverse f q list = cond (eq_ℚ a zero_ℚ) [] (counted Times a inverse ++ reduce_operations a f q list)
+
+-- the pivot where i leaves and j enters: its inverse, the quotients of its row, and then the other rows in order
 abbrev pub pivot_operations : Tableau → ℕ → ℕ → Calculation
-pivot_operations t i j = counted Over one_ℚ (t.factor i j) ++ (quotient_operations t i j ++ flat_map (row_operations t i j) (others i (basics t.basis)))
+pivot_operations t i j =
+    let p = t.factor i j in
+    let list = others j (nonbasics t.basis) in
+    counted Over one_ℚ p ++ (quotient_operations (t.factor i) p list
+    ++ flat_map (λ r. row_operations (t.factor r j) (one_ℚ /ℚ p) (t.factor r) (λ k. t.factor i k /ℚ p) list) (others i (basics t.basis)))
 
 -- of the choice, where it is an exchange
 abbrev pub exchange_operations : Tableau → Choice → Calculation

@@ -8,6 +8,7 @@ mod numbers;
 mod points;
 mod run_laws;
 mod sums;
+mod systems;
 
 pub use combinations::check_combo;
 pub use evidence::{
@@ -27,6 +28,7 @@ pub use laws::{
 pub use lp_model::{Member, MemberSet, Side};
 pub use points::check_point;
 pub use run_laws::{one_table, pivot_keeps_system, start_is_of_system};
+pub use systems::{Limits, System};
 
 #[cfg(test)]
 mod tests;
