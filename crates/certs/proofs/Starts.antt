@@ -37,27 +37,27 @@ placed_start limits = by limits.lower limits.upper refl refl
     by None None e f = (e, f)
 
 module _ (system : LinearSystem) where
-  abbrev n : ℕ
+  abbrev pub n : ℕ
   n = length system.columns
 
-  abbrev m : ℕ
+  abbrev pub m : ℕ
   m = length system.rows
 
-  abbrev o : ℕ
+  abbrev pub o : ℕ
   o = cond (is_some system.objective) 1 0
 
   -- the basic part
-  abbrev tail : List Place
+  abbrev pub tail : List Place
   tail = map (λ r. Basic) system.rows ++ cond (is_some system.objective) (Basic ∷ []) []
 
   length_cond : (b : Bool) → length (cond b (Basic ∷ []) []) ≡ cond b 1 0
   length_cond true = refl
   length_cond false = refl
 
-  length_tail : length tail ≡ m + o
+  pub length_tail : length tail ≡ m + o
   length_tail = length-append (map (λ r. Basic) system.rows) (cond (is_some system.objective) (Basic ∷ []) []) ∙ (let a : length (map (λ (r : SystemRow). Basic) system.rows) ≡ m = length-map system.rows (λ r. Basic) in let b = length_cond (is_some system.objective) in ap (λ z. z + length (cond (is_some system.objective) (Basic ∷ []) [])) a ∙ ap (λ z. m + z) b)
 
-  length_start : length (start_basis system) ≡ n + (m + o)
+  pub length_start : length (start_basis system) ≡ n + (m + o)
   length_start = length-append (map (λ limits. start_place limits) system.columns) tail ∙ ap (λ z. z + length tail) (length-map system.columns (λ limits. start_place limits)) ∙ ap (λ z. n + z) length_tail
 
   first_columns : length (map (λ limits. start_place limits) system.columns) ≡ n
@@ -69,7 +69,7 @@ module _ (system : LinearSystem) where
       get_or_append_left (map (λ limits. start_place limits) system.columns) tail AtZero k (subst (λ z. k < z) (sym first_columns) l)
       ∙ get_or-map (λ limits. start_place limits) system.columns k no_limits AtZero l
 
-  column_nonbasic : (k : ℕ) → k < n → is_basic (start_basis system) k ≡ false
+  pub column_nonbasic : (k : ℕ) → k < n → is_basic (start_basis system) k ≡ false
   unfolding place_basic
   column_nonbasic k l = ap place_basic (column_place k l) ∙ starts_nonbasic (get_or system.columns k no_limits)
 
@@ -86,12 +86,12 @@ module _ (system : LinearSystem) where
       get_or-append_right (map (λ limits. start_place limits) system.columns) tail n v AtZero first_columns h
       ∙ all_basic system.rows (is_some system.objective) (v - n) (omega arith)
 
-  row_basic : (v : ℕ) → n ≤ v → v < n + (m + o) → is_basic (start_basis system) v ≡ true
+  pub row_basic : (v : ℕ) → n ≤ v → v < n + (m + o) → is_basic (start_basis system) v ≡ true
   unfolding place_basic
   row_basic v h l = ap place_basic (row_place v h l)
 
   -- a sum over the nonbasic variables is one over the columns
-  start_sum : (g : ℕ → ℚ) → sum_over g (nonbasics (start_basis system)) ≡ sum_below n g
+  pub start_sum : (g : ℕ → ℚ) → sum_over g (nonbasics (start_basis system)) ≡ sum_below n g
   start_sum g =
       let h : ℕ → ℚ = λ k. cond (not (is_basic (start_basis system) k)) (g k) zero_ℚ in
       sum_passing g (length (start_basis system)) (λ k. not (is_basic (start_basis system) k))
@@ -101,16 +101,26 @@ module _ (system : LinearSystem) where
       ∙ ap (λ z. sum_below n g +ℚ z) (sum_below-ext (m + o) (λ d. h (n + d)) (λ d. zero_ℚ) (λ d l. ap (λ t. cond (not t) (g (n + d)) zero_ℚ) (row_basic (n + d) (omega arith) (omega arith))) ∙ sum_below-zero (m + o))
       ∙ ring_ℚ (sum_below n g ∷ []) (x0 :+ zero_of) x0 tt
 
+  -- ---- the limits
+  count : (b : Bool) → length (cond b (no_limits ∷ []) []) ≡ cond b 1 0
+  count true = refl
+  count false = refl
+
+  pub length_limits : length (all_limits system) ≡ n + (m + o)
+  length_limits =
+      length-append system.columns (map (λ r. r.limits) system.rows ++ cond (is_some system.objective) (no_limits ∷ []) [])
+      ∙ ap (λ z. n + z) (length-append (map (λ r. r.limits) system.rows) (cond (is_some system.objective) (no_limits ∷ []) []) ∙ ap (λ z. z + length (cond (is_some system.objective) (no_limits ∷ []) [])) (length-map system.rows (λ r. r.limits)) ∙ ap (λ z. m + z) (count (is_some system.objective)))
+
   -- the form of a row
-  abbrev form_at : ℕ → List Term
+  abbrev pub form_at : ℕ → List Term
   form_at d = get_or (start_forms system) d []
 
-  form_row : (d : ℕ) → d < m → form_at d ≡ (get_or system.rows d empty_system_row).terms
+  pub form_row : (d : ℕ) → d < m → form_at d ≡ (get_or system.rows d empty_system_row).terms
   form_row d l =
       get_or_append_left (map (λ r. r.terms) system.rows) (forms_of system.objective) [] d (subst (λ z. d < z) (sym (length-map system.rows (λ r. r.terms))) l)
       ∙ get_or-map (λ r. r.terms) system.rows d empty_system_row [] l
 
-  form_objective : (terms : List Term) → system.objective ≡ Some terms → form_at m ≡ terms
+  pub form_objective : (terms : List Term) → system.objective ≡ Some terms → form_at m ≡ terms
   form_objective terms e =
       get_or-append_right (map (λ r. r.terms) system.rows) (forms_of system.objective) m m [] (length-map system.rows (λ r. r.terms)) (omega arith)
       ∙ (let z : m - m ≡ 0 = omega arith in ap (λ d. get_or (forms_of system.objective) d []) z)
@@ -181,15 +191,6 @@ module _ (system : LinearSystem) where
                     (subst (λ q. IsPlaced q AtZero) (sym (get_or_past (all_limits system) v no_limits (subst (λ z. z ≤ v) (sym length_limits) l))) (refl, refl))
               ]
         ]
-      where
-        count : (b : Bool) → length (cond b (no_limits ∷ []) []) ≡ cond b 1 0
-        count true = refl
-        count false = refl
-
-        length_limits : length (all_limits system) ≡ n + (m + o)
-        length_limits =
-            length-append system.columns (map (λ r. r.limits) system.rows ++ cond (is_some system.objective) (no_limits ∷ []) [])
-            ∙ ap (λ z. n + z) (length-append (map (λ r. r.limits) system.rows) (cond (is_some system.objective) (no_limits ∷ []) []) ∙ ap (λ z. z + length (cond (is_some system.objective) (no_limits ∷ []) [])) (length-map system.rows (λ r. r.limits)) ∙ ap (λ z. m + z) (count (is_some system.objective)))
 
     pub start_of : IsTableauOf system (start_tableau system)
     start_of = record {

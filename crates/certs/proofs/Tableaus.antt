@@ -1,7 +1,7 @@
 -- A tableau of a system stays one under a pivot.
-use Rattle.std.proofs.Common.{◌≡◌, ◌≢◌, ◌+◌, ◌-◌, ◌<◌, ◌≤◌, refl, sym, ◌∙◌, ap, subst, ℕ, zero, suc, Bool, true, false, true≢false, cond, not, ◌==◌, List, [], ◌∷◌, length, get_or, set, IsSome, arith, inl, inr, ne_eqb, eq-eqb}
+use Rattle.std.proofs.Common.{◌≡◌, ◌↔◌, ◌++◌, ◌≢◌, ◌+◌, ◌-◌, ◌<◌, ◌≤◌, refl, sym, ◌∙◌, ap, subst, ℕ, zero, suc, Bool, true, false, true≢false, cond, not, ◌==◌, List, [], ◌∷◌, length, get_or, set, IsSome, arith, inl, inr, ne_eqb, eq-eqb}
 use Rattle.std.proofs.lemmas.Bool.{cond-true, cond-false, cases_lt, cases_eq}
-use Rattle.std.proofs.lemmas.List.{length-set, get_or-set_same, get_or-set_other}
+use Rattle.std.proofs.lemmas.List.{length-set, get_or-set_same, get_or-set_other, set_past}
 use Rattle.std.proofs.lemmas.List.Elements.{filter-append}
 use Rattle.algebra.proofs.Ring.{x0, x1, x2, x3, x4, x5, ◌:+◌, ◌:-◌, ◌:*◌, minus, zero_of, unit_of}
 use Rattle.rational.specs.Rational.{ℚ, ◌+ℚ◌, ◌*ℚ◌, ◌/ℚ◌, neg_ℚ, inv_ℚ, zero_ℚ, one_ℚ}
@@ -14,7 +14,7 @@ use Rattle.lp_model.specs.declared.members.Side.TheVariants.{Lo, Up}
 use Rattle.certs.specs.System.{Limits, LinearSystem, no_limits, Place, is_basic, limit_on}
 use Rattle.certs.specs.System.Place.{Basic, AtLower, AtUpper, AtZero}
 use Rattle.certs.specs.Tableau.{Tableau, below, nonbasics, row_value, Solves, limits_at, place_of, IsPlaced, IsTableauOf, pivoted, TableLaw}
-use Rattle.certs.specs.Turns.{at_limit, exchanged, others, limited, CanPivot, IsPivoted, PivotLaw}
+use Rattle.certs.specs.Turns.{at_limit, other_place, flipped, FlipLaw, exchanged, others, limited, CanPivot, IsPivoted, PivotLaw}
 
 -- ---- sums over the numbers that pass
 -- one more number, which passes or does not
@@ -379,3 +379,99 @@ module _ (system : LinearSystem) (t u : Tableau) (of : IsTableauOf system t) (al
 
 pub table_law : TableLaw
 table_law system t u of also same i k b l n = one_factor system t u of also same k l n i b
+
+-- ---- a flip
+other_nonbasic : (p : Place) → place_basic (other_place p) ≡ place_basic p
+unfolding place_basic
+other_nonbasic Basic = refl
+other_nonbasic AtLower = refl
+other_nonbasic AtUpper = refl
+other_nonbasic AtZero = refl
+
+placed_other : (limits : Limits) (p : Place) → IsSome limits.lower → IsSome limits.upper → IsPlaced limits p → IsPlaced limits (other_place p)
+placed_other limits Basic l u h = tt
+placed_other limits AtLower l u h = u
+placed_other limits AtUpper l u h = l
+placed_other limits AtZero l u h = h
+
+module _ (system : LinearSystem) (t : Tableau) (k : ℕ) (of : IsTableauOf system t) (n : is_basic t.basis k ≡ false) (l : IsSome (limits_at t k).lower) (u : IsSome (limits_at t k).upper) where
+  abbrev turned : List Place
+  turned = set t.basis k (other_place (place_of t k))
+
+  turned-long : length turned ≡ length t.basis
+  turned-long = length-set t.basis k (other_place (place_of t k))
+
+  turned-past : length t.basis ≤ k → turned ≡ t.basis
+  turned-past h = set_past t.basis k (other_place (place_of t k)) h
+
+  turned-basic : (v : ℕ) → is_basic turned v ≡ is_basic t.basis v
+  unfolding place_basic
+  turned-basic v =
+      elim (cases_lt k (length t.basis)) [
+        | inl h ↦
+            elim (cases_eq v k) [
+              | inl e ↦ (ap (is_basic turned) e ∙ ap place_basic (get_or-set_same t.basis k (other_place (place_of t k)) AtZero h) ∙ other_nonbasic (place_of t k) ∙ ap (is_basic t.basis) (sym e))
+              | inr e ↦ ap place_basic (get_or-set_other t.basis k v (other_place (place_of t k)) AtZero e)
+            ]
+        | inr h ↦ ap (λ b. is_basic b v) (turned-past h)
+      ]
+
+  same_test : (n : ℕ) (f g : ℕ → Bool) → ((v : ℕ) → f v ≡ g v) → below n f ≡ below n g
+  same_test zero f g h = refl
+  same_test (suc n) f g h = ap (λ b. below n f ++ cond b (n ∷ []) []) (h n) ∙ ap (λ l. l ++ cond (g n) (n ∷ []) []) (same_test n f g h)
+
+  turned-nonbasics : nonbasics turned ≡ nonbasics t.basis
+  turned-nonbasics = ap (λ n. below n (λ v. not (is_basic turned v))) turned-long ∙ same_test (length t.basis) (λ v. not (is_basic turned v)) (λ v. not (is_basic t.basis v)) (λ v. ap not (turned-basic v))
+
+  solves_turned : (x : Assignment) → Solves t x ↔ Solves (flipped t k) x
+  solves_turned x = (
+    λ s i b. s i (sym (turned-basic i) ∙ b) ∙ ap (λ l. sum_over (λ v. t.factor i v *ℚ x v) l) (sym turned-nonbasics),
+    λ s i b. s i (turned-basic i ∙ b) ∙ ap (λ l. sum_over (λ v. t.factor i v *ℚ x v) l) turned-nonbasics,
+  )
+
+  turned-placed : (v : ℕ) → IsPlaced (limits_at t v) (get_or turned v AtZero)
+  turned-placed v =
+      elim (cases_lt k (length t.basis)) [
+        | inl h ↦
+            elim (cases_eq v k) [
+              | inl e ↦
+                  subst (λ w. IsPlaced (limits_at t w) (get_or turned w AtZero)) (sym e)
+                  (subst (λ p. IsPlaced (limits_at t k) p) (sym (get_or-set_same t.basis k (other_place (place_of t k)) AtZero h)) (placed_other (limits_at t k) (place_of t k) l u (of.placed k)))
+              | inr e ↦ subst (λ p. IsPlaced (limits_at t v) p) (sym (get_or-set_other t.basis k v (other_place (place_of t k)) AtZero e)) (of.placed v)
+            ]
+        | inr h ↦ subst (λ b. IsPlaced (limits_at t v) (get_or b v AtZero)) (sym (turned-past h)) (of.placed v)
+      ]
+
+  pub flip_of : IsTableauOf system (flipped t k)
+  flip_of = record {
+    limits = of.limits;
+    objective = of.objective;
+    size = turned-long ∙ of.size;
+    objective_basic = λ some. turned-basic (length system.columns + length system.rows) ∙ of.objective_basic some;
+    placed = turned-placed;
+    table = λ x. (λ k. (solves_turned x).0 ((of.table x).0 k), λ s. (of.table x).1 ((solves_turned x).1 s));
+  }
+
+pub flip_law : FlipLaw
+flip_law system t k of n l u = flip_of system t k of n l u
+
+-- ---- a tableau goes by its limits, its basis and its factors
+pub same_of : (system : LinearSystem) (t u : Tableau) → u.limits ≡ t.limits → u.objective ≡ t.objective → u.basis ≡ t.basis
+    → ((i k : ℕ) → is_basic t.basis i ≡ true → k < length t.basis → is_basic t.basis k ≡ false → u.factor i k ≡ t.factor i k) → IsTableauOf system t → IsTableauOf system u
+same_of system t u el eo eb ef of = record {
+  limits = el ∙ of.limits;
+  objective = eo ∙ of.objective;
+  size = ap length eb ∙ of.size;
+  objective_basic = λ some. ap (λ b. is_basic b (length system.columns + length system.rows)) eb ∙ of.objective_basic some;
+  placed = λ v. subst (λ l. IsPlaced (get_or l v no_limits) (get_or u.basis v AtZero)) (sym el) (subst (λ b. IsPlaced (limits_at t v) (get_or b v AtZero)) (sym eb) (of.placed v));
+  table = λ x. (λ k. forward x ((of.table x).0 k), λ s. (of.table x).1 (backward x s));
+}
+  where
+    row : (x : Assignment) (i : ℕ) → is_basic t.basis i ≡ true → row_value u i x ≡ row_value t i x
+    row x i b = ap (λ l. sum_over (λ k. u.factor i k *ℚ x k) (nonbasics l)) eb ∙ sum_nonbasic t.basis (λ k. u.factor i k *ℚ x k) (λ k. t.factor i k *ℚ x k) (λ k l n. ap (λ z. z *ℚ x k) (ef i k b l n))
+
+    forward : (x : Assignment) → Solves t x → Solves u x
+    forward x s i b = (let c : is_basic t.basis i ≡ true = ap (λ z. is_basic z i) (sym eb) ∙ b in s i c ∙ sym (row x i c))
+
+    backward : (x : Assignment) → Solves u x → Solves t x
+    backward x s i b = s i (ap (λ z. is_basic z i) eb ∙ b) ∙ row x i b

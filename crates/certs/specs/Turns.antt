@@ -8,8 +8,8 @@ use Rattle.frac128.specs.declared.Op.TheVariants.{Plus, Minus, Times, Over}
 use Rattle.frac128.specs.Width.{operation}
 use Rattle.frac128.specs.Calculation.{Calculation}
 use Rattle.certs.specs.System.{Limits, LinearSystem, Place, is_basic, limit_on}
-use Rattle.certs.specs.System.Place.{Basic, AtLower, AtUpper}
-use Rattle.certs.specs.Tableau.{Tableau, IsTableauOf, pivoted, below, nonbasics, basics, limits_at, place_value, basic_value}
+use Rattle.certs.specs.System.Place.{Basic, AtLower, AtUpper, AtZero}
+use Rattle.certs.specs.Tableau.{Tableau, IsTableauOf, pivoted, below, nonbasics, basics, limits_at, place_of, place_value, basic_value}
 
 -- ---- limits
 -- whether there is such a number and the value is below it, above it, or equal to it
@@ -101,6 +101,21 @@ at_limit Up = AtUpper
 abbrev pub exchanged : List Place → ℕ → Side → ℕ → List Place
 exchanged basis i side j = slice_set (slice_set basis i (at_limit side)) j Basic
 
+-- the place at the other limit
+abbrev pub other_place : Place → Place
+other_place Basic = Basic
+other_place AtLower = AtUpper
+other_place AtUpper = AtLower
+other_place AtZero = AtZero
+
+-- the tableau after a nonbasic variable goes to its other limit
+abbrev pub flipped : Tableau → ℕ → Tableau
+flipped t k = record t { basis = slice_set t.basis k (other_place (place_of t k)) }
+
+-- that is one of the system again, where the variable has both limits
+abbrev pub FlipLaw : Type 0
+FlipLaw = (system : LinearSystem) (t : Tableau) (k : ℕ) → IsTableauOf system t → is_basic t.basis k ≡ false → IsSome (limits_at t k).lower → IsSome (limits_at t k).upper → IsTableauOf system (flipped t k)
+
 -- The leaving variable is basic, not the objective, and has the limit; the entering one is nonbasic, and its factor is not 0.
 pub record CanPivot (t : Tableau) (leaving : ℕ) (side : Side) (entering : ℕ) : Type 0 where
   pub basic : is_basic t.basis leaving ≡ true
@@ -135,6 +150,10 @@ sum_operations f g sum (k ∷ rest) = counted Times (f k) (g k) ++ (counted Plus
 -- those of the value of a basic variable, the nonbasic ones in order
 abbrev pub value_operations : Tableau → ℕ → Calculation
 value_operations t i = sum_operations (t.factor i) (place_value t) zero_ℚ (nonbasics t.basis)
+
+-- those of the value of a variable; a nonbasic one has its place without any
+abbrev pub operations_of : Tableau → ℕ → Calculation
+operations_of t v = cond (is_basic t.basis v) (value_operations t v) []
 
 -- those of the values of variables up to the first that is outside
 abbrev pub operations_to_outside : Tableau → List ℕ → Calculation

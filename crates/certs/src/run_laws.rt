@@ -1,6 +1,6 @@
 //! Laws of tableaus and of runs.
 ghost use Rattle.certs.specs.Tableau.{StartLaw, TableLaw};
-ghost use Rattle.certs.specs.Turns.{PivotLaw};
+ghost use Rattle.certs.specs.Turns.{FlipLaw, PivotLaw};
 
 /// The tableau at the start is one of the system.
 pub fn start_is_of_system()
@@ -15,4 +15,9 @@ pub fn one_table()
 /// After a pivot a tableau of a system is one of it again.
 pub fn pivot_keeps_system()
     ensures { PivotLaw }
+{}
+
+/// After a nonbasic variable goes to its other limit a tableau of a system is one of it again.
+pub fn flip_keeps_system()
+    ensures { FlipLaw }
 {}
