@@ -24,3 +24,5 @@ pub mod Combined
 pub mod Sound
 pub mod Walk
 pub mod Forms
+pub mod Tableaus
+pub mod Starts

@@ -6,7 +6,9 @@ mod evidence;
 mod laws;
 mod numbers;
 mod points;
+mod run_laws;
 mod sums;
+mod systems;
 
 pub use combinations::check_combo;
 pub use evidence::{
@@ -25,6 +27,8 @@ pub use laws::{
 };
 pub use lp_model::{Member, MemberSet, Side};
 pub use points::check_point;
+pub use run_laws::{flip_keeps_system, one_table, pivot_keeps_system, start_is_of_system};
+pub use systems::{Limits, System};
 
 #[cfg(test)]
 mod tests;

@@ -1,0 +1,23 @@
+//! Laws of tableaus and of runs.
+ghost use Rattle.certs.specs.Tableau.{StartLaw, TableLaw};
+ghost use Rattle.certs.specs.Turns.{FlipLaw, PivotLaw};
+
+/// The tableau at the start is one of the system.
+pub fn start_is_of_system()
+    ensures { StartLaw }
+{}
+
+/// A basis has one table.
+pub fn one_table()
+    ensures { TableLaw }
+{}
+
+/// After a pivot a tableau of a system is one of it again.
+pub fn pivot_keeps_system()
+    ensures { PivotLaw }
+{}
+
+/// After a nonbasic variable goes to its other limit a tableau of a system is one of it again.
+pub fn flip_keeps_system()
+    ensures { FlipLaw }
+{}

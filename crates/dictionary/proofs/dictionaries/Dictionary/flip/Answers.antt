@@ -1,0 +1,54 @@
+use Rattle.std.proofs.Common.{◌≡◌, ◌<◌, List, length, get_or, set, map, sym, ◌∙◌, ap, subst}
+use Rattle.std.proofs.lemmas.List.{map-set, length-set, get_or_read}
+use Rattle.certs.specs.System.Place.{AtZero}
+use Rattle.certs.specs.System.{Place}
+use Rattle.certs.specs.Turns.{other_place}
+use Rattle.certs.specs.Tableau.{Tableau, IsTableauOf}
+use Rattle.std.specs.Prelude.{slice_index}
+use Rattle.std.specs.Option.{option_map}
+use Rattle.dictionary.specs.Cells.{cell}
+use Rattle.certs.proofs.Tableaus.{flip_law}
+use Rattle.dictionary.specs.declared.places.Place.TheVariants.{Basic as IsBasic}
+use Rattle.dictionary.specs.Layouts.{basis_of, place_of_code}
+use Rattle.dictionary.specs.Sound.{IsSound}
+use Rattle.dictionary.specs.Value.{tableau_of}
+use Rattle.dictionary.proofs.Sounds.{sound_same, turned_basic}
+use Rattle.dictionary.proofs.Standing.{basis_at, basis-length}
+use Rattle.dictionary.proofs.dictionaries.Dictionary.flip.Goals as goal
+
+pub invariant_of-self : goal.invariant_of-self
+invariant_of-self g c =
+    let d = c.self.inside in
+    let k = c.args.nonbasic in
+    let basis = basis_of d.places.items in
+    let l : k < length basis = subst (λ d. k < length d.basis) (sym c.self.view_is) c.requires.known in
+    let lp : k < length d.places.items = subst (λ n. k < n) (basis-length d.places.items) l in
+    let read : c.index.result.now ≡ get_or d.places.items k IsBasic = get_or_read d.places.items k c.index.result.now lp c.index.ensures IsBasic in
+    let p : place_of_code c.other_limit.result ≡ other_place (get_or basis k AtZero) = c.other_limit.ensures ∙ ap (λ q. other_place (place_of_code q)) read ∙ ap other_place (sym (basis_at d.places.items k lp)) in
+    let e = map-set place_of_code d.places.items k c.other_limit.result in
+    subst (λ b. IsSound (length d.bounds.items) b d.layout.slots.items d.layout.basics.items d.layout.nonbasics.items d.layout.order.items d.layout.width (length d.entries.items) (length d.quotients.items) d.objective) (sym e)
+    (sound_same (length d.bounds.items) basis (set basis k (place_of_code c.other_limit.result)) d.layout.slots.items d.layout.basics.items d.layout.nonbasics.items d.layout.order.items d.layout.width (length d.entries.items) (length d.quotients.items) d.objective
+    (length-set basis k (place_of_code c.other_limit.result)) (turned_basic basis k (place_of_code c.other_limit.result) l p) c.self.invariant)
+
+pub returns-clause-turned : goal.returns-clause-turned
+returns-clause-turned g c =
+    let d = c.self.inside in
+    let k = c.args.nonbasic in
+    let basis = basis_of d.places.items in
+    let l : k < length basis = subst (λ d. k < length d.basis) (sym c.self.view_is) c.requires.known in
+    let lp : k < length d.places.items = subst (λ n. k < n) (basis-length d.places.items) l in
+    let read : c.index.result.now ≡ get_or d.places.items k IsBasic = get_or_read d.places.items k c.index.result.now lp c.index.ensures IsBasic in
+    let p : place_of_code c.other_limit.result ≡ other_place (get_or basis k AtZero) = c.other_limit.ensures ∙ ap (λ q. other_place (place_of_code q)) read ∙ ap other_place (sym (basis_at d.places.items k lp)) in
+    let e = map-set place_of_code d.places.items k c.other_limit.result ∙ ap (set basis k) p in
+    let v = g.N.Exact.value in
+    let T : List Place → Tableau =
+    λ b. record {
+      limits = map (λ b. record { lower = option_map v b.lower; upper = option_map v b.upper }) d.bounds.items;
+      objective = d.objective;
+      basis = b;
+      factor = λ i k. cell d.layout.slots.items d.layout.width (map v d.entries.items) i (slice_index d.layout.slots.items k);
+    } in
+    rw (← c.self.view_is) (ap T e)
+
+pub returns-clause-system : goal.returns-clause-system
+returns-clause-system g c = λ system of. subst (IsTableauOf system) (sym (returns-clause-turned g c)) (flip_law system (tableau_of c.args.self.now) c.args.nonbasic of c.requires.nonbasic c.requires.lower c.requires.upper)

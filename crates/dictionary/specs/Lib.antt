@@ -1,0 +1,6 @@
+pub mod Cells
+pub mod Layouts
+pub mod Value
+pub mod Sound
+pub mod Stops
+pub mod Starts

@@ -1,0 +1,259 @@
+//! The dictionary.
+ghost use Rattle.std.specs.Prelude.{◌≡◌, ◌≢◌, ℕ, ◌+◌, ◌<◌, MatchResult, IfOk, Some, None, IsSome, IsTrue, true, false, cond, ◌-◌, length};
+ghost use Rattle.std.specs.Option.{option_map};
+ghost use Rattle.frac128.specs.Calculation.{first_wide};
+ghost use Rattle.certs.specs.System.{LinearSystem, is_basic};
+ghost use Rattle.certs.specs.Tableau.{IsTableauOf, IsWellFormedSystem, basic_value, limits_at, nonbasics, place_value, start_basis, value_of};
+ghost use Rattle.certs.specs.Turns.{CanPivot, IsPivoted, flipped, operations_of, pivot_operations, value_operations};
+ghost use Rattle.dictionary.specs.Layouts.{side_of};
+ghost use Rattle.dictionary.specs.Starts.{FitSystem};
+ghost use Rattle.dictionary.specs.Stops.{wide_of};
+ghost use Rattle.dictionary.specs.Value.{tableau_of};
+
+use crate::layouts::{Layout, exchange, is_standing, start_layout};
+use crate::numbers::{product, sum};
+use crate::places::{Bounds, Place, other_limit, place_number};
+use crate::starts::{all_bounds, start_entries, start_places, zeros};
+use crate::table::change_table;
+use certs::System;
+use frac128::{Exact, Wide};
+use std::alloc::{AllocError, Global};
+use std::marker::Model;
+
+/// A linear system's basis with its table: each basic variable is a form of the nonbasic ones.
+///
+/// The variables are numbered from 0: the columns of the system, then one for each row, then the objective where there is
+/// one. After a pivot that was too wide a dictionary must not be used, and it says so.
+#[derive(Drop)]
+pub struct Dictionary<N: Exact> {
+    columns: u32,
+    objective: bool,
+    bounds: Vec<Bounds<N>>,
+    places: Vec<Place>,
+    layout: Layout,
+    entries: Vec<N>,
+    quotients: Vec<N>,
+    usable: bool,
+}
+
+impl<N: Exact> Model for Dictionary<N> {
+    ghost use Rattle.std.specs.Prelude.{map, length};
+    ghost use Rattle.std.specs.Option.{option_map};
+    ghost use Rattle.dictionary.specs.Value.{DictionaryValue};
+
+    ghost Value = { DictionaryValue };
+
+    ghost use Rattle.dictionary.specs.Layouts.{basis_of};
+    ghost use Rattle.dictionary.specs.Sound.{IsSound};
+
+    ghost view = { λ d. record {
+      columns = d.columns;
+      objective = d.objective;
+      limits = map (λ b. record { lower = option_map N.value b.lower; upper = option_map N.value b.upper }) d.bounds.items;
+      basis = basis_of d.places.items;
+      slots = d.layout.slots.items;
+      width = d.layout.width;
+      entries = map N.value d.entries.items;
+      usable = d.usable;
+    } };
+
+    ghost invariant = { λ d. IsSound (length d.bounds.items) (basis_of d.places.items) d.layout.slots.items d.layout.basics.items d.layout.nonbasics.items d.layout.order.items d.layout.width (length d.entries.items) (length d.quotients.items) d.objective };
+}
+
+impl<N: Exact> Dictionary<N> {
+    /// The dictionary at the start of a system: the rows and the objective are basic, and each column stands at its lower
+    /// limit, else at its upper one, else at 0.
+    pub fn start(alloc: Global, system: &System) -> Result<Dictionary<N>, AllocError>
+        requires formed { IsWellFormedSystem system.now }
+        requires fits { FitSystem N.most system.now }
+        ensures { IfOk result (λ d. IsTableauOf system.now (tableau_of d) × ((d.basis ≡ start_basis system.now) × ((d.columns ≡ length system.now.columns) × (d.usable ≡ true)))) }
+    {
+        let columns = system.columns.len();
+        let bounds = all_bounds(
+            alloc,
+            &system.columns,
+            &system.rows,
+            system.objective.is_some(),
+        )?;
+        let places = start_places(alloc, &bounds, columns)?;
+        let layout = start_layout(alloc, &places, columns)?;
+        let entries = start_entries(alloc, columns, &system.rows, &system.objective)?;
+        let quotients = zeros(alloc, columns)?;
+        Ok(Dictionary {
+            columns: columns as u32,
+            objective: system.objective.is_some(),
+            bounds,
+            places,
+            layout,
+            entries,
+            quotients,
+            usable: true,
+        })
+    }
+
+    /// How many variables there are, the objective counted.
+    pub fn variables(&self) -> u32
+        ensures { result ≡ length self.now.basis }
+    {
+        self.places.len() as u32
+    }
+
+    /// How many of the variables are columns of the system.
+    pub fn columns(&self) -> u32
+        ensures { result ≡ self.now.columns }
+    {
+        self.columns
+    }
+
+    /// The objective's number, where there is one.
+    pub fn objective(&self) -> Option<u32>
+        ensures { result ≡ cond self.now.objective (Some (length self.now.basis - 1)) None }
+    {
+        if !self.objective {
+            return None;
+        }
+        Some(self.places.len() as u32 - 1)
+    }
+
+    /// Whether a variable is in the basis.
+    pub fn is_basic(&self, variable: u32) -> bool
+        requires known { variable < length self.now.basis }
+        ensures { result ≡ is_basic self.now.basis variable }
+    {
+        is_standing(self.places[variable as usize], true)
+    }
+
+    /// The lower limit of a variable, where it has one.
+    pub fn lower(&self, variable: u32) -> Option<N>
+        requires known { variable < length self.now.basis }
+        ensures { option_map N.value result ≡ (limits_at (tableau_of self.now) variable).lower }
+    {
+        self.bounds[variable as usize].lower
+    }
+
+    /// The upper limit of a variable, where it has one.
+    pub fn upper(&self, variable: u32) -> Option<N>
+        requires known { variable < length self.now.basis }
+        ensures { option_map N.value result ≡ (limits_at (tableau_of self.now) variable).upper }
+    {
+        self.bounds[variable as usize].upper
+    }
+
+    /// The value at which a nonbasic variable stands.
+    pub fn place(&self, nonbasic: u32) -> N
+        requires known { nonbasic < length self.now.basis }
+        requires nonbasic { is_basic self.now.basis nonbasic ≡ false }
+        ensures { N.value result ≡ place_value (tableau_of self.now) nonbasic }
+    {
+        place_number(
+            self.bounds[nonbasic as usize],
+            self.places[nonbasic as usize],
+        )
+    }
+
+    /// How often a nonbasic variable counts in a basic one.
+    pub fn entry(&self, basic: u32, nonbasic: u32) -> N
+        requires usable { self.now.usable ≡ true }
+        requires basic { is_basic self.now.basis basic ≡ true }
+        requires known { nonbasic < length self.now.basis }
+        requires nonbasic { is_basic self.now.basis nonbasic ≡ false }
+        ensures { N.value result ≡ (tableau_of self.now).factor basic nonbasic }
+    {
+        let row = self.layout.slots[basic as usize] as usize;
+        let column = self.layout.slots[nonbasic as usize] as usize;
+        self.entries[row * self.layout.width + column]
+    }
+
+    /// Puts a nonbasic variable with both limits at the other one; all else stays.
+    pub fn flip(&mut self, nonbasic: u32)
+        requires usable { self.old.usable ≡ true }
+        requires known { nonbasic < length self.old.basis }
+        requires nonbasic { is_basic self.old.basis nonbasic ≡ false }
+        requires lower { IsSome (limits_at (tableau_of self.old) nonbasic).lower }
+        requires upper { IsSome (limits_at (tableau_of self.old) nonbasic).upper }
+        ensures turned { tableau_of self.new ≡ flipped (tableau_of self.old) nonbasic }
+        ensures columns { self.new.columns ≡ self.old.columns }
+        ensures usable { self.new.usable ≡ true }
+        ensures system { (system : LinearSystem) → IsTableauOf system (tableau_of self.old) → IsTableauOf system (tableau_of self.new) }
+    {
+        self.places[nonbasic as usize] = other_limit(self.places[nonbasic as usize]);
+    }
+
+    /// The value of a variable: where a nonbasic one stands, and of a basic one the sum of its factors times the values of
+    /// the nonbasic ones, in order. `Wide` comes exactly where an operation of that sum is too wide, with the first.
+    pub fn value(&self, variable: u32) -> Result<N, Wide>
+        requires usable { self.now.usable ≡ true }
+        requires known { variable < length self.now.basis }
+        ensures { MatchResult result
+            (λ r. (N.value r ≡ value_of (tableau_of self.now) variable) × (first_wide N.most (operations_of (tableau_of self.now) variable) ≡ None))
+            (λ w. first_wide N.most (operations_of (tableau_of self.now) variable) ≡ Some w) }
+    {
+        if !self.is_basic(variable) {
+            return Ok(self.place(variable));
+        }
+        self.basic_value(variable)
+    }
+
+    // The value of a basic variable.
+    fn basic_value(&self, variable: u32) -> Result<N, Wide>
+        requires usable { self.now.usable ≡ true }
+        requires basic { is_basic self.now.basis variable ≡ true }
+        ensures { MatchResult result
+            (λ r. (N.value r ≡ basic_value (tableau_of self.now) variable) × (first_wide N.most (value_operations (tableau_of self.now) variable) ≡ None))
+            (λ w. first_wide N.most (value_operations (tableau_of self.now) variable) ≡ Some w) }
+    {
+        let mut total = N::zero();
+        for nonbasic in self.nonbasics() {
+            let part = product(self.entry(variable, *nonbasic), self.place(*nonbasic))?;
+            total = sum(total, part)?;
+        }
+        Ok(total)
+    }
+
+    // The nonbasic variables, in order.
+    fn nonbasics(&self) -> &[u32]
+        ensures { result.now ≡ nonbasics self.now.basis }
+    {
+        self.layout.nonbasics.as_slice()
+    }
+}
+
+/// Why a pivot stops.
+#[derive(Clone, Copy, Debug)]
+pub enum PivotStop {
+    /// This operation is too wide, and it is the first of the pivot's that is.
+    Wide(Wide),
+}
+
+impl<N: Exact> Dictionary<N> {
+    /// Makes a pivot: a basic variable leaves to its upper or its lower limit, and a nonbasic one enters.
+    ///
+    /// `Wide` comes exactly where an operation of the pivot is too wide, with the first; the dictionary must then not be
+    /// used. No memory is taken.
+    pub fn pivot(&mut self, leaving: u32, upper: bool, entering: u32) -> Result<(), PivotStop>
+        requires usable { self.old.usable ≡ true }
+        requires can { CanPivot (tableau_of self.old) leaving (side_of upper) entering }
+        ensures done { MatchResult result
+            (λ done. (first_wide N.most (pivot_operations (tableau_of self.old) leaving entering) ≡ None)
+            × (IsPivoted (tableau_of self.old) (tableau_of self.new) leaving (side_of upper) entering × (self.new.usable ≡ true)))
+            (λ stop. (first_wide N.most (pivot_operations (tableau_of self.old) leaving entering) ≡ Some (wide_of stop)) × (self.new.usable ≡ false)) }
+        ensures columns { self.new.columns ≡ self.old.columns }
+        ensures system { (system : LinearSystem) → IsTableauOf system (tableau_of self.old) → IfOk result (λ done. IsTableauOf system (tableau_of self.new)) }
+    {
+        self.usable = false;
+        let column = self.layout.slots[entering as usize];
+        let changed = change_table(
+            &mut self.entries,
+            &mut self.quotients,
+            &self.layout,
+            leaving,
+            column,
+        );
+        if let Err(wide) = changed {
+            return Err(PivotStop::Wide(wide));
+        }
+        exchange(&mut self.places, &mut self.layout, leaving, upper, entering);
+        self.usable = true;
+        Ok(())
+    }
+}

@@ -1,0 +1,12 @@
+//! Dictionaries: the basic variables of a linear system as forms of the others.
+#![tactic(auto)]
+
+mod dictionaries;
+mod layouts;
+mod numbers;
+mod places;
+mod rows;
+mod starts;
+mod table;
+
+pub use dictionaries::Dictionary;
