@@ -198,6 +198,9 @@ fn combinations(rt: HostRuntime) -> Result<(), Fail> {
     let one = "proof\nleaf\nuse row c1 up 1\nend\n";
     let departs = run_pieces(alloc, 1, &[CHECK, TWO_MEMBERS, one, "report end\n"])?;
     expect(&rt, &departs, 8, "rejected line 5\n");
+    let lacking = "infeasible\nmember row c2\n";
+    let lacks = run_pieces(alloc, 1, &[CHECK, lacking, PROOF, "report end\n"])?;
+    expect(&rt, &lacks, 8, "rejected line 4\n");
     Ok(())
 }
 
@@ -230,6 +233,22 @@ fn entries(rt: HostRuntime) -> Result<(), Fail> {
     let noted = [head, "note x lower removed\n", "report end\n"];
     let note_too_much = run_pieces(alloc, 1, &noted)?;
     expect(&rt, &note_too_much, 8, "rejected line 2\n");
+    Ok(())
+}
+
+const CORE: &str =
+    "command iis deletion\nirreducible\nmember row c1\npoint\nvalue y 1/2\nmember row c2\npoint\n";
+
+const THIRD: &str = "command check\nfeasible\npoint\nvalue x 1/3\nend\n";
+
+#[test]
+fn guide(rt: HostRuntime) -> Result<(), Fail> {
+    let alloc = rt.alloc();
+    let head = "iisan report 1\n";
+    let core = run_pieces(alloc, 1, &[head, CORE, PROOF, "report end\n"])?;
+    expect(&rt, &core, 0, ACCEPTED);
+    let second_fails = run_pieces(alloc, 1, &[head, CORE, PROOF, THIRD, "report end\n"])?;
+    expect(&rt, &second_fails, 8, "rejected line 16\n");
     Ok(())
 }
 
