@@ -1,5 +1,5 @@
 //! A program of the rows x <= 1 and x >= 2, and reports that no point satisfies them.
-ghost use Rattle.std.specs.Prelude.{◌≡◌, ℕ, List, IfOk, pos, ◌≤◌};
+ghost use Rattle.std.specs.Prelude.{◌≡◌, ℕ, List, [], IfOk, pos, ◌≤◌};
 ghost use Rattle.rational.specs.Rational.{whole, zero_ℚ, ◌<ℚ◌};
 ghost use Rattle.lp_model.specs.Program.{IsWellFormedColumn, NamedRow};
 ghost use Rattle.lp_model.specs.Shown.{named_row, named_column};
@@ -8,7 +8,7 @@ ghost use Rattle.cert_check.specs.Samples.{sample, sample_column, sample_terms, 
 use super::*;
 use certs::{Combo, Node, Nodes, Proof, Share, Shares, Source};
 use frac128::{Exact, Frac};
-use lp_model::{Column, Member, MemberSet, Model, ModelStop, Row, Side, Term, Terms, Weight};
+use lp_model::{Column, Member, MemberSet, Model, ModelStop, Note, Row, Side, Term, Terms, Weight};
 use report_text::{Answer, Command, Entries, Entry, Notes, Report};
 use std::alloc::{AllocError, Global};
 use std::test::Fail;
@@ -142,6 +142,33 @@ fn say(alloc: Global, weight: Frac) -> Result<Outcome, AllocError>
     let report = report(alloc, members, proof(alloc, weight)?, weight)?;
     let _fits = weight.widen();
     Ok(verify(alloc, &model, &report))
+}
+
+// A report of nothing.
+fn nothing(alloc: Global) -> Report
+    ensures { result ≡ record { notes = []; entries = [] } }
+{
+    Report {
+        notes: Notes::new(Vec::new(alloc)),
+        entries: Entries::new(Vec::new(alloc)),
+    }
+}
+
+// What is said of it where the program has a note.
+fn say_nothing(alloc: Global) -> Result<Outcome, AllocError> {
+    let Ok(mut model) = program(alloc) else {
+        return Err(AllocError);
+    };
+    model.add_note(Note::LowerKept(0))?;
+    let report = nothing(alloc);
+    Ok(verify(alloc, &model, &report))
+}
+
+#[test]
+fn a_missing_note(rt: HostRuntime) -> Result<(), Fail> {
+    let outcome = say_nothing(rt.alloc())?;
+    assert_eq!(rt; outcome, Outcome::Rejected { line: 2 });
+    Ok(())
 }
 
 #[test]
