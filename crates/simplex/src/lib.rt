@@ -1,0 +1,7 @@
+//! Settle runs over a dictionary.
+#![tactic(auto)]
+
+mod choices;
+mod settling;
+
+pub use settling::{RunStop, Settled, settle};
