@@ -26,3 +26,4 @@ pub mod Walk
 pub mod Forms
 pub mod Tableaus
 pub mod Starts
+pub mod Feasible

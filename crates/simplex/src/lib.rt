@@ -2,6 +2,8 @@
 #![tactic(auto)]
 
 mod choices;
+mod points;
 mod settling;
 
+pub use points::point_of;
 pub use settling::{RunStop, Settled, settle};

@@ -1,8 +1,9 @@
 //! The settle run.
-ghost use Rattle.std.specs.Prelude.{◌≡◌, ◌+◌, ◌<◌, ◌^◌, IfOk, MatchResult, true};
+ghost use Rattle.std.specs.Prelude.{◌≡◌, ◌+◌, ◌<◌, ◌^◌, IfOk, None, true};
+ghost use Rattle.frac128.specs.Calculation.{first_wide};
 ghost use Rattle.certs.specs.System.{LinearSystem};
 ghost use Rattle.certs.specs.Tableau.{IsTableauOf};
-ghost use Rattle.certs.specs.Turns.{CanPivot, settle_choice};
+ghost use Rattle.certs.specs.Turns.{CanPivot, settle_choice, settle_values};
 ghost use Rattle.dictionary.specs.Layouts.{side_of};
 ghost use Rattle.dictionary.specs.Value.{tableau_of};
 ghost use Rattle.simplex.specs.Ends.{end_of, HasRun, IsEnd, IsSpent};
@@ -40,7 +41,7 @@ pub fn settle<N: Exact>(
     requires usable { dictionary.old.usable ≡ true }
     requires room { turn.old + pivots.old + 1 < 2 ^ 64 }
     ensures run { (system : LinearSystem) → IsTableauOf system (tableau_of dictionary.old) → HasRun N.most system dictionary.old.basis pivots.old turn.old (end_of result) dictionary.new pivots.new turn.new }
-    ensures ended { IfOk result (λ settled. (dictionary.new.usable ≡ true) × IsEnd settled (settle_choice (tableau_of dictionary.new))) }
+    ensures ended { IfOk result (λ settled. (dictionary.new.usable ≡ true) × (IsEnd settled (settle_choice (tableau_of dictionary.new)) × (first_wide N.most (settle_values (tableau_of dictionary.new)) ≡ None))) }
     ensures spent { IsSpent result → dictionary.new.usable ≡ true }
     ensures columns { dictionary.new.columns ≡ dictionary.old.columns }
 {

@@ -57,7 +57,7 @@ returns-in-Settled-clause-run g c = λ system of.
     })
 
 pub returns-in-Settled-clause-ended : goal.returns-in-Settled-clause-ended
-returns-in-Settled-clause-ended g c = (c.loop-choice.invariant.usable, subst (λ z. IsChosen z (settle_choice (tableau_of c.loop-choice.dictionary))) c.in-Settled.is c.in-Ok.ensures.1)
+returns-in-Settled-clause-ended g c = (c.loop-choice.invariant.usable, (subst (λ z. IsChosen z (settle_choice (tableau_of c.loop-choice.dictionary))) c.in-Settled.is c.in-Ok.ensures.1, c.in-Ok.ensures.0))
 
 pub returns-in-Blocked-clause-run : goal.returns-in-Blocked-clause-run
 returns-in-Blocked-clause-run g c = λ system of.
@@ -79,7 +79,7 @@ returns-in-Blocked-clause-run g c = λ system of.
     })
 
 pub returns-in-Blocked-clause-ended : goal.returns-in-Blocked-clause-ended
-returns-in-Blocked-clause-ended g c = (c.loop-choice.invariant.usable, subst (λ z. IsChosen z (settle_choice (tableau_of c.loop-choice.dictionary))) c.in-Blocked.is c.in-Ok.ensures.1)
+returns-in-Blocked-clause-ended g c = (c.loop-choice.invariant.usable, (subst (λ z. IsChosen z (settle_choice (tableau_of c.loop-choice.dictionary))) c.in-Blocked.is c.in-Ok.ensures.1, c.in-Ok.ensures.0))
 
 pub returns-then-pivots-eq0-clause-run : goal.returns-then-pivots-eq0-clause-run
 returns-then-pivots-eq0-clause-run g c = λ system of.
