@@ -1,22 +1,21 @@
 -- Where no variable is outside its limits, the values at a tableau are a solution.
-use Rattle.std.proofs.Common.{◌≡◌, ◌+◌, ◌-◌, ◌<◌, ◌≤◌, refl, sym, ◌∙◌, ap, subst, ℕ, zero, suc, Bool, true, false, true≢false, cond, ◌||◌, List, [], ◌∷◌, ◌++◌, map, length, get_or, Option, Some, None, IsSome, is_some, ltb, arith, inl, inr}
+use Rattle.std.proofs.Common.{◌≡◌, ◌+◌, ◌-◌, ◌<◌, refl, sym, ◌∙◌, ap, subst, ℕ, zero, suc, Bool, true, false, true≢false, cond, ◌||◌, List, [], ◌∷◌, ◌++◌, map, length, get_or, Option, Some, None, IsSome, is_some, arith, inl, inr}
 use Rattle.std.specs.Prelude.{All, IfSome, Contains, find}
 use Rattle.std.proofs.lemmas.Bool.{cases_lt, cases_Bool, cond-true, cond-false, or_parts, lt-ltb, le-ltb}
 use Rattle.std.proofs.lemmas.List.{get_or_append_left, get_or-append_right, get_or-map, length-map}
-use Rattle.std.proofs.lemmas.List.Elements.{All-head, All-tail, All-nil, All-cons, All-get_or, All-contains, Contains-push, Contains-append_left}
-use Rattle.rational.specs.Rational.{ℚ, ◌*ℚ◌, lt_q, ◌≤ℚ◌}
-use Rattle.rational.specs.Linear.{Assignment}
+use Rattle.std.proofs.lemmas.List.Elements.{All-nil, All-cons, All-get_or, All-contains, Contains-push, Contains-append_left}
+use Rattle.rational.specs.Rational.{ℚ, ◌*ℚ◌, ◌≤ℚ◌}
 use Rattle.rational.proofs.Order.{le_refl_ℚ, lt_q-false}
 use Rattle.lp_model.specs.declared.members.Side.{Side}
 use Rattle.lp_model.specs.declared.members.Side.TheVariants.{Lo, Up}
 use Rattle.certs.specs.Combination.{number_or_zero}
-use Rattle.certs.specs.System.{Limits, LinearSystem, no_limits, empty_system_row, KeepsRows, Place, is_basic, variable_limits}
+use Rattle.certs.specs.System.{Limits, LinearSystem, no_limits, empty_system_row, Place, is_basic, variable_limits}
 use Rattle.certs.specs.System.Place.{Basic, AtLower, AtUpper, AtZero}
-use Rattle.certs.specs.Tableau.{Tableau, variables, all_limits, below, IsPlaced, limits_at, place_of, place_value, value_at_place, basic_value, value_of, row_value, Solves, IsTableauOf, IsWellFormedSystem}
-use Rattle.certs.specs.Turns.{Choice, choice_at, choice_for, exchange_or_blocked, entering, is_outside, is_over, is_under, limited, limited_basics, missed_by, missed_side, settle_choice}
+use Rattle.certs.specs.Tableau.{Tableau, all_limits, below, IsPlaced, limits_at, place_of, place_value, value_at_place, basic_value, value_of, Solves, IsTableauOf, IsWellFormedSystem}
+use Rattle.certs.specs.Turns.{Choice, choice_at, choice_for, exchange_or_blocked, entering, is_outside, is_over, is_under, limited, limited_basics, missed_by, settle_choice}
 use Rattle.certs.specs.Turns.Choice.{Settled, Blocked, Exchange}
 use Rattle.certs.specs.Ended.{IsWithin, IsSolution, FeasibleLaw}
-use Rattle.certs.proofs.Tableaus.{place_basic, basic_below, sum_nonbasic}
+use Rattle.certs.proofs.Tableaus.{place_basic, sum_nonbasic}
 use Rattle.certs.proofs.Starts.{length_limits}
 
 -- ---- no variable is outside
@@ -44,7 +43,7 @@ found_passes p (x ∷ xs) v e = by (found_passes p xs v) (p x) refl e
     by rest true t q = subst (λ z. p z ≡ true) (same x v q) t
     by rest false t q = rest q
 
-none_passes : (p : ℕ → Bool) (xs : List ℕ) → find p xs ≡ None → All (λ k. p k ≡ false) xs
+pub none_passes : (p : ℕ → Bool) (xs : List ℕ) → find p xs ≡ None → All (λ k. p k ≡ false) xs
 none_passes p [] e = All-nil (λ k. p k ≡ false)
 none_passes p (x ∷ xs) e = by (none_passes p xs) (p x) refl e
   where
@@ -79,7 +78,7 @@ none_outside t e = by (find (is_outside t) (limited_basics t)) refl e
 pub inside_of : (t : Tableau) → settle_choice t ≡ Settled → All (λ k. is_outside t k ≡ false) (limited_basics t)
 inside_of t e = none_passes (is_outside t) (limited_basics t) (none_outside t e)
 
-listed : (test : ℕ → Bool) (n k : ℕ) → k < n → test k ≡ true → Contains (below n test) k
+pub listed : (test : ℕ → Bool) (n k : ℕ) → k < n → test k ≡ true → Contains (below n test) k
 listed test zero k l e = absurd (omega arith)
 listed test (suc n) k l e =
     elim (cases_lt k n) [
@@ -121,14 +120,8 @@ placed_within limits AtZero h b o = by limits.lower limits.upper h.0 h.1
     by : (l u : Option ℚ) → l ≡ None → u ≡ None → IsWithin (record { lower = l; upper = u }) (value_at_place limits AtZero)
     by l u e f = record { lower = subst (λ z. IfSome z (λ l. l ≤ℚ value_at_place limits AtZero)) (sym e) tt; upper = subst (λ z. IfSome z (λ u. value_at_place limits AtZero ≤ℚ u)) (sym f) tt }
 
-module _ (system : LinearSystem) (t : Tableau) (formed : IsWellFormedSystem system) (of : IsTableauOf system t) (settled : settle_choice t ≡ Settled) where
-  -- the values solve the table
-  solves : Solves t (value_of t)
-  solves i b =
-      cond-true (is_basic t.basis i) (basic_value t i) (place_value t i) b
-      ∙ sum_nonbasic t.basis (λ k. t.factor i k *ℚ place_value t k) (λ k. t.factor i k *ℚ value_of t k) (λ k l n. ap (λ z. t.factor i k *ℚ z) (sym (cond-false (is_basic t.basis k) (basic_value t k) (place_value t k) n)))
-
-  limits_are : (v : ℕ) → v < length system.columns + length system.rows → limits_at t v ≡ variable_limits system v
+module _ (system : LinearSystem) (t : Tableau) (of : IsTableauOf system t) where
+  pub limits_are : (v : ℕ) → v < length system.columns + length system.rows → limits_at t v ≡ variable_limits system v
   limits_are v l =
       ap (λ z. get_or z v no_limits) of.limits
       ∙ elim (cases_lt v (length system.columns)) [
@@ -141,12 +134,19 @@ module _ (system : LinearSystem) (t : Tableau) (formed : IsWellFormedSystem syst
             ∙ ap (λ b. cond b (get_or system.columns v no_limits) (get_or system.rows (v - length system.columns) empty_system_row).limits) (sym (le-ltb v (length system.columns) h)))
       ]
 
-  limited_is : limited t ≡ length system.columns + length system.rows
+  pub limited_is : limited t ≡ length system.columns + length system.rows
   limited_is = by (is_some system.objective) refl
     where
       by : (b : Bool) → is_some system.objective ≡ b → limited t ≡ length system.columns + length system.rows
       by true e = ap (λ z. cond z (length t.basis - 1) (length t.basis)) (of.objective ∙ e) ∙ ap (λ z. z - 1) (of.size ∙ ap (λ z. length system.columns + length system.rows + cond z 1 0) e) ∙ (let q : length system.columns + length system.rows + 1 - 1 ≡ length system.columns + length system.rows = omega arith in q)
       by false e = ap (λ z. cond z (length t.basis - 1) (length t.basis)) (of.objective ∙ e) ∙ of.size ∙ ap (λ z. length system.columns + length system.rows + cond z 1 0) e ∙ (let q : length system.columns + length system.rows + 0 ≡ length system.columns + length system.rows = omega arith in q)
+
+module _ (system : LinearSystem) (t : Tableau) (formed : IsWellFormedSystem system) (of : IsTableauOf system t) (settled : settle_choice t ≡ Settled) where
+  -- the values solve the table
+  solves : Solves t (value_of t)
+  solves i b =
+      cond-true (is_basic t.basis i) (basic_value t i) (place_value t i) b
+      ∙ sum_nonbasic t.basis (λ k. t.factor i k *ℚ place_value t k) (λ k. t.factor i k *ℚ value_of t k) (λ k l n. ap (λ z. t.factor i k *ℚ z) (sym (cond-false (is_basic t.basis k) (basic_value t k) (place_value t k) n)))
 
   ordered_at : (v : ℕ) → v < length system.columns + length system.rows → Ordered (limits_at t v)
   unfolding Ordered
@@ -159,7 +159,7 @@ module _ (system : LinearSystem) (t : Tableau) (formed : IsWellFormedSystem syst
   within v l =
       elim (cases_Bool (is_basic t.basis v)) [
         | inl b ↦
-            (let out : is_outside t v ≡ false = All-contains (λ k. is_outside t k ≡ false) (limited_basics t) v (none_passes (is_outside t) (limited_basics t) (none_outside t settled)) (listed (is_basic t.basis) (limited t) v (subst (λ n. v < n) (sym limited_is) l) b) in
+            (let out : is_outside t v ≡ false = All-contains (λ k. is_outside t k ≡ false) (limited_basics t) v (none_passes (is_outside t) (limited_basics t) (none_outside t settled)) (listed (is_basic t.basis) (limited t) v (subst (λ n. v < n) (sym (limited_is system t of)) l) b) in
             let parts = or_parts (is_under (limits_at t v).lower (basic_value t v)) (is_over (limits_at t v).upper (basic_value t v)) out in
             subst (IsWithin (limits_at t v)) (sym (cond-true (is_basic t.basis v) (basic_value t v) (place_value t v) b))
             (record { lower = not_under (limits_at t v).lower (basic_value t v) parts.0; upper = not_over (limits_at t v).upper (basic_value t v) parts.1 }))
@@ -171,7 +171,7 @@ module _ (system : LinearSystem) (t : Tableau) (formed : IsWellFormedSystem syst
   pub solution_of : IsSolution system (value_of t)
   solution_of = record {
     rows = (of.table (value_of t)).1 solves;
-    limits = λ v l. subst (λ z. IsWithin z (value_of t v)) (limits_are v l) (within v l);
+    limits = λ v l. subst (λ z. IsWithin z (value_of t v)) (limits_are system t of v l) (within v l);
   }
 
 pub feasible_law : FeasibleLaw

@@ -27,3 +27,5 @@ pub mod Forms
 pub mod Tableaus
 pub mod Starts
 pub mod Feasible
+pub mod Choices
+pub mod Blocked

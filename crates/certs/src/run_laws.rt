@@ -1,5 +1,5 @@
 //! Laws of tableaus and of runs.
-ghost use Rattle.certs.specs.Ended.{FeasibleLaw};
+ghost use Rattle.certs.specs.Ended.{BlockedLaw, FeasibleLaw};
 ghost use Rattle.certs.specs.Tableau.{StartLaw, TableLaw};
 ghost use Rattle.certs.specs.Turns.{FlipLaw, PivotLaw};
 
@@ -26,4 +26,9 @@ pub fn flip_keeps_system()
 /// Where no variable is outside its limits the values at a tableau are a solution of the system.
 pub fn settled_is_solution()
     ensures { FeasibleLaw }
+{}
+
+/// Where nothing helps the first variable outside, its row of the table is a combination of the system.
+pub fn blocked_is_combination()
+    ensures { BlockedLaw }
 {}

@@ -3,7 +3,7 @@ use Rattle.certs.specs.Turns.{settle_choice}
 use Rattle.dictionary.specs.Layouts.{side_of}
 use Rattle.dictionary.specs.Value.{tableau_of}
 use Rattle.simplex.specs.Chosen.{IsChosen}
-use Rattle.simplex.proofs.Pivoting.{can_of, work-values, work-pivot}
+use Rattle.certs.proofs.Choices.{can_of, work-values, work-pivot}
 use Rattle.simplex.proofs.settling.settle.Goals as goal
 
 none : (n : ℕ) → n ≡ 0 → n ≡ 1 → ⊥

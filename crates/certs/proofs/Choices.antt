@@ -140,7 +140,7 @@ over_there : (o : Option ℚ) (v : ℚ) → is_over o v ≡ true → IsSome o
 over_there None v e = absurd (true≢false (sym e))
 over_there (Some b) v e = refl
 
-some_same : (a b : Side) → ◌≡◌ {A = Option Side} (Some a) (Some b) → a ≡ b
+pub some_same : (a b : Side) → ◌≡◌ {A = Option Side} (Some a) (Some b) → a ≡ b
 some_same a b e = ap (of a) e
   where
     of : Side → Option Side → Side
