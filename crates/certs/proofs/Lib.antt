@@ -26,3 +26,6 @@ pub mod Walk
 pub mod Forms
 pub mod Tableaus
 pub mod Starts
+pub mod Feasible
+pub mod Choices
+pub mod Blocked

@@ -1,4 +1,5 @@
 //! Laws of tableaus and of runs.
+ghost use Rattle.certs.specs.Ended.{BlockedLaw, FeasibleLaw};
 ghost use Rattle.certs.specs.Tableau.{StartLaw, TableLaw};
 ghost use Rattle.certs.specs.Turns.{FlipLaw, PivotLaw};
 
@@ -20,4 +21,14 @@ pub fn pivot_keeps_system()
 /// After a nonbasic variable goes to its other limit a tableau of a system is one of it again.
 pub fn flip_keeps_system()
     ensures { FlipLaw }
+{}
+
+/// Where no variable is outside its limits the values at a tableau are a solution of the system.
+pub fn settled_is_solution()
+    ensures { FeasibleLaw }
+{}
+
+/// Where nothing helps the first variable outside, its row of the table is a combination of the system.
+pub fn blocked_is_combination()
+    ensures { BlockedLaw }
 {}

@@ -225,6 +225,17 @@ pub enum PivotStop {
     Wide(Wide),
 }
 
+impl PivotStop {
+    /// The operation that is too wide.
+    pub fn wide(self) -> Wide
+        ensures { result ≡ wide_of self }
+    {
+        match self {
+            PivotStop::Wide(wide) => wide,
+        }
+    }
+}
+
 impl<N: Exact> Dictionary<N> {
     /// Makes a pivot: a basic variable leaves to its upper or its lower limit, and a nonbasic one enters.
     ///

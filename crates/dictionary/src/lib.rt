@@ -9,4 +9,4 @@ mod rows;
 mod starts;
 mod table;
 
-pub use dictionaries::Dictionary;
+pub use dictionaries::{Dictionary, PivotStop};

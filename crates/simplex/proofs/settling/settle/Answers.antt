@@ -1,0 +1,181 @@
+use Rattle.std.proofs.Common.{◌≡◌, ◌≢◌, ◌+◌, ◌-◌, ℕ, suc, true≢false, Some, refl, sym, ◌∙◌, ap, subst, arith}
+use Rattle.certs.specs.Turns.{settle_choice}
+use Rattle.dictionary.specs.Layouts.{side_of}
+use Rattle.dictionary.specs.Value.{tableau_of}
+use Rattle.simplex.specs.Chosen.{IsChosen}
+use Rattle.certs.proofs.Choices.{can_of, work-values, work-pivot}
+use Rattle.simplex.proofs.settling.settle.Goals as goal
+
+none : (n : ℕ) → n ≡ 0 → n ≡ 1 → ⊥
+none n e f = omega arith
+
+next_turn : (turn begun made : ℕ) → turn ≡ begun + made → turn + 1 ≡ suc (begun + made)
+next_turn turn begun made e = omega arith
+
+pub loop-choice-init : goal.loop-choice-init
+loop-choice-init g c = record {
+  usable = c.requires.usable;
+  columns = refl;
+  made = (0, (omega arith, (omega arith, λ system of. (of, refl))));
+}
+
+pub returns-in-Err-clause-run : goal.returns-in-Err-clause-run
+returns-in-Err-clause-run g c = λ system of.
+    (let i = c.loop-choice.invariant in
+    let d = c.loop-choice.dictionary in
+    let r = i.made.1.1.1 system of in
+    let n = next_turn c.loop-choice.turn c.args.turn.now i.made.0 i.made.1.1.0 in
+    record {
+      last = d.basis;
+      run = record {
+        made = i.made.0;
+        budget_is = i.made.1.0;
+        reaches = r.1;
+        turns_are = n;
+        ends = (refl, record { here = record { tableau = tableau_of d; is_of = r.0; at = refl }; first = work-values g.N.Exact.most (tableau_of d) c.loop-choice.pivots c.in-Err.wide c.in-Err.ensures });
+      };
+      stands = λ u. (refl, r.0);
+    })
+
+pub returns-in-Settled-clause-run : goal.returns-in-Settled-clause-run
+returns-in-Settled-clause-run g c = λ system of.
+    (let i = c.loop-choice.invariant in
+    let d = c.loop-choice.dictionary in
+    let r = i.made.1.1.1 system of in
+    let n = next_turn c.loop-choice.turn c.args.turn.now i.made.0 i.made.1.1.0 in
+    let chosen = subst (λ z. IsChosen z (settle_choice (tableau_of d))) c.in-Settled.is c.in-Ok.ensures.1 in
+    record {
+      last = d.basis;
+      run = record {
+        made = i.made.0;
+        budget_is = i.made.1.0;
+        reaches = r.1;
+        turns_are = n;
+        ends = record { here = record { tableau = tableau_of d; is_of = r.0; at = refl }; chosen = chosen; narrow = c.in-Ok.ensures.0 };
+      };
+      stands = λ u. (refl, r.0);
+    })
+
+pub returns-in-Settled-clause-ended : goal.returns-in-Settled-clause-ended
+returns-in-Settled-clause-ended g c = (c.loop-choice.invariant.usable, (subst (λ z. IsChosen z (settle_choice (tableau_of c.loop-choice.dictionary))) c.in-Settled.is c.in-Ok.ensures.1, c.in-Ok.ensures.0))
+
+pub returns-in-Blocked-clause-run : goal.returns-in-Blocked-clause-run
+returns-in-Blocked-clause-run g c = λ system of.
+    (let i = c.loop-choice.invariant in
+    let d = c.loop-choice.dictionary in
+    let r = i.made.1.1.1 system of in
+    let n = next_turn c.loop-choice.turn c.args.turn.now i.made.0 i.made.1.1.0 in
+    let chosen = subst (λ z. IsChosen z (settle_choice (tableau_of d))) c.in-Blocked.is c.in-Ok.ensures.1 in
+    record {
+      last = d.basis;
+      run = record {
+        made = i.made.0;
+        budget_is = i.made.1.0;
+        reaches = r.1;
+        turns_are = n;
+        ends = record { here = record { tableau = tableau_of d; is_of = r.0; at = refl }; side = chosen.0; chosen = chosen.1; narrow = c.in-Ok.ensures.0 };
+      };
+      stands = λ u. (refl, r.0);
+    })
+
+pub returns-in-Blocked-clause-ended : goal.returns-in-Blocked-clause-ended
+returns-in-Blocked-clause-ended g c = (c.loop-choice.invariant.usable, (subst (λ z. IsChosen z (settle_choice (tableau_of c.loop-choice.dictionary))) c.in-Blocked.is c.in-Ok.ensures.1, c.in-Ok.ensures.0))
+
+pub returns-then-pivots-eq0-clause-run : goal.returns-then-pivots-eq0-clause-run
+returns-then-pivots-eq0-clause-run g c = λ system of.
+    (let i = c.loop-choice.invariant in
+    let d = c.loop-choice.dictionary in
+    let r = i.made.1.1.1 system of in
+    let n = next_turn c.loop-choice.turn c.args.turn.now i.made.0 i.made.1.1.0 in
+    let chosen = subst (λ z. IsChosen z (settle_choice (tableau_of d))) c.in-Exchange.is c.in-Ok.ensures.1 in
+    record {
+      last = d.basis;
+      run = record {
+        made = i.made.0;
+        budget_is = i.made.1.0;
+        reaches = r.1;
+        turns_are = n;
+        ends = (c.if-pivots-eq0.true, record { here = record { tableau = tableau_of d; is_of = r.0; at = refl }; leaving = _; side = _; entering = _; due = chosen; narrow = c.in-Ok.ensures.0 });
+      };
+      stands = λ u. (refl, r.0);
+    })
+
+pub pivot-requires-clause-can : goal.pivot-requires-clause-can
+pivot-requires-clause-can g c =
+    let t = tableau_of c.loop-choice.dictionary in
+    can_of t c.in-Exchange.leaving (side_of c.in-Exchange.upper) c.in-Exchange.entering (subst (λ z. IsChosen z (settle_choice t)) c.in-Exchange.is c.in-Ok.ensures.1)
+
+pub returns-in-Err-pivot-clause-run : goal.returns-in-Err-pivot-clause-run
+returns-in-Err-pivot-clause-run g c = λ system of.
+    (let i = c.loop-choice.invariant in
+    let d = c.loop-choice.dictionary in
+    let r = i.made.1.1.1 system of in
+    let n = next_turn c.loop-choice.turn c.args.turn.now i.made.0 i.made.1.1.0 in
+    let chosen = subst (λ z. IsChosen z (settle_choice (tableau_of d))) c.in-Exchange.is c.in-Ok.ensures.1 in
+    let wide = c.in-Err-pivot.ensures.done.0 ∙ ap (λ o. Some o) (sym c.wide.ensures) in
+    record {
+      last = d.basis;
+      run = record {
+        made = i.made.0;
+        budget_is = i.made.1.0;
+        reaches = r.1;
+        turns_are = n;
+        ends = (
+          refl,
+          record {
+            here = record { tableau = tableau_of d; is_of = r.0; at = refl };
+            first = work-pivot g.N.Exact.most (tableau_of d) c.loop-choice.pivots _ _ _ _ c.if-pivots-eq0.false chosen c.in-Ok.ensures.0 wide;
+          },
+        );
+      };
+      stands = λ u. absurd (true≢false (sym u ∙ c.in-Err-pivot.ensures.done.1));
+    })
+
+pub loop-choice-preserved : goal.loop-choice-preserved
+loop-choice-preserved g c =
+    let i = c.loop-choice.invariant in
+    let d = c.loop-choice.dictionary in
+    let t = tableau_of d in
+    let done = c.in_default.ensures.done in
+    let chosen = subst (λ z. IsChosen z (settle_choice t)) c.in-Exchange.is c.in-Ok.ensures.1 in
+    record {
+      usable = done.1.1;
+      columns = c.in_default.ensures.columns ∙ i.columns;
+      made = (
+        suc i.made.0,
+        (
+          more i.made.0 c.loop-choice.pivots c.args.pivots.now c.if-pivots-eq0.false i.made.1.0,
+          (
+            later c.loop-choice.turn c.args.turn.now i.made.0 i.made.1.1.0,
+            λ system of.
+                (let r = i.made.1.1.1 system of in (
+                  c.in_default.ensures.system system r.0,
+                  (
+                    d.basis,
+                    (
+                      r.1,
+                      record {
+                        here = record { tableau = t; is_of = r.0; at = refl };
+                        leaving = _;
+                        side = _;
+                        entering = _;
+                        due = chosen;
+                        narrow = work-pivot g.N.Exact.most t 1 _ _ _ _ one_some chosen c.in-Ok.ensures.0 done.0;
+                        next_is = done.1.0.basis;
+                      },
+                    ),
+                  ),
+                )),
+          ),
+        ),
+      );
+    }
+  where
+    more : (made left budget : ℕ) → left ≢ 0 → made + left ≡ budget → suc made + (left - 1) ≡ budget
+    more made left budget n e = omega arith
+
+    later : (turn begun made : ℕ) → turn ≡ begun + made → turn + 1 ≡ begun + suc made
+    later turn begun made e = omega arith
+
+    one_some : ◌≢◌ {A = ℕ} 1 0
+    one_some e = none 1 e refl

@@ -1,0 +1,9 @@
+//! Settle runs over a dictionary.
+#![tactic(auto)]
+
+mod choices;
+mod points;
+mod settling;
+
+pub use points::point_of;
+pub use settling::{RunStop, Settled, settle};

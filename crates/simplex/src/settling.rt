@@ -1,0 +1,68 @@
+//! The settle run.
+ghost use Rattle.std.specs.Prelude.{◌≡◌, ◌+◌, ◌<◌, ◌^◌, IfOk, None, true};
+ghost use Rattle.frac128.specs.Calculation.{first_wide};
+ghost use Rattle.certs.specs.System.{LinearSystem};
+ghost use Rattle.certs.specs.Tableau.{IsTableauOf};
+ghost use Rattle.certs.specs.Turns.{CanPivot, settle_choice, settle_values};
+ghost use Rattle.dictionary.specs.Layouts.{side_of};
+ghost use Rattle.dictionary.specs.Value.{tableau_of};
+ghost use Rattle.simplex.specs.Ends.{end_of, HasRun, IsEnd, IsSpent};
+
+use crate::choices::{Choice, choose};
+use dictionary::Dictionary;
+use frac128::{Exact, Wide};
+
+/// How a settle run ends: every variable is within its limits, or no choice of the columns within theirs brings this one
+/// within its own.
+#[derive(Clone, Copy, Debug)]
+pub enum Settled {
+    Feasible,
+    Infeasible(u32),
+}
+
+/// Why a run stops.
+#[derive(Clone, Copy, Debug)]
+pub enum RunStop {
+    /// In the turn with this number this operation is the first that is too wide.
+    Wide(u64, Wide),
+    /// A pivot is due, and none is left.
+    Pivots,
+}
+
+/// Makes settle turns until none is due.
+///
+/// `pivots` is what is left of the budget, and `turn` counts the turns begun, this run's after those before it. `Wide` and
+/// `Pivots` come exactly where the run stops so. After a pivot that was too wide the dictionary must not be used.
+pub fn settle<N: Exact>(
+    dictionary: &mut Dictionary<N>,
+    pivots: &mut u64,
+    turn: &mut u64,
+) -> Result<Settled, RunStop>
+    requires usable { dictionary.old.usable ≡ true }
+    requires room { turn.old + pivots.old + 1 < 2 ^ 64 }
+    ensures run { (system : LinearSystem) → IsTableauOf system (tableau_of dictionary.old) → HasRun N.most system dictionary.old.basis pivots.old turn.old (end_of result) dictionary.new pivots.new turn.new }
+    ensures ended { IfOk result (λ settled. (dictionary.new.usable ≡ true) × (IsEnd settled (settle_choice (tableau_of dictionary.new)) × (first_wide N.most (settle_values (tableau_of dictionary.new)) ≡ None))) }
+    ensures spent { IsSpent result → dictionary.new.usable ≡ true }
+    ensures columns { dictionary.new.columns ≡ dictionary.old.columns }
+{
+    loop {
+        *turn += 1;
+        let choice = match choose(dictionary) {
+            Ok(choice) => choice,
+            Err(wide) => return Err(RunStop::Wide(*turn, wide)),
+        };
+        match choice {
+            Choice::Settled => return Ok(Settled::Feasible),
+            Choice::Blocked(variable) => return Ok(Settled::Infeasible(variable)),
+            Choice::Exchange(leaving, upper, entering) => {
+                if *pivots == 0 {
+                    return Err(RunStop::Pivots);
+                }
+                if let Err(stop) = dictionary.pivot(leaving, upper, entering) {
+                    return Err(RunStop::Wide(*turn, stop.wide()));
+                }
+                *pivots -= 1;
+            }
+        }
+    }
+}
