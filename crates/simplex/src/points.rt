@@ -44,6 +44,6 @@ fn column_value(dictionary: &Dictionary<Frac>, column: u32) -> Frac
 {
     match dictionary.value(column) {
         Ok(value) => value,
-        Err(_) => Frac::whole(0),
+        Err(_) => unreachable!(),
     }
 }
