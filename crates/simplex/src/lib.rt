@@ -7,3 +7,6 @@ mod settling;
 
 pub use points::point_of;
 pub use settling::{RunStop, Settled, settle};
+
+#[cfg(test)]
+mod tests;
