@@ -1,3 +1,4 @@
 pub mod Firsts
 pub mod Narrow
 pub mod SampleForms
+pub mod Combining

@@ -2,3 +2,4 @@ pub mod Chosen
 pub mod Ends
 pub mod Points
 pub mod Samples
+pub mod Combined

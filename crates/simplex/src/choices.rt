@@ -20,8 +20,8 @@ pub(crate) struct Missed {
     pub(crate) upper: bool,
 }
 
-// Whether a number is below another.
-fn is_less<N: Exact>(a: N, b: N) -> bool
+/// Whether a number is below another.
+pub(crate) fn is_less<N: Exact>(a: N, b: N) -> bool
     ensures { result ≡ lt_q (N.value a) (N.value b) }
 {
     a.cmp(&b).is_lt()
@@ -142,8 +142,8 @@ pub(crate) fn first_outside<N: Exact>(dictionary: &Dictionary<N>) -> Result<Opti
     Ok(None)
 }
 
-// How many variables there are but the objective.
-fn limited_variables<N: Exact>(dictionary: &Dictionary<N>) -> u32
+/// How many variables there are but the objective.
+pub(crate) fn limited_variables<N: Exact>(dictionary: &Dictionary<N>) -> u32
     ensures { result ≡ limited (tableau_of dictionary.now) }
 {
     match dictionary.objective() {

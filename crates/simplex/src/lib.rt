@@ -2,9 +2,11 @@
 #![tactic(auto)]
 
 mod choices;
+mod combinations;
 mod points;
 mod settling;
 
+pub use combinations::combo_of;
 pub use points::point_of;
 pub use settling::{RunStop, Settled, settle};
 

@@ -4,10 +4,10 @@ ghost use Rattle.rational.specs.Rational.{whole};
 ghost use Rattle.simplex.specs.Samples.{sample, sample_limits, sample_terms};
 
 use super::*;
-use certs::{Limits, System};
+use certs::{Limits, Share, Shares, Source, System};
 use dictionary::Dictionary;
 use frac128::{Exact, Frac};
-use lp_model::{Row, Term, Terms, Weight};
+use lp_model::{Member, Row, Side, Term, Terms, Weight};
 use std::alloc::{AllocError, Global};
 use std::test::Fail;
 
@@ -47,35 +47,38 @@ fn system(alloc: Global, least: Frac) -> Result<System, AllocError>
     })
 }
 
-// The column's value at the end of the run, or how it ends else; with the pivots left and the turns made.
-fn end(
-    alloc: Global,
-    least: Frac,
-    pivots: u32,
-) -> Result<(Result<Option<Frac>, RunStop>, u64, u64), AllocError> {
+// How a run ends: with this value of the column, or with the shares that contradict one another.
+#[derive(Drop)]
+enum End {
+    Point(Option<Frac>),
+    Combination(Shares),
+    Stop(RunStop),
+}
+
+// The end of the run with so many pivots, with those left and the turns made.
+fn run_to_end(alloc: Global, least: Frac, pivots: u32) -> Result<(End, u64, u64), AllocError> {
     let system = system(alloc, least)?;
     let _fits = least.widen();
     let mut dictionary = Dictionary::<Frac>::start(alloc, &system)?;
     let mut left = pivots as u64;
     let mut turn = 0;
     let end = match settle(&mut dictionary, &mut left, &mut turn) {
-        Ok(Settled::Feasible) => Ok(
-            point_of(alloc, &dictionary)?
-                .values
-                .as_slice()
-                .first()
-                .copied(),
-        ),
-        Ok(Settled::Infeasible(_)) => Ok(None),
-        Err(stop) => Err(stop),
+        Ok(Settled::Feasible) => {
+            let point = point_of(alloc, &dictionary)?;
+            End::Point(point.values.as_slice().first().copied())
+        }
+        Ok(Settled::Infeasible(variable)) => {
+            End::Combination(combo_of(alloc, &dictionary, variable)?.shares)
+        }
+        Err(stop) => End::Stop(stop),
     };
     Ok((end, left, turn))
 }
 
 #[test]
 fn a_row_is_met(rt: HostRuntime) -> Result<(), Fail> {
-    let (end, left, turns) = end(rt.alloc(), Frac::whole(3), 5)?;
-    assert!(rt; matches!(end, Ok(Some(value)) if value == Frac::whole(3)));
+    let (end, left, turns) = run_to_end(rt.alloc(), Frac::whole(3), 5)?;
+    assert!(rt; matches!(end, End::Point(Some(value)) if value == Frac::whole(3)));
     assert_eq!(rt; left, 4);
     assert_eq!(rt; turns, 2);
     Ok(())
@@ -84,8 +87,20 @@ fn a_row_is_met(rt: HostRuntime) -> Result<(), Fail> {
 // The column would pass its upper limit.
 #[test]
 fn a_row_asks_too_much(rt: HostRuntime) -> Result<(), Fail> {
-    let (end, left, turns) = end(rt.alloc(), Frac::whole(5), 5)?;
-    assert!(rt; matches!(end, Ok(None)));
+    let (end, left, turns) = run_to_end(rt.alloc(), Frac::whole(5), 5)?;
+    let least = Share {
+        source: Source::Member(Member::Row(0)),
+        side: Side::Lo,
+        weight: Frac::whole(1),
+    };
+    let greatest = Share {
+        source: Source::Member(Member::Upper(0)),
+        side: Side::Up,
+        weight: Frac::whole(1),
+    };
+    assert!(rt;
+        matches!(&end, End::Combination(shares) if shares.as_slice() == [least, greatest].as_slice())
+    );
     assert_eq!(rt; left, 4);
     assert_eq!(rt; turns, 2);
     Ok(())
@@ -94,8 +109,8 @@ fn a_row_asks_too_much(rt: HostRuntime) -> Result<(), Fail> {
 // The start is feasible, so no pivot is due.
 #[test]
 fn no_pivot_is_due(rt: HostRuntime) -> Result<(), Fail> {
-    let (end, left, turns) = end(rt.alloc(), Frac::whole(-1), 0)?;
-    assert!(rt; matches!(end, Ok(Some(value)) if value == Frac::whole(0)));
+    let (end, left, turns) = run_to_end(rt.alloc(), Frac::whole(-1), 0)?;
+    assert!(rt; matches!(end, End::Point(Some(value)) if value == Frac::whole(0)));
     assert_eq!(rt; left, 0);
     assert_eq!(rt; turns, 1);
     Ok(())
@@ -103,8 +118,8 @@ fn no_pivot_is_due(rt: HostRuntime) -> Result<(), Fail> {
 
 #[test]
 fn no_pivot_is_left(rt: HostRuntime) -> Result<(), Fail> {
-    let (end, left, turns) = end(rt.alloc(), Frac::whole(3), 0)?;
-    assert!(rt; matches!(end, Err(RunStop::Pivots)));
+    let (end, left, turns) = run_to_end(rt.alloc(), Frac::whole(3), 0)?;
+    assert!(rt; matches!(end, End::Stop(RunStop::Pivots)));
     assert_eq!(rt; left, 0);
     assert_eq!(rt; turns, 1);
     Ok(())

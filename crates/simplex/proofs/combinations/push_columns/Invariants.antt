@@ -1,0 +1,12 @@
+use Rattle.std.proofs.Common.{◌≡◌, ◌++◌}
+use Rattle.certs.specs.Ended.{blocked_multiple}
+use Rattle.dictionary.specs.Layouts.{side_of}
+use Rattle.dictionary.specs.Value.{tableau_of}
+use Rattle.simplex.specs.Combined.{column_shares}
+use Rattle.simplex.proofs.combinations.push_columns.Given as goal
+
+-- the shares of the columns passed are there
+abbrev pub invariant-loop-variable : goal.invariant-loop-variable
+invariant-loop-variable l = record {
+  items : l.shares.items ≡ l.initial.shares.items ++ column_shares l.columns l.upper l.variable (blocked_multiple (tableau_of l.dictionary) l.missed.variable (side_of l.missed.upper));
+}
