@@ -14,7 +14,7 @@ use Rattle.certs.specs.Tableau.{Tableau, IsTableauOf}
 use Rattle.certs.specs.Turns.{limited, settle_choice}
 use Rattle.certs.specs.Turns.Choice.{Blocked}
 use Rattle.certs.proofs.Choices.{blocked_parts}
-use Rattle.simplex.specs.Combined.{column_shares, is_of, named, row_shares}
+use Rattle.simplex.specs.Combined.{column_shares, is_on, named, row_shares}
 
 -- ---- one share
 pub share_above : (v : ℕ) (c : ℚ) → eq_ℚ c zero_ℚ ≡ false → lt_q zero_ℚ c ≡ true → share_for v c ≡ record { variable = v; side = Up; weight = c } ∷ []
@@ -34,21 +34,21 @@ pub rows_more : (columns n : ℕ) (c : ℕ → ℚ) → row_shares columns (n + 
 rows_more columns n c = ap (map (named columns)) (shares_more c columns n) ∙ map-append (named columns) (shares_for c (numbers_from columns n)) (share_for (columns + n) (c (columns + n)))
 
 -- ---- those on one side
-filter_named : (columns : ℕ) (upper : Bool) (xs : List VariableShare) → map (named columns) (filter (λ s. is_of upper s.side) xs) ≡ filter (λ s. is_of upper s.side) (map (named columns) xs)
+filter_named : (columns : ℕ) (upper : Bool) (xs : List VariableShare) → map (named columns) (filter (λ s. is_on upper s.side) xs) ≡ filter (λ s. is_on upper s.side) (map (named columns) xs)
 filter_named columns upper [] = refl
-filter_named columns upper (x ∷ xs) = by (filter_named columns upper xs) (is_of upper x.side)
+filter_named columns upper (x ∷ xs) = by (filter_named columns upper xs) (is_on upper x.side)
   where
-    by : map (named columns) (filter (λ s. is_of upper s.side) xs) ≡ filter (λ s. is_of upper s.side) (map (named columns) xs) → (b : Bool) → map (named columns) (cond b (x ∷ filter (λ s. is_of upper s.side) xs) (filter (λ s. is_of upper s.side) xs)) ≡ cond b (named columns x ∷ filter (λ s. is_of upper s.side) (map (named columns) xs)) (filter (λ s. is_of upper s.side) (map (named columns) xs))
+    by : map (named columns) (filter (λ s. is_on upper s.side) xs) ≡ filter (λ s. is_on upper s.side) (map (named columns) xs) → (b : Bool) → map (named columns) (cond b (x ∷ filter (λ s. is_on upper s.side) xs) (filter (λ s. is_on upper s.side) xs)) ≡ cond b (named columns x ∷ filter (λ s. is_on upper s.side) (map (named columns) xs)) (filter (λ s. is_on upper s.side) (map (named columns) xs))
     by rest true = ap (λ z. named columns x ∷ z) rest
     by rest false = rest
 
 pub columns_more : (columns n : ℕ) (upper : Bool) (c : ℕ → ℚ)
-    → column_shares columns upper (n + 1) c ≡ column_shares columns upper n c ++ filter (λ s. is_of upper s.side) (map (named columns) (share_for n (c n)))
+    → column_shares columns upper (n + 1) c ≡ column_shares columns upper n c ++ filter (λ s. is_on upper s.side) (map (named columns) (share_for n (c n)))
 columns_more columns n upper c =
     let z : 0 + n ≡ n = omega arith in
-    ap (λ l. map (named columns) (filter (λ s. is_of upper s.side) l)) (shares_more c 0 n ∙ ap (λ k. shares_for c (numbers_from 0 n) ++ share_for k (c k)) z)
-    ∙ ap (map (named columns)) (filter-append (λ s. is_of upper s.side) (shares_for c (numbers_from 0 n)) (share_for n (c n)))
-    ∙ map-append (named columns) (filter (λ s. is_of upper s.side) (shares_for c (numbers_from 0 n))) (filter (λ s. is_of upper s.side) (share_for n (c n)))
+    ap (λ l. map (named columns) (filter (λ s. is_on upper s.side) l)) (shares_more c 0 n ∙ ap (λ k. shares_for c (numbers_from 0 n) ++ share_for k (c k)) z)
+    ∙ ap (map (named columns)) (filter-append (λ s. is_on upper s.side) (shares_for c (numbers_from 0 n)) (share_for n (c n)))
+    ∙ map-append (named columns) (filter (λ s. is_on upper s.side) (shares_for c (numbers_from 0 n))) (filter (λ s. is_on upper s.side) (share_for n (c n)))
     ∙ ap (λ l. column_shares columns upper n c ++ l) (filter_named columns upper (share_for n (c n)))
 
 -- ---- all shares

@@ -9,8 +9,6 @@ use Rattle.certs.specs.declared.evidence.Source.TheVariants.{Member as Of}
 use Rattle.certs.specs.declared.evidence.Share.{Share}
 use Rattle.certs.specs.Ended.{numbers_from, shares_for}
 use Rattle.certs.specs.System.{LinearSystem, VariableShare, IsVariableCombination}
-use Rattle.certs.specs.Turns.{Choice}
-use Rattle.certs.specs.Turns.Choice.{Blocked}
 
 -- a bound of a column
 abbrev pub bound_of : ℕ → Side → Member
@@ -31,15 +29,6 @@ pub record IsNamedCombination (system : LinearSystem) (shares : List Share) : Ty
   pub combination : IsVariableCombination system of
   pub same : shares ≡ map (named (length system.columns)) of
 
--- nothing helps this variable, on one side
-abbrev pub IsBlockedAt : ℕ → Choice → Type 0
-IsBlockedAt i choice = (side : Side) × (choice ≡ Blocked i side)
-
--- the share that may be there
-abbrev pub share_list : Option Share → List Share
-share_list None = []
-share_list (Some s) = s ∷ []
-
 -- those of the rows, so many after the columns
 abbrev pub row_shares : ℕ → ℕ → (ℕ → ℚ) → List Share
 row_shares columns n c = map (named columns) (shares_for c (numbers_from columns n))
@@ -49,10 +38,10 @@ abbrev pub is_up : Side → Bool
 is_up side = elim side [ Lo ↦ false | Up ↦ true ]
 
 -- whether a side is the upper one (`true`) or the lower one
-abbrev pub is_of : Bool → Side → Bool
-is_of true side = is_up side
-is_of false side = not (is_up side)
+abbrev pub is_on : Bool → Side → Bool
+is_on true side = is_up side
+is_on false side = not (is_up side)
 
 -- those of the first columns on one side
 abbrev pub column_shares : ℕ → Bool → ℕ → (ℕ → ℚ) → List Share
-column_shares columns upper n c = map (named columns) (filter (λ s. is_of upper s.side) (shares_for c (numbers_from 0 n)))
+column_shares columns upper n c = map (named columns) (filter (λ s. is_on upper s.side) (shares_for c (numbers_from 0 n)))

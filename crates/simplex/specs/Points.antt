@@ -4,13 +4,7 @@ use Rattle.rational.specs.Rational.{ℚ}
 use Rattle.rational.specs.Linear.{Assignment}
 use Rattle.lp_model.specs.Satisfaction.{values_at}
 use Rattle.certs.specs.System.{LinearSystem}
-use Rattle.certs.specs.Turns.{Choice}
-use Rattle.certs.specs.Turns.Choice.{Settled}
 use Rattle.certs.specs.Ended.{IsSolution}
-
--- nothing is left to do
-abbrev pub Settles : Choice → Type 0
-Settles choice = choice ≡ Settled
 
 -- the values are those of the columns in a solution of the system
 pub record IsFeasiblePoint (system : LinearSystem) (values : List ℚ) : Type 0 where

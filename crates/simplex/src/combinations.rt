@@ -1,5 +1,6 @@
 //! The combination at the end of a settle run that is infeasible.
 ghost use Rattle.std.specs.Prelude.{◌≡◌, ◌≤◌, ◌<◌, ◌-◌, ◌++◌, IfOk, None, true, filter, length, map};
+ghost use Rattle.std.specs.Option.{option_to_list};
 ghost use Rattle.frac128.specs.Limit.{limit};
 ghost use Rattle.frac128.specs.Calculation.{first_wide};
 ghost use Rattle.lp_model.specs.declared.members.Side.{Side as OneSide};
@@ -10,7 +11,9 @@ ghost use Rattle.certs.specs.Turns.{Choice, limited, settle_choice, settle_value
 ghost use Rattle.certs.specs.Turns.Choice.{Blocked};
 ghost use Rattle.dictionary.specs.Layouts.{side_of};
 ghost use Rattle.dictionary.specs.Value.{tableau_of};
-ghost use Rattle.simplex.specs.Combined.{IsBlockedAt, IsNamedCombination, column_shares, is_of, member_of, named, row_shares, share_list};
+ghost use Rattle.simplex.specs.Ends.{IsEnd};
+ghost use Rattle.simplex.specs.declared.settling.Settled.TheVariants.{Infeasible};
+ghost use Rattle.simplex.specs.Combined.{IsNamedCombination, column_shares, is_on, member_of, named, row_shares};
 
 use crate::choices::{Missed, first_outside, is_less, limited_variables};
 use certs::{Combo, Share, Shares, Source};
@@ -25,7 +28,7 @@ use std::alloc::{AllocError, Global};
 pub fn combo_of(alloc: Global, dictionary: &Dictionary<Frac>, row: u32) -> Result<Combo, AllocError>
     requires usable { dictionary.now.usable ≡ true }
     requires columns { dictionary.now.columns ≤ limited (tableau_of dictionary.now) }
-    requires blocked { IsBlockedAt row (settle_choice (tableau_of dictionary.now)) }
+    requires blocked { IsEnd (Infeasible row) (settle_choice (tableau_of dictionary.now)) }
     requires narrow { first_wide limit (settle_values (tableau_of dictionary.now)) ≡ None }
     ensures shares { (system : LinearSystem) → length system.columns ≡ dictionary.now.columns → IsTableauOf system (tableau_of dictionary.now) → (side : OneSide) → settle_choice (tableau_of dictionary.now) ≡ Blocked row side → IfOk result (λ combo. combo.shares ≡ map (named dictionary.now.columns) (blocked_shares system (tableau_of dictionary.now) row side)) }
     ensures combination { (system : LinearSystem) → IsWellFormedSystem system → length system.columns ≡ dictionary.now.columns → IsTableauOf system (tableau_of dictionary.now) → IfOk result (λ combo. IsNamedCombination system combo.shares) }
@@ -43,7 +46,7 @@ pub fn combo_of(alloc: Global, dictionary: &Dictionary<Frac>, row: u32) -> Resul
 // The variable that nothing helps, with the limit that it misses.
 fn missed_one(dictionary: &Dictionary<Frac>, row: u32) -> Missed
     requires usable { dictionary.now.usable ≡ true }
-    requires blocked { IsBlockedAt row (settle_choice (tableau_of dictionary.now)) }
+    requires blocked { IsEnd (Infeasible row) (settle_choice (tableau_of dictionary.now)) }
     requires narrow { first_wide limit (settle_values (tableau_of dictionary.now)) ≡ None }
     ensures is { settle_choice (tableau_of dictionary.now) ≡ Blocked row (side_of result.upper) }
     ensures row { result.variable ≡ row }
@@ -101,7 +104,7 @@ fn share_on(columns: u32, variable: u32, side: Side, weight: Frac) -> Share
 
 // The share of a variable that counts so often.
 fn share(columns: u32, variable: u32, count: Frac) -> Option<Share>
-    ensures { share_list result ≡ map (named columns) (share_for variable count) }
+    ensures { option_to_list result ≡ map (named columns) (share_for variable count) }
 {
     let zero = Frac::whole(0);
     if count == zero {
@@ -115,7 +118,7 @@ fn share(columns: u32, variable: u32, count: Frac) -> Option<Share>
 
 // The share where it is of an upper limit, or where it is of a lower one.
 fn on_side(share: Option<Share>, upper: bool) -> Option<Share>
-    ensures { share_list result ≡ filter (λ s. is_of upper s.side) (share_list share) }
+    ensures { option_to_list result ≡ filter (λ s. is_on upper s.side) (option_to_list share) }
 {
     let share = share?;
     if (share.side == Side::Up) != upper {
@@ -126,7 +129,7 @@ fn on_side(share: Option<Share>, upper: bool) -> Option<Share>
 
 // Appends a share that may be there.
 fn append(shares: &mut Vec<Share>, share: Option<Share>) -> Result<(), AllocError>
-    ensures { IfOk result (λ done. shares.new.items ≡ shares.old.items ++ share_list share) }
+    ensures { IfOk result (λ done. shares.new.items ≡ shares.old.items ++ option_to_list share) }
 {
     if let Some(share) = share {
         shares.push(share)?;

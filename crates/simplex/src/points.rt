@@ -8,7 +8,9 @@ ghost use Rattle.certs.specs.System.{LinearSystem};
 ghost use Rattle.certs.specs.Tableau.{IsTableauOf, IsWellFormedSystem, value_of};
 ghost use Rattle.certs.specs.Turns.{Choice, limited, operations_of, settle_choice, settle_values};
 ghost use Rattle.dictionary.specs.Value.{tableau_of};
-ghost use Rattle.simplex.specs.Points.{IsFeasiblePoint, Settles};
+ghost use Rattle.simplex.specs.Ends.{IsEnd};
+ghost use Rattle.simplex.specs.Points.{IsFeasiblePoint};
+ghost use Rattle.simplex.specs.declared.settling.Settled.TheVariants.{Feasible};
 
 use certs::{Point, Values};
 use dictionary::Dictionary;
@@ -20,7 +22,7 @@ use std::alloc::{AllocError, Global};
 pub fn point_of(alloc: Global, dictionary: &Dictionary<Frac>) -> Result<Point, AllocError>
     requires usable { dictionary.now.usable ≡ true }
     requires columns { dictionary.now.columns ≤ limited (tableau_of dictionary.now) }
-    requires settled { Settles (settle_choice (tableau_of dictionary.now)) }
+    requires settled { IsEnd Feasible (settle_choice (tableau_of dictionary.now)) }
     requires narrow { first_wide limit (settle_values (tableau_of dictionary.now)) ≡ None }
     ensures values { IfOk result (λ point. (length point.values ≡ dictionary.now.columns) × ((v : ℕ) → v < dictionary.now.columns → values_at point.values v ≡ value_of (tableau_of dictionary.now) v)) }
     ensures feasible { (system : LinearSystem) → IsWellFormedSystem system → length system.columns ≡ dictionary.now.columns → IsTableauOf system (tableau_of dictionary.now) → IfOk result (λ point. IsFeasiblePoint system point.values) }

@@ -3,7 +3,7 @@ use Rattle.std.specs.Prelude.{filter}
 use Rattle.certs.specs.Ended.{blocked_multiple, share_for}
 use Rattle.dictionary.specs.Layouts.{side_of}
 use Rattle.dictionary.specs.Value.{tableau_of}
-use Rattle.simplex.specs.Combined.{column_shares, is_of, named}
+use Rattle.simplex.specs.Combined.{column_shares, is_on, named}
 use Rattle.simplex.proofs.Combining.{columns_more}
 use Rattle.simplex.proofs.combinations.push_columns.Goals as goal
 
@@ -13,11 +13,11 @@ loop-variable-preserved c =
     let n = c.columns-columns.result in
     let v = c.loop-variable.variable in
     let old = c.args.shares.now.items in
-    let more = filter (λ s. is_of c.args.upper s.side) (map (named n) (share_for v (many v))) in
+    let more = filter (λ s. is_on c.args.upper s.side) (map (named n) (share_for v (many v))) in
     record {
       items =
           c.in_ok-append.ensures
-          ∙ ap (λ z. c.loop-variable.shares.items ++ z) (c.on_side.ensures ∙ ap (filter (λ s. is_of c.args.upper s.side)) (c.share.ensures ∙ ap (λ q. map (named n) (share_for v q)) c.multiple-count.ensures))
+          ∙ ap (λ z. c.loop-variable.shares.items ++ z) (c.on_side.ensures ∙ ap (filter (λ s. is_on c.args.upper s.side)) (c.share.ensures ∙ ap (λ q. map (named n) (share_for v q)) c.multiple-count.ensures))
           ∙ ap (λ z. z ++ more) c.loop-variable.invariant.items
           ∙ append_assoc old (column_shares n c.args.upper v many) more
           ∙ ap (λ z. old ++ z) (sym (columns_more n v c.args.upper many));
