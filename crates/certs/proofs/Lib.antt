@@ -29,3 +29,5 @@ pub mod Starts
 pub mod Feasible
 pub mod Choices
 pub mod Blocked
+pub mod Agreement
+pub mod RunEnds

@@ -77,3 +77,11 @@ pub record SettleRun (most : ℕ) (system : LinearSystem) (basis : List Place) (
   pub reaches : Reaches most system made basis last
   pub turns_are : turns ≡ suc (begun + made)
   pub ends : EndsAt most system last left turns end
+
+-- ---- laws
+-- Two settle runs that start alike, of one system from one basis with one budget after the same turns, end alike: in one way, at one
+-- basis, with the same number of pivots left, in the same turn.
+abbrev pub OneEndLaw : Type 0
+OneEndLaw = (most : ℕ) (system : LinearSystem) (basis : List Place) (budget begun : ℕ) (end other_end : End) (last other_last : List Place) (left other_left turns other_turns : ℕ)
+    → SettleRun most system basis budget begun end last left turns → SettleRun most system basis budget begun other_end other_last other_left other_turns
+    → (end ≡ other_end) × (last ≡ other_last) × (left ≡ other_left) × (turns ≡ other_turns)

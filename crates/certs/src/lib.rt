@@ -28,8 +28,8 @@ pub use laws::{
 pub use lp_model::{Member, MemberSet, Side};
 pub use points::check_point;
 pub use run_laws::{
-    blocked_is_combination, flip_keeps_system, one_table, pivot_keeps_system, settled_is_solution,
-    start_is_of_system,
+    blocked_is_combination, flip_keeps_system, one_end, one_table, pivot_keeps_system,
+    settled_is_solution, start_is_of_system,
 };
 pub use systems::{Limits, System};
 

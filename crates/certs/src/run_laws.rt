@@ -1,5 +1,6 @@
 //! Laws of tableaus and of runs.
 ghost use Rattle.certs.specs.Ended.{BlockedLaw, FeasibleLaw};
+ghost use Rattle.certs.specs.Runs.{OneEndLaw};
 ghost use Rattle.certs.specs.Tableau.{StartLaw, TableLaw};
 ghost use Rattle.certs.specs.Turns.{FlipLaw, PivotLaw};
 
@@ -31,4 +32,9 @@ pub fn settled_is_solution()
 /// Where nothing helps the first variable outside, its row of the table is a combination of the system.
 pub fn blocked_is_combination()
     ensures { BlockedLaw }
+{}
+
+/// A settle run has one end.
+pub fn one_end()
+    ensures { OneEndLaw }
 {}
