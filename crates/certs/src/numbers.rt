@@ -39,7 +39,14 @@ fn is_usable(model: &Model, set: &MemberSet, path: &[Branch], share: &Share) -> 
 fn is_positive(number: Frac) -> bool
     ensures { result ≡ lt_q zero_ℚ number }
 {
-    Frac::whole(0) < number
+    is_less(Frac::whole(0), number)
+}
+
+/// Whether a number is below another.
+pub(crate) fn is_less(a: Frac, b: Frac) -> bool
+    ensures { result ≡ lt_q a b }
+{
+    a < b
 }
 
 // Whether the set or the path has the side of a share.

@@ -1,7 +1,6 @@
-use Rattle.std.proofs.Common.{ap, sym, ◌∙◌, is_lt}
-use Rattle.rational.specs.Rational.{ℚ, zero_ℚ, cmp_ℚ}
-use Rattle.rational.proofs.Compare.{lt_q-is}
+use Rattle.std.proofs.Common.{ap, ◌∙◌}
+use Rattle.rational.specs.Rational.{ℚ, lt_q}
 use Rattle.certs.proofs.numbers.is_positive.Goals as goal
 
 pub returns : goal.returns
-returns c = c.lt.ensures ∙ (ap (λ (z : ℚ). is_lt (cmp_ℚ z c.args.number)) c.whole.ensures ∙ sym (lt_q-is zero_ℚ c.args.number))
+returns c = c.is_less.ensures ∙ ap (λ (z : ℚ). lt_q z c.args.number) c.whole.ensures
