@@ -4,7 +4,9 @@
 mod combinations;
 mod evidence;
 mod laws;
+mod naming;
 mod numbers;
+mod plain_systems;
 mod points;
 mod run_laws;
 mod sums;
@@ -26,6 +28,8 @@ pub use laws::{
     wide_is_first, yes_is_all_passed,
 };
 pub use lp_model::{Member, MemberSet, Side};
+pub use naming::{members_used, named_combo};
+pub use plain_systems::plain_system;
 pub use points::check_point;
 pub use run_laws::{
     blocked_is_combination, flip_keeps_system, one_end, one_table, pivot_keeps_system,

@@ -1,5 +1,5 @@
 //! Sets of members.
-ghost use Rattle.std.specs.Prelude.{◌≡◌, ◌<◌, ◌≤◌, Option, MatchOption, IfOk, ⊤, filter, length};
+ghost use Rattle.std.specs.Prelude.{◌≡◌, ◌<◌, ◌≤◌, Option, MatchOption, IfOk, [], ⊤, filter, length};
 ghost use Rattle.lp_model.specs.Members.{has, IsInOrder};
 ghost use Rattle.lp_model.specs.Shown.{most_rows, most_columns};
 ghost use Rattle.lp_model.specs.MemberSets.{possible_in, IsMemberFor, IsPossibleIn, empty_set, active_set, set_with, set_without, next_after, place_count, place_in, place_after};
@@ -52,6 +52,17 @@ impl MemberSet {
             rows: self.rows,
             columns: self.columns,
             marks: Vec::from_slice(alloc, self.marks.as_slice())?,
+        })
+    }
+
+    /// A set of no members, for those of the same program.
+    pub fn emptied(&self, alloc: Global) -> Result<MemberSet, AllocError>
+        ensures { IfOk result (λ set. set ≡ record self.now { members = [] }) }
+    {
+        Ok(MemberSet {
+            rows: self.rows,
+            columns: self.columns,
+            marks: vec![in alloc; false; self.marks.len()]?,
         })
     }
 

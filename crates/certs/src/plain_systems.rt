@@ -1,0 +1,219 @@
+//! The plain system of a set of members on a path.
+ghost use Rattle.std.specs.Prelude.{◌≡◌, ◌++◌, ◌<◌, All, IfOk, None, Some, cond, length, map, take};
+ghost use Rattle.rational.specs.Rational.{neg_ℚ};
+ghost use Rattle.lp_model.specs.Program.{row_at};
+ghost use Rattle.certs.specs.Checks.{IsSetOf};
+ghost use Rattle.certs.specs.Combination.{IsFitting};
+ghost use Rattle.certs.specs.Ended.{numbers_from};
+ghost use Rattle.certs.specs.Rows.{row_of};
+ghost use Rattle.lp_model.specs.MemberSets.{IsPossibleIn};
+ghost use Rattle.certs.specs.Plain.{column_limits, greatest_objective as objective_of, is_lowered as allows_less, is_raised as asks_more, limit_number as number_of, limit_of as limit_on, limit_source as source_of, negated as opposite, number_in as number_within, plain_row as row_of_program, plain_system as system_of, rows_in};
+
+use crate::evidence::{Branch, Source};
+use crate::numbers::source_number;
+use crate::systems::{Limits, System};
+use frac128::Frac;
+use lp_model::{Member, MemberSet, Model, Row, Side, Term, Terms, Weight};
+use std::alloc::{AllocError, Global};
+
+/// The system of a set on a path, marks left out: all columns of the program, each limited by the set's bounds and by the
+/// path where that is strictly tighter; the set's rows in order; and the program's objective exactly where `objective` is
+/// true, negated where it is to be made least.
+///
+/// The branches are on columns of the program, with numbers of magnitude at most 2^127 - 1.
+pub fn plain_system(
+    alloc: Global,
+    model: &Model,
+    set: &MemberSet,
+    path: &[Branch],
+    objective: bool,
+) -> Result<System, AllocError>
+    requires same { IsSetOf model.now set.now }
+    requires fitting { All IsFitting path.now }
+    ensures { IfOk result (λ system. system ≡ system_of model.now set.now.members path.now objective) }
+{
+    let columns = plain_columns(alloc, model, set, path)?;
+    let rows = plain_rows(alloc, model, set)?;
+    let objective = plain_objective(alloc, model, objective)?;
+    Ok(System {
+        columns,
+        rows,
+        objective,
+    })
+}
+
+// The limits of all columns.
+fn plain_columns(
+    alloc: Global,
+    model: &Model,
+    set: &MemberSet,
+    path: &[Branch],
+) -> Result<Vec<Limits>, AllocError>
+    requires same { IsSetOf model.now set.now }
+    requires fitting { All IsFitting path.now }
+    ensures { IfOk result (λ columns. columns.items ≡ map (column_limits model.now set.now.members path.now) (numbers_from 0 (length model.now.columns))) }
+{
+    let mut columns = Vec::new(alloc);
+    for column in 0..model.column_count() {
+        columns.push(Limits {
+            lo: limit_of(model, set, path, column, Side::Lo),
+            up: limit_of(model, set, path, column, Side::Up),
+        })?;
+    }
+    Ok(columns)
+}
+
+/// What limits a column on a side: the path, where it is strictly tighter than the set's bound, and else the bound.
+pub(crate) fn limit_source(
+    model: &Model,
+    set: &MemberSet,
+    path: &[Branch],
+    column: u32,
+    side: Side,
+) -> Source
+    requires known { column < length model.now.columns }
+    requires same { IsSetOf model.now set.now }
+    requires fitting { All IsFitting path.now }
+    ensures { result ≡ source_of model.now set.now.members path.now column side }
+{
+    match side {
+        Side::Lo => {
+            let bound = number_in(model, set, Member::Lower(column), Side::Lo);
+            let branch = source_number(model, path, Source::Above(column), Side::Lo);
+            if is_raised(bound, branch) {
+                return Source::Above(column);
+            }
+            Source::Member(Member::Lower(column))
+        }
+        Side::Up => {
+            let bound = number_in(model, set, Member::Upper(column), Side::Up);
+            let branch = source_number(model, path, Source::Below(column), Side::Up);
+            if is_lowered(bound, branch) {
+                return Source::Below(column);
+            }
+            Source::Member(Member::Upper(column))
+        }
+    }
+}
+
+// Whether the number on the path is above that of the bound, or there is only the path's.
+fn is_raised(bound: Option<Frac>, branch: Option<Frac>) -> bool
+    ensures { result ≡ asks_more bound branch }
+{
+    let Some(branch) = branch else {
+        return false;
+    };
+    match bound {
+        Some(bound) => bound < branch,
+        None => true,
+    }
+}
+
+// Whether the number on the path is below that of the bound, or there is only the path's.
+fn is_lowered(bound: Option<Frac>, branch: Option<Frac>) -> bool
+    ensures { result ≡ allows_less bound branch }
+{
+    let Some(branch) = branch else {
+        return false;
+    };
+    match bound {
+        Some(bound) => branch < bound,
+        None => true,
+    }
+}
+
+// The number on a side of a member, where the set has the member.
+fn number_in(model: &Model, set: &MemberSet, member: Member, side: Side) -> Option<Frac>
+    requires possible { IsPossibleIn set.now member }
+    requires same { IsSetOf model.now set.now }
+    ensures { result ≡ number_within model.now set.now.members member side }
+{
+    if !set.contains(member) {
+        return None;
+    }
+    source_number(model, &[], Source::Member(member), side)
+}
+
+// The limit of a column on a side.
+fn limit_of(
+    model: &Model,
+    set: &MemberSet,
+    path: &[Branch],
+    column: u32,
+    side: Side,
+) -> Option<Frac>
+    requires known { column < length model.now.columns }
+    requires same { IsSetOf model.now set.now }
+    requires fitting { All IsFitting path.now }
+    ensures { result ≡ limit_on model.now set.now.members path.now column side }
+{
+    let source = limit_source(model, set, path, column, side);
+    if let Source::Member(member) = source {
+        return number_in(model, set, member, side);
+    }
+    source_number(model, path, source, side)
+}
+
+// The rows of the set.
+fn plain_rows(alloc: Global, model: &Model, set: &MemberSet) -> Result<Vec<Row>, AllocError>
+    requires same { IsSetOf model.now set.now }
+    ensures { IfOk result (λ rows. map row_of rows.items ≡ map (row_of_program model.now) (rows_in model.now set.now.members)) }
+{
+    let mut rows = Vec::new(alloc);
+    for row in 0..model.row_count() {
+        if set.contains(Member::Row(row)) {
+            rows.push(plain_row(alloc, model, row)?)?;
+        }
+    }
+    Ok(rows)
+}
+
+// A row of the program, with both its sides.
+fn plain_row(alloc: Global, model: &Model, index: u32) -> Result<Row, AllocError>
+    requires known { index < length model.now.rows }
+    ensures { IfOk result (λ row. row_of row ≡ row_of_program model.now index) }
+{
+    let row = model.row(index);
+    Ok(Row {
+        terms: Terms::new(Vec::from_slice(alloc, row.terms.as_slice())?),
+        lo: row.lo,
+        up: row.up,
+        active: true,
+        weight: Weight::Soft(Frac::whole(1)),
+    })
+}
+
+// The program's objective as one that is to be made greatest, where it is wanted.
+fn plain_objective(alloc: Global, model: &Model, wanted: bool) -> Result<Option<Terms>, AllocError>
+    ensures { IfOk result (λ objective. objective ≡ cond wanted (Some (objective_of model.now)) None) }
+{
+    if !wanted {
+        return Ok(None);
+    }
+    Ok(Some(greatest_objective(alloc, model)?))
+}
+
+// The objective as one that is to be made greatest.
+fn greatest_objective(alloc: Global, model: &Model) -> Result<Terms, AllocError>
+    ensures { IfOk result (λ terms. terms ≡ objective_of model.now) }
+{
+    let terms = model.objective();
+    if model.maximise() {
+        return Ok(Terms::new(Vec::from_slice(alloc, terms)?));
+    }
+    negated(alloc, terms)
+}
+
+// Each factor with the other sign.
+fn negated(alloc: Global, terms: &[Term]) -> Result<Terms, AllocError>
+    ensures { IfOk result (λ negative. negative ≡ opposite terms.now) }
+{
+    let mut negative = Vec::new(alloc);
+    for term in terms {
+        negative.push(Term {
+            column: term.column,
+            factor: term.factor.negate(),
+        })?;
+    }
+    Ok(Terms::new(negative))
+}
