@@ -31,3 +31,4 @@ pub mod Choices
 pub mod Blocked
 pub mod Agreement
 pub mod RunEnds
+pub mod Translated
