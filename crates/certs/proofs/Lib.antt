@@ -32,3 +32,4 @@ pub mod Blocked
 pub mod Agreement
 pub mod RunEnds
 pub mod Numbered
+pub mod Translated

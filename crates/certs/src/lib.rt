@@ -32,8 +32,8 @@ pub use naming::{members_used, named_combo};
 pub use plain_systems::plain_system;
 pub use points::check_point;
 pub use run_laws::{
-    blocked_is_combination, flip_keeps_system, one_end, one_table, pivot_keeps_system,
-    settled_is_solution, start_is_of_system,
+    blocked_is_combination, combination_is_translated, flip_keeps_system, one_end, one_table,
+    pivot_keeps_system, settled_is_solution, start_is_of_system,
 };
 pub use systems::{Limits, System};
 

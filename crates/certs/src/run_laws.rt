@@ -1,5 +1,6 @@
 //! Laws of tableaus and of runs.
 ghost use Rattle.certs.specs.Ended.{BlockedLaw, FeasibleLaw};
+ghost use Rattle.certs.specs.Named.{TranslationLaw};
 ghost use Rattle.certs.specs.Runs.{OneEndLaw};
 ghost use Rattle.certs.specs.Tableau.{StartLaw, TableLaw};
 ghost use Rattle.certs.specs.Turns.{FlipLaw, PivotLaw};
@@ -37,4 +38,9 @@ pub fn blocked_is_combination()
 /// A settle run has one end.
 pub fn one_end()
     ensures { OneEndLaw }
+{}
+
+/// A combination of the plain system of a set on a path stands for one of the set on the path.
+pub fn combination_is_translated()
+    ensures { TranslationLaw }
 {}
