@@ -6,9 +6,11 @@ mod evidence;
 mod laws;
 mod naming;
 mod numbers;
+mod oracles;
 mod plain_systems;
 mod points;
 mod run_laws;
+mod solving;
 mod sums;
 mod systems;
 
@@ -29,12 +31,14 @@ pub use laws::{
 };
 pub use lp_model::{Member, MemberSet, Side};
 pub use naming::{members_used, named_combo};
+pub use oracles::{BranchAsk, Oracle, Stretcher};
 pub use plain_systems::plain_system;
 pub use points::check_point;
 pub use run_laws::{
     blocked_is_combination, combination_is_translated, flip_keeps_system, one_end, one_table,
     pivot_keeps_system, settled_is_solution, start_is_of_system,
 };
+pub use solving::{NodeEnd, Path, Site, SiteKind, Stop, Stretched, Verdict};
 pub use systems::{Limits, System};
 
 #[cfg(test)]

@@ -1,0 +1,107 @@
+//! What solvers are asked and what they answer.
+ghost use Rattle.std.specs.Prelude.{◌≡◌};
+
+use crate::evidence::{Branch, Combo, Point, Proof};
+use frac128::Wide;
+use lp_model::MemberSet;
+use std::marker::Model;
+
+/// Which system a run is of, and whether it goes on to improve the objective.
+#[derive(Clone, Copy, PartialEq, Eq, Debug)]
+pub enum SiteKind {
+    /// The plain system of the set on the path, settled.
+    Settle,
+    /// The plain system with the objective, settled and improved.
+    Improve,
+    /// The elastic system with all weights 1.
+    Stretch,
+    /// The elastic system with the program's weights.
+    Relax,
+    /// The alternative system.
+    Alternative,
+}
+
+/// The branches on the way to a node, as a list.
+#[derive(Drop)]
+pub struct Path {
+    items: Vec<Branch>,
+}
+
+impl Model for Path {
+    ghost use Rattle.std.specs.Prelude.{List};
+    ghost use Rattle.certs.specs.declared.evidence.Branch.{Branch};
+
+    ghost Value = { List Branch };
+
+    ghost view = { λ p. p.items.items };
+}
+
+impl Path {
+    /// These branches.
+    pub fn new(items: Vec<Branch>) -> Path
+        ensures { result ≡ items.items }
+    {
+        Path { items }
+    }
+
+    /// The branches.
+    pub fn as_slice(&self) -> &[Branch]
+        ensures { result.now ≡ self.now }
+    {
+        self.items.as_slice()
+    }
+
+    /// The branches, given back.
+    pub fn into_vec(self) -> Vec<Branch>
+        ensures { result.items ≡ self }
+    {
+        self.items
+    }
+}
+
+/// The run at which a solve stopped: the set, its enforced part, and the branches.
+#[derive(Drop)]
+pub struct Site {
+    pub kind: SiteKind,
+    pub set: MemberSet,
+    pub enforced: MemberSet,
+    pub path: Path,
+}
+
+/// Why a solve gives no answer.
+#[derive(Drop)]
+pub enum Stop {
+    /// In the turn with this number the operation is the first that is too wide.
+    Wide(Site, u64, Wide),
+    /// A pivot is due, and the budget of pivots is spent.
+    Pivots(Site),
+    /// The tree is not closed, and the budget of nodes is spent.
+    Nodes(Site),
+    /// The system has this size, which passes the limit.
+    Large(u64),
+    /// There is no memory.
+    Memory,
+}
+
+/// Whether a set can be satisfied: a point that does, or a proof that none does.
+#[derive(Drop)]
+pub enum Verdict {
+    Feasible(Point),
+    Infeasible(Proof),
+}
+
+/// How the run of a node ends: a point of the set without its marks, or a combination of the set and the path.
+#[derive(Drop)]
+pub enum NodeEnd {
+    Point(Point),
+    Cut(Combo),
+}
+
+/// What a round of stretching gives: a point that satisfies the whole set, the members that are to be enforced, or a
+/// combination of those that are.
+#[derive(Drop)]
+pub enum Stretched {
+    Met(Point),
+    Stretched(MemberSet),
+    Cut(Combo),
+}
