@@ -1,0 +1,67 @@
+-- What an analysis writes: the head with the notes, an entry for each command, and the foot.
+use Rattle.std.specs.Prelude.{◌≡◌, ◌⊎◌, ◌<◌, ⊤, ℕ, ◌+◌, ◌==◌, Bool, true, false, cond, List, [], ◌∷◌, ◌++◌, map, flat_map, length, codes, Option}
+use Rattle.std.specs.List.{list_any}
+use Rattle.lp_model.specs.Program.{Program}
+use Rattle.analysis.specs.Puts.{PutWhole, PutFailed, PutsNothing}
+use Rattle.report_text.specs.declared.report.Command.{Command}
+use Rattle.report_text.specs.declared.report.Answer.{Answer}
+use Rattle.report_text.specs.declared.report.Answer.TheVariants.{Feasible, Infeasible, Irreducible, Done, Stopped}
+use Rattle.report_text.specs.declared.report.Entry.{Entry}
+use Rattle.report_text.specs.declared.report.Report.{Report}
+use Rattle.report_text.specs.Grammar.{note_line, entry_lines, report_lines, text_of}
+use Rattle.report_text.specs.Form.{AreNumbered}
+use Rattle.analysis.specs.Right.{AreRight, first_budgets}
+
+-- ---- the text
+-- the head and the notes
+abbrev pub head_text : Program → List ℕ
+head_text model = text_of (codes "iisan report 1" ∷ map (note_line model) model.notes)
+
+-- the entries
+abbrev pub entries_text : Program → List Entry → List ℕ
+entries_text model entries = text_of (flat_map (entry_lines model) entries)
+
+-- the last line
+abbrev pub foot_text : List ℕ
+foot_text = text_of (codes "report end" ∷ [])
+
+-- the whole text of a report with these entries
+abbrev pub whole_text : Program → List Entry → List ℕ
+whole_text model entries = text_of (report_lines model (record { notes = model.notes; entries = entries }))
+
+-- ---- the status
+-- whether an answer is a stop
+abbrev pub is_stop : Answer → Bool
+is_stop (Feasible point) = false
+is_stop (Infeasible printed proof) = false
+is_stop (Irreducible core) = false
+is_stop Done = false
+is_stop (Stopped stop) = true
+
+-- 1 where some answer is a stop
+abbrev pub status_of : List Entry → ℕ
+status_of entries = cond (list_any (λ e. is_stop e.answer) entries) 1 0
+
+-- ---- what is written
+-- All commands are answered, and the whole text is put.
+pub record IsWhole {K : Type 0} (faults : K → ℕ) (taken : K → Option (List ℕ)) (old new : K) (model : Program) (commands : List Command) (entries : List Entry) (status : ℕ) : Type 0 where
+  pub all : length entries ≡ length commands
+  pub status_is : status ≡ status_of entries
+  pub put : PutWhole faults taken old new (whole_text model entries)
+
+-- A put failed: a front of the head and the entries, and of the foot where all commands are answered, is put.
+pub record IsCut {K : Type 0} (faults : K → ℕ) (taken : K → Option (List ℕ)) (old new : K) (model : Program) (commands : List Command) (entries : List Entry) (status : ℕ) : Type 0 where
+  pub status_is : status ≡ 4
+  pub put : PutFailed faults taken old new (head_text model ++ (entries_text model entries ++ cond (length entries == length commands) foot_text []))
+
+-- There is want of memory: the head and the whole entries of the first commands are put, or nothing.
+pub record IsWant {K : Type 0} (faults : K → ℕ) (taken : K → Option (List ℕ)) (old new : K) (model : Program) (entries : List Entry) (status : ℕ) : Type 0 where
+  pub status_is : status ≡ 7
+  pub put : PutWhole faults taken old new (head_text model ++ entries_text model entries) ⊎ PutsNothing faults taken old new
+
+-- The entries are right, each with the number of its line, and what is written is their text as far as the status tells.
+pub record IsAnalysis {K : Type 0} (faults : K → ℕ) (taken : K → Option (List ℕ)) (old new : K) (model : Program) (commands : List Command) (status : ℕ) : Type 0 where
+  pub entries : List Entry
+  pub right : AreRight model first_budgets commands entries
+  pub numbered : AreNumbered model (2 + length model.notes) entries
+  pub written : IsWhole faults taken old new model commands entries status ⊎ (IsCut faults taken old new model commands entries status ⊎ IsWant faults taken old new model entries status)

@@ -1,0 +1,7 @@
+//! The answers to a script of commands, put piece by piece.
+#![tactic(auto)]
+
+mod answering;
+mod pieces;
+
+pub use pieces::analyse;
