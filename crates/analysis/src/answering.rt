@@ -14,43 +14,83 @@ use std::alloc::{AllocError, Global};
 
 /// What each solve may spend.
 #[derive(Clone, Copy, Debug, PartialEq, Eq)]
-pub(crate) struct Budgets {
-    pub(crate) pivots: u64,
-    pub(crate) nodes: u64,
+pub struct Budgets {
+    pub pivots: u64,
+    pub nodes: u64,
 }
 
-/// The budgets after a command.
-pub(crate) fn after(budgets: Budgets, command: Command) -> Budgets {
-    match command {
-        Command::Pivots(pivots) => Budgets { pivots, ..budgets },
-        Command::Check | Command::Iis(_) => budgets,
+/// The budgets at first.
+pub(crate) fn first_budgets() -> Budgets
+    ensures { budgets_of result ≡ budgets_at_first }
+{
+    Budgets {
+        pivots: 100_000,
+        nodes: 10_000,
     }
 }
 
-/// The answer to a command, where memory allows.
+/// The budgets after a command.
+pub(crate) fn after(budgets: Budgets, command: Command) -> Budgets
+    ensures { budgets_of result ≡ budgets_after (budgets_of budgets) command }
+{
+    match command {
+        Command::Check => budgets,
+        Command::Iis(_) => budgets,
+        Command::Pivots(pivots) => Budgets {
+            pivots,
+            nodes: budgets.nodes,
+        },
+    }
+}
+
+/// The right answer to a command, where memory allows.
 pub(crate) fn answer(
     alloc: Global,
     model: &Model,
     budgets: Budgets,
     command: Command,
-) -> Result<Answer, AllocError> {
+) -> Result<Answer, AllocError>
+    requires linear { All (λ m. is_mark m ≡ false) (active_members model.now) }
+    requires built { IsBuilt command }
+    requires few { budgets.pivots < 2 ^ 63 }
+    ensures right { IfOk result (Right model.now (budgets_of budgets) command) }
+    ensures form { IfOk result (IsPrintable model.now command) }
+{
     match command {
-        Command::Check | Command::Iis(_) => check(alloc, model, budgets.pivots),
+        Command::Check => check(alloc, model, budgets),
+        Command::Iis(_) => unreachable!(),
         Command::Pivots(_) => Ok(Answer::Done),
     }
 }
 
 // Whether some point satisfies the active members.
-fn check(alloc: Global, model: &Model, pivots: u64) -> Result<Answer, AllocError> {
+fn check(alloc: Global, model: &Model, budgets: Budgets) -> Result<Answer, AllocError>
+    requires linear { All (λ m. is_mark m ≡ false) (active_members model.now) }
+    requires few { budgets.pivots < 2 ^ 63 }
+    ensures right { IfOk result (IsChecked model.now (budgets_of budgets)) }
+    ensures form { IfOk result (IsPrintable model.now Command.Check) }
+{
     let set = model.members(alloc)?;
-    let mut oracle = LinearOracle::new(alloc, model, pivots);
+    let mut oracle = LinearOracle::new(alloc, model, budgets.pivots);
     match oracle.ask(alloc, &set) {
         Ok(Verdict::Feasible(point)) => Ok(Answer::Feasible(point)),
-        Ok(Verdict::Infeasible(proof)) => {
-            let used = members_used(alloc, &set, &proof)?;
-            Ok(Answer::Infeasible(used, proof))
-        }
-        Err(Stop::Memory) => Err(AllocError),
-        Err(stop) => Ok(Answer::Stopped(stop)),
+        Ok(Verdict::Infeasible(proof)) => refuted(alloc, &set, proof),
+        Err(stop) => stopped(stop),
+    }
+}
+
+// The members that a proof uses, with the proof.
+fn refuted(alloc: Global, set: &MemberSet, proof: Proof) -> Result<Answer, AllocError>
+{
+    let used = members_used(alloc, set, &proof)?;
+    Ok(Answer::Infeasible(used, proof))
+}
+
+// A stop as an answer, but for want of memory.
+fn stopped(stop: Stop) -> Result<Answer, AllocError>
+{
+    match stop {
+        Stop::Memory => Err(AllocError),
+        _ => Ok(Answer::Stopped(stop)),
     }
 }

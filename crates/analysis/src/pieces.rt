@@ -1,0 +1,141 @@
+//! The pieces of an analysis: the head with the notes, an entry for each command, the foot.
+ghost use Rattle.std.specs.Prelude.{◌≡◌, All, false};
+ghost use Rattle.lp_model.specs.Members.{active_members, is_mark};
+ghost use Rattle.report_text.specs.Commands.{IsBuilt};
+ghost use Rattle.analysis.specs.Answers.{budgets_of};
+ghost use Rattle.analysis.specs.Pieces.{EntriesPut, EntryPut, ReportPut, TextPut};
+ghost use Rattle.analysis.specs.Written.{IsAnalysis, head_text, foot_text, is_stop as is_stop_of};
+
+use crate::answering::{Budgets, after, answer, first_budgets};
+use iis_edge::{PutFault, Sink};
+use iis_session::Script;
+use lp_model::Model;
+use report_text::{Answer, Command, print_entry, print_foot, print_head};
+use std::alloc::{AllocError, Global};
+
+/// Why a piece was not put whole: for want of memory nothing of it was, or the put failed.
+#[derive(Clone, Copy, Debug, PartialEq, Eq)]
+pub enum Want {
+    Memory,
+    Fault,
+}
+
+impl From<AllocError> for Want {
+    fn from(_error: AllocError) -> Want {
+        Want::Memory
+    }
+}
+
+/// Answers the commands of a script in order, and puts the report of the answers piece by piece: the head with the
+/// program's notes, an entry for each command, and the foot. Gives the status:
+///
+/// - 0 or 1: all is put; 1 where some answer is a stop.
+/// - 4: a put failed; a front of the report is put.
+/// - 7: want of memory; the head and the entries of the first commands are put, or nothing.
+///
+/// The program has no active marks.
+pub fn analyse<W: Sink>(alloc: Global, model: &Model, script: &Script, out: &mut W) -> u8
+    requires linear { All (λ m. is_mark m ≡ false) (active_members model.now) }
+    requires built { All IsBuilt script.now }
+    ensures { IsAnalysis W.faults W.taken out.old out.new model.now script.now result }
+{
+    match put_report(alloc, model, script.as_slice(), out) {
+        Ok(stopped) => u8::from(stopped),
+        Err(Want::Fault) => 4,
+        Err(Want::Memory) => 7,
+    }
+}
+
+// Puts the head, the entries and the foot, and tells whether some answer is a stop.
+fn put_report<W: Sink>(
+    alloc: Global,
+    model: &Model,
+    commands: &[Command],
+    out: &mut W,
+) -> Result<bool, Want>
+    requires linear { All (λ m. is_mark m ≡ false) (active_members model.now) }
+    requires built { All IsBuilt commands.now }
+    ensures { ReportPut W.faults W.taken out.old out.new model.now commands.now result }
+{
+    put_head(alloc, model, out)?;
+    let stopped = put_entries(alloc, model, commands, out)?;
+    put_foot(alloc, out)?;
+    Ok(stopped)
+}
+
+// Puts the head and the notes.
+fn put_head<W: Sink>(alloc: Global, model: &Model, out: &mut W) -> Result<(), Want>
+    ensures { TextPut W.faults W.taken out.old out.new (head_text model.now) result }
+{
+    let mut text = Vec::new(alloc);
+    print_head(model, &mut text)?;
+    put(out, text.as_slice())
+}
+
+// Puts the last line.
+fn put_foot<W: Sink>(alloc: Global, out: &mut W) -> Result<(), Want>
+    ensures { TextPut W.faults W.taken out.old out.new foot_text result }
+{
+    let mut text = Vec::new(alloc);
+    print_foot(&mut text)?;
+    put(out, text.as_slice())
+}
+
+// Puts a piece.
+fn put<W: Sink>(out: &mut W, piece: &[u8]) -> Result<(), Want>
+    ensures { TextPut W.faults W.taken out.old out.new piece.now result }
+{
+    match out.put(piece) {
+        Ok(()) => Ok(()),
+        Err(PutFault) => Err(Want::Fault),
+    }
+}
+
+// Puts the entries of the commands, and tells whether some answer is a stop.
+fn put_entries<W: Sink>(
+    alloc: Global,
+    model: &Model,
+    commands: &[Command],
+    out: &mut W,
+) -> Result<bool, Want>
+    requires linear { All (λ m. is_mark m ≡ false) (active_members model.now) }
+    requires built { All IsBuilt commands.now }
+    ensures { EntriesPut W.faults W.taken out.old out.new model.now commands.now result }
+{
+    let mut budgets = first_budgets();
+    let mut stopped = false;
+    for command in commands {
+        if put_entry(alloc, model, budgets, *command, out)? {
+            stopped = true;
+        }
+        budgets = after(budgets, *command);
+    }
+    Ok(stopped)
+}
+
+// Puts the entry of a command, and tells whether its answer is a stop.
+fn put_entry<W: Sink>(
+    alloc: Global,
+    model: &Model,
+    budgets: Budgets,
+    command: Command,
+    out: &mut W,
+) -> Result<bool, Want>
+    requires linear { All (λ m. is_mark m ≡ false) (active_members model.now) }
+    requires built { IsBuilt command }
+    requires few { budgets.pivots < 2 ^ 63 }
+    ensures { EntryPut W.faults W.taken out.old out.new model.now (budgets_of budgets) command result }
+{
+    let answer = answer(alloc, model, budgets, command)?;
+    let mut text = Vec::new(alloc);
+    print_entry(model, &command, &answer, &mut text)?;
+    put(out, text.as_slice())?;
+    Ok(is_stop(&answer))
+}
+
+// Whether an answer is a stop.
+fn is_stop(answer: &Answer) -> bool
+    ensures { result ≡ is_stop_of answer.now }
+{
+    matches!(answer, Answer::Stopped(_))
+}
