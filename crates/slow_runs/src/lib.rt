@@ -12,3 +12,6 @@ pub use equations::SlowRow;
 pub use forming::is_formed;
 pub use runs::{SlowEnd, SlowRun, slow_run};
 pub use stops::SlowStop;
+
+#[cfg(test)]
+mod tests;

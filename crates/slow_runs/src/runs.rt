@@ -26,7 +26,8 @@ pub enum SlowEnd {
     Pivots,
 }
 
-/// A settle run: its end, the pivots left, the turns begun, and the last basis with its table.
+/// A settle run: its end, the pivots left, the turns begun, and the last basis with its table and the limits of all
+/// variables.
 #[derive(Drop)]
 pub struct SlowRun {
     pub end: SlowEnd,
@@ -34,6 +35,27 @@ pub struct SlowRun {
     pub turns: u64,
     pub basis: Vec<Place>,
     pub table: Vec<SlowRow>,
+    pub limits: Vec<Limits>,
+}
+
+impl SlowRun {
+    /// The row of a basic variable at the last basis.
+    pub fn row(&self, basic: usize) -> Option<&SlowRow> {
+        for row in &self.table {
+            if row.basic == basic {
+                return Some(row);
+            }
+        }
+        None
+    }
+
+    /// The value of a variable at the last basis, where no operation of it is too wide.
+    pub fn value(&self, variable: usize) -> Option<Frac> {
+        match self.row(variable) {
+            Some(row) => value_of(row, &self.limits, &self.basis).ok(),
+            None => Some(standing_at(&self.limits, &self.basis, variable)),
+        }
+    }
 }
 
 // The first variable leaves the basis to this limit, and the last one enters.
@@ -65,6 +87,7 @@ pub fn slow_run(alloc: Global, system: &System, budget: u32) -> Result<SlowRun, 
                     turns: u64::from(made) + 1,
                     basis,
                     table,
+                    limits,
                 });
             }
             Turn::Pivot(exchange) => exchange_places(&mut basis, exchange),
@@ -81,6 +104,7 @@ pub fn slow_run(alloc: Global, system: &System, budget: u32) -> Result<SlowRun, 
         turns: u64::from(budget) + 1,
         basis,
         table,
+        limits,
     })
 }
 
