@@ -283,3 +283,289 @@ fn two_rows_against_each_other(rt: HostRuntime) -> Result<(), Fail> {
     assert!(rt; all_agree(rt.alloc(), plain, 1, SlowEnd::Infeasible(2, Side::Up))?);
     Ok(())
 }
+
+// The same row stands twice.
+#[test]
+fn equal_rows_against_one(rt: HostRuntime) -> Result<(), Fail> {
+    let plain = Plain {
+        columns: &[(Some(0), None)],
+        rows: &[
+            (&[(0, 1)], None, Some(0)),
+            (&[(0, 1)], Some(1), None),
+            (&[(0, 1)], None, Some(0)),
+        ],
+        objective: None,
+    };
+    assert!(rt; all_agree(rt.alloc(), plain, 1, SlowEnd::Infeasible(1, Side::Up))?);
+    Ok(())
+}
+
+// Three periods, with an objective and without.
+#[test]
+fn production_plan(rt: HostRuntime) -> Result<(), Fail> {
+    let first = Plain {
+        columns: &[
+            (Some(0), Some(10)),
+            (Some(0), Some(10)),
+            (Some(0), Some(10)),
+            (Some(0), None),
+            (Some(0), None),
+            (Some(0), None),
+        ],
+        rows: &[
+            (&[(0, 1), (3, -1)], Some(8), Some(8)),
+            (&[(1, 1), (3, 1), (4, -1)], Some(12), Some(12)),
+            (&[(2, 1), (4, 1), (5, -1)], Some(13), Some(13)),
+        ],
+        objective: None,
+    };
+    assert!(rt; all_agree(rt.alloc(), first, 5, SlowEnd::Infeasible(0, Side::Up))?);
+    let second = Plain {
+        columns: &[
+            (Some(0), Some(10)),
+            (Some(0), Some(10)),
+            (Some(0), Some(10)),
+            (Some(0), None),
+            (Some(0), None),
+            (Some(0), None),
+        ],
+        rows: &[
+            (&[(0, 1), (3, -1)], Some(8), Some(8)),
+            (&[(1, 1), (3, 1), (4, -1)], Some(12), Some(12)),
+            (&[(2, 1), (4, 1), (5, -1)], Some(13), Some(13)),
+        ],
+        objective: Some(&[(3, -1), (4, -1), (5, -1)]),
+    };
+    assert!(rt; all_agree(rt.alloc(), second, 5, SlowEnd::Infeasible(0, Side::Up))?);
+    Ok(())
+}
+
+#[test]
+fn rows_through_one_vertex(rt: HostRuntime) -> Result<(), Fail> {
+    let plain = Plain {
+        columns: &[(Some(0), None), (Some(0), None)],
+        rows: &[
+            (&[(0, 1), (1, 1)], Some(2), None),
+            (&[(0, 1), (1, -1)], Some(0), None),
+            (&[(1, 1)], Some(1), None),
+            (&[(0, 2), (1, 1)], Some(3), None),
+            (&[(0, 1)], None, Some(1)),
+        ],
+        objective: None,
+    };
+    assert!(rt; all_agree(rt.alloc(), plain, 2, SlowEnd::Feasible)?);
+    Ok(())
+}
+
+#[test]
+fn redundant_equations(rt: HostRuntime) -> Result<(), Fail> {
+    let first = Plain {
+        columns: &[(Some(0), None), (Some(0), None)],
+        rows: &[
+            (&[(0, 1), (1, 1)], Some(4), Some(4)),
+            (&[(0, 1), (1, 1)], Some(4), Some(4)),
+            (&[(0, 2), (1, 2)], Some(8), Some(8)),
+            (&[(0, 1), (1, -1)], Some(0), Some(0)),
+        ],
+        objective: None,
+    };
+    assert!(rt; all_agree(rt.alloc(), first, 2, SlowEnd::Feasible)?);
+    let second = Plain {
+        columns: &[(Some(0), None), (Some(0), None)],
+        rows: &[
+            (&[(0, 1), (1, 1)], Some(4), Some(4)),
+            (&[(0, 1), (1, 1)], Some(4), Some(4)),
+            (&[(0, 2), (1, 2)], Some(9), None),
+            (&[(0, 1), (1, -1)], Some(0), Some(0)),
+        ],
+        objective: None,
+    };
+    assert!(rt; all_agree(rt.alloc(), second, 1, SlowEnd::Infeasible(4, Side::Lo))?);
+    Ok(())
+}
+
+#[test]
+fn rows_without_terms(rt: HostRuntime) -> Result<(), Fail> {
+    let first = Plain {
+        columns: &[(Some(0), Some(5))],
+        rows: &[
+            (&[], None, Some(1)),
+            (&[(0, 1)], Some(2), None),
+            (&[], Some(0), Some(0)),
+        ],
+        objective: None,
+    };
+    assert!(rt; all_agree(rt.alloc(), first, 1, SlowEnd::Feasible)?);
+    let second = Plain {
+        columns: &[(Some(0), Some(5))],
+        rows: &[(&[(0, 1)], Some(2), None), (&[], Some(1), None)],
+        objective: None,
+    };
+    assert!(rt; all_agree(rt.alloc(), second, 1, SlowEnd::Infeasible(2, Side::Lo))?);
+    let third = Plain {
+        columns: &[],
+        rows: &[(&[], None, Some(0)), (&[], Some(1), Some(2))],
+        objective: None,
+    };
+    assert!(rt; all_agree(rt.alloc(), third, 0, SlowEnd::Infeasible(1, Side::Lo))?);
+    Ok(())
+}
+
+#[test]
+fn free_columns(rt: HostRuntime) -> Result<(), Fail> {
+    let first = Plain {
+        columns: &[(None, None), (None, None)],
+        rows: &[
+            (&[(0, 1), (1, 1)], Some(3), Some(3)),
+            (&[(0, 1), (1, -1)], Some(1), Some(1)),
+            (&[(0, 1), (1, 2)], None, Some(3)),
+        ],
+        objective: None,
+    };
+    assert!(rt; all_agree(rt.alloc(), first, 2, SlowEnd::Infeasible(4, Side::Up))?);
+    let second = Plain {
+        columns: &[(None, None), (None, None), (None, None)],
+        rows: &[
+            (&[(0, 1), (1, 1), (2, 1)], Some(3), Some(3)),
+            (&[(0, 1), (1, -1)], Some(1), Some(1)),
+            (&[(1, 2), (2, -3)], None, Some(-4)),
+        ],
+        objective: None,
+    };
+    assert!(rt; all_agree(rt.alloc(), second, 3, SlowEnd::Feasible)?);
+    Ok(())
+}
+
+#[test]
+fn columns_with_upper_limits_alone(rt: HostRuntime) -> Result<(), Fail> {
+    let first = Plain {
+        columns: &[(None, Some(3)), (None, Some(5))],
+        rows: &[
+            (&[(0, 1), (1, 1)], None, Some(-1)),
+            (&[(0, 1), (1, -1)], Some(0), None),
+        ],
+        objective: None,
+    };
+    assert!(rt; all_agree(rt.alloc(), first, 2, SlowEnd::Feasible)?);
+    let second = Plain {
+        columns: &[(None, Some(3)), (None, Some(5))],
+        rows: &[
+            (&[(0, 2), (1, 1)], Some(4), None),
+            (&[(0, 1), (1, 1)], Some(9), None),
+        ],
+        objective: None,
+    };
+    assert!(rt; all_agree(rt.alloc(), second, 0, SlowEnd::Infeasible(3, Side::Lo))?);
+    Ok(())
+}
+
+#[test]
+fn boxed_columns(rt: HostRuntime) -> Result<(), Fail> {
+    let plain = Plain {
+        columns: &[(Some(0), Some(2)), (Some(1), Some(3)), (Some(-1), Some(1))],
+        rows: &[
+            (&[(0, 1), (1, 1), (2, 1)], Some(5), None),
+            (&[(0, 1), (1, -1)], None, Some(-1)),
+            (&[(1, 1), (2, -2)], None, Some(2)),
+        ],
+        objective: None,
+    };
+    assert!(rt; all_agree(rt.alloc(), plain, 4, SlowEnd::Feasible)?);
+    Ok(())
+}
+
+#[test]
+fn fixed_column_never_enters(rt: HostRuntime) -> Result<(), Fail> {
+    let plain = Plain {
+        columns: &[(Some(2), Some(2)), (None, None), (Some(0), Some(1))],
+        rows: &[
+            (&[(0, 1), (1, 1), (2, 1)], Some(5), Some(5)),
+            (&[(0, 1), (1, -1)], Some(1), None),
+        ],
+        objective: None,
+    };
+    assert!(rt; all_agree(rt.alloc(), plain, 2, SlowEnd::Infeasible(2, Side::Up))?);
+    Ok(())
+}
+
+#[test]
+fn objective_never_leaves(rt: HostRuntime) -> Result<(), Fail> {
+    let first = Plain {
+        columns: &[(Some(0), Some(4)), (Some(0), Some(4))],
+        rows: &[
+            (&[(0, 1), (1, 2)], Some(5), None),
+            (&[(0, 3), (1, 1)], None, Some(6)),
+        ],
+        objective: Some(&[(0, 1), (1, 1)]),
+    };
+    assert!(rt; all_agree(rt.alloc(), first, 3, SlowEnd::Feasible)?);
+    let second = Plain {
+        columns: &[(Some(0), Some(1)), (Some(0), Some(1))],
+        rows: &[
+            (&[(0, 1), (1, 2)], Some(3), None),
+            (&[(0, 3), (1, 1)], None, Some(2)),
+        ],
+        objective: Some(&[(0, -1), (1, 7)]),
+    };
+    assert!(rt; all_agree(rt.alloc(), second, 3, SlowEnd::Infeasible(1, Side::Up))?);
+    let third = Plain {
+        columns: &[(Some(0), Some(1)), (None, None)],
+        rows: &[],
+        objective: Some(&[(0, 1)]),
+    };
+    assert!(rt; all_agree(rt.alloc(), third, 0, SlowEnd::Feasible)?);
+    Ok(())
+}
+
+// A row of the table has columns in it that leave and enter again.
+#[test]
+fn many_pivots_to_a_point(rt: HostRuntime) -> Result<(), Fail> {
+    let plain = Plain {
+        columns: &[
+            (Some(-1), Some(2)),
+            (None, None),
+            (Some(-2), Some(-1)),
+            (None, None),
+        ],
+        rows: &[
+            (&[(0, 3), (1, 3), (2, 3), (3, 1)], Some(5), None),
+            (&[(0, 1), (1, 2), (3, 3)], None, Some(5)),
+            (&[(0, -3), (1, 3), (2, -1)], Some(5), Some(5)),
+            (&[(1, 1), (2, -3), (3, 3)], Some(-2), Some(1)),
+        ],
+        objective: Some(&[(0, 1), (1, -1), (3, 2)]),
+    };
+    assert!(rt; all_agree(rt.alloc(), plain, 8, SlowEnd::Feasible)?);
+    Ok(())
+}
+
+#[test]
+fn many_pivots_to_none(rt: HostRuntime) -> Result<(), Fail> {
+    let first = Plain {
+        columns: &[
+            (Some(3), Some(4)),
+            (Some(-3), Some(-2)),
+            (None, None),
+            (None, None),
+        ],
+        rows: &[
+            (&[(0, -3), (1, -3), (2, -1), (3, -1)], Some(-2), None),
+            (&[(0, -1), (1, -2), (2, 3), (3, -3)], None, Some(1)),
+            (&[(0, -2), (1, 2), (2, -3), (3, 3)], Some(2), Some(2)),
+            (&[(0, 3), (1, -1), (2, -3), (3, 2)], None, Some(-5)),
+        ],
+        objective: None,
+    };
+    assert!(rt; all_agree(rt.alloc(), first, 8, SlowEnd::Infeasible(0, Side::Lo))?);
+    let second = Plain {
+        columns: &[(Some(-3), Some(1)), (Some(2), Some(6)), (Some(-1), Some(1))],
+        rows: &[
+            (&[(0, -2), (1, -1), (2, -3)], None, Some(-4)),
+            (&[(0, 1), (1, -1), (2, 2)], Some(1), None),
+            (&[(0, -3), (1, 3), (2, 3)], None, Some(5)),
+        ],
+        objective: Some(&[(0, 1), (1, -1), (2, 3)]),
+    };
+    assert!(rt; all_agree(rt.alloc(), second, 7, SlowEnd::Infeasible(0, Side::Up))?);
+    Ok(())
+}
