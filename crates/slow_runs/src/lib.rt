@@ -14,4 +14,8 @@ pub use runs::{SlowEnd, SlowRun, slow_run};
 pub use stops::SlowStop;
 
 #[cfg(test)]
+mod plain;
+#[cfg(test)]
+mod stop_tests;
+#[cfg(test)]
 mod tests;

@@ -3,88 +3,20 @@ ghost use Rattle.std.specs.Prelude.{◌≡◌, ◌<◌, ◌≤◌, Err, true, No
 ghost use Rattle.frac128.specs.Limit.{limit};
 ghost use Rattle.frac128.specs.Calculation.{first_wide};
 ghost use Rattle.certs.specs.System.{is_basic as is_basic_in};
-ghost use Rattle.certs.specs.Turns.{limited, settle_choice, settle_values};
+ghost use Rattle.certs.specs.Turns.{settle_choice, settle_values};
 ghost use Rattle.dictionary.specs.Value.{tableau_of};
 ghost use Rattle.simplex.specs.Ends.{IsEnd, IsSpent};
 
 use super::*;
 use crate::bases::is_basic;
-use certs::{Limits, System};
+use crate::plain::{Form, Plain, limited_variables, system};
+use certs::System;
 use dictionary::Dictionary;
 use frac128::Frac;
-use lp_model::{Row, Side, Term, Terms, Weight};
+use lp_model::{Side, Term};
 use simplex::{RunStop, Settled, point_of, settle};
-use std::alloc::{AllocError, Global};
+use std::alloc::Global;
 use std::test::Fail;
-
-/// A least and a greatest number, each where it is there.
-type Range = (Option<i64>, Option<i64>);
-
-/// The columns and the factors of a form.
-type Form<'a> = &'a [(u32, i64)];
-
-/// A system in plain numbers: the ranges of its columns, its rows with their ranges, and its objective.
-#[derive(Clone, Copy)]
-struct Plain<'a> {
-    columns: &'a [Range],
-    rows: &'a [(Form<'a>, Option<i64>, Option<i64>)],
-    objective: Option<Form<'a>>,
-}
-
-// A number, where it is there.
-fn number(plain: Option<i64>) -> Option<Frac> {
-    match plain {
-        Some(number) => Some(Frac::whole(number)),
-        None => None,
-    }
-}
-
-// A form.
-fn form(alloc: Global, plain: Form<'_>) -> Result<Terms, AllocError> {
-    let mut terms = Vec::new(alloc);
-    for (column, factor) in plain {
-        terms.push(Term {
-            column: *column,
-            factor: Frac::whole(*factor),
-        })?;
-    }
-    Ok(Terms::new(terms))
-}
-
-// A row.
-fn row(terms: Terms, lo: Option<Frac>, up: Option<Frac>) -> Row {
-    Row {
-        terms,
-        lo,
-        up,
-        active: true,
-        weight: Weight::Rigid,
-    }
-}
-
-// The system of plain numbers.
-fn system(alloc: Global, plain: Plain<'_>) -> Result<System, AllocError> {
-    let mut columns = Vec::new(alloc);
-    for (lo, up) in plain.columns {
-        columns.push(Limits {
-            lo: number(*lo),
-            up: number(*up),
-        })?;
-    }
-    let mut rows = Vec::new(alloc);
-    for (terms, lo, up) in plain.rows {
-        rows.push(row(form(alloc, terms)?, number(*lo), number(*up)))?;
-    }
-    let objective = match plain.objective {
-        Some(terms) => Some(form(alloc, terms)?),
-        None => None,
-    };
-    Ok(System {
-        columns,
-        rows,
-        objective,
-    })
-}
 
 // Whether a dictionary has the places, the values and the table of a slow run.
 fn same_basis(dictionary: &Dictionary<Frac>, slow: &SlowRun) -> bool
@@ -135,16 +67,6 @@ fn same_row(dictionary: &Dictionary<Frac>, slow: &SlowRun, basic: u32) -> bool
         }
     }
     true
-}
-
-// How many variables there are but the objective.
-fn limited_variables(dictionary: &Dictionary<Frac>) -> u32
-    ensures { result ≡ limited (tableau_of dictionary.now) }
-{
-    match dictionary.objective() {
-        Some(objective) => objective,
-        None => dictionary.variables(),
-    }
 }
 
 // Whether a number is within limits.
@@ -508,12 +430,19 @@ fn objective_never_leaves(rt: HostRuntime) -> Result<(), Fail> {
         objective: Some(&[(0, -1), (1, 7)]),
     };
     assert!(rt; all_agree(rt.alloc(), second, 3, SlowEnd::Infeasible(1, Side::Up))?);
-    let third = Plain {
+    Ok(())
+}
+
+// There is an objective, and no row.
+#[test]
+fn no_rows(rt: HostRuntime) -> Result<(), Fail> {
+    let objective: Form<'_> = &[(0, 1)];
+    let plain = Plain {
         columns: &[(Some(0), Some(1)), (None, None)],
         rows: &[],
-        objective: Some(&[(0, 1)]),
+        objective: Some(objective),
     };
-    assert!(rt; all_agree(rt.alloc(), third, 0, SlowEnd::Feasible)?);
+    assert!(rt; all_agree(rt.alloc(), plain, 0, SlowEnd::Feasible)?);
     Ok(())
 }
 
