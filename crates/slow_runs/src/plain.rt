@@ -23,16 +23,16 @@ pub(crate) struct Plain<'a> {
     pub(crate) objective: Option<Form<'a>>,
 }
 
-// A number, where it is there.
-fn number(plain: Option<i64>) -> Option<Frac> {
+/// A number, where it is there.
+pub(crate) fn number(plain: Option<i64>) -> Option<Frac> {
     match plain {
         Some(number) => Some(Frac::whole(number)),
         None => None,
     }
 }
 
-// A form.
-fn form(alloc: Global, plain: Form<'_>) -> Result<Terms, AllocError> {
+/// A form.
+pub(crate) fn form(alloc: Global, plain: Form<'_>) -> Result<Terms, AllocError> {
     let mut terms = Vec::new(alloc);
     for (column, factor) in plain {
         terms.push(Term {

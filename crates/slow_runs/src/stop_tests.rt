@@ -7,7 +7,7 @@ ghost use Rattle.dictionary.specs.Value.{tableau_of};
 ghost use Rattle.simplex.specs.Ends.{IsEnd};
 
 use super::*;
-use crate::plain::{Form, Plain, limited_variables, row, system};
+use crate::plain::{Form, Plain, form, limited_variables, number, row, system};
 use certs::{Share, Shares, Source, System};
 use dictionary::Dictionary;
 use frac128::{Frac, FracStop, Op, Wide};
@@ -271,13 +271,15 @@ fn one_row_formed(
     lo: Option<i64>,
     up: Option<i64>,
 ) -> Result<bool, AllocError> {
-    let rows = [(terms, lo, up)];
     let plain = Plain {
         columns: &[(Some(0), Some(5)), (Some(0), None)],
-        rows: &rows,
+        rows: &[],
         objective: None,
     };
-    Ok(is_formed(&system(alloc, plain)?))
+    let mut system = system(alloc, plain)?;
+    let terms = form(alloc, terms)?;
+    system.rows.push(row(terms, number(lo), number(up)))?;
+    Ok(is_formed(&system))
 }
 
 #[test]
