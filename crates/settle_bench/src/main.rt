@@ -51,7 +51,7 @@ fn sink_factor(network: Network, sink: u32, route: u32) -> u32
     if route % network.sinks == sink {
         return 1;
     }
-    if route % 3 == 0 && draw(route.wrapping_mul(7), network.sinks) == sink {
+    if route % 12 == 0 && draw(route.wrapping_mul(7), network.sinks) == sink {
         return 1 + draw(route, 2);
     }
     0
@@ -90,7 +90,7 @@ fn row(terms: Terms, lo: Option<Frac>, up: Option<Frac>) -> Row {
     }
 }
 
-// The rows: a source has from 5 to 14, and a sink asks for 14 to 22.
+// The rows: a source has from 5 to 14, and a sink asks for 8 to 16.
 fn rows(alloc: Global, network: Network) -> Result<Vec<Row>, AllocError>
     requires sources { 0 < network.sources }
     requires sinks { 0 < network.sinks }
@@ -101,7 +101,7 @@ fn rows(alloc: Global, network: Network) -> Result<Vec<Row>, AllocError>
         rows.push(row(terms(alloc, network, source, true)?, None, Some(supply)))?;
     }
     for sink in 0..network.sinks {
-        let demand = Frac::whole(14 + i64::from(draw(sink, 9)));
+        let demand = Frac::whole(8 + i64::from(draw(sink, 9)));
         rows.push(row(terms(alloc, network, sink, false)?, Some(demand), None))?;
     }
     Ok(rows)
