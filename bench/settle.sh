@@ -1,7 +1,7 @@
 #!/bin/sh
 # Settles infeasible networks whose tables have 20 x 40, 100 x 200 and 400 x 800 entries, and prints for each the pivots of a run,
-# its seconds, the nanoseconds for each entry and pivot, and the peak memory. Small ones are run many times over, and a run's
-# seconds are the mean. It wants GNU time (Debian's package `time`). A benchmark, no test.
+# its seconds of processor time, the nanoseconds for each entry and pivot, and the peak memory. Small ones are run many times
+# over, and a run's seconds are the mean. It wants GNU time (Debian's package `time`). A benchmark, no test.
 set -eu
 
 top=$(CDPATH='' cd -- "$(dirname -- "$0")/.." && pwd)
@@ -14,7 +14,7 @@ trap 'rm -rf "$work"' EXIT
 }
 echo "rows columns pivots seconds nanoseconds megabytes"
 while read -r rows columns times; do
-    (cd "$work" && /usr/bin/time -f '%e %M' -o figures "$top/crates/settle_bench/out/settle_bench" "$rows" "$columns" "$times") >"$work/said" </dev/null
+    (cd "$work" && /usr/bin/time -f '%U %M' -o figures "$top/crates/settle_bench/out/settle_bench" "$rows" "$columns" "$times") >"$work/said" </dev/null
     grep -q ' end infeasible$' "$work/said" || {
         echo "not infeasible: $(cat "$work/said")" >&2
         exit 1
