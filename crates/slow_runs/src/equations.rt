@@ -13,7 +13,7 @@ use std::alloc::{AllocError, Global};
 
 /// An equation in all variables: the factors times the variables add up to 0.
 #[derive(Drop)]
-pub struct Equation {
+struct Equation {
     factors: Vec<Frac>,
 }
 
