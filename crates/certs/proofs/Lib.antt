@@ -33,3 +33,4 @@ pub mod Agreement
 pub mod RunEnds
 pub mod Numbered
 pub mod Translated
+pub mod PlainForms
