@@ -34,3 +34,4 @@ pub mod RunEnds
 pub mod Numbered
 pub mod Translated
 pub mod PlainForms
+pub mod PlainPoints
