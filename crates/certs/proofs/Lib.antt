@@ -35,3 +35,4 @@ pub mod Numbered
 pub mod Translated
 pub mod PlainForms
 pub mod PlainPoints
+pub mod PlainCuts
