@@ -35,4 +35,5 @@ pub mod Numbered
 pub mod Translated
 pub mod PlainForms
 pub mod PlainPoints
+pub mod PlainPaths
 pub mod PlainCuts

@@ -22,7 +22,7 @@ use Rattle.certs.specs.declared.evidence.Branch.{Branch}
 use Rattle.certs.specs.declared.evidence.Source.TheVariants.{Member as Of, Below, Above}
 use Rattle.certs.specs.Combination.{source_number}
 use Rattle.certs.specs.System.{LinearSystem, SystemRow, empty_system_row, no_limits, variable_limits}
-use Rattle.certs.specs.Tableau.{Tableau, value_of}
+use Rattle.certs.specs.Tableau.{value_of}
 use Rattle.certs.specs.Turns.{settle_choice}
 use Rattle.certs.specs.Turns.Choice.{Settled}
 use Rattle.certs.specs.Ended.{IsSolution, IsWithin, numbers_from}
@@ -36,11 +36,11 @@ use Rattle.certs.proofs.RunEnds.{agree}
 use Rattle.certs.proofs.Translated.{length_mapped, length_numbers, mapped_at, number_at}
 
 -- ---- limits that are kept
-at_least : (o : Option ℚ) (v : ℚ) → IfSome o (λ l. l ≤ℚ v) → IsAtLeast o v
+pub at_least : (o : Option ℚ) (v : ℚ) → IfSome o (λ l. l ≤ℚ v) → IsAtLeast o v
 at_least None v h = tt
 at_least (Some b) v h = h
 
-at_most : (o : Option ℚ) (v : ℚ) → IfSome o (λ u. v ≤ℚ u) → IsAtMost o v
+pub at_most : (o : Option ℚ) (v : ℚ) → IfSome o (λ u. v ≤ℚ u) → IsAtMost o v
 at_most None v h = tt
 at_most (Some b) v h = h
 
@@ -100,7 +100,7 @@ module _ (model : Program) (set : List Member) (path : List Branch) (x y : Assig
         }
 
     -- ---- bounds
-    column_within : (j : ℕ) → j < columns → IsWithin (column_limits model set path j) (x j)
+    pub column_within : (j : ℕ) → j < columns → IsWithin (column_limits model set path j) (x j)
     column_within j l =
         let below : j < length system.columns = subst (λ n. j < n) (sym columns_are) l in
         let limits : variable_limits system j ≡ column_limits model set path j =
@@ -143,10 +143,14 @@ settles system pivots values s =
     let end = s.run.run.ends in
     agreed_choice s.here.tableau end.here.tableau (agree limit system s.last s.here end.here) ∙ end.chosen
 
+module _ (model : Program) (set : List Member) (path : List Branch) (pivots : ℕ) (values : List ℚ) (formed : IsWellFormed model) (s : SettlesAt (plain_system model set path false) pivots values) where
+  pub end_solution : IsSolution (plain_system model set path false) (value_of s.here.tableau)
+  end_solution = feasible_law (plain_system model set path false) s.here.tableau (plain_formed model set path false formed s.run.apart) s.here.is_of (settles (plain_system model set path false) pivots values s)
+
+  pub end_same : (j : ℕ) → j < length model.columns → values_at values j ≡ value_of s.here.tableau j
+  end_same j l = s.values_are j (subst (λ n. j < n) (sym (length_mapped (column_limits model set path) (length model.columns))) l)
+
 pub plain_point : PlainPointLaw
-plain_point model set path pivots values formed known s =
-    let system : LinearSystem = plain_system model set path false in
-    let t : Tableau = s.here.tableau in
-    let solution : IsSolution system (value_of t) = feasible_law system t (plain_formed model set path false formed s.run.apart) s.here.is_of (settles system pivots values s) in
-    let same : (j : ℕ) → j < length model.columns → values_at values j ≡ value_of t j = λ j l. s.values_are j (subst (λ n. j < n) (sym (length_mapped (column_limits model set path) (length model.columns))) l) in
-    λ k d l. member_holds model set path (value_of t) (values_at values) formed solution same (get_or set k d) (known k d l) (has_of_contains set (get_or set k d) (All-contains_itself set k d l))
+plain_point model set path pivots values formed known s k d l =
+    member_holds model set path (value_of s.here.tableau) (values_at values) formed (end_solution model set path pivots values formed s) (end_same model set path pivots values formed s)
+    (get_or set k d) (known k d l) (has_of_contains set (get_or set k d) (All-contains_itself set k d l))

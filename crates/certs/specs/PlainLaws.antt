@@ -8,7 +8,7 @@ use Rattle.lp_model.specs.MemberSets.{IsMemberFor}
 use Rattle.lp_model.specs.Satisfaction.{Holds, values_at}
 use Rattle.certs.specs.declared.evidence.Branch.{Branch}
 use Rattle.certs.specs.declared.evidence.Share.{Share}
-use Rattle.certs.specs.Combination.{IsCombination}
+use Rattle.certs.specs.Combination.{KeepsPath, IsCombination}
 use Rattle.certs.specs.Plain.{plain_system, first_crossing}
 use Rattle.certs.specs.Solves.{SettlesAt, IsPlainCut}
 use Rattle.certs.specs.Tableau.{IsWellFormedSystem}
@@ -23,6 +23,11 @@ abbrev pub PlainPointLaw : Type 0
 PlainPointLaw = (model : Program) (set : List Member) (path : List Branch) (pivots : ℕ) (values : List ℚ) → IsWellFormed model
     → All (IsMemberFor (length model.rows) (length model.columns)) set → SettlesAt (plain_system model set path false) pivots values
     → All (λ m. is_mark m ≡ false → Holds model (values_at values) m) set
+
+-- and where the path's columns are the model's the point keeps the path
+abbrev pub PlainPathLaw : Type 0
+PlainPathLaw = (model : Program) (set : List Member) (path : List Branch) (pivots : ℕ) (values : List ℚ) → IsWellFormed model
+    → All (λ b. b.column < length model.columns) path → SettlesAt (plain_system model set path false) pivots values → KeepsPath (values_at values) path
 
 -- where limits cross, or its run ends infeasible, the shares are a combination of the set on the path
 abbrev pub PlainCutLaw : Type 0

@@ -2,7 +2,7 @@
 ghost use Rattle.certs.specs.Ended.{BlockedLaw, FeasibleLaw};
 ghost use Rattle.certs.specs.Named.{TranslationLaw};
 ghost use Rattle.certs.specs.Runs.{OneEndLaw};
-ghost use Rattle.certs.specs.PlainLaws.{PlainCutLaw, PlainFormedLaw, PlainPointLaw};
+ghost use Rattle.certs.specs.PlainLaws.{PlainCutLaw, PlainFormedLaw, PlainPathLaw, PlainPointLaw};
 ghost use Rattle.certs.specs.Tableau.{StartLaw, TableLaw};
 ghost use Rattle.certs.specs.Turns.{FlipLaw, PivotLaw};
 
@@ -54,6 +54,11 @@ pub fn plain_is_formed()
 /// Where the run of a set's plain system settles, the point satisfies every member of the set but the marks.
 pub fn plain_point_satisfies()
     ensures { PlainPointLaw }
+{}
+
+/// Where the run of a set's plain system settles, the point keeps the path.
+pub fn plain_point_keeps_path()
+    ensures { PlainPathLaw }
 {}
 
 /// Where limits of a set's plain system cross, or its run ends infeasible, what comes is a combination of the set.
