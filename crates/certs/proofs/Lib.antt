@@ -33,3 +33,9 @@ pub mod Agreement
 pub mod RunEnds
 pub mod Numbered
 pub mod Translated
+pub mod HasLists
+pub mod Parted
+pub mod PlainForms
+pub mod PlainPoints
+pub mod PlainPaths
+pub mod PlainCuts
