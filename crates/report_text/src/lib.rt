@@ -17,6 +17,7 @@ mod stop_words;
 mod stopping;
 #[cfg(test)]
 mod tests;
+mod writing;
 
 pub use laws::{
     bad_is_not_truncated, one_bad_line, one_report, read_is_not_bad, read_is_not_truncated,
@@ -24,4 +25,8 @@ pub use laws::{
 pub use reader::read_report;
 pub use report::{
     Answer, Command, Core, Entries, Entry, Method, Notes, Report, ReportStop, Witnesses,
+};
+pub use writing::{
+    answers_can_be_printed, print_answer, print_command, print_entry, print_foot, print_head, printed_is_read,
+    report_has_parts,
 };

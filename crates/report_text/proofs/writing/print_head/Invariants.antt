@@ -1,0 +1,7 @@
+use Rattle.std.proofs.Common.{◌≡◌, ◌++◌, map, drop}
+use Rattle.report_text.specs.Grammar.{note_line, text_of}
+use Rattle.report_text.proofs.writing.print_head.Given as goal
+
+-- the lines that are left complete the text
+abbrev pub invariant-loop-note : goal.invariant-loop-note
+invariant-loop-note l = l.into.items ++ text_of (map (note_line l.model) (drop l.note-index l.note-items)) ≡ l.initial.into.items ++ text_of (map (note_line l.model) l.note-items)

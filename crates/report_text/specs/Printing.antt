@@ -1,0 +1,84 @@
+-- What can be printed, the parts of a printed report, and that a printed report is read.
+use Rattle.std.specs.Prelude.{◌≡◌, ℕ, ◌<◌, List, [], ◌∷◌, ◌++◌, length, map, flat_map, codes, All}
+use Rattle.lp_model.specs.declared.parts.Note.{Note}
+use Rattle.lp_model.specs.Program.{Program}
+use Rattle.lp_model.specs.declared.members.Member.{Member}
+use Rattle.lp_model.specs.MemberSets.{IsMemberFor}
+use Rattle.certs.specs.declared.evidence.Source.{Source}
+use Rattle.certs.specs.declared.evidence.Source.TheVariants.{Member as Of, Below, Above}
+use Rattle.certs.specs.declared.evidence.Point.{Point}
+use Rattle.certs.specs.declared.evidence.Node.{Node}
+use Rattle.certs.specs.declared.evidence.Node.TheVariants.{Split, Leaf}
+use Rattle.certs.specs.declared.evidence.Proof.{Proof}
+use Rattle.certs.specs.Checks.{IsSetOf}
+use Rattle.report_text.specs.declared.report.Core.{Core}
+use Rattle.report_text.specs.declared.report.Answer.{Answer}
+use Rattle.report_text.specs.declared.report.Answer.TheVariants.{Feasible, Infeasible, Irreducible, Done, Stopped}
+use Rattle.report_text.specs.declared.report.Report.{Report}
+use Rattle.report_text.specs.Grammar.{Line, entry_lines, note_line, report_lines, text_of}
+use Rattle.report_text.specs.Form.{IsAnswerFor, IsReportFor}
+use Rattle.report_text.specs.Reading.{Reads}
+
+-- a line with the byte that ends it
+abbrev pub ended : Line → List ℕ
+ended line = line ++ 10 ∷ []
+
+-- ---- what can be printed: what names rows and columns that there are
+-- a member whose row or column there is
+abbrev pub IsKnownMember : Program → Member → Type 0
+IsKnownMember model m = IsMemberFor (length model.rows) (length model.columns) m
+
+-- where a share comes from: such a member, or the branches on a column that there is
+abbrev pub IsKnownSource : Program → Source → Type 0
+IsKnownSource model (Of m) = IsKnownMember model m
+IsKnownSource model (Below j) = j < length model.columns
+IsKnownSource model (Above j) = j < length model.columns
+
+-- a node that names such columns and sources
+abbrev pub IsKnownNode : Program → Node → Type 0
+IsKnownNode model (Split j k) = j < length model.columns
+IsKnownNode model (Leaf combo) = All (λ s. IsKnownSource model s.source) combo.shares
+
+-- a proof of such nodes
+abbrev pub IsKnownProof : Program → Proof → Type 0
+IsKnownProof model proof = All (IsKnownNode model) proof.nodes
+
+-- a value for each column
+abbrev pub IsKnownPoint : Program → Point → Type 0
+IsKnownPoint model p = length p.values ≡ length model.columns
+
+-- members of the program, points and a proof
+pub record IsKnownCore (model : Program) (core : Core) : Type 0 where
+  pub members : IsSetOf model core.members
+  pub points : All (IsKnownPoint model) core.witnesses
+  pub proof : IsKnownProof model core.proof
+
+-- an answer of such parts
+abbrev pub IsKnownAnswer : Program → Answer → Type 0
+IsKnownAnswer model (Feasible p) = IsKnownPoint model p
+IsKnownAnswer model (Infeasible set proof) = IsSetOf model set × IsKnownProof model proof
+IsKnownAnswer model (Irreducible core) = IsKnownCore model core
+IsKnownAnswer model Done = Unit {0}
+IsKnownAnswer model (Stopped stop) = Unit {0}
+
+-- ---- the parts of a report
+-- the lines before the entries
+abbrev pub head_lines : Program → List Note → List Line
+head_lines model notes = codes "iisan report 1" ∷ map (note_line model) notes
+
+-- the line after them
+abbrev pub foot_lines : List Line
+foot_lines = codes "report end" ∷ []
+
+-- ---- laws
+-- what is in the form of an answer can be printed
+abbrev pub CanPrintLaw : Type 0
+CanPrintLaw = (model : Program) (answer : Answer) → IsAnswerFor model answer → IsKnownAnswer model answer
+
+-- the text of a report is the head, the entries one after another, and the foot
+abbrev pub PartsLaw : Type 0
+PartsLaw = (model : Program) (report : Report) → text_of (report_lines model report) ≡ text_of (head_lines model report.notes) ++ (flat_map (λ e. text_of (entry_lines model e)) report.entries ++ text_of foot_lines)
+
+-- the lines of a report in the grammar are read as that report
+abbrev pub PrintedLaw : Type 0
+PrintedLaw = (model : Program) (report : Report) → IsReportFor model report → Reads model (text_of (report_lines model report)) report
