@@ -1,5 +1,5 @@
 -- Which reports stand in the grammar: what is asked of their names, numbers and order.
-use Rattle.std.specs.Prelude.{◌≡◌, ◌≢◌, ℕ, ◌+◌, ◌<◌, nat_lt, nat_le, Bool, true, false, ◌&&◌, ◌||◌, IsTrue, List, [], ◌∷◌, length, All, AllPairs}
+use Rattle.std.specs.Prelude.{◌≡◌, ◌≢◌, ℕ, ◌+◌, ◌^◌, ◌<◌, ◌≤◌, nat_lt, nat_le, Bool, true, false, ◌&&◌, ◌||◌, IsTrue, List, [], ◌∷◌, length, All, AllPairs}
 use Rattle.std.specs.List.{list_all}
 use Rattle.lines.specs.Names.{is_shown}
 use Rattle.rational.specs.Rational.{ℚ, zero_ℚ, ◌<ℚ◌}
@@ -10,7 +10,7 @@ use Rattle.lp_model.specs.declared.members.Member.{Member}
 use Rattle.lp_model.specs.declared.members.Side.{Side}
 use Rattle.lp_model.specs.declared.members.Side.TheVariants.{Lo, Up}
 use Rattle.lp_model.specs.Members.{comes_before, is_same, IsInOrder}
-use Rattle.lp_model.specs.MemberSets.{SetValue, IsMemberFor}
+use Rattle.lp_model.specs.MemberSets.{SetValue, IsMemberFor, active_set, empty_set}
 use Rattle.lp_model.specs.Satisfaction.{values_at}
 use Rattle.certs.specs.declared.evidence.Source.{Source}
 use Rattle.certs.specs.declared.evidence.Source.TheVariants.{Member as Of, Below, Above}
@@ -20,11 +20,16 @@ use Rattle.certs.specs.declared.evidence.Combo.{Combo}
 use Rattle.certs.specs.declared.evidence.Node.TheVariants.{Leaf}
 use Rattle.certs.specs.declared.evidence.Proof.{Proof}
 use Rattle.certs.specs.Checks.{IsSetOf}
+use Rattle.certs.specs.declared.solving.SiteKind.TheVariants.{Settle}
+use Rattle.certs.specs.declared.solving.Site.{Site}
+use Rattle.certs.specs.declared.solving.Stop.{Stop}
+use Rattle.certs.specs.declared.solving.Stop.TheVariants.{Wide as TooWide, Pivots as Spent, Nodes, Large, Memory}
+use Rattle.frac128.specs.declared.Wide.{Wide as Operation}
 use Rattle.report_text.specs.declared.report.Command.{Command}
-use Rattle.report_text.specs.declared.report.Command.TheVariants.{Check, Iis}
+use Rattle.report_text.specs.declared.report.Command.TheVariants.{Check, Iis, Pivots}
 use Rattle.report_text.specs.declared.report.Core.{Core}
 use Rattle.report_text.specs.declared.report.Answer.{Answer}
-use Rattle.report_text.specs.declared.report.Answer.TheVariants.{Feasible, Infeasible, Irreducible}
+use Rattle.report_text.specs.declared.report.Answer.TheVariants.{Feasible, Infeasible, Irreducible, Done, Stopped}
 use Rattle.report_text.specs.declared.report.Entry.{Entry}
 use Rattle.report_text.specs.declared.report.Report.{Report}
 use Rattle.report_text.specs.Grammar.{column_name, name_of, entry_lines}
@@ -104,6 +109,31 @@ pub record IsOneLeaf (model : Program) (proof : Proof) : Type 0 where
   pub one : proof.nodes ≡ Leaf combo ∷ []
   pub uses : AreUses model combo.shares
 
+-- ---- stops
+-- the settle run of all active members
+pub record IsWholeSite (model : Program) (site : Site) : Type 0 where
+  pub kind : site.kind ≡ Settle
+  pub set_is : site.set ≡ active_set model
+  pub enforced_is : site.enforced ≡ empty_set model
+  pub path_is : site.path ≡ []
+
+-- an operation on numbers within the limit
+pub record IsOperation (o : Operation) : Type 0 where
+  pub left : IsWithinLimit o.left
+  pub right : IsWithinLimit o.right
+
+-- a count of 64 bits
+abbrev pub IsCount : ℕ → Type 0
+IsCount n = n < 2 ^ 64
+
+-- Two kinds of stop are printed as yet: an operation too wide, and no pivot left.
+abbrev pub IsStopFor : Program → Stop → Type 0
+IsStopFor model (TooWide site k o) = IsWholeSite model site × (IsCount k × IsOperation o)
+IsStopFor model (Spent site) = IsWholeSite model site
+IsStopFor model (Nodes site) = ⊥
+IsStopFor model (Large size) = ⊥
+IsStopFor model Memory = ⊥
+
 -- ---- answers
 -- an irreducible set: a witness for each member, and a proof
 pub record IsCoreFor (model : Program) (core : Core) : Type 0 where
@@ -117,19 +147,38 @@ abbrev pub IsAnswerFor : Program → Answer → Type 0
 IsAnswerFor model (Feasible p) = IsPointFor model p
 IsAnswerFor model (Infeasible set proof) = IsListed model set × IsOneLeaf model proof
 IsAnswerFor model (Irreducible core) = IsCoreFor model core
+IsAnswerFor model Done = Unit {0}
+IsAnswerFor model (Stopped stop) = IsStopFor model stop
+
+-- the most pivots that a budget may be
+abbrev pub most_pivots : ℕ
+most_pivots = 1000000
+
+-- a budget is within its bound
+abbrev pub IsCommand : Command → Type 0
+IsCommand Check = Unit {0}
+IsCommand (Iis method) = Unit {0}
+IsCommand (Pivots n) = n ≤ most_pivots
 
 -- whether the answer is of a kind that the command may have
 abbrev pub can_answer : Command → Answer → Bool
 can_answer Check (Feasible p) = true
 can_answer Check (Infeasible set proof) = true
 can_answer Check (Irreducible core) = false
+can_answer Check Done = false
+can_answer Check (Stopped stop) = true
 can_answer (Iis method) (Feasible p) = true
 can_answer (Iis method) (Infeasible set proof) = false
 can_answer (Iis method) (Irreducible core) = true
+can_answer (Iis method) Done = false
+can_answer (Iis method) (Stopped stop) = false
+can_answer (Pivots n) Done = true
+can_answer (Pivots n) _ = false
 
 -- ---- reports
 -- an entry whose answer is one to its command
 pub record IsEntryFor (model : Program) (e : Entry) : Type 0 where
+  pub command : IsCommand e.command
   pub kind : can_answer e.command e.answer ≡ true
   pub answer : IsAnswerFor model e.answer
 

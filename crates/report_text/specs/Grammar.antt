@@ -1,6 +1,14 @@
 -- The lines of a report, piece by piece. A line stands here without the byte 10 that ends it.
-use Rattle.std.specs.Prelude.{ℕ, suc, ◌++◌, cond, List, [], ◌∷◌, map, flat_map, zip, codes}
+use Rattle.std.specs.Prelude.{ℕ, suc, ◌++◌, cond, List, [], ◌∷◌, map, flat_map, zip, codes, decimal}
 use Rattle.std.specs.Fmt.{signed_decimal}
+use Rattle.frac128.specs.declared.Op.{Op}
+use Rattle.frac128.specs.declared.Op.TheVariants.{Plus, Minus, Times, Over}
+use Rattle.frac128.specs.declared.Wide.{Wide as Operation}
+use Rattle.certs.specs.declared.solving.SiteKind.{SiteKind}
+use Rattle.certs.specs.declared.solving.SiteKind.TheVariants.{Settle, Improve, Stretch, Relax, Alternative}
+use Rattle.certs.specs.declared.solving.Site.{Site}
+use Rattle.certs.specs.declared.solving.Stop.{Stop}
+use Rattle.certs.specs.declared.solving.Stop.TheVariants.{Wide as TooWide, Pivots as Spent, Nodes, Large, Memory}
 use Rattle.rational.specs.Rational.{ℚ, zero_ℚ, eq_ℚ}
 use Rattle.frac128.specs.Printed.{printed}
 use Rattle.lp_model.specs.declared.parts.Note.{Note}
@@ -20,9 +28,9 @@ use Rattle.certs.specs.declared.evidence.Proof.{Proof}
 use Rattle.report_text.specs.declared.report.Method.{Method}
 use Rattle.report_text.specs.declared.report.Method.TheVariants.{Deletion, Additive, Sensitivity}
 use Rattle.report_text.specs.declared.report.Command.{Command}
-use Rattle.report_text.specs.declared.report.Command.TheVariants.{Check, Iis}
+use Rattle.report_text.specs.declared.report.Command.TheVariants.{Check, Iis, Pivots}
 use Rattle.report_text.specs.declared.report.Answer.{Answer}
-use Rattle.report_text.specs.declared.report.Answer.TheVariants.{Feasible, Infeasible, Irreducible}
+use Rattle.report_text.specs.declared.report.Answer.TheVariants.{Feasible, Infeasible, Irreducible, Done, Stopped}
 use Rattle.report_text.specs.declared.report.Entry.{Entry}
 use Rattle.report_text.specs.declared.report.Report.{Report}
 
@@ -101,6 +109,42 @@ node_lines model (Leaf combo) = codes "leaf" ∷ map (use_line model) combo.shar
 abbrev pub proof_lines : Program → Proof → List Line
 proof_lines model proof = codes "proof" ∷ flat_map (node_lines model) proof.nodes
 
+-- ---- stops
+-- the word for a kind of operation
+abbrev pub op_word : Op → List ℕ
+op_word Plus = codes "plus"
+op_word Minus = codes "minus"
+op_word Times = codes "times"
+op_word Over = codes "over"
+
+-- the word for the kind of a site
+abbrev pub site_word : SiteKind → List ℕ
+site_word Settle = codes "settle"
+site_word Improve = codes "improve"
+site_word Stretch = codes "stretch"
+site_word Relax = codes "relax"
+site_word Alternative = codes "alternative"
+
+-- the line of a site
+abbrev pub site_line : Site → Line
+site_line site = codes "site" then site_word site.kind
+
+-- the line of a turn's number
+abbrev pub step_line : ℕ → Line
+step_line k = codes "step" then decimal k
+
+-- the line of an operation with its operands
+abbrev pub operation_line : Operation → Line
+operation_line o = codes "operation" then op_word o.op then printed o.left then printed o.right
+
+-- the lines of a stop, but for want of memory, which is never printed
+abbrev pub stop_lines : Stop → List Line
+stop_lines (TooWide site k o) = codes "too wide" ∷ site_line site ∷ step_line k ∷ operation_line o ∷ codes "end" ∷ []
+stop_lines (Spent site) = codes "pivots spent" ∷ site_line site ∷ codes "end" ∷ []
+stop_lines (Nodes site) = codes "nodes spent" ∷ site_line site ∷ codes "end" ∷ []
+stop_lines (Large size) = (codes "too large" then decimal size) ∷ codes "end" ∷ []
+stop_lines Memory = []
+
 -- ---- answers
 -- a member of an irreducible set, and its witness
 abbrev pub witness_lines : Program → Member × Point → List Line
@@ -111,6 +155,8 @@ abbrev pub answer_lines : Program → Answer → List Line
 answer_lines model (Feasible p) = codes "feasible" ∷ (point_lines model p ++ codes "end" ∷ [])
 answer_lines model (Infeasible set proof) = codes "infeasible" ∷ (map (member_line model) set.members ++ (proof_lines model proof ++ codes "end" ∷ []))
 answer_lines model (Irreducible core) = codes "irreducible" ∷ (flat_map (witness_lines model) (zip core.members.members core.witnesses) ++ (proof_lines model core.proof ++ codes "end" ∷ []))
+answer_lines model Done = codes "done" ∷ []
+answer_lines model (Stopped stop) = stop_lines stop
 
 -- ---- reports
 -- the word for a method
@@ -123,6 +169,7 @@ method_word Sensitivity = codes "sensitivity"
 abbrev pub command_text : Command → List ℕ
 command_text Check = codes "check"
 command_text (Iis method) = codes "iis" then method_word method
+command_text (Pivots n) = codes "budget" then codes "pivots" then decimal n
 
 -- the lines of an entry: the command, and its answer
 abbrev pub entry_lines : Program → Entry → List Line

@@ -1,7 +1,7 @@
 //! What a report says: notes, and for each command its answer.
 ghost use Rattle.std.specs.Prelude.{◌≡◌};
 
-use certs::{Point, Proof};
+use certs::{Point, Proof, Stop};
 use lp_model::{MemberSet, Note};
 use std::marker::Model;
 
@@ -14,11 +14,12 @@ pub enum Method {
 }
 
 /// What is asked of a program: whether some point satisfies its active members, or which of them no point satisfies
-/// though each part of them has one.
+/// though each part of them has one. Or how many pivots each later solve may make, up to 1,000,000.
 #[derive(Clone, Copy, PartialEq, Eq, Debug)]
 pub enum Command {
     Check,
     Iis(Method),
+    Pivots(u64),
 }
 
 /// Points, as a list.
@@ -69,12 +70,15 @@ pub struct Core {
 }
 
 /// What a report answers to a command: a point, members with a proof that no point satisfies them, or an irreducible
-/// set. Members are the printed ones. In a report that was read, a proof is one leaf.
+/// set; that a command is done; or why a solve stopped, which is never for want of memory. Members are the printed ones.
+/// In a report that was read, a proof is one leaf.
 #[derive(Drop)]
 pub enum Answer {
     Feasible(Point),
     Infeasible(MemberSet, Proof),
     Irreducible(Core),
+    Done,
+    Stopped(Stop),
 }
 
 /// A command with its answer, and the number of the line on which the command stands. The first line has number 1.
