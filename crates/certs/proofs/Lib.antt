@@ -33,3 +33,5 @@ pub mod Agreement
 pub mod RunEnds
 pub mod Numbered
 pub mod Translated
+pub mod HasLists
+pub mod Parted

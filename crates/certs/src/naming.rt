@@ -34,6 +34,8 @@ pub fn named_combo(
     ensures shares { IfOk result (λ named. named.shares ≡ program_shares model.now set.now.members path.now combo.now.shares) }
     ensures combination { (objective : Bool) → IsNamedCombination (plain_system model.now set.now.members path.now objective) combo.now.shares → IfOk result (λ named. IsCombination model.now set.now.members path.now named.shares) }
 {
+    // That the program is well formed is told with the count.
+    let _count = model.row_count();
     let rows = set_rows(alloc, model, set)?;
     let mut shares = Vec::new(alloc);
     for share in combo.shares.as_slice() {
@@ -59,13 +61,7 @@ fn set_rows(alloc: Global, model: &Model, set: &MemberSet) -> Result<Vec<u32>, A
 }
 
 // A share of the system as one of the program.
-fn translated(
-    model: &Model,
-    set: &MemberSet,
-    path: &[Branch],
-    rows: &[u32],
-    share: Share,
-) -> Share
+fn translated(model: &Model, set: &MemberSet, path: &[Branch], rows: &[u32], share: Share) -> Share
     requires same { IsSetOf model.now set.now }
     requires fitting { All IsFitting path.now }
     requires rows { rows.now ≡ rows_in model.now set.now.members }
@@ -127,11 +123,26 @@ fn arranged(alloc: Global, columns: u32, shares: &[Share]) -> Result<Shares, All
 fn push_column(shares: &[Share], column: u32, list: &mut Vec<Share>) -> Result<(), AllocError>
     ensures { IfOk result (λ done. list.new.items ≡ list.old.items ++ on_column shares.now column) }
 {
+    push_below(shares, column, list)?;
+    push_above(shares, column, list)
+}
+
+// Appends the shares of those that bound it above.
+fn push_below(shares: &[Share], column: u32, list: &mut Vec<Share>) -> Result<(), AllocError>
+    ensures { IfOk result (λ done. list.new.items ≡ list.old.items ++ filter (λ s. is_below column s.source) shares.now) }
+{
     for share in shares {
         if share.source == Source::Below(column) {
             list.push(*share)?;
         }
     }
+    Ok(())
+}
+
+// Appends the shares of those that bound it below.
+fn push_above(shares: &[Share], column: u32, list: &mut Vec<Share>) -> Result<(), AllocError>
+    ensures { IfOk result (λ done. list.new.items ≡ list.old.items ++ filter (λ s. is_above column s.source) shares.now) }
+{
     for share in shares {
         if share.source == Source::Above(column) {
             list.push(*share)?;

@@ -10,3 +10,6 @@ mod starts;
 mod table;
 
 pub use dictionaries::{Dictionary, PivotStop};
+
+#[cfg(test)]
+mod tests;

@@ -1,5 +1,5 @@
 //! The settle run.
-ghost use Rattle.std.specs.Prelude.{◌≡◌, ◌+◌, ◌<◌, ◌^◌, IfOk, None, true};
+ghost use Rattle.std.specs.Prelude.{◌≡◌, ◌+◌, ◌<◌, ◌≤◌, ◌^◌, IfOk, None, true};
 ghost use Rattle.frac128.specs.Calculation.{first_wide};
 ghost use Rattle.certs.specs.System.{LinearSystem};
 ghost use Rattle.certs.specs.Tableau.{IsTableauOf};
@@ -32,7 +32,8 @@ pub enum RunStop {
 /// Makes settle turns until none is due.
 ///
 /// `pivots` is what is left of the budget, and `turn` counts the turns begun, this run's after those before it. `Wide` and
-/// `Pivots` come exactly where the run stops so. After a pivot that was too wide the dictionary must not be used.
+/// `Pivots` come exactly where the run stops so. The turns and what is left of the budget are together at most one greater
+/// than before. After a pivot that was too wide the dictionary must not be used.
 pub fn settle<N: Exact>(
     dictionary: &mut Dictionary<N>,
     pivots: &mut u64,
@@ -44,6 +45,7 @@ pub fn settle<N: Exact>(
     ensures ended { IfOk result (λ settled. (dictionary.new.usable ≡ true) × (IsEnd settled (settle_choice (tableau_of dictionary.new)) × (first_wide N.most (settle_values (tableau_of dictionary.new)) ≡ None))) }
     ensures spent { IsSpent result → dictionary.new.usable ≡ true }
     ensures columns { dictionary.new.columns ≡ dictionary.old.columns }
+    ensures sum { turn.new + pivots.new ≤ turn.old + pivots.old + 1 }
 {
     loop {
         *turn += 1;

@@ -1,4 +1,4 @@
-use Rattle.std.proofs.Common.{◌≡◌, ◌≢◌, ◌+◌, ◌-◌, ℕ, suc, true≢false, Some, refl, sym, ◌∙◌, ap, subst, arith}
+use Rattle.std.proofs.Common.{◌≡◌, ◌≢◌, ◌+◌, ◌-◌, ◌≤◌, ℕ, suc, true≢false, Some, refl, sym, ◌∙◌, ap, subst, arith}
 use Rattle.certs.specs.Turns.{settle_choice}
 use Rattle.dictionary.specs.Layouts.{side_of}
 use Rattle.dictionary.specs.Value.{tableau_of}
@@ -11,6 +11,10 @@ none n e f = omega arith
 
 next_turn : (turn begun made : ℕ) → turn ≡ begun + made → turn + 1 ≡ suc (begun + made)
 next_turn turn begun made e = omega arith
+
+-- the turn that is begun and the pivots left, where so many pivots are made
+sum_kept : (turn left begun budget made : ℕ) → made + left ≡ budget → turn ≡ begun + made → turn + 1 + left ≤ begun + budget + 1
+sum_kept turn left begun budget made e f = omega arith
 
 pub loop-choice-init : goal.loop-choice-init
 loop-choice-init g c = record {
@@ -130,6 +134,31 @@ returns-in-Err-pivot-clause-run g c = λ system of.
       };
       stands = λ u. absurd (true≢false (sym u ∙ c.in-Err-pivot.ensures.done.1));
     })
+
+pub returns-in-Err-clause-sum : goal.returns-in-Err-clause-sum
+returns-in-Err-clause-sum g c =
+    let i = c.loop-choice.invariant in
+    sum_kept c.loop-choice.turn c.loop-choice.pivots c.args.turn.now c.args.pivots.now i.made.0 i.made.1.0 i.made.1.1.0
+
+pub returns-in-Settled-clause-sum : goal.returns-in-Settled-clause-sum
+returns-in-Settled-clause-sum g c =
+    let i = c.loop-choice.invariant in
+    sum_kept c.loop-choice.turn c.loop-choice.pivots c.args.turn.now c.args.pivots.now i.made.0 i.made.1.0 i.made.1.1.0
+
+pub returns-in-Blocked-clause-sum : goal.returns-in-Blocked-clause-sum
+returns-in-Blocked-clause-sum g c =
+    let i = c.loop-choice.invariant in
+    sum_kept c.loop-choice.turn c.loop-choice.pivots c.args.turn.now c.args.pivots.now i.made.0 i.made.1.0 i.made.1.1.0
+
+pub returns-then-pivots-eq0-clause-sum : goal.returns-then-pivots-eq0-clause-sum
+returns-then-pivots-eq0-clause-sum g c =
+    let i = c.loop-choice.invariant in
+    sum_kept c.loop-choice.turn c.loop-choice.pivots c.args.turn.now c.args.pivots.now i.made.0 i.made.1.0 i.made.1.1.0
+
+pub returns-in-Err-pivot-clause-sum : goal.returns-in-Err-pivot-clause-sum
+returns-in-Err-pivot-clause-sum g c =
+    let i = c.loop-choice.invariant in
+    sum_kept c.loop-choice.turn c.loop-choice.pivots c.args.turn.now c.args.pivots.now i.made.0 i.made.1.0 i.made.1.1.0
 
 pub loop-choice-preserved : goal.loop-choice-preserved
 loop-choice-preserved g c =
