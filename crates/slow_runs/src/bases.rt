@@ -14,7 +14,7 @@ pub enum Place {
 }
 
 /// The limits of all variables: the columns, the rows, and the objective, which has none.
-pub fn all_limits(alloc: Global, system: &System) -> Result<Vec<Limits>, AllocError> {
+pub(crate) fn all_limits(alloc: Global, system: &System) -> Result<Vec<Limits>, AllocError> {
     let mut all = Vec::from_slice(alloc, &system.columns)?;
     for row in &system.rows {
         all.push(Limits {
@@ -30,7 +30,7 @@ pub fn all_limits(alloc: Global, system: &System) -> Result<Vec<Limits>, AllocEr
 
 /// The first basis: the variables of the rows and of the objective, with each column at its lower limit, else at its upper
 /// one, else at 0.
-pub fn first_basis(alloc: Global, system: &System) -> Result<Vec<Place>, AllocError> {
+pub(crate) fn first_basis(alloc: Global, system: &System) -> Result<Vec<Place>, AllocError> {
     let mut places = Vec::new(alloc);
     for limits in &system.columns {
         places.push(first_place(*limits))?;
@@ -56,7 +56,7 @@ fn first_place(limits: Limits) -> Place {
 }
 
 /// Where a variable stands; one past the last stands at 0.
-pub fn place_of(basis: &[Place], variable: usize) -> Place {
+pub(crate) fn place_of(basis: &[Place], variable: usize) -> Place {
     match basis.get(variable) {
         Some(place) => *place,
         None => Place::AtZero,
@@ -64,12 +64,12 @@ pub fn place_of(basis: &[Place], variable: usize) -> Place {
 }
 
 /// Whether a variable is in the basis.
-pub fn is_basic(basis: &[Place], variable: usize) -> bool {
+pub(crate) fn is_basic(basis: &[Place], variable: usize) -> bool {
     place_of(basis, variable) == Place::Basic
 }
 
 /// The number at which a place puts a variable with these limits.
-pub fn place_number(limits: Limits, place: Place) -> Frac {
+pub(crate) fn place_number(limits: Limits, place: Place) -> Frac {
     let limit = match place {
         Place::AtLower => limits.lo,
         Place::AtUpper => limits.up,
@@ -83,7 +83,7 @@ pub fn place_number(limits: Limits, place: Place) -> Frac {
 }
 
 /// The place at a limit.
-pub fn place_at(side: Side) -> Place {
+pub(crate) fn place_at(side: Side) -> Place {
     match side {
         Side::Lo => Place::AtLower,
         Side::Up => Place::AtUpper,
@@ -91,7 +91,7 @@ pub fn place_at(side: Side) -> Place {
 }
 
 /// Puts a variable at a place, where there is such a variable.
-pub fn put(basis: &mut [Place], variable: usize, place: Place) {
+pub(crate) fn put(basis: &mut [Place], variable: usize, place: Place) {
     if let Some(old) = basis.get_mut(variable) {
         *old = place;
     }

@@ -13,7 +13,7 @@ use std::alloc::{AllocError, Global};
 
 /// An equation in all variables: the factors times the variables add up to 0.
 #[derive(Drop)]
-pub struct Equation {
+struct Equation {
     factors: Vec<Frac>,
 }
 
@@ -76,7 +76,11 @@ fn quotient(number: Frac, divisor: Frac) -> Result<Frac, SlowStop> {
 }
 
 /// The table at a basis: the equations of the system, solved for each of its basic variables, in ascending order.
-pub fn solve(alloc: Global, system: &System, basis: &[Place]) -> Result<Vec<SlowRow>, SlowStop> {
+pub(crate) fn solve(
+    alloc: Global,
+    system: &System,
+    basis: &[Place],
+) -> Result<Vec<SlowRow>, SlowStop> {
     let mut open = equations(alloc, system)?;
     let mut solved = Vec::new(alloc);
     for variable in 0..basis.len() {
