@@ -11,3 +11,4 @@ pub mod Lexed
 pub mod Lasts
 pub mod Listed
 pub mod OneReport
+pub mod Scripted

@@ -4,3 +4,4 @@ pub mod Reading
 pub mod Phrases
 pub mod Drafts
 pub mod Words
+pub mod Commands

@@ -3,6 +3,7 @@
 
 mod advancing;
 mod building;
+mod commands;
 mod drafts;
 mod following;
 mod keywords;
@@ -16,6 +17,7 @@ mod report;
 #[cfg(test)]
 mod tests;
 
+pub use commands::{CommandStop, command_law, read_command};
 pub use laws::{
     bad_is_not_truncated, one_bad_line, one_report, read_is_not_bad, read_is_not_truncated,
 };
