@@ -126,7 +126,7 @@ both_uses = record {
 contradiction_in_form : IsReportFor two_rows contradiction
 contradiction_in_form = record {
   notes = All-nil (λ note. IsNamedColumn two_rows (noted_column note));
-  entries = All-cons (IsEntryFor two_rows) (record { command = Check; answer = Infeasible rows_set proof; line = 2 }) [] (record { kind = refl; answer = (rows_listed, record { combo = record { shares = use_of (Row 0) Up one_ℚ ∷ use_of (Row 1) Lo (frac (pos 3) 2) ∷ [] }; one = refl; uses = both_uses }) }) (All-nil (IsEntryFor two_rows));
+  entries = All-cons (IsEntryFor two_rows) (record { command = Check; answer = Infeasible rows_set proof; line = 2 }) [] (record { command = tt; kind = refl; answer = (rows_listed, record { combo = record { shares = use_of (Row 0) Up one_ℚ ∷ use_of (Row 1) Lo (frac (pos 3) 2) ∷ [] }; one = refl; uses = both_uses }) }) (All-nil (IsEntryFor two_rows));
   numbered = (refl, tt);
 }
 

@@ -18,13 +18,17 @@ use Rattle.lp_model.specs.Members.{comes_before}
 use Rattle.lp_model.specs.Satisfaction.{values_at}
 use Rattle.certs.specs.declared.evidence.Share.{Share}
 use Rattle.certs.specs.declared.evidence.Point.{Point}
+use Rattle.certs.specs.declared.solving.SiteKind.TheVariants.{Settle}
+use Rattle.certs.specs.declared.solving.Stop.TheVariants.{Wide as TooWide, Pivots as Spent}
 use Rattle.report_text.specs.declared.report.Command.{Command}
-use Rattle.report_text.specs.declared.report.Command.TheVariants.{Check, Iis}
+use Rattle.report_text.specs.declared.report.Command.TheVariants.{Check, Iis, Pivots}
 use Rattle.report_text.specs.declared.report.Answer.{Answer}
 use Rattle.report_text.specs.declared.report.Entry.{Entry}
 use Rattle.report_text.specs.declared.phrases.Phrase.{Phrase}
+use Rattle.report_text.specs.declared.phrases.StopPhrase.{StopPhrase}
 use Rattle.report_text.specs.declared.drafts.Found.{Found}
 use Rattle.report_text.specs.declared.drafts.Question.{Question}
+use Rattle.report_text.specs.declared.drafts.StopPart.{StopPart}
 use Rattle.report_text.specs.declared.drafts.Part.{Part}
 use Rattle.report_text.specs.declared.drafts.Next.{Next}
 use Rattle.report_text.specs.declared.drafts.Stage.{Stage}
@@ -32,13 +36,25 @@ use Rattle.report_text.specs.declared.drafts.Draft.{Draft}
 use Rattle.report_text.specs.Grammar.{column_name, entry_lines}
 use Rattle.report_text.specs.Form.{is_word, IsNamedColumn, IsNamedMember, IsWithinLimit, IsUse, AreUses, IsListed, IsOneLeaf, IsPointFor, IsAnswerFor, IsEntryFor, AreNumbered, can_answer, share_before}
 use Rattle.report_text.specs.Phrases.{IsPhraseFor, phrase_line}
-use Rattle.report_text.specs.Drafts.{filled, point_of, leaf_of, set_of, answer_of, only_if, witnessed_with, extended, placed, between, advanced, AreValues, AreMembers, AreWitnesses, IsFound, IsOneMore, IsPartFor, IsDraftFor}
-use Rattle.report_text.proofs.Said.{value_phrases, point_phrases, proof_phrases, witness_phrases, answer_front, entry_phrases, body_phrases, entry_spelled}
+use Rattle.report_text.specs.Drafts.{filled, point_of, leaf_of, set_of, answer_of, only_if, witnessed_with, whole_site, at_site, stop_begun, stop_with, extended, placed, between, advanced, AreValues, AreMembers, AreWitnesses, IsFound, IsOneMore, IsStopPart, IsPartFor, IsDraftFor}
+use Rattle.report_text.proofs.Said.{value_phrases, point_phrases, proof_phrases, witness_phrases, answer_front, answer_end, entry_phrases, body_phrases, entry_spelled}
 
 -- ---- what is read, as phrases
 abbrev pub found_phrases : Found → List Phrase
 found_phrases (Found.Members members) = Phrase.Infeasible ∷ map Phrase.Member members
 found_phrases (Found.Witnessed members witnesses) = Phrase.Irreducible ∷ flat_map witness_phrases (zip members witnesses)
+
+-- the site of a whole run
+abbrev pub settle_phrase : Phrase
+settle_phrase = Phrase.Stop (StopPhrase.Site Settle)
+
+abbrev pub stop_part_phrases : StopPart → List Phrase
+stop_part_phrases StopPart.Wide = Phrase.Stop StopPhrase.Wide ∷ []
+stop_part_phrases StopPart.WideSite = Phrase.Stop StopPhrase.Wide ∷ settle_phrase ∷ []
+stop_part_phrases (StopPart.WideStep k) = Phrase.Stop StopPhrase.Wide ∷ settle_phrase ∷ Phrase.Stop (StopPhrase.Step k) ∷ []
+stop_part_phrases (StopPart.WideOperation k o) = Phrase.Stop StopPhrase.Wide ∷ settle_phrase ∷ Phrase.Stop (StopPhrase.Step k) ∷ Phrase.Stop (StopPhrase.Operation o) ∷ []
+stop_part_phrases StopPart.Spent = Phrase.Stop StopPhrase.Spent ∷ []
+stop_part_phrases StopPart.SpentSite = Phrase.Stop StopPhrase.Spent ∷ settle_phrase ∷ []
 
 abbrev pub part_phrases : Part → List Phrase
 part_phrases Part.Nothing = []
@@ -49,6 +65,7 @@ part_phrases (Part.Member members witnesses m) = found_phrases (Found.Witnessed 
 part_phrases (Part.Witness members witnesses m values) = found_phrases (Found.Witnessed members witnesses) ++ Phrase.Member m ∷ Phrase.Point ∷ value_phrases 0 values
 part_phrases (Part.Proof found) = found_phrases found ++ Phrase.Proof ∷ []
 part_phrases (Part.Leaf found shares) = found_phrases found ++ Phrase.Proof ∷ Phrase.Leaf ∷ map Phrase.Use shares
+part_phrases (Part.Stop part) = stop_part_phrases part
 
 abbrev pub draft_phrases : Draft → List Phrase
 draft_phrases draft = by draft.stage
@@ -224,6 +241,7 @@ module _ (model : Program) where
   witnessed_taken : (c : Command) (members : List Member) (witnesses : List Point) (p : Phrase) (next : Part) → IsFound model c (Found.Witnessed members witnesses) → IsPhraseFor model p
       → witnessed_with members witnesses p ≡ Some (Next.More next) → IsPartFor model c next × (part_phrases next ≡ found_phrases (Found.Witnessed members witnesses) ++ p ∷ [])
   witnessed_taken Check members witnesses p next h k e = absurd h
+  witnessed_taken (Pivots n) members witnesses p next h k e = absurd h
   witnessed_taken (Iis method) members witnesses (Phrase.Member m) next h k e =
       let t = only_told (list_all (λ n. comes_before n m) members) (Next.More (Part.Member members witnesses m)) (Next.More next) e in
       subst (λ q. IsPartFor model (Iis method) q × (part_phrases q ≡ found_phrases (Found.Witnessed members witnesses) ++ Phrase.Member m ∷ [])) (same_more (Part.Member members witnesses m) next t.1)
@@ -236,32 +254,72 @@ module _ (model : Program) where
   one_more_found : (c : Command) (members : List Member) (witnesses : List Point) (m : Member) (values : List ℚ) → IsOneMore model c members witnesses m → AreValues model values
       → IsFound model c (Found.Witnessed (members ++ m ∷ []) (witnesses ++ point_of model values ∷ []))
   one_more_found Check members witnesses m values h v = absurd h
+  one_more_found (Pivots n) members witnesses m values h v = absurd h
   one_more_found (Iis method) members witnesses m values h v = (h.0, witness_taken members witnesses m (point_of model values) h.1 (point_taken values v))
 
   one_more_each : (c : Command) (members : List Member) (witnesses : List Point) (m : Member) → IsOneMore model c members witnesses m → length witnesses ≡ length members
   one_more_each Check members witnesses m h = absurd h
+  one_more_each (Pivots n) members witnesses m h = absurd h
   one_more_each (Iis method) members witnesses m h = h.1.each
+
+  -- a stop, and a phrase
+  begun_taken : (s : StopPhrase) (next : Part) → stop_begun s ≡ Some (Next.More next) → Took Check Part.Nothing (Phrase.Stop s) next
+  unfolding Took
+  begun_taken StopPhrase.Wide next e = subst (Took Check Part.Nothing (Phrase.Stop StopPhrase.Wide)) (more_is (Part.Stop StopPart.Wide) next e) (tt, refl)
+  begun_taken StopPhrase.Spent next e = subst (Took Check Part.Nothing (Phrase.Stop StopPhrase.Spent)) (more_is (Part.Stop StopPart.Spent) next e) (tt, refl)
+  begun_taken _ next e = absurd (cc)
+
+  site_taken : (part then : StopPart) (p : Phrase) (next : Part) → IsStopPart Check then → stop_part_phrases then ≡ stop_part_phrases part ++ settle_phrase ∷ []
+      → at_site then p ≡ Some (Next.More next) → Took Check (Part.Stop part) p next
+  unfolding Took
+  site_taken part then (Phrase.Stop (StopPhrase.Site Settle)) next h k e = subst (Took Check (Part.Stop part) settle_phrase) (more_is (Part.Stop then) next e) (h, k)
+  site_taken part then (Phrase.Stop _) next h k e = absurd (cc)
+  site_taken part then _ next h k e = absurd (cc)
+
+  stop_taken : (c : Command) (part : StopPart) (p : Phrase) (next : Part) → IsStopPart c part → IsPhraseFor model p → stop_with model part p ≡ Some (Next.More next) → Took c (Part.Stop part) p next
+  unfolding Took
+  stop_taken Check StopPart.Wide p next h k e = site_taken StopPart.Wide StopPart.WideSite p next tt refl e
+  stop_taken Check StopPart.WideSite (Phrase.Stop (StopPhrase.Step n)) next h k e = subst (Took Check (Part.Stop StopPart.WideSite) (Phrase.Stop (StopPhrase.Step n))) (more_is (Part.Stop (StopPart.WideStep n)) next e) (k, refl)
+  stop_taken Check StopPart.WideSite (Phrase.Stop _) next h k e = absurd (cc)
+  stop_taken Check StopPart.WideSite _ next h k e = absurd (cc)
+  stop_taken Check (StopPart.WideStep n) (Phrase.Stop (StopPhrase.Operation o)) next h k e =
+      subst (Took Check (Part.Stop (StopPart.WideStep n)) (Phrase.Stop (StopPhrase.Operation o))) (more_is (Part.Stop (StopPart.WideOperation n o)) next e) ((h, k), refl)
+  stop_taken Check (StopPart.WideStep n) (Phrase.Stop _) next h k e = absurd (cc)
+  stop_taken Check (StopPart.WideStep n) _ next h k e = absurd (cc)
+  stop_taken Check (StopPart.WideOperation n o) Phrase.End next h k e = absurd (cc)
+  stop_taken Check (StopPart.WideOperation n o) _ next h k e = absurd (cc)
+  stop_taken Check StopPart.Spent p next h k e = site_taken StopPart.Spent StopPart.SpentSite p next tt refl e
+  stop_taken Check StopPart.SpentSite Phrase.End next h k e = absurd (cc)
+  stop_taken Check StopPart.SpentSite _ next h k e = absurd (cc)
+  stop_taken (Iis method) part p next h k e = absurd h
+  stop_taken (Pivots n) part p next h k e = absurd h
 
   more_taken : (c : Command) (part : Part) (p : Phrase) (next : Part) → IsPartFor model c part → IsPhraseFor model p → extended model c part p ≡ Some (Next.More next) → Took c part p next
   unfolding Took
-  more_taken c Part.Nothing Phrase.Feasible next h k e = subst (Took c Part.Nothing Phrase.Feasible) (more_is Part.Feasible next e) (tt, refl)
+  more_taken Check Part.Nothing Phrase.Feasible next h k e = subst (Took Check Part.Nothing Phrase.Feasible) (more_is Part.Feasible next e) (tt, refl)
+  more_taken (Iis method) Part.Nothing Phrase.Feasible next h k e = subst (Took (Iis method) Part.Nothing Phrase.Feasible) (more_is Part.Feasible next e) (tt, refl)
+  more_taken Check Part.Nothing (Phrase.Stop s) next h k e = begun_taken s next e
+  more_taken (Pivots n) Part.Nothing Phrase.Done next h k e = absurd (cc)
+  more_taken (Pivots n) Part.Nothing _ next h k e = absurd (cc)
+  more_taken c (Part.Stop part) p next h k e = stop_taken c part p next h k e
   more_taken Check Part.Nothing Phrase.Infeasible next h k e = subst (Took Check Part.Nothing Phrase.Infeasible) (more_is (Part.Listed (Found.Members [])) next e) (no_members, refl)
   more_taken (Iis method) Part.Nothing Phrase.Irreducible next h k e = subst (Took (Iis method) Part.Nothing Phrase.Irreducible) (more_is (Part.Listed (Found.Witnessed [] [])) next e) ((no_members, no_witnesses), refl)
   more_taken Check Part.Nothing _ next h k e = absurd (cc)
   more_taken (Iis method) Part.Nothing _ next h k e = absurd (cc)
-  more_taken c Part.Feasible Phrase.Point next h k e = subst (Took c Part.Feasible Phrase.Point) (more_is (Part.Point []) next e) (no_values, refl)
+  more_taken c Part.Feasible Phrase.Point next h k e = subst (Took c Part.Feasible Phrase.Point) (more_is (Part.Point []) next e) ((h, no_values), refl)
   more_taken c Part.Feasible _ next h k e = absurd (cc)
   more_taken c (Part.Point values) (Phrase.Value j v) next h k e =
       let t = mapped_told (λ vs. Next.More (Part.Point vs)) (nat_le (length values) j) (filled j values ++ v ∷ []) (Next.More next) e in
       let le : length values ≤ j = leb-true (length values) j t.0 in
       subst (Took c (Part.Point values) (Phrase.Value j v)) (same_more (Part.Point (filled j values ++ v ∷ [])) next t.1)
-      (value_taken values j v h k le, ap (λ l. Phrase.Feasible ∷ Phrase.Point ∷ l) (value_said values j v le k.1.1))
+      ((h.0, value_taken values j v h.1 k le), ap (λ l. Phrase.Feasible ∷ Phrase.Point ∷ l) (value_said values j v le k.1.1))
   more_taken c (Part.Point values) _ next h k e = absurd (cc)
   more_taken Check (Part.Listed (Found.Members members)) (Phrase.Member m) next h k e =
       let t = mapped_told (λ ms. Next.More (Part.Listed (Found.Members ms))) (list_all (λ n. comes_before n m) members) (members ++ m ∷ []) (Next.More next) e in
       subst (Took Check (Part.Listed (Found.Members members)) (Phrase.Member m)) (same_more (Part.Listed (Found.Members (members ++ m ∷ []))) next t.1)
       (member_taken members m h k t.0, ap (λ l. Phrase.Infeasible ∷ l) (map_push Phrase.Member members m))
   more_taken (Iis method) (Part.Listed (Found.Members members)) p next h k e = absurd h
+  more_taken (Pivots n) (Part.Listed (Found.Members members)) p next h k e = absurd h
   more_taken c (Part.Listed (Found.Members members)) Phrase.Proof next h k e = subst (Took c (Part.Listed (Found.Members members)) Phrase.Proof) (more_is (Part.Proof (Found.Members members)) next e) (h, refl)
   more_taken c (Part.Listed (Found.Members members)) _ next h k e = absurd (cc)
   more_taken c (Part.Listed (Found.Witnessed members witnesses)) p next h k e = witnessed_taken c members witnesses p next h k e
@@ -295,10 +353,16 @@ module _ (model : Program) where
   -- ---- answers
   -- what the last phrase of an answer makes of its part
   record Ends (c : Command) (part : Part) (p : Phrase) (answer : Answer) : Type 0 where
-    ended : p ≡ Phrase.End
+    ended : p ≡ answer_end answer
     kind : can_answer c answer ≡ true
     form : IsAnswerFor model answer
     said : answer_front answer ≡ part_phrases part
+
+  -- no answer ends with a site
+  no_site : (then : StopPart) (p : Phrase) (a : Answer) → at_site then p ≡ Some (Next.Whole a) → ⊥
+  no_site then (Phrase.Stop (StopPhrase.Site Settle)) a e = cc
+  no_site then (Phrase.Stop _) a e = cc
+  no_site then _ a e = cc
 
   whole_is : (a b : Answer) → Some (Next.Whole a) ≡ Some (Next.Whole b) → a ≡ b
   whole_is a b e = cc
@@ -317,12 +381,39 @@ module _ (model : Program) where
       record { ended = refl; kind = refl; form = (listed_taken members h, leaf_taken shares k); said = leaf_said (found_phrases (Found.Members members)) shares }
   leaf_ends Check (Found.Witnessed members witnesses) shares h k = absurd h
   leaf_ends (Iis method) (Found.Members members) shares h k = absurd h
+  leaf_ends (Pivots n) found shares h k = absurd h
   leaf_ends (Iis method) (Found.Witnessed members witnesses) shares h k =
       record { ended = refl; kind = refl; form = record { members = listed_taken members h.0; each = h.1.each; points = h.1.points; proof = leaf_taken shares k }; said = leaf_said (found_phrases (Found.Witnessed members witnesses)) shares }
 
-  point_ends : (c : Command) (values : List ℚ) → AreValues model values → Ends c (Part.Point values) Phrase.End (Answer.Feasible (point_of model values))
-  point_ends Check values h = record { ended = refl; kind = refl; form = point_taken values h; said = ap (λ l. Phrase.Feasible ∷ l) (point_said values) }
-  point_ends (Iis method) values h = record { ended = refl; kind = refl; form = point_taken values h; said = ap (λ l. Phrase.Feasible ∷ l) (point_said values) }
+  point_ends : (c : Command) (values : List ℚ) → IsPartFor model c (Part.Point values) → Ends c (Part.Point values) Phrase.End (Answer.Feasible (point_of model values))
+  point_ends Check values h = record { ended = refl; kind = refl; form = point_taken values h.1; said = ap (λ l. Phrase.Feasible ∷ l) (point_said values) }
+  point_ends (Iis method) values h = record { ended = refl; kind = refl; form = point_taken values h.1; said = ap (λ l. Phrase.Feasible ∷ l) (point_said values) }
+  point_ends (Pivots n) values h = absurd h.0
+
+  stop_ends : (c : Command) (part : StopPart) (p : Phrase) (a : Answer) → IsStopPart c part → stop_with model part p ≡ Some (Next.Whole a) → Ends c (Part.Stop part) p a
+  stop_ends Check (StopPart.WideOperation k o) Phrase.End a h e =
+      subst (Ends Check (Part.Stop (StopPart.WideOperation k o)) Phrase.End) (whole_is (Answer.Stopped (TooWide (whole_site model) k o)) a e)
+      (record { ended = refl; kind = refl; form = (record { kind = refl; set_is = refl; enforced_is = refl; path_is = refl }, (h.0, h.1)); said = refl })
+  stop_ends Check (StopPart.WideOperation k o) _ a h e = absurd (cc)
+  stop_ends Check StopPart.SpentSite Phrase.End a h e =
+      subst (Ends Check (Part.Stop StopPart.SpentSite) Phrase.End) (whole_is (Answer.Stopped (Spent (whole_site model))) a e)
+      (record { ended = refl; kind = refl; form = record { kind = refl; set_is = refl; enforced_is = refl; path_is = refl }; said = refl })
+  stop_ends Check StopPart.SpentSite _ a h e = absurd (cc)
+  stop_ends Check StopPart.Wide p a h e = absurd (no_site StopPart.WideSite p a e)
+  stop_ends Check StopPart.Spent p a h e = absurd (no_site StopPart.SpentSite p a e)
+  stop_ends Check StopPart.WideSite (Phrase.Stop (StopPhrase.Step n)) a h e = absurd (cc)
+  stop_ends Check StopPart.WideSite (Phrase.Stop _) a h e = absurd (cc)
+  stop_ends Check StopPart.WideSite _ a h e = absurd (cc)
+  stop_ends Check (StopPart.WideStep n) (Phrase.Stop (StopPhrase.Operation o)) a h e = absurd (cc)
+  stop_ends Check (StopPart.WideStep n) (Phrase.Stop _) a h e = absurd (cc)
+  stop_ends Check (StopPart.WideStep n) _ a h e = absurd (cc)
+  stop_ends (Iis method) part p a h e = absurd h
+  stop_ends (Pivots n) part p a h e = absurd h
+
+  begun_ends : (s : StopPhrase) (a : Answer) → stop_begun s ≡ Some (Next.Whole a) → ⊥
+  begun_ends StopPhrase.Wide a e = cc
+  begun_ends StopPhrase.Spent a e = cc
+  begun_ends _ a e = cc
 
   not_whole : {X : Type 0} (make : X → Next) (b : Bool) (x : X) (a : Answer) → ((y : X) → Next.Whole a ≢ make y) → option_map make (only_if b x) ≡ Some (Next.Whole a) → ⊥
   not_whole make b x a differ e = let t = mapped_told make b x (Next.Whole a) e in differ x (sym t.1)
@@ -345,6 +436,10 @@ module _ (model : Program) where
   whole_taken c (Part.Witness members witnesses m values) (Phrase.Value j v) a h e =
       absurd (not_whole (λ vs. Next.More (Part.Witness members witnesses m vs)) (nat_le (length values) j) (filled j values ++ v ∷ []) a (λ y s. cc) e)
   whole_taken c (Part.Witness members witnesses m values) p a h e = absurd (no_answer (members ++ m ∷ []) (witnesses ++ point_of model values ∷ []) p a e)
+  whole_taken c (Part.Stop part) p a h e = stop_ends c part p a h e
+  whole_taken (Pivots n) Part.Nothing Phrase.Done a h e = subst (Ends (Pivots n) Part.Nothing Phrase.Done) (whole_is Answer.Done a e) (record { ended = refl; kind = refl; form = tt; said = refl })
+  whole_taken (Pivots n) Part.Nothing _ a h e = absurd (cc)
+  whole_taken Check Part.Nothing (Phrase.Stop s) a h e = absurd (begun_ends s a e)
   whole_taken Check Part.Nothing Phrase.Feasible a h e = absurd (cc)
   whole_taken Check Part.Nothing _ a h e = absurd (cc)
   whole_taken (Iis method) Part.Nothing Phrase.Feasible a h e = absurd (cc)
@@ -407,7 +502,7 @@ module _ (model : Program) where
   between_taken n notes (f ∷ entries) (Phrase.Note note) next h k l e = absurd (cc)
   between_taken n notes entries (Phrase.Command c) next h k l e =
       drawn (record { notes = notes; entries = entries; stage = Stage.Between }) (Phrase.Command c) (record { notes = notes; entries = entries; stage = Stage.Answering (record { command = c; line = n }) Part.Nothing }) next e
-      (record { notes = h.notes; entries = h.entries; numbered = h.numbered; stage = (l ∙ ap suc (body_length notes entries h.entries) ∙ (omega arith), tt) }, refl)
+      (record { notes = h.notes; entries = h.entries; numbered = h.numbered; stage = (l ∙ ap suc (body_length notes entries h.entries) ∙ (omega arith), (k, tt)) }, refl)
   between_taken n notes entries Phrase.Foot next h k l e =
       drawn (record { notes = notes; entries = entries; stage = Stage.Between }) Phrase.Foot (record { notes = notes; entries = entries; stage = Stage.Done }) next e
       (record { notes = h.notes; entries = h.entries; numbered = h.numbered; stage = tt }, refl)
@@ -423,21 +518,21 @@ module _ (model : Program) where
       → Draws (record { notes = notes; entries = entries; stage = Stage.Answering question part }) p (placed (record { notes = notes; entries = entries; stage = Stage.Answering question part }) question next)
   unfolding Took
   answering_taken notes entries question part p (Next.More more) h k e =
-      let t = more_taken question.command part p more h.stage.1 k e in (
-        record { notes = h.notes; entries = h.entries; numbered = h.numbered; stage = (h.stage.0, t.0) },
+      let t = more_taken question.command part p more h.stage.1.1 k e in (
+        record { notes = h.notes; entries = h.entries; numbered = h.numbered; stage = (h.stage.0, (h.stage.1.0, t.0)) },
         ap (λ l. body_phrases notes entries ++ Phrase.Command question.command ∷ l) t.1 ∙ sym (append_assoc (body_phrases notes entries) (Phrase.Command question.command ∷ part_phrases part) (p ∷ [])),
       )
   answering_taken notes entries question part p (Next.Whole answer) h k e =
-      let t = whole_taken question.command part p answer h.stage.1 e in
+      let t = whole_taken question.command part p answer h.stage.1.1 e in
       let entry : Entry = record { command = question.command; answer = answer; line = question.line } in (
         record {
           notes = h.notes;
-          entries = All-push (IsEntryFor model) entries entry h.entries (record { kind = t.kind; answer = t.form });
+          entries = All-push (IsEntryFor model) entries entry h.entries (record { command = h.stage.1.0; kind = t.kind; answer = t.form });
           numbered = numbered_push (2 + length notes) entries entry h.numbered (h.stage.0 ∙ (omega arith));
           stage = tt;
         },
         body_push notes entries entry
-            ∙ ap (λ l. body_phrases notes entries ++ Phrase.Command question.command ∷ (l ++ Phrase.End ∷ [])) t.said
+            ∙ ap (λ l. body_phrases notes entries ++ Phrase.Command question.command ∷ (l ++ answer_end answer ∷ [])) t.said
             ∙ ap (λ q. body_phrases notes entries ++ Phrase.Command question.command ∷ (part_phrases part ++ q ∷ [])) (sym t.ended)
             ∙ sym (append_assoc (body_phrases notes entries) (Phrase.Command question.command ∷ part_phrases part) (p ∷ [])),
       )

@@ -8,9 +8,10 @@ use Rattle.rational.specs.Rational.{ℚ, zero_ℚ}
 use Rattle.lp_model.specs.Program.{Program}
 use Rattle.report_text.specs.declared.phrases.Keyword.{Keyword}
 use Rattle.report_text.specs.declared.phrases.Phrase.{Phrase}
+use Rattle.report_text.specs.declared.phrases.StopPhrase.{StopPhrase}
 use Rattle.report_text.specs.Phrases.{keyword_text, keyword_of, details, Says}
 use Rattle.report_text.specs.Words.{IsSpelled, IsColumnSaid, IsFractionSaid, Finds, leading_keywords, leading_said}
-use Rattle.report_text.proofs.Spelling.{some_parts, words_of_line, line_of_words}
+use Rattle.report_text.proofs.Spelling.{some_parts, stop_apart, words_of_line, line_of_words}
 
 -- the column and the value that two words say
 pub record ValueSaid (model : Program) (name number : List ℕ) (p : Phrase) : Type 0 where
@@ -23,6 +24,7 @@ pub record ValueSaid (model : Program) (name number : List ℕ) (p : Phrase) : T
 
 pub value_said : (model : Program) (name number : List ℕ) (p : Phrase) → IsSpelled model Keyword.Value (name ∷ number ∷ []) p → ValueSaid model name number p
 value_said model name number (Phrase.Value j v) h = record { column = j; value = v; is = refl; named = (h.form.0, (let e = h.behind in cc)); printed = (h.form.1.0, (let e = h.behind in cc)); apart = h.form.1.1 }
+value_said model name number (Phrase.Stop s) h = absurd (stop_apart Keyword.Value s refl (sym h.keyword))
 value_said model name number _ h = absurd (let e = h.keyword in cc)
 
 -- ---- the keyword of a line
@@ -31,6 +33,11 @@ pub leads : (model : Program) (p : Phrase) → details model p ≢ [] → leadin
 leads model Phrase.Head h = refl
 leads model (Phrase.Note n) h = refl
 leads model (Phrase.Command c) h = refl
+leads model (Phrase.Stop StopPhrase.Wide) h = refl
+leads model (Phrase.Stop StopPhrase.Spent) h = refl
+leads model (Phrase.Stop (StopPhrase.Site kind)) h = refl
+leads model (Phrase.Stop (StopPhrase.Step k)) h = refl
+leads model (Phrase.Stop (StopPhrase.Operation o)) h = refl
 leads model (Phrase.Value j v) h = refl
 leads model (Phrase.Member m) h = refl
 leads model (Phrase.Use s) h = refl

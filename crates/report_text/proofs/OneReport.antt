@@ -5,7 +5,7 @@ use Rattle.std.specs.Fmt.{signed_decimal}
 use Rattle.std.specs.List.{position_or_len}
 use Rattle.std.specs.Char.{digit_value}
 use Rattle.std.specs.Str.Parse.{AllDigits}
-use Rattle.std.proofs.lemmas.Fmt.{decimal_is_IsNumeral_wide}
+use Rattle.std.proofs.lemmas.Fmt.{decimal_is_IsNumeral_wide, decimal_injective}
 use Rattle.std.proofs.lemmas.Bool.{cases_eq, or_parts, ltb-false}
 use Rattle.std.proofs.lemmas.List.Elements.{All-head, All-tail}
 use Rattle.std.proofs.lemmas.List.{append_cancel_right}
@@ -29,21 +29,27 @@ use Rattle.lp_model.specs.declared.members.Side.TheVariants.{Lo, Up}
 use Rattle.certs.specs.declared.evidence.Source.{Source}
 use Rattle.certs.specs.declared.evidence.Source.TheVariants.{Member as Of, Below, Above}
 use Rattle.certs.specs.declared.evidence.Share.{Share}
+use Rattle.certs.specs.declared.solving.SiteKind.{SiteKind}
+use Rattle.certs.specs.declared.solving.SiteKind.TheVariants.{Settle, Improve, Stretch, Relax, Alternative}
+use Rattle.frac128.specs.declared.Op.{Op}
+use Rattle.frac128.specs.declared.Op.TheVariants.{Plus, Minus, Times, Over}
+use Rattle.frac128.specs.declared.Wide.{Wide as Operation}
 use Rattle.report_text.specs.declared.report.Method.{Method}
 use Rattle.report_text.specs.declared.report.Method.TheVariants.{Deletion, Additive, Sensitivity}
 use Rattle.report_text.specs.declared.report.Command.{Command}
-use Rattle.report_text.specs.declared.report.Command.TheVariants.{Check, Iis}
+use Rattle.report_text.specs.declared.report.Command.TheVariants.{Check, Iis, Pivots}
 use Rattle.report_text.specs.declared.phrases.Keyword.{Keyword}
 use Rattle.report_text.specs.declared.phrases.Phrase.{Phrase}
-use Rattle.report_text.specs.Form.{IsNamedColumn, IsNamedMember, IsNamedSource, IsWithinLimit, IsUse}
-use Rattle.report_text.specs.Grammar.{Line, column_name, name_of, kind_word, side_word, method_word, report_lines}
+use Rattle.report_text.specs.declared.phrases.StopPhrase.{StopPhrase}
+use Rattle.report_text.specs.Form.{IsNamedColumn, IsNamedMember, IsNamedSource, IsWithinLimit, IsUse, IsCommand, IsOperation}
+use Rattle.report_text.specs.Grammar.{Line, column_name, name_of, kind_word, side_word, method_word, site_word, op_word, report_lines}
 use Rattle.report_text.specs.Reading.{OneReportLaw}
-use Rattle.report_text.specs.Phrases.{keyword_text, keyword_of, source_words, details, phrase_line, IsPhraseFor, Says}
+use Rattle.report_text.specs.Phrases.{keyword_text, keyword_of, source_words, stop_keyword, stop_details, details, phrase_line, IsStopPhrase, IsPhraseFor, Says}
 use Rattle.report_text.specs.Words.{leading_said, lone_said}
 use Rattle.report_text.specs.Drafts.{nothing_read}
 use Rattle.report_text.specs.declared.drafts.Draft.{Draft}
 use Rattle.report_text.proofs.Said.{report_phrases, report_spelled, report_for}
-use Rattle.report_text.proofs.Spelling.{words_of_line, parts_of_read}
+use Rattle.report_text.proofs.Spelling.{stop_apart, words_of_line, parts_of_read}
 use Rattle.report_text.proofs.Named.{one_place}
 use Rattle.report_text.proofs.Runs.{run, done, report_read}
 
@@ -93,6 +99,51 @@ fraction_one q r h k e =
         | inr b ↦ decimal_one q.den r.den (bottom q h) (bottom r k) (sym (slash_part q (top q h) (printed q) slash refl at a).2 ∙ (slash_part r (top r k) (printed q) slash e at b).2)
       ]
     ]
+
+-- ---- stops
+site_one : (a b : SiteKind) → site_word a ≡ site_word b → a ≡ b
+site_one Settle Settle e = refl
+site_one Improve Improve e = refl
+site_one Stretch Stretch e = refl
+site_one Relax Relax e = refl
+site_one Alternative Alternative e = refl
+site_one Settle b e = absurd (apart (codes "settle") (site_word b) refl e)
+site_one Improve b e = absurd (apart (codes "improve") (site_word b) refl e)
+site_one Stretch b e = absurd (apart (codes "stretch") (site_word b) refl e)
+site_one Relax b e = absurd (apart (codes "relax") (site_word b) refl e)
+site_one Alternative b e = absurd (apart (codes "alternative") (site_word b) refl e)
+
+op_one : (a b : Op) → op_word a ≡ op_word b → a ≡ b
+op_one Plus Plus e = refl
+op_one Minus Minus e = refl
+op_one Times Times e = refl
+op_one Over Over e = refl
+op_one Plus b e = absurd (apart (codes "plus") (op_word b) refl e)
+op_one Minus b e = absurd (apart (codes "minus") (op_word b) refl e)
+op_one Times b e = absurd (apart (codes "times") (op_word b) refl e)
+op_one Over b e = absurd (apart (codes "over") (op_word b) refl e)
+
+operation_is : (a b : Op) (l m r s : ℚ) → a ≡ b → l ≡ m → r ≡ s → (let x : Operation = record { op = a; left = l; right = r } in x) ≡ record { op = b; left = m; right = s }
+operation_is a b l m r s e g h = ap (λ c. record { op = c; left = l; right = r }) e ∙ ap (λ c. record { op = b; left = c; right = r }) g ∙ ap (λ c. record { op = b; left = m; right = c }) h
+
+operation_one : (a b : Operation) → IsOperation a → IsOperation b → stop_details (StopPhrase.Operation a) ≡ stop_details (StopPhrase.Operation b) → a ≡ b
+operation_one a b h k d =
+    let ops : op_word a.op ≡ op_word b.op = cc in
+    let lefts : printed a.left ≡ printed b.left = cc in
+    let rights : printed a.right ≡ printed b.right = cc in
+    operation_is a.op b.op a.left b.left a.right b.right (op_one a.op b.op ops) (fraction_one a.left b.left h.left k.left lefts) (fraction_one a.right b.right h.right k.right rights)
+
+stop_one : (a b : StopPhrase) → IsStopPhrase a → IsStopPhrase b → stop_keyword a ≡ stop_keyword b → stop_details a ≡ stop_details b → a ≡ b
+stop_one StopPhrase.Wide StopPhrase.Wide h k e d = refl
+stop_one StopPhrase.Spent StopPhrase.Spent h k e d = refl
+stop_one (StopPhrase.Site a) (StopPhrase.Site b) h k e d = let words : site_word a ≡ site_word b = cc in ap StopPhrase.Site (site_one a b words)
+stop_one (StopPhrase.Step m) (StopPhrase.Step n) h k e d = let words : decimal m ≡ decimal n = cc in ap StopPhrase.Step (decimal_injective m n h k words)
+stop_one (StopPhrase.Operation a) (StopPhrase.Operation b) h k e d = ap StopPhrase.Operation (operation_one a b h k d)
+stop_one StopPhrase.Wide _ h k e d = absurd (cc)
+stop_one StopPhrase.Spent _ h k e d = absurd (cc)
+stop_one (StopPhrase.Site a) _ h k e d = absurd (cc)
+stop_one (StopPhrase.Step m) _ h k e d = absurd (cc)
+stop_one (StopPhrase.Operation a) _ h k e d = absurd (cc)
 
 -- ---- names
 module _ (model : Program) (f : IsWellFormed model) where
@@ -153,11 +204,13 @@ module _ (model : Program) (f : IsWellFormed model) where
   note_one (LowerRemoved i) (LowerKept j) h k e = let last : codes "removed" ≡ codes "kept" = cc in absurd (apart (codes "removed") (codes "kept") refl last)
   note_one (LowerKept i) (LowerRemoved j) h k e = let last : codes "kept" ≡ codes "removed" = cc in absurd (apart (codes "kept") (codes "removed") refl last)
 
-  command_one : (a b : Command) → details model (Phrase.Command a) ≡ details model (Phrase.Command b) → a ≡ b
-  command_one Check Check e = refl
-  command_one (Iis m) (Iis n) e = let words : method_word m ≡ method_word n = cc in ap Iis (method_one m n words)
-  command_one Check (Iis n) e = absurd (cc)
-  command_one (Iis m) Check e = absurd (cc)
+  command_one : (a b : Command) → IsCommand a → IsCommand b → details model (Phrase.Command a) ≡ details model (Phrase.Command b) → a ≡ b
+  command_one Check Check h k e = refl
+  command_one (Iis m) (Iis n) h k e = let words : method_word m ≡ method_word n = cc in ap Iis (method_one m n words)
+  command_one (Pivots m) (Pivots n) h k e = let words : decimal m ≡ decimal n = cc in ap Pivots (decimal_injective m n (let l : m ≤ 1000000 = h in omega arith) (let l : n ≤ 1000000 = k in omega arith) words)
+  command_one Check _ h k e = absurd (cc)
+  command_one (Iis m) _ h k e = absurd (cc)
+  command_one (Pivots m) _ h k e = absurd (cc)
 
   -- phrases of one keyword and one list of words behind it
   behind_one : (p q : Phrase) → IsPhraseFor model p → IsPhraseFor model q → keyword_of p ≡ keyword_of q → details model p ≡ details model q → p ≡ q
@@ -171,10 +224,27 @@ module _ (model : Program) (f : IsWellFormed model) where
   behind_one Phrase.End Phrase.End h k e d = refl
   behind_one Phrase.Foot Phrase.Foot h k e d = refl
   behind_one (Phrase.Note a) (Phrase.Note b) h k e d = ap Phrase.Note (note_one a b h k d)
-  behind_one (Phrase.Command a) (Phrase.Command b) h k e d = ap Phrase.Command (command_one a b d)
+  behind_one (Phrase.Command a) (Phrase.Command b) h k e d = ap Phrase.Command (command_one a b h k d)
+  behind_one Phrase.Done Phrase.Done h k e d = refl
+  behind_one (Phrase.Stop a) (Phrase.Stop b) h k e d = ap Phrase.Stop (stop_one a b h k e d)
   behind_one (Phrase.Value i v) (Phrase.Value j w) h k e d = let names : column_name model i ≡ column_name model j = cc in let numbers : printed v ≡ printed w = cc in ap (λ n. Phrase.Value n v) (column_one i j h.0 k.0 names) ∙ ap (λ x. Phrase.Value j x) (fraction_one v w h.1.0 k.1.0 numbers)
   behind_one (Phrase.Member m) (Phrase.Member n) h k e d = let kinds : kind_word m ≡ kind_word n = cc in let names : name_of model m ≡ name_of model n = cc in ap Phrase.Member (member_one m n h k kinds names)
   behind_one (Phrase.Use a) (Phrase.Use b) h k e d = ap Phrase.Use (use_one a b h k d)
+  behind_one Phrase.Head (Phrase.Stop s) h k e d = absurd (stop_apart Keyword.Iisan s refl e)
+  behind_one Phrase.Feasible (Phrase.Stop s) h k e d = absurd (stop_apart Keyword.Feasible s refl e)
+  behind_one Phrase.Infeasible (Phrase.Stop s) h k e d = absurd (stop_apart Keyword.Infeasible s refl e)
+  behind_one Phrase.Irreducible (Phrase.Stop s) h k e d = absurd (stop_apart Keyword.Irreducible s refl e)
+  behind_one Phrase.Point (Phrase.Stop s) h k e d = absurd (stop_apart Keyword.Point s refl e)
+  behind_one Phrase.Proof (Phrase.Stop s) h k e d = absurd (stop_apart Keyword.Proof s refl e)
+  behind_one Phrase.Leaf (Phrase.Stop s) h k e d = absurd (stop_apart Keyword.Leaf s refl e)
+  behind_one Phrase.End (Phrase.Stop s) h k e d = absurd (stop_apart Keyword.End s refl e)
+  behind_one Phrase.Foot (Phrase.Stop s) h k e d = absurd (stop_apart Keyword.Report s refl e)
+  behind_one (Phrase.Note a) (Phrase.Stop s) h k e d = absurd (stop_apart Keyword.Note s refl e)
+  behind_one (Phrase.Command a) (Phrase.Stop s) h k e d = absurd (stop_apart Keyword.Command s refl e)
+  behind_one (Phrase.Value i v) (Phrase.Stop s) h k e d = absurd (stop_apart Keyword.Value s refl e)
+  behind_one (Phrase.Member m) (Phrase.Stop s) h k e d = absurd (stop_apart Keyword.Member s refl e)
+  behind_one (Phrase.Use a) (Phrase.Stop s) h k e d = absurd (stop_apart Keyword.Use s refl e)
+  behind_one Phrase.Done (Phrase.Stop s) h k e d = absurd (stop_apart Keyword.Done s refl e)
   behind_one Phrase.Head _ h k e d = absurd (cc)
   behind_one Phrase.Feasible _ h k e d = absurd (cc)
   behind_one Phrase.Infeasible _ h k e d = absurd (cc)
@@ -186,6 +256,8 @@ module _ (model : Program) (f : IsWellFormed model) where
   behind_one Phrase.Foot _ h k e d = absurd (cc)
   behind_one (Phrase.Note a) _ h k e d = absurd (cc)
   behind_one (Phrase.Command a) _ h k e d = absurd (cc)
+  behind_one Phrase.Done _ h k e d = absurd (cc)
+  behind_one (Phrase.Stop a) q h k e d = absurd (stop_apart (keyword_of q) a refl (sym e))
   behind_one (Phrase.Value i v) _ h k e d = absurd (cc)
   behind_one (Phrase.Member m) _ h k e d = absurd (cc)
   behind_one (Phrase.Use a) _ h k e d = absurd (cc)
@@ -204,12 +276,18 @@ module _ (model : Program) (f : IsWellFormed model) where
       spelled_back Keyword.Feasible = refl
       spelled_back Keyword.Infeasible = refl
       spelled_back Keyword.Irreducible = refl
+      spelled_back Keyword.Done = refl
       spelled_back Keyword.Point = refl
       spelled_back Keyword.Value = refl
       spelled_back Keyword.Member = refl
       spelled_back Keyword.Proof = refl
       spelled_back Keyword.Leaf = refl
       spelled_back Keyword.Use = refl
+      spelled_back Keyword.Too = refl
+      spelled_back Keyword.Pivots = refl
+      spelled_back Keyword.Site = refl
+      spelled_back Keyword.Step = refl
+      spelled_back Keyword.Operation = refl
       spelled_back Keyword.End = refl
       spelled_back Keyword.Report = refl
 

@@ -9,22 +9,31 @@ use Rattle.lp_model.specs.declared.parts.Note.{Note}
 use Rattle.lp_model.specs.declared.members.Member.{Member}
 use Rattle.certs.specs.declared.evidence.Share.{Share}
 use Rattle.certs.specs.declared.evidence.Point.{Point}
-use Rattle.rational.specs.Rational.{ℚ}
+use Rattle.certs.specs.declared.solving.SiteKind.TheVariants.{Settle}
+use Rattle.certs.specs.declared.solving.Stop.TheVariants.{Wide as TooWide, Pivots as Spent}
+use Rattle.frac128.specs.declared.Op.TheVariants.{Plus}
+use Rattle.frac128.specs.declared.Wide.{Wide as Operation}
+use Rattle.algebra.specs.Gcd.{gcd, gcd_within}
+use Rattle.rational.specs.Rational.{ℚ, frac, zero_ℚ}
+use Rattle.report_text.specs.declared.report.Command.{Command}
+use Rattle.report_text.specs.declared.report.Command.TheVariants.{Check, Iis, Pivots}
 use Rattle.report_text.specs.declared.report.Answer.{Answer}
 use Rattle.report_text.specs.declared.report.Entry.{Entry}
 use Rattle.report_text.specs.declared.report.Report.{Report}
 use Rattle.report_text.specs.declared.phrases.Phrase.{Phrase}
+use Rattle.report_text.specs.declared.phrases.StopPhrase.{StopPhrase}
 use Rattle.report_text.specs.declared.drafts.Found.{Found}
 use Rattle.report_text.specs.declared.drafts.Question.{Question}
+use Rattle.report_text.specs.declared.drafts.StopPart.{StopPart}
 use Rattle.report_text.specs.declared.drafts.Part.{Part}
 use Rattle.report_text.specs.declared.drafts.Next.{Next}
 use Rattle.report_text.specs.declared.drafts.Stage.{Stage}
 use Rattle.report_text.specs.declared.drafts.Draft.{Draft}
 use Rattle.report_text.specs.Grammar.{Line, text_of, report_lines}
-use Rattle.report_text.specs.Form.{IsReportFor}
+use Rattle.report_text.specs.Form.{IsReportFor, IsOperation}
 use Rattle.report_text.specs.Reading.{Reads, IsFront, IsWhole, IsBadLine, IsTruncated, IsReportStop}
 use Rattle.report_text.specs.Phrases.{IsPhraseFor, phrase_line, Says}
-use Rattle.report_text.specs.Drafts.{point_of, answer_of, extended, placed, advanced, nothing_read, Takes, IsLineStop, ended, IsDraftFor}
+use Rattle.report_text.specs.Drafts.{point_of, answer_of, whole_site, extended, placed, advanced, nothing_read, Takes, IsLineStop, ended, IsDraftFor}
 use Rattle.report_text.proofs.Said.{report_phrases, report_spelled, report_for}
 use Rattle.report_text.proofs.Spelling.{some_parts, parts_of_read, text_of_parts}
 use Rattle.report_text.proofs.Runs.{run, run_append, run_step, done, report_read}
@@ -40,6 +49,14 @@ lines_of model ps = map (phrase_line model) ps
 -- a draft from its parts
 abbrev draft_of : List Note → List Entry → Stage → Draft
 draft_of notes entries stage = record { notes = notes; entries = entries; stage = stage }
+
+-- an operation that may stand in a stop
+abbrev zeros : Operation
+zeros = record { op = Plus; left = zero_ℚ; right = zero_ℚ }
+
+zeros_fit : IsOperation zeros
+unfolding frac gcd gcd_within
+zeros_fit = record { left = refl; right = refl }
 
 -- ---- what is read is the front of a report
 module _ (model : Program) where
@@ -80,13 +97,16 @@ module _ (model : Program) where
         back notes entries (Stage.Answering question part) p (draft_of notes entries (Stage.Answering question more)) h k
         (ap (option_map (placed (draft_of notes entries (Stage.Answering question part)) question)) e) front
 
-    -- the end
-    end_back : (part : Part) (a : Answer) → extended model question.command part Phrase.End ≡ Some (Next.Whole a) → Within part
+    -- the last line
+    last_back : (part : Part) (p : Phrase) (a : Answer) → IsPhraseFor model p → extended model question.command part p ≡ Some (Next.Whole a) → Within part
     unfolding Within
-    end_back part a e h =
+    last_back part p a k e h =
         let more : List Entry = entries ++ (record { command = question.command; answer = a; line = question.line }) ∷ [] in
-        back notes entries (Stage.Answering question part) Phrase.End (draft_of notes more Stage.Between) h tt
+        back notes entries (Stage.Answering question part) p (draft_of notes more Stage.Between) h k
         (ap (option_map (placed (draft_of notes entries (Stage.Answering question part)) question)) e) (front_between notes more)
+
+    end_back : (part : Part) (a : Answer) → extended model question.command part Phrase.End ≡ Some (Next.Whole a) → Within part
+    end_back part a e = last_back part Phrase.End a tt e
 
     front_point : (values : List ℚ) → Within (Part.Point values)
     front_point values = end_back (Part.Point values) (Answer.Feasible (point_of model values)) refl
@@ -102,9 +122,39 @@ module _ (model : Program) where
         let found = Found.Witnessed (members ++ m ∷ []) (witnesses ++ point_of model values ∷ []) in
         more_back (Part.Witness members witnesses m values) (Part.Proof found) Phrase.Proof tt refl (front_proof found)
 
+    front_feasible : Within Part.Feasible
+    front_feasible = more_back Part.Feasible (Part.Point []) Phrase.Point tt refl (front_point [])
+
+    -- by the command
+    front_nothing : (c : Command) → question.command ≡ c → Within Part.Nothing
+    front_nothing Check e = more_back Part.Nothing Part.Feasible Phrase.Feasible tt (ap (λ d. extended model d Part.Nothing Phrase.Feasible) e) front_feasible
+    front_nothing (Iis method) e = more_back Part.Nothing Part.Feasible Phrase.Feasible tt (ap (λ d. extended model d Part.Nothing Phrase.Feasible) e) front_feasible
+    front_nothing (Pivots n) e = last_back Part.Nothing Phrase.Done Answer.Done tt (ap (λ d. extended model d Part.Nothing Phrase.Done) e)
+
+    front_operation : (k : ℕ) (o : Operation) → Within (Part.Stop (StopPart.WideOperation k o))
+    front_operation k o = end_back (Part.Stop (StopPart.WideOperation k o)) (Answer.Stopped (TooWide (whole_site model) k o)) refl
+
+    front_step : (k : ℕ) → Within (Part.Stop (StopPart.WideStep k))
+    front_step k = more_back (Part.Stop (StopPart.WideStep k)) (Part.Stop (StopPart.WideOperation k zeros)) (Phrase.Stop (StopPhrase.Operation zeros)) zeros_fit refl (front_operation k zeros)
+
+    front_site : Within (Part.Stop StopPart.WideSite)
+    front_site = more_back (Part.Stop StopPart.WideSite) (Part.Stop (StopPart.WideStep 0)) (Phrase.Stop (StopPhrase.Step 0)) (omega arith) refl (front_step 0)
+
+    front_spent : Within (Part.Stop StopPart.SpentSite)
+    front_spent = end_back (Part.Stop StopPart.SpentSite) (Answer.Stopped (Spent (whole_site model))) refl
+
+    front_stop : (part : StopPart) → Within (Part.Stop part)
+    front_stop StopPart.Wide = more_back (Part.Stop StopPart.Wide) (Part.Stop StopPart.WideSite) (Phrase.Stop (StopPhrase.Site Settle)) tt refl front_site
+    front_stop StopPart.WideSite = front_site
+    front_stop (StopPart.WideStep k) = front_step k
+    front_stop (StopPart.WideOperation k o) = front_operation k o
+    front_stop StopPart.Spent = more_back (Part.Stop StopPart.Spent) (Part.Stop StopPart.SpentSite) (Phrase.Stop (StopPhrase.Site Settle)) tt refl front_spent
+    front_stop StopPart.SpentSite = front_spent
+
     front_part : (part : Part) → Within part
-    front_part Part.Nothing = more_back Part.Nothing Part.Feasible Phrase.Feasible tt refl (more_back Part.Feasible (Part.Point []) Phrase.Point tt refl (front_point []))
-    front_part Part.Feasible = more_back Part.Feasible (Part.Point []) Phrase.Point tt refl (front_point [])
+    front_part Part.Nothing = front_nothing question.command refl
+    front_part Part.Feasible = front_feasible
+    front_part (Part.Stop part) = front_stop part
     front_part (Part.Point values) = front_point values
     front_part (Part.Listed (Found.Members members)) = more_back (Part.Listed (Found.Members members)) (Part.Proof (Found.Members members)) Phrase.Proof tt refl (front_proof (Found.Members members))
     front_part (Part.Listed (Found.Witnessed members witnesses)) = more_back (Part.Listed (Found.Witnessed members witnesses)) (Part.Proof (Found.Witnessed members witnesses)) Phrase.Proof tt refl (front_proof (Found.Witnessed members witnesses))

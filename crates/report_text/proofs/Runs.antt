@@ -4,7 +4,7 @@ use Rattle.std.specs.Prelude.{map, flat_map, zip, replicate, option_and_then, op
 use Rattle.std.specs.List.{list_all}
 use Rattle.std.proofs.lemmas.List.{replicate_more, length-append, length-map}
 use Rattle.report_text.specs.Phrases.{phrase_line}
-use Rattle.report_text.proofs.Said.{value_phrases, point_phrases, node_phrases, proof_phrases, witness_phrases, answer_front, entry_phrases, report_phrases, entry_spelled}
+use Rattle.report_text.proofs.Said.{value_phrases, point_phrases, node_phrases, proof_phrases, witness_phrases, stop_phrases, answer_front, answer_end, entry_phrases, report_phrases, entry_spelled}
 use Rattle.std.proofs.lemmas.List.Elements.{All-head, All-tail, All-contains, Contains-append_right}
 use Rattle.std.proofs.lemmas.Bool.{and_from, le-leb}
 use Rattle.rational.proofs.Compare.{eq-Decides}
@@ -16,22 +16,30 @@ use Rattle.lp_model.specs.declared.members.Member.{Member}
 use Rattle.lp_model.specs.Members.{comes_before, IsInOrder}
 use Rattle.certs.specs.declared.evidence.Point.{Point}
 use Rattle.certs.specs.declared.evidence.Proof.{Proof}
+use Rattle.certs.specs.declared.evidence.Branch.{Branch}
+use Rattle.certs.specs.declared.solving.SiteKind.{SiteKind}
+use Rattle.certs.specs.declared.solving.SiteKind.TheVariants.{Settle}
+use Rattle.certs.specs.declared.solving.Site.{Site}
+use Rattle.certs.specs.declared.solving.Stop.{Stop}
+use Rattle.certs.specs.declared.solving.Stop.TheVariants.{Wide as TooWide, Pivots as Spent, Nodes, Large, Memory}
 use Rattle.report_text.specs.declared.report.Command.{Command}
-use Rattle.report_text.specs.declared.report.Command.TheVariants.{Check, Iis}
+use Rattle.report_text.specs.declared.report.Command.TheVariants.{Check, Iis, Pivots}
 use Rattle.report_text.specs.declared.report.Answer.{Answer}
-use Rattle.report_text.specs.declared.report.Answer.TheVariants.{Feasible, Infeasible, Irreducible}
+use Rattle.report_text.specs.declared.report.Answer.TheVariants.{Feasible, Infeasible, Irreducible, Done, Stopped}
 use Rattle.report_text.specs.declared.report.Entry.{Entry}
 use Rattle.report_text.specs.declared.report.Report.{Report}
 use Rattle.report_text.specs.declared.phrases.Phrase.{Phrase}
+use Rattle.report_text.specs.declared.phrases.StopPhrase.{StopPhrase}
 use Rattle.report_text.specs.declared.drafts.Found.{Found}
 use Rattle.report_text.specs.declared.drafts.Question.{Question}
+use Rattle.report_text.specs.declared.drafts.StopPart.{StopPart}
 use Rattle.report_text.specs.declared.drafts.Part.{Part}
 use Rattle.report_text.specs.declared.drafts.Next.{Next}
 use Rattle.report_text.specs.declared.drafts.Stage.{Stage}
 use Rattle.report_text.specs.declared.drafts.Draft.{Draft}
-use Rattle.lp_model.specs.MemberSets.{SetValue}
-use Rattle.report_text.specs.Form.{IsListed, IsOneLeaf, IsPointFor, IsAnswerFor, IsEntryFor, AreNumbered, IsReportFor, can_answer, share_before}
-use Rattle.report_text.specs.Drafts.{filled, point_of, leaf_of, set_of, only_if, with_value, witnessed_with, extended, placed, advanced, nothing_read}
+use Rattle.lp_model.specs.MemberSets.{SetValue, active_set, empty_set}
+use Rattle.report_text.specs.Form.{IsListed, IsOneLeaf, IsPointFor, IsWholeSite, IsStopFor, IsAnswerFor, IsEntryFor, AreNumbered, IsReportFor, can_answer, share_before}
+use Rattle.report_text.specs.Drafts.{filled, point_of, leaf_of, set_of, only_if, with_value, witnessed_with, whole_site, at_site, extended, placed, advanced, nothing_read}
 
 -- ---- runs
 -- the draft that phrases lead to, where the first is that of line number n
@@ -243,17 +251,65 @@ same_proof model proof h = ap (λ nodes. record { nodes = nodes }) (sym h.one)
 same_set : (model : Program) (set : SetValue) → IsListed model set → set_of model set.members ≡ set
 same_set model set h = ap (λ r. record { rows = r; columns = length model.columns; members = set.members }) (sym h.of_model.rows) ∙ ap (λ c. record { rows = set.rows; columns = c; members = set.members }) (sym h.of_model.columns)
 
--- an answer's front leads to a part that its end makes the answer
-answer_read : (model : Program) (c : Command) (a : Answer) → can_answer c a ≡ true → IsAnswerFor model a
-    → (end : Part) × ((grown model c Part.Nothing (answer_front a) ≡ Some end) × (extended model c end Phrase.End ≡ Some (Next.Whole a)))
-answer_read model c (Feasible p) can h =
+-- the site of a stop
+same_site : (model : Program) (site : Site) → IsWholeSite model site → whole_site model ≡ site
+same_site model site h = by site.kind site.set site.enforced site.path h.kind h.set_is h.enforced_is h.path_is
+  where
+    by : (kind : SiteKind) (set enforced : SetValue) (path : List Branch) → kind ≡ Settle → set ≡ active_set model → enforced ≡ empty_set model → path ≡ []
+        → whole_site model ≡ record { kind = kind; set = set; enforced = enforced; path = path }
+    by kind set enforced path k s e p =
+        ap (λ x. record { kind = x; set = active_set model; enforced = empty_set model; path = [] }) (sym k)
+        ∙ ap (λ x. record { kind = kind; set = x; enforced = empty_set model; path = [] }) (sym s)
+        ∙ ap (λ x. record { kind = kind; set = set; enforced = x; path = [] }) (sym e)
+        ∙ ap (λ x. record { kind = kind; set = set; enforced = enforced; path = x }) (sym p)
+
+-- an answer's front leads to a part that its last line makes the answer
+AnswerRead : Program → Command → Answer → Type 0
+AnswerRead model c a = (end : Part) × ((grown model c Part.Nothing (answer_front a) ≡ Some end) × (extended model c end (answer_end a) ≡ Some (Next.Whole a)))
+
+-- a stop
+stop_read : (model : Program) (stop : Stop) → IsStopFor model stop → AnswerRead model Check (Stopped stop)
+unfolding AnswerRead
+stop_read model (TooWide site k o) h = (
+  Part.Stop (StopPart.WideOperation k o),
+  (
+    grown_step model Check Part.Nothing (Part.Stop StopPart.Wide) (Phrase.Stop StopPhrase.Wide) (Phrase.Stop (StopPhrase.Site site.kind) ∷ Phrase.Stop (StopPhrase.Step k) ∷ Phrase.Stop (StopPhrase.Operation o) ∷ []) refl
+        ∙ grown_step model Check (Part.Stop StopPart.Wide) (Part.Stop StopPart.WideSite) (Phrase.Stop (StopPhrase.Site site.kind)) (Phrase.Stop (StopPhrase.Step k) ∷ Phrase.Stop (StopPhrase.Operation o) ∷ []) (ap (λ x. at_site StopPart.WideSite (Phrase.Stop (StopPhrase.Site x))) h.0.kind)
+        ∙ grown_step model Check (Part.Stop StopPart.WideSite) (Part.Stop (StopPart.WideStep k)) (Phrase.Stop (StopPhrase.Step k)) (Phrase.Stop (StopPhrase.Operation o) ∷ []) refl
+        ∙ grown_step model Check (Part.Stop (StopPart.WideStep k)) (Part.Stop (StopPart.WideOperation k o)) (Phrase.Stop (StopPhrase.Operation o)) [] refl,
+    ap (λ s. Some (Next.Whole (Stopped (TooWide s k o)))) (same_site model site h.0),
+  ),
+)
+stop_read model (Spent site) h = (
+  Part.Stop StopPart.SpentSite,
+  (
+    grown_step model Check Part.Nothing (Part.Stop StopPart.Spent) (Phrase.Stop StopPhrase.Spent) (Phrase.Stop (StopPhrase.Site site.kind) ∷ []) refl
+        ∙ grown_step model Check (Part.Stop StopPart.Spent) (Part.Stop StopPart.SpentSite) (Phrase.Stop (StopPhrase.Site site.kind)) [] (ap (λ x. at_site StopPart.SpentSite (Phrase.Stop (StopPhrase.Site x))) h.kind),
+    ap (λ s. Some (Next.Whole (Stopped (Spent s)))) (same_site model site h),
+  ),
+)
+stop_read model (Nodes site) h = absurd h
+stop_read model (Large size) h = absurd h
+stop_read model Memory h = absurd h
+
+-- a point
+feasible_read : (model : Program) (c : Command) (p : Point) → IsPointFor model p → extended model c Part.Nothing Phrase.Feasible ≡ Some (Next.More Part.Feasible) → AnswerRead model c (Feasible p)
+unfolding AnswerRead
+feasible_read model c p h e =
     let r = point_read model c (λ vs. Part.Point vs) (λ values j v. refl) p h in (
       Part.Point r.0,
       (
-        grown_step model c Part.Nothing Part.Feasible Phrase.Feasible (point_phrases p) refl ∙ grown_step model c Part.Feasible (Part.Point []) Phrase.Point (value_phrases 0 p.values) refl ∙ r.1.0,
+        grown_step model c Part.Nothing Part.Feasible Phrase.Feasible (point_phrases p) e ∙ grown_step model c Part.Feasible (Part.Point []) Phrase.Point (value_phrases 0 p.values) refl ∙ r.1.0,
         ap (λ q. Some (Next.Whole (Feasible q))) r.1.1,
       ),
     )
+
+answer_read : (model : Program) (c : Command) (a : Answer) → can_answer c a ≡ true → IsAnswerFor model a → AnswerRead model c a
+unfolding AnswerRead
+answer_read model Check (Feasible p) can h = feasible_read model Check p h refl
+answer_read model (Iis method) (Feasible p) can h = feasible_read model (Iis method) p h refl
+answer_read model (Pivots n) Done can h = (Part.Nothing, (refl, refl))
+answer_read model Check (Stopped stop) can h = stop_read model stop h
 answer_read model Check (Infeasible set proof) can h =
     let members = set.members in
     let found = Found.Members members in
@@ -281,6 +337,10 @@ answer_read model (Iis method) (Irreducible core) can h =
     )
 answer_read model Check (Irreducible core) can h = absurd (true≢false (sym can))
 answer_read model (Iis method) (Infeasible set proof) can h = absurd (true≢false (sym can))
+answer_read model Check Done can h = absurd (true≢false (sym can))
+answer_read model (Iis method) Done can h = absurd (true≢false (sym can))
+answer_read model (Iis method) (Stopped stop) can h = absurd (true≢false (sym can))
+answer_read model (Pivots n) _ can h = absurd (true≢false (sym can))
 
 -- ---- entries, notes and the whole
 module _ (model : Program) where
@@ -288,15 +348,16 @@ module _ (model : Program) where
   between notes entries = record { notes = notes; entries = entries; stage = Stage.Between }
 
   entry_read : (notes : List Note) (entries : List Entry) (e : Entry) → IsEntryFor model e → run model e.line (between notes entries) (entry_phrases e) ≡ Some (between notes (entries ++ e ∷ []))
-  unfolding between
+  unfolding between AnswerRead
   entry_read notes entries e h =
+      let last_phrase = answer_end e.answer in
       let q : Question = record { command = e.command; line = e.line } in
       let start = answering (between notes entries) q Part.Nothing in
       let r = answer_read model e.command e.answer h.kind h.answer in
       let last = answering (between notes entries) q r.0 in
-      run_step model e.line (between notes entries) start (Phrase.Command e.command) (answer_front e.answer ++ Phrase.End ∷ []) refl
-      ∙ run_append model (suc e.line) start last (answer_front e.answer) (Phrase.End ∷ []) (grown_runs model (suc e.line) (between notes entries) q Part.Nothing r.0 (answer_front e.answer) r.1.0)
-      ∙ run_step model (suc e.line + length (answer_front e.answer)) last (between notes (entries ++ e ∷ [])) Phrase.End [] (ap (option_map (placed last q)) r.1.1)
+      run_step model e.line (between notes entries) start (Phrase.Command e.command) (answer_front e.answer ++ last_phrase ∷ []) refl
+      ∙ run_append model (suc e.line) start last (answer_front e.answer) (last_phrase ∷ []) (grown_runs model (suc e.line) (between notes entries) q Part.Nothing r.0 (answer_front e.answer) r.1.0)
+      ∙ run_step model (suc e.line + length (answer_front e.answer)) last (between notes (entries ++ e ∷ [])) last_phrase [] (ap (option_map (placed last q)) r.1.1)
 
   entries_read : (n : ℕ) (notes : List Note) (entries more : List Entry) → All (IsEntryFor model) more → AreNumbered model n more
       → run model n (between notes entries) (flat_map entry_phrases more) ≡ Some (between notes (entries ++ more))

@@ -19,16 +19,19 @@ use Rattle.certs.specs.declared.evidence.Point.{Point}
 use Rattle.certs.specs.declared.evidence.Node.{Node}
 use Rattle.certs.specs.declared.evidence.Node.TheVariants.{Split, Leaf}
 use Rattle.certs.specs.declared.evidence.Proof.{Proof}
+use Rattle.certs.specs.declared.solving.Stop.{Stop}
+use Rattle.certs.specs.declared.solving.Stop.TheVariants.{Wide as TooWide, Pivots as Spent, Nodes, Large, Memory}
 use Rattle.report_text.specs.declared.report.Command.{Command}
-use Rattle.report_text.specs.declared.report.Command.TheVariants.{Check, Iis}
+use Rattle.report_text.specs.declared.report.Command.TheVariants.{Check, Iis, Pivots}
 use Rattle.report_text.specs.declared.report.Answer.{Answer}
-use Rattle.report_text.specs.declared.report.Answer.TheVariants.{Feasible, Infeasible, Irreducible}
+use Rattle.report_text.specs.declared.report.Answer.TheVariants.{Feasible, Infeasible, Irreducible, Done, Stopped}
 use Rattle.report_text.specs.declared.report.Entry.{Entry}
 use Rattle.report_text.specs.declared.report.Report.{Report}
 use Rattle.report_text.specs.declared.phrases.Phrase.{Phrase}
+use Rattle.report_text.specs.declared.phrases.StopPhrase.{StopPhrase}
 use Rattle.lp_model.specs.Satisfaction.{values_at}
-use Rattle.report_text.specs.Form.{is_word, IsWithinLimit, IsNamedColumn, IsNamedMember, IsUse, IsOneLeaf, IsPointFor, IsAnswerFor, IsEntryFor, IsReportFor}
-use Rattle.report_text.specs.Grammar.{Line, ◌then◌, column_name, name_of, kind_word, member_line, side_word, source_text, command_text, value_line, value_lines, point_lines, use_line, node_lines, proof_lines, witness_lines, answer_lines, entry_lines, note_line, report_lines}
+use Rattle.report_text.specs.Form.{is_word, IsWithinLimit, IsNamedColumn, IsNamedMember, IsUse, IsOneLeaf, IsPointFor, IsStopFor, IsAnswerFor, IsEntryFor, IsReportFor}
+use Rattle.report_text.specs.Grammar.{Line, ◌then◌, column_name, name_of, kind_word, member_line, side_word, source_text, command_text, value_line, value_lines, point_lines, use_line, node_lines, proof_lines, witness_lines, stop_lines, answer_lines, entry_lines, note_line, report_lines}
 use Rattle.report_text.specs.Phrases.{spelled, source_words, phrase_line, IsPhraseFor}
 
 -- ---- the phrases of a report
@@ -49,14 +52,27 @@ proof_phrases proof = Phrase.Proof ∷ flat_map node_phrases proof.nodes
 abbrev pub witness_phrases : Member × Point → List Phrase
 witness_phrases w = Phrase.Member w.0 ∷ point_phrases w.1
 
--- an answer without its end
+-- a stop without its end
+abbrev pub stop_phrases : Stop → List Phrase
+stop_phrases (TooWide site k o) = Phrase.Stop StopPhrase.Wide ∷ Phrase.Stop (StopPhrase.Site site.kind) ∷ Phrase.Stop (StopPhrase.Step k) ∷ Phrase.Stop (StopPhrase.Operation o) ∷ []
+stop_phrases (Spent site) = Phrase.Stop StopPhrase.Spent ∷ Phrase.Stop (StopPhrase.Site site.kind) ∷ []
+stop_phrases _ = []
+
+-- an answer without its last line
 abbrev pub answer_front : Answer → List Phrase
 answer_front (Feasible p) = Phrase.Feasible ∷ point_phrases p
 answer_front (Infeasible set proof) = Phrase.Infeasible ∷ (map Phrase.Member set.members ++ proof_phrases proof)
 answer_front (Irreducible core) = Phrase.Irreducible ∷ (flat_map witness_phrases (zip core.members.members core.witnesses) ++ proof_phrases core.proof)
+answer_front Done = []
+answer_front (Stopped stop) = stop_phrases stop
+
+-- the last line of an answer
+abbrev pub answer_end : Answer → Phrase
+answer_end Done = Phrase.Done
+answer_end _ = Phrase.End
 
 abbrev pub entry_phrases : Entry → List Phrase
-entry_phrases e = Phrase.Command e.command ∷ (answer_front e.answer ++ Phrase.End ∷ [])
+entry_phrases e = Phrase.Command e.command ∷ (answer_front e.answer ++ answer_end e.answer ∷ [])
 
 -- all that stands before the foot
 abbrev pub body_phrases : List Note → List Entry → List Phrase
@@ -84,6 +100,7 @@ note_spelled model (LowerKept j) = refl
 command_spelled : (model : Program) (c : Command) → (codes "command" then command_text c) ≡ phrase_line model (Phrase.Command c)
 command_spelled model Check = refl
 command_spelled model (Iis method) = refl
+command_spelled model (Pivots n) = refl
 
 -- ---- lists of lines
 -- what f makes are the lines of what g makes
@@ -128,8 +145,17 @@ module _ (model : Program) where
   witness_spelled : (w : Member × Point) → witness_lines model w ≡ map (phrase_line model) (witness_phrases w)
   witness_spelled w = ap (λ l. member_line model w.0 ∷ l) (point_spelled w.1)
 
-  -- an answer is its front and its end
-  answer_spelled : (a : Answer) → IsAnswerFor model a → answer_lines model a ≡ map (phrase_line model) (answer_front a ++ Phrase.End ∷ [])
+  stop_spelled : (stop : Stop) → IsStopFor model stop → stop_lines stop ≡ map (phrase_line model) (stop_phrases stop ++ Phrase.End ∷ [])
+  stop_spelled (TooWide site k o) h = refl
+  stop_spelled (Spent site) h = refl
+  stop_spelled (Nodes site) h = absurd h
+  stop_spelled (Large size) h = absurd h
+  stop_spelled Memory h = absurd h
+
+  -- an answer is its front and its last line
+  answer_spelled : (a : Answer) → IsAnswerFor model a → answer_lines model a ≡ map (phrase_line model) (answer_front a ++ answer_end a ∷ [])
+  answer_spelled Done h = refl
+  answer_spelled (Stopped stop) h = stop_spelled stop h
   answer_spelled (Feasible p) h = ap (λ l. codes "feasible" ∷ (l ++ codes "end" ∷ [])) (point_spelled p) ∙ ap (λ l. codes "feasible" ∷ l) (sym (map-append (phrase_line model) (point_phrases p) (Phrase.End ∷ [])))
   answer_spelled (Infeasible set proof) h =
       ap (λ l. codes "infeasible" ∷ (l ++ (proof_lines model proof ++ codes "end" ∷ []))) (map_map model Phrase.Member (member_line model) (λ m. refl) set.members)
@@ -207,8 +233,29 @@ module _ (model : Program) where
       All-cons (λ w. IsNamedMember model w.0 × IsPointFor model w.1) (m, p) (zip members witnesses) (All-head (IsNamedMember model) m members q, All-head (IsPointFor model) p witnesses r)
       (zipped members witnesses (All-tail (IsNamedMember model) m members q) (All-tail (IsPointFor model) p witnesses r))
 
+  stop_for : (stop : Stop) → IsStopFor model stop → All For (stop_phrases stop)
+  unfolding For
+  stop_for (TooWide site k o) h =
+      All-cons For (Phrase.Stop StopPhrase.Wide) (Phrase.Stop (StopPhrase.Site site.kind) ∷ Phrase.Stop (StopPhrase.Step k) ∷ Phrase.Stop (StopPhrase.Operation o) ∷ []) tt
+      (All-cons For (Phrase.Stop (StopPhrase.Site site.kind)) (Phrase.Stop (StopPhrase.Step k) ∷ Phrase.Stop (StopPhrase.Operation o) ∷ []) tt
+      (All-cons For (Phrase.Stop (StopPhrase.Step k)) (Phrase.Stop (StopPhrase.Operation o) ∷ []) h.1.0 (All-cons For (Phrase.Stop (StopPhrase.Operation o)) [] h.1.1 (All-nil For))))
+  stop_for (Spent site) h = All-cons For (Phrase.Stop StopPhrase.Spent) (Phrase.Stop (StopPhrase.Site site.kind) ∷ []) tt (All-cons For (Phrase.Stop (StopPhrase.Site site.kind)) [] tt (All-nil For))
+  stop_for (Nodes site) h = absurd h
+  stop_for (Large size) h = absurd h
+  stop_for Memory h = absurd h
+
+  end_for : (a : Answer) → For (answer_end a)
+  unfolding For
+  end_for (Feasible p) = tt
+  end_for (Infeasible set proof) = tt
+  end_for (Irreducible core) = tt
+  end_for Done = tt
+  end_for (Stopped stop) = tt
+
   answer_for : (a : Answer) → IsAnswerFor model a → All For (answer_front a)
   unfolding For
+  answer_for Done h = All-nil For
+  answer_for (Stopped stop) h = stop_for stop h
   answer_for (Feasible p) h = All-cons For Phrase.Feasible (point_phrases p) tt (point_for p h)
   answer_for (Infeasible set proof) h =
       All-cons For Phrase.Infeasible (map Phrase.Member set.members ++ proof_phrases proof) tt
@@ -221,7 +268,7 @@ module _ (model : Program) where
 
   entry_for : (e : Entry) → IsEntryFor model e → All For (entry_phrases e)
   unfolding For
-  entry_for e h = All-cons For (Phrase.Command e.command) (answer_front e.answer ++ Phrase.End ∷ []) tt (All-push For (answer_front e.answer) Phrase.End (answer_for e.answer h.answer) tt)
+  entry_for e h = All-cons For (Phrase.Command e.command) (answer_front e.answer ++ answer_end e.answer ∷ []) h.command (All-push For (answer_front e.answer) (answer_end e.answer) (answer_for e.answer h.answer) (end_for e.answer))
 
   pub report_for : (report : Report) → IsReportFor model report → All (IsPhraseFor model) (report_phrases report)
   unfolding For

@@ -5,20 +5,25 @@ use Rattle.rational.specs.Rational.{ℚ, zero_ℚ}
 use Rattle.lp_model.specs.Program.{Program, noted_column}
 use Rattle.lp_model.specs.declared.members.Member.{Member}
 use Rattle.lp_model.specs.Members.{comes_before, IsInOrder}
-use Rattle.lp_model.specs.MemberSets.{SetValue}
+use Rattle.lp_model.specs.MemberSets.{SetValue, active_set, empty_set}
 use Rattle.lp_model.specs.Satisfaction.{values_at}
 use Rattle.lp_model.specs.declared.parts.Note.{Note}
 use Rattle.certs.specs.declared.evidence.Share.{Share}
 use Rattle.certs.specs.declared.evidence.Point.{Point}
 use Rattle.certs.specs.declared.evidence.Node.TheVariants.{Leaf}
 use Rattle.certs.specs.declared.evidence.Proof.{Proof}
+use Rattle.certs.specs.declared.solving.SiteKind.TheVariants.{Settle}
+use Rattle.certs.specs.declared.solving.Site.{Site}
+use Rattle.certs.specs.declared.solving.Stop.{Stop}
 use Rattle.report_text.specs.declared.report.Command.{Command}
-use Rattle.report_text.specs.declared.report.Command.TheVariants.{Check, Iis}
+use Rattle.report_text.specs.declared.report.Command.TheVariants.{Check, Iis, Pivots}
 use Rattle.report_text.specs.declared.report.Answer.{Answer}
 use Rattle.report_text.specs.declared.report.Entry.{Entry}
 use Rattle.report_text.specs.declared.phrases.Phrase.{Phrase}
+use Rattle.report_text.specs.declared.phrases.StopPhrase.{StopPhrase}
 use Rattle.report_text.specs.declared.drafts.Found.{Found}
 use Rattle.report_text.specs.declared.drafts.Question.{Question}
+use Rattle.report_text.specs.declared.drafts.StopPart.{StopPart}
 use Rattle.report_text.specs.declared.drafts.Part.{Part}
 use Rattle.report_text.specs.declared.drafts.Next.{Next}
 use Rattle.report_text.specs.declared.drafts.Stage.{Stage}
@@ -28,7 +33,7 @@ use Rattle.report_text.specs.declared.report.ReportStop.{ReportStop}
 use Rattle.report_text.specs.declared.report.ReportStop.TheVariants.{BadLine, Truncated, Memory}
 use Rattle.report_text.specs.Phrases.{Says}
 use Rattle.report_text.specs.Grammar.{Line, column_name, entry_lines}
-use Rattle.report_text.specs.Form.{is_word, IsNamedColumn, IsNamedMember, IsWithinLimit, IsPointFor, IsEntryFor, AreUses, AreNumbered, share_before}
+use Rattle.report_text.specs.Form.{is_word, IsNamedColumn, IsNamedMember, IsWithinLimit, IsPointFor, IsEntryFor, IsCommand, IsCount, IsOperation, AreUses, AreNumbered, share_before}
 
 -- values with zeros behind them, up to so many
 abbrev pub filled : ℕ → List ℚ → List ℚ
@@ -80,12 +85,40 @@ witnessed_with members witnesses (Phrase.Member m) = only_if (list_all (λ n. co
 witnessed_with members witnesses Phrase.Proof = Some (Next.More (Part.Proof (Found.Witnessed members witnesses)))
 witnessed_with members witnesses _ = None
 
+-- the settle run of all active members
+abbrev pub whole_site : Program → Site
+whole_site model = record { kind = Settle; set = active_set model; enforced = empty_set model; path = [] }
+
+-- how a stop begins
+abbrev pub stop_begun : StopPhrase → Option Next
+stop_begun StopPhrase.Wide = Some (Next.More (Part.Stop StopPart.Wide))
+stop_begun StopPhrase.Spent = Some (Next.More (Part.Stop StopPart.Spent))
+stop_begun _ = None
+
+-- where the settle run stopped, no other run as yet
+abbrev pub at_site : StopPart → Phrase → Option Next
+at_site next (Phrase.Stop (StopPhrase.Site Settle)) = Some (Next.More (Part.Stop next))
+at_site next _ = None
+
+-- what a part of a stop is with one phrase more
+abbrev pub stop_with : Program → StopPart → Phrase → Option Next
+stop_with model StopPart.Wide p = at_site StopPart.WideSite p
+stop_with model StopPart.WideSite (Phrase.Stop (StopPhrase.Step k)) = Some (Next.More (Part.Stop (StopPart.WideStep k)))
+stop_with model (StopPart.WideStep k) (Phrase.Stop (StopPhrase.Operation o)) = Some (Next.More (Part.Stop (StopPart.WideOperation k o)))
+stop_with model (StopPart.WideOperation k o) Phrase.End = Some (Next.Whole (Answer.Stopped (Stop.Wide (whole_site model) k o)))
+stop_with model StopPart.Spent p = at_site StopPart.SpentSite p
+stop_with model StopPart.SpentSite Phrase.End = Some (Next.Whole (Answer.Stopped (Stop.Pivots (whole_site model))))
+stop_with model _ _ = None
+
 -- the answer that a part of one becomes by a phrase, if it may follow
 abbrev pub extended : Program → Command → Part → Phrase → Option Next
-extended model command Part.Nothing Phrase.Feasible = Some (Next.More Part.Feasible)
+extended model command Part.Feasible Phrase.Point = Some (Next.More (Part.Point []))
+extended model Check Part.Nothing Phrase.Feasible = Some (Next.More Part.Feasible)
+extended model (Iis method) Part.Nothing Phrase.Feasible = Some (Next.More Part.Feasible)
 extended model Check Part.Nothing Phrase.Infeasible = Some (Next.More (Part.Listed (Found.Members [])))
 extended model (Iis method) Part.Nothing Phrase.Irreducible = Some (Next.More (Part.Listed (Found.Witnessed [] [])))
-extended model command Part.Feasible Phrase.Point = Some (Next.More (Part.Point []))
+extended model Check Part.Nothing (Phrase.Stop s) = stop_begun s
+extended model (Pivots n) Part.Nothing Phrase.Done = Some (Next.Whole Answer.Done)
 extended model command (Part.Point values) (Phrase.Value j v) = option_map (λ vs. Next.More (Part.Point vs)) (with_value values j v)
 extended model command (Part.Point values) Phrase.End = Some (Next.Whole (Answer.Feasible (point_of model values)))
 extended model command (Part.Listed (Found.Members members)) (Phrase.Member m) = option_map (λ ms. Next.More (Part.Listed (Found.Members ms))) (with_member members m)
@@ -97,6 +130,7 @@ extended model command (Part.Witness members witnesses m values) p = witnessed_w
 extended model command (Part.Proof found) Phrase.Leaf = Some (Next.More (Part.Leaf found []))
 extended model command (Part.Leaf found shares) (Phrase.Use s) = option_map (λ ss. Next.More (Part.Leaf found ss)) (with_share shares s)
 extended model command (Part.Leaf found shares) Phrase.End = Some (Next.Whole (answer_of model found shares))
+extended model command (Part.Stop part) p = stop_with model part p
 extended model command _ _ = None
 
 -- the draft that an answer, or more of it, makes
@@ -179,18 +213,32 @@ IsFound model command _ = ⊥
 -- members with witnesses, and one member more
 abbrev pub IsOneMore : Program → Command → List Member → List Point → Member → Type 0
 IsOneMore model Check members witnesses m = ⊥
+IsOneMore model (Pivots n) members witnesses m = ⊥
 IsOneMore model (Iis method) members witnesses m = AreMembers model (members ++ m ∷ []) × AreWitnesses model members witnesses
+
+-- a part of a stop, which answers a check
+abbrev pub IsStopPart : Command → StopPart → Type 0
+IsStopPart Check (StopPart.WideStep k) = IsCount k
+IsStopPart Check (StopPart.WideOperation k o) = IsCount k × IsOperation o
+IsStopPart Check _ = ⊤
+IsStopPart command _ = ⊥
+
+-- only a check, or the search for an irreducible set, is answered by more than one line
+abbrev pub Asks : Command → Type 0
+Asks (Pivots n) = ⊥
+Asks command = ⊤
 
 -- a part of an answer to the command
 abbrev pub IsPartFor : Program → Command → Part → Type 0
 IsPartFor model command Part.Nothing = ⊤
-IsPartFor model command Part.Feasible = ⊤
-IsPartFor model command (Part.Point values) = AreValues model values
+IsPartFor model command Part.Feasible = Asks command
+IsPartFor model command (Part.Point values) = Asks command × AreValues model values
 IsPartFor model command (Part.Listed found) = IsFound model command found
 IsPartFor model command (Part.Member members witnesses m) = IsOneMore model command members witnesses m
 IsPartFor model command (Part.Witness members witnesses m values) = IsOneMore model command members witnesses m × AreValues model values
 IsPartFor model command (Part.Proof found) = IsFound model command found
 IsPartFor model command (Part.Leaf found shares) = IsFound model command found × AreUses model shares
+IsPartFor model command (Part.Stop part) = IsStopPart command part
 
 -- nothing is read at the start; a command stands on the line after what is read before it
 abbrev pub IsStageFor : Program → List Note → List Entry → Stage → Type 0
@@ -198,7 +246,7 @@ IsStageFor model notes entries Stage.Start = (notes ≡ []) × (entries ≡ [])
 IsStageFor model notes entries Stage.Between = ⊤
 IsStageFor model notes entries Stage.Done = ⊤
 IsStageFor model notes entries (Stage.Answering question part) =
-    (question.line ≡ 2 + (length notes + length (flat_map (entry_lines model) entries))) × IsPartFor model question.command part
+    (question.line ≡ 2 + (length notes + length (flat_map (entry_lines model) entries))) × (IsCommand question.command × IsPartFor model question.command part)
 
 -- notes and entries as a report has them, and a part of one more
 pub record IsDraftFor (model : Program) (draft : Draft) : Type 0 where

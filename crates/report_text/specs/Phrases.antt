@@ -1,5 +1,5 @@
 -- What a line says: a keyword, and the words that follow it.
-use Rattle.std.specs.Prelude.{◌≡◌, ◌≢◌, ℕ, List, [], ◌∷◌, codes}
+use Rattle.std.specs.Prelude.{◌≡◌, ◌≢◌, ℕ, List, [], ◌∷◌, codes, decimal}
 use Rattle.rational.specs.Rational.{zero_ℚ}
 use Rattle.frac128.specs.Printed.{printed}
 use Rattle.lp_model.specs.Program.{Program, noted_column}
@@ -7,11 +7,12 @@ use Rattle.lp_model.specs.declared.parts.Note.TheVariants.{LowerRemoved, LowerKe
 use Rattle.certs.specs.declared.evidence.Source.{Source}
 use Rattle.certs.specs.declared.evidence.Source.TheVariants.{Member as Of, Below, Above}
 use Rattle.lp_model.specs.declared.members.Side.{Side}
-use Rattle.report_text.specs.declared.report.Command.TheVariants.{Check, Iis}
+use Rattle.report_text.specs.declared.report.Command.TheVariants.{Check, Iis, Pivots}
 use Rattle.report_text.specs.declared.phrases.Keyword.{Keyword}
 use Rattle.report_text.specs.declared.phrases.Phrase.{Phrase}
-use Rattle.report_text.specs.Grammar.{Line, ◌then◌, column_name, name_of, kind_word, side_word, method_word}
-use Rattle.report_text.specs.Form.{IsNamedColumn, IsNamedMember, IsWithinLimit, IsUse}
+use Rattle.report_text.specs.declared.phrases.StopPhrase.{StopPhrase}
+use Rattle.report_text.specs.Grammar.{Line, ◌then◌, column_name, name_of, kind_word, side_word, method_word, site_word, op_word}
+use Rattle.report_text.specs.Form.{IsNamedColumn, IsNamedMember, IsWithinLimit, IsUse, IsCommand, IsCount, IsOperation}
 
 -- how a keyword is spelled
 abbrev pub keyword_text : Keyword → List ℕ
@@ -21,14 +22,28 @@ keyword_text Keyword.Command = codes "command"
 keyword_text Keyword.Feasible = codes "feasible"
 keyword_text Keyword.Infeasible = codes "infeasible"
 keyword_text Keyword.Irreducible = codes "irreducible"
+keyword_text Keyword.Done = codes "done"
 keyword_text Keyword.Point = codes "point"
 keyword_text Keyword.Value = codes "value"
 keyword_text Keyword.Member = codes "member"
 keyword_text Keyword.Proof = codes "proof"
 keyword_text Keyword.Leaf = codes "leaf"
 keyword_text Keyword.Use = codes "use"
+keyword_text Keyword.Too = codes "too"
+keyword_text Keyword.Pivots = codes "pivots"
+keyword_text Keyword.Site = codes "site"
+keyword_text Keyword.Step = codes "step"
+keyword_text Keyword.Operation = codes "operation"
 keyword_text Keyword.End = codes "end"
 keyword_text Keyword.Report = codes "report"
+
+-- the keyword of what is said of a stop
+abbrev pub stop_keyword : StopPhrase → Keyword
+stop_keyword StopPhrase.Wide = Keyword.Too
+stop_keyword StopPhrase.Spent = Keyword.Pivots
+stop_keyword (StopPhrase.Site kind) = Keyword.Site
+stop_keyword (StopPhrase.Step k) = Keyword.Step
+stop_keyword (StopPhrase.Operation o) = Keyword.Operation
 
 -- the keyword of what is said
 abbrev pub keyword_of : Phrase → Keyword
@@ -38,6 +53,8 @@ keyword_of (Phrase.Command command) = Keyword.Command
 keyword_of Phrase.Feasible = Keyword.Feasible
 keyword_of Phrase.Infeasible = Keyword.Infeasible
 keyword_of Phrase.Irreducible = Keyword.Irreducible
+keyword_of Phrase.Done = Keyword.Done
+keyword_of (Phrase.Stop s) = stop_keyword s
 keyword_of Phrase.Point = Keyword.Point
 keyword_of (Phrase.Value j v) = Keyword.Value
 keyword_of (Phrase.Member m) = Keyword.Member
@@ -53,6 +70,14 @@ source_words model (Of m) side rest = kind_word m ∷ name_of model m ∷ side_w
 source_words model (Below j) side rest = codes "below" ∷ column_name model j ∷ rest
 source_words model (Above j) side rest = codes "above" ∷ column_name model j ∷ rest
 
+-- the words after the keyword of what is said of a stop
+abbrev pub stop_details : StopPhrase → List (List ℕ)
+stop_details StopPhrase.Wide = codes "wide" ∷ []
+stop_details StopPhrase.Spent = codes "spent" ∷ []
+stop_details (StopPhrase.Site kind) = site_word kind ∷ []
+stop_details (StopPhrase.Step k) = decimal k ∷ []
+stop_details (StopPhrase.Operation o) = op_word o.op ∷ printed o.left ∷ printed o.right ∷ []
+
 -- the words after the keyword
 abbrev pub details : Program → Phrase → List (List ℕ)
 details model Phrase.Head = codes "report" ∷ codes "1" ∷ []
@@ -60,9 +85,12 @@ details model (Phrase.Note (LowerRemoved j)) = column_name model j ∷ codes "lo
 details model (Phrase.Note (LowerKept j)) = column_name model j ∷ codes "lower" ∷ codes "kept" ∷ []
 details model (Phrase.Command Check) = codes "check" ∷ []
 details model (Phrase.Command (Iis method)) = codes "iis" ∷ method_word method ∷ []
+details model (Phrase.Command (Pivots n)) = codes "budget" ∷ codes "pivots" ∷ decimal n ∷ []
 details model Phrase.Feasible = []
 details model Phrase.Infeasible = []
 details model Phrase.Irreducible = []
+details model Phrase.Done = []
+details model (Phrase.Stop s) = stop_details s
 details model Phrase.Point = []
 details model (Phrase.Value j v) = column_name model j ∷ printed v ∷ []
 details model (Phrase.Member m) = kind_word m ∷ name_of model m ∷ []
@@ -81,12 +109,20 @@ spelled word (next ∷ rest) = word then spelled next rest
 abbrev pub phrase_line : Program → Phrase → Line
 phrase_line model p = spelled (keyword_text (keyword_of p)) (details model p)
 
--- its names are words of the program, its numbers fit, a value is not 0 and a weight is above 0
+-- the numbers of what is said of a stop fit
+abbrev pub IsStopPhrase : StopPhrase → Type 0
+IsStopPhrase (StopPhrase.Step k) = IsCount k
+IsStopPhrase (StopPhrase.Operation o) = IsOperation o
+IsStopPhrase _ = Unit {0}
+
+-- its names are words of the program, its numbers fit, a value is not 0, a weight is above 0 and a budget within its bound
 abbrev pub IsPhraseFor : Program → Phrase → Type 0
 IsPhraseFor model (Phrase.Note note) = IsNamedColumn model (noted_column note)
 IsPhraseFor model (Phrase.Value j v) = IsNamedColumn model j × (IsWithinLimit v × (v ≢ zero_ℚ))
 IsPhraseFor model (Phrase.Member m) = IsNamedMember model m
 IsPhraseFor model (Phrase.Use s) = IsUse model s
+IsPhraseFor model (Phrase.Command c) = IsCommand c
+IsPhraseFor model (Phrase.Stop s) = IsStopPhrase s
 IsPhraseFor model _ = Unit {0}
 
 -- the line says it

@@ -1,5 +1,5 @@
 -- What a word says, if it says something: the first of a list that is spelled so.
-use Rattle.std.specs.Prelude.{◌≡◌, ℕ, List, [], ◌∷◌, Option, Some, find, IfSome}
+use Rattle.std.specs.Prelude.{◌≡◌, ℕ, List, [], ◌∷◌, Option, Some, find, IfSome, decimal}
 use Rattle.std.specs.Str.{bytes_eq}
 use Rattle.report_text.specs.declared.phrases.Keyword.{Keyword}
 use Rattle.report_text.specs.declared.phrases.Phrase.{Phrase}
@@ -9,12 +9,12 @@ use Rattle.lp_model.specs.Program.{Program}
 use Rattle.lp_model.specs.declared.members.Member.{Member}
 use Rattle.lp_model.specs.declared.members.Side.{Side}
 use Rattle.report_text.specs.Grammar.{column_name, name_of, kind_word, side_word}
-use Rattle.report_text.specs.Form.{IsNamedColumn, IsNamedMember, IsWithinLimit}
+use Rattle.report_text.specs.Form.{IsNamedColumn, IsNamedMember, IsWithinLimit, IsCount}
 use Rattle.report_text.specs.Phrases.{keyword_text, keyword_of, details, IsPhraseFor}
 
 -- the phrases of one word
 abbrev pub lone_phrases : List Phrase
-lone_phrases = Phrase.Feasible ∷ Phrase.Infeasible ∷ Phrase.Irreducible ∷ Phrase.Point ∷ Phrase.Proof ∷ Phrase.Leaf ∷ Phrase.End ∷ []
+lone_phrases = Phrase.Feasible ∷ Phrase.Infeasible ∷ Phrase.Irreducible ∷ Phrase.Done ∷ Phrase.Point ∷ Phrase.Proof ∷ Phrase.Leaf ∷ Phrase.End ∷ []
 
 -- the phrase of one word that a word says
 abbrev pub lone_said : List ℕ → Option Phrase
@@ -22,7 +22,7 @@ lone_said word = find (λ p. bytes_eq word (keyword_text (keyword_of p))) lone_p
 
 -- the keywords with words behind them
 abbrev pub leading_keywords : List Keyword
-leading_keywords = Keyword.Value ∷ Keyword.Use ∷ Keyword.Member ∷ Keyword.Command ∷ Keyword.Note ∷ Keyword.Iisan ∷ Keyword.Report ∷ []
+leading_keywords = Keyword.Value ∷ Keyword.Use ∷ Keyword.Member ∷ Keyword.Command ∷ Keyword.Too ∷ Keyword.Pivots ∷ Keyword.Site ∷ Keyword.Step ∷ Keyword.Operation ∷ Keyword.Note ∷ Keyword.Iisan ∷ Keyword.Report ∷ []
 
 -- the keyword among these that a word is
 abbrev pub leading_said : List ℕ → Option Keyword
@@ -53,6 +53,10 @@ IsColumnSaid model name j = IsNamedColumn model j × (name ≡ column_name model
 -- the fraction is printed so
 abbrev pub IsFractionSaid : List ℕ → ℚ → Type 0
 IsFractionSaid text q = IsWithinLimit q × (text ≡ printed q)
+
+-- the count is printed so, in decimal without leading zeros
+abbrev pub IsCountSaid : List ℕ → ℕ → Type 0
+IsCountSaid text n = IsCount n × (text ≡ decimal n)
 
 -- the side is spelled so
 abbrev pub IsSideSaid : List ℕ → Side → Type 0

@@ -3,13 +3,14 @@ ghost use Rattle.std.specs.Prelude.{◌≡◌, ◌≤◌, IfOk, All, AllPairs, I
 ghost use Rattle.lp_model.specs.Members.{IsInOrder};
 ghost use Rattle.lp_model.specs.MemberSets.{IsMemberFor};
 ghost use Rattle.report_text.specs.Form.{share_before};
-ghost use Rattle.report_text.specs.Drafts.{filled, point_of, leaf_of, set_of, answer_of, with_value, with_member, with_share, IsFound};
+ghost use Rattle.report_text.specs.Drafts.{filled, point_of, leaf_of, set_of, answer_of, with_value, with_member, with_share, whole_site, IsFound};
+ghost use Rattle.certs.specs.declared.solving.Stop.TheVariants.{Wide as TooWide, Pivots as Spent};
 
 use crate::drafts::{Found, Members};
 use crate::ordering::{member_follows, share_follows};
 use crate::report::{Answer, Command, Core};
-use certs::{Combo, Node, Nodes, Point, Proof, Share, Shares, Values};
-use frac128::Frac;
+use certs::{Combo, Node, Nodes, Path, Point, Proof, Share, Shares, Site, SiteKind, Stop, Values};
+use frac128::{Frac, Wide};
 use lp_model::{Member, MemberSet, Model};
 use std::alloc::{AllocError, Global};
 
@@ -128,4 +129,39 @@ pub(crate) fn make_answer(
             }))
         }
     }
+}
+
+// The settle run of all active members.
+fn make_site(alloc: Global, model: &Model) -> Result<Site, AllocError>
+    ensures { IfOk result (λ s. s ≡ whole_site model.now) }
+{
+    let set = model.members(alloc)?;
+    let enforced = MemberSet::empty(alloc, model)?;
+    Ok(Site {
+        kind: SiteKind::Settle,
+        set,
+        enforced,
+        path: Path::new(Vec::new(alloc)),
+    })
+}
+
+/// The stop at an operation that is too wide, in the turn with this number.
+pub(crate) fn make_wide(
+    alloc: Global,
+    model: &Model,
+    step: u64,
+    wide: Wide,
+) -> Result<Answer, AllocError>
+    ensures { IfOk result (λ a. a ≡ Answer.Stopped (TooWide (whole_site model.now) step wide)) }
+{
+    let site = make_site(alloc, model)?;
+    Ok(Answer::Stopped(Stop::Wide(site, step, wide)))
+}
+
+/// The stop where no pivot is left.
+pub(crate) fn make_spent(alloc: Global, model: &Model) -> Result<Answer, AllocError>
+    ensures { IfOk result (λ a. a ≡ Answer.Stopped (Spent (whole_site model.now))) }
+{
+    let site = make_site(alloc, model)?;
+    Ok(Answer::Stopped(Stop::Pivots(site)))
 }

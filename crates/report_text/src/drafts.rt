@@ -3,6 +3,7 @@ ghost use Rattle.std.specs.Prelude.{◌≡◌};
 
 use crate::report::{Answer, Command, Entries, Notes, Witnesses};
 use certs::{Shares, Values};
+use frac128::Wide;
 use lp_model::Member;
 use std::marker::Model;
 
@@ -58,6 +59,23 @@ pub(crate) struct Question {
     pub(crate) line: u64,
 }
 
+/// How far a stop is read.
+#[derive(Clone, Copy, PartialEq, Eq, Debug)]
+pub(crate) enum StopPart {
+    /// `too wide`.
+    Wide,
+    /// The same, and the site.
+    WideSite,
+    /// The same, and the number of the turn.
+    WideStep(u64),
+    /// The same, and the operation.
+    WideOperation(u64, Wide),
+    /// `pivots spent`.
+    Spent,
+    /// The same, and the site.
+    SpentSite,
+}
+
 /// How far an answer is read.
 #[derive(Drop)]
 pub(crate) enum Part {
@@ -77,6 +95,8 @@ pub(crate) enum Part {
     Proof(Found),
     /// A leaf and its shares so far.
     Leaf(Found, Shares),
+    /// A stop.
+    Stop(StopPart),
 }
 
 /// What an answer is after one line more.

@@ -8,11 +8,22 @@ ghost use Rattle.lp_model.specs.Program.{Program};
 use crate::building::{add_member, add_share, add_value, make_answer, make_point};
 use crate::drafts::{Found, Members, Next, Part};
 use crate::ordering::member_follows;
-use crate::phrases::Phrase;
+use crate::phrases::{Phrase, StopPhrase};
 use crate::report::{Answer, Command, Witnesses};
+use crate::stopping::{begin_stop, follow_stop};
 use certs::{Shares, Values};
 use lp_model::{Member, Model};
 use std::alloc::{AllocError, Global};
+
+// The part behind `feasible`.
+fn open_feasible(command: Command) -> Option<Next>
+    ensures { (model : Program) → result ≡ extended model command Part.Nothing Phrase.Feasible }
+{
+    match command {
+        Command::Check | Command::Iis(_) => Some(Next::More(Part::Feasible)),
+        Command::Pivots(_) => None,
+    }
+}
 
 // The part behind `infeasible`.
 fn open_infeasible(alloc: Global, command: Command) -> Option<Next>
@@ -23,7 +34,7 @@ fn open_infeasible(alloc: Global, command: Command) -> Option<Next>
             let members = Members::new(Vec::new(alloc));
             Some(Next::More(Part::Listed(Found::Members(members))))
         }
-        Command::Iis(_) => None,
+        Command::Iis(_) | Command::Pivots(_) => None,
     }
 }
 
@@ -32,7 +43,7 @@ fn open_irreducible(alloc: Global, command: Command) -> Option<Next>
     ensures { (model : Program) → result ≡ extended model command Part.Nothing Phrase.Irreducible }
 {
     match command {
-        Command::Check => None,
+        Command::Check | Command::Pivots(_) => None,
         Command::Iis(_) => {
             let members = Members::new(Vec::new(alloc));
             let witnesses = Witnesses::new(Vec::new(alloc));
@@ -41,14 +52,36 @@ fn open_irreducible(alloc: Global, command: Command) -> Option<Next>
     }
 }
 
+// The part behind the first line of a stop.
+fn open_stop(command: Command, phrase: StopPhrase) -> Option<Next>
+    ensures { (model : Program) → result ≡ extended model command Part.Nothing (Phrase.Stop phrase) }
+{
+    match command {
+        Command::Check => begin_stop(phrase),
+        Command::Iis(_) | Command::Pivots(_) => None,
+    }
+}
+
+// The answer that `done` is.
+fn close_budget(command: Command) -> Option<Next>
+    ensures { (model : Program) → result ≡ extended model command Part.Nothing Phrase.Done }
+{
+    match command {
+        Command::Check | Command::Iis(_) => None,
+        Command::Pivots(_) => Some(Next::Whole(Answer::Done)),
+    }
+}
+
 // What may follow a command.
 fn follow_command(alloc: Global, command: Command, phrase: Phrase) -> Option<Next>
     ensures { (model : Program) → result ≡ extended model command Part.Nothing phrase }
 {
     match phrase {
-        Phrase::Feasible => Some(Next::More(Part::Feasible)),
+        Phrase::Feasible => open_feasible(command),
         Phrase::Infeasible => open_infeasible(alloc, command),
         Phrase::Irreducible => open_irreducible(alloc, command),
+        Phrase::Stop(phrase) => open_stop(command, phrase),
+        Phrase::Done => close_budget(command),
         _ => None,
     }
 }
@@ -254,5 +287,6 @@ pub(crate) fn follow(
         }
         Part::Proof(found) => Ok(follow_proof(alloc, found, phrase)),
         Part::Leaf(found, shares) => follow_leaf(alloc, model, command, found, shares, phrase),
+        Part::Stop(part) => follow_stop(alloc, model, part, phrase),
     }
 }

@@ -17,6 +17,9 @@ pub(crate) fn lone_phrase(word: &[u8]) -> Option<Phrase>
     if word == b"irreducible".as_slice() {
         return Some(Phrase::Irreducible);
     }
+    if word == b"done".as_slice() {
+        return Some(Phrase::Done);
+    }
     if word == b"point".as_slice() {
         return Some(Phrase::Point);
     }
@@ -47,6 +50,21 @@ pub(crate) fn leading_keyword(word: &[u8]) -> Option<Keyword>
     }
     if word == b"command".as_slice() {
         return Some(Keyword::Command);
+    }
+    if word == b"too".as_slice() {
+        return Some(Keyword::Too);
+    }
+    if word == b"pivots".as_slice() {
+        return Some(Keyword::Pivots);
+    }
+    if word == b"site".as_slice() {
+        return Some(Keyword::Site);
+    }
+    if word == b"step".as_slice() {
+        return Some(Keyword::Step);
+    }
+    if word == b"operation".as_slice() {
+        return Some(Keyword::Operation);
     }
     if word == b"note".as_slice() {
         return Some(Keyword::Note);

@@ -8,13 +8,17 @@ ghost use Rattle.report_text.specs.Phrases.{Says};
 ghost use Rattle.report_text.specs.Words.{Finds, IsSpelled, IsFractionSaid};
 
 use crate::keywords::{leading_keyword, lone_phrase};
-use crate::naming::{column_of, fraction_of, member_of, side_of};
+use crate::naming::{column_of, count_of, fraction_of, member_of, side_of};
 use crate::phrases::{Keyword, Phrase};
 use crate::report::{Command, Method};
+use crate::stop_words::{read_operation, read_pivots, read_site, read_step, read_too};
 use certs::{Share, Source};
 use frac128::Frac;
 use lines::{Words, cut, split_words};
 use lp_model::{Model, Note, Side};
+
+// The most pivots that a budget may be.
+const MOST_PIVOTS: u64 = 1_000_000;
 
 // A method.
 fn method_of(word: &[u8]) -> Option<Method>
@@ -32,25 +36,37 @@ fn method_of(word: &[u8]) -> Option<Method>
     None
 }
 
-// `report end`, or `command check`.
+// `report end`.
+fn read_foot(word: &[u8]) -> Option<Phrase>
+    ensures { (model : Program) → Finds (IsSpelled model Keyword.Report (word.now ∷ [])) result }
+{
+    if word == b"end".as_slice() {
+        return Some(Phrase::Foot);
+    }
+    None
+}
+
+// `command check`.
+fn read_check(word: &[u8]) -> Option<Phrase>
+    ensures { (model : Program) → Finds (IsSpelled model Keyword.Command (word.now ∷ [])) result }
+{
+    if word == b"check".as_slice() {
+        return Some(Phrase::Command(Command::Check));
+    }
+    None
+}
+
+// What one word says behind a keyword.
 fn read_one(keyword: Keyword, word: &[u8]) -> Option<Phrase>
     ensures { (model : Program) → Finds (IsSpelled model keyword (word.now ∷ [])) result }
 {
     match keyword {
-        Keyword::Report => {
-            if word == b"end".as_slice() {
-                Some(Phrase::Foot)
-            } else {
-                None
-            }
-        }
-        Keyword::Command => {
-            if word == b"check".as_slice() {
-                Some(Phrase::Command(Command::Check))
-            } else {
-                None
-            }
-        }
+        Keyword::Report => read_foot(word),
+        Keyword::Command => read_check(word),
+        Keyword::Too => read_too(word),
+        Keyword::Pivots => read_pivots(word),
+        Keyword::Site => read_site(word),
+        Keyword::Step => read_step(word),
         _ => None,
     }
 }
@@ -176,6 +192,22 @@ fn read_branch(model: &Model, which: &[u8], name: &[u8], number: &[u8]) -> Optio
     None
 }
 
+// A command that sets the budget of pivots.
+fn read_budget(first: &[u8], second: &[u8], third: &[u8]) -> Option<Phrase>
+    ensures { (model : Program) → Finds (IsSpelled model Keyword.Command (first.now ∷ second.now ∷ third.now ∷ [])) result }
+{
+    if first != b"budget".as_slice() || second != b"pivots".as_slice() {
+        return None;
+    }
+    let Some(count) = count_of(third) else {
+        return None;
+    };
+    if count > MOST_PIVOTS {
+        return None;
+    }
+    Some(Phrase::Command(Command::Pivots(count)))
+}
+
 // What three words say behind a keyword.
 fn read_three(
     model: &Model,
@@ -187,7 +219,9 @@ fn read_three(
     ensures { Finds (IsSpelled model.now keyword (first.now ∷ second.now ∷ third.now ∷ [])) result }
 {
     match keyword {
+        Keyword::Command => read_budget(first, second, third),
         Keyword::Note => read_note(model, first, second, third),
+        Keyword::Operation => read_operation(first, second, third),
         Keyword::Use => read_branch(model, first, second, third),
         _ => None,
     }

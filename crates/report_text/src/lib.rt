@@ -14,6 +14,8 @@ mod ordering;
 mod phrases;
 mod reader;
 mod report;
+mod stop_words;
+mod stopping;
 #[cfg(test)]
 mod tests;
 

@@ -1,11 +1,12 @@
-//! Names, sides and fractions of single words.
-ghost use Rattle.std.specs.Prelude.{◌≡◌, codes};
+//! Names, sides, fractions and counts of single words.
+ghost use Rattle.std.specs.Prelude.{◌≡◌, ◌<◌, ◌^◌, ℕ, Some, codes, decimal};
 ghost use Rattle.std.specs.List.{list_all};
 ghost use Rattle.lines.specs.Names.{is_shown};
 ghost use Rattle.report_text.specs.Form.{is_word};
-ghost use Rattle.report_text.specs.Words.{Finds, IsColumnSaid, IsMemberSaid, IsFractionSaid, IsSideSaid};
+ghost use Rattle.report_text.specs.Words.{Finds, IsColumnSaid, IsCountSaid, IsMemberSaid, IsFractionSaid, IsSideSaid};
 
 use frac128::{Exact, Frac, read_fraction};
+use itoa::Buffer;
 use lp_model::{Member, Model, Side};
 
 // Whether each byte may stand in a name.
@@ -99,4 +100,31 @@ pub(crate) fn fraction_of(text: &[u8]) -> Option<Frac>
     // That the fraction fits is told with its widening.
     let value = value.widen();
     Some(value)
+}
+
+// The count that the text may be the printed form of: the only one, where it is that of any.
+fn read_count(text: &[u8]) -> Option<u64>
+    ensures { (n : ℕ) → n < 2 ^ 64 → text.now ≡ decimal n → result ≡ Some n }
+{
+    let Ok(digits) = str::from_utf8(text) else {
+        return None;
+    };
+    let Ok(count) = digits.parse::<u64>() else {
+        return None;
+    };
+    Some(count)
+}
+
+/// The count that is printed so.
+pub(crate) fn count_of(text: &[u8]) -> Option<u64>
+    ensures { Finds (IsCountSaid text.now) result }
+{
+    let Some(count) = read_count(text) else {
+        return None;
+    };
+    let mut buffer = Buffer::new();
+    if text != buffer.format(count).as_bytes() {
+        return None;
+    }
+    Some(count)
 }

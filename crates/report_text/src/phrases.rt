@@ -1,8 +1,8 @@
 //! What single lines of a report say.
 
 use crate::report::Command;
-use certs::Share;
-use frac128::Frac;
+use certs::{Share, SiteKind};
+use frac128::{Frac, Wide};
 use lp_model::{Member, Note};
 
 /// The word that a line begins with.
@@ -14,14 +14,30 @@ pub(crate) enum Keyword {
     Feasible,
     Infeasible,
     Irreducible,
+    Done,
     Point,
     Value,
     Member,
     Proof,
     Leaf,
     Use,
+    Too,
+    Pivots,
+    Site,
+    Step,
+    Operation,
     End,
     Report,
+}
+
+/// What a line of a stop says: why a solve stopped, and where.
+#[derive(Clone, Copy, PartialEq, Eq, Debug)]
+pub(crate) enum StopPhrase {
+    Wide,
+    Spent,
+    Site(SiteKind),
+    Step(u64),
+    Operation(Wide),
 }
 
 /// What a line of a report says.
@@ -33,6 +49,8 @@ pub(crate) enum Phrase {
     Feasible,
     Infeasible,
     Irreducible,
+    Done,
+    Stop(StopPhrase),
     Point,
     Value(u32, Frac),
     Member(Member),

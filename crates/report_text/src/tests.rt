@@ -4,8 +4,8 @@ ghost use Rattle.lp_model.specs.Program.{IsWellFormedColumn};
 ghost use Rattle.lp_model.specs.Shown.{named_column};
 
 use super::*;
-use certs::{Node, Proof, Share, Source};
-use frac128::Frac;
+use certs::{Node, Proof, Share, Site, SiteKind, Source, Stop};
+use frac128::{Frac, Op, Wide};
 use lp_model::{Column, Member, MemberSet, Model, ModelStop, Note, Row, Side, Terms, Weight};
 use std::alloc::{AllocError, Global};
 use std::process::Abort;
@@ -16,6 +16,9 @@ const COMBINATION: &[u8] =
 
 const TWO_ENTRIES: &[u8] =
     b"iisan report 1\nnote y lower kept\ncommand check\nfeasible\npoint\nvalue y -1/2\nend\ncommand iis deletion\nirreducible\nmember lower x\npoint\nvalue x -1\nproof\nleaf\nend\nreport end\n";
+
+const STOPS: &[u8] =
+    b"iisan report 1\ncommand budget pivots 0\ndone\ncommand check\npivots spent\nsite settle\nend\ncommand budget pivots 1000000\ndone\ncommand check\ntoo wide\nsite settle\nstep 17\noperation minus 1000000000000000000000000000000 1/1000000000000000000000000000000\nend\nreport end\n";
 
 // A column from 0 to 3.
 fn box_column() -> Column
@@ -142,7 +145,7 @@ fn expect_combination(rt: &impl Abort, answer: &Answer) {
             expect_members(rt, set, 2, Member::Row(0));
             expect_shares(rt, proof, &shares);
         }
-        Answer::Feasible(_) | Answer::Irreducible(_) => assert!(rt; false, "another answer"),
+        _ => assert!(rt; false, "another answer"),
     }
 }
 
@@ -173,7 +176,7 @@ fn expect_core(rt: &impl Abort, answer: &Answer) {
             }
             expect_shares(rt, &core.proof, &[]);
         }
-        Answer::Feasible(_) | Answer::Infeasible(_, _) => assert!(rt; false, "another answer"),
+        _ => assert!(rt; false, "another answer"),
     }
 }
 
@@ -181,7 +184,7 @@ fn expect_core(rt: &impl Abort, answer: &Answer) {
 fn expect_point(rt: &impl Abort, answer: &Answer, values: &[Frac]) {
     match answer {
         Answer::Feasible(point) => assert_eq!(rt; point.values.as_slice(), values),
-        Answer::Infeasible(_, _) | Answer::Irreducible(_) => assert!(rt; false, "another answer"),
+        _ => assert!(rt; false, "another answer"),
     }
 }
 
@@ -200,6 +203,131 @@ fn two_entries(rt: HostRuntime) -> Result<(), Fail> {
         assert_eq!(rt; entries[1].command, Command::Iis(Method::Deletion));
         expect_core(&rt, &entries[1].answer);
     }
+    Ok(())
+}
+
+// The settle run of all active members: both rows, and both bounds of both columns.
+fn expect_site(rt: &impl Abort, site: &Site) {
+    assert_eq!(rt; site.kind, SiteKind::Settle);
+    expect_members(rt, &site.set, 6, Member::Row(0));
+    assert_eq!(rt; site.enforced.count(), 0);
+    assert!(rt; site.path.as_slice().is_empty());
+}
+
+// A thousand million, to the third power, less its reciprocal.
+fn difference() -> Option<Wide> {
+    let power: i128 = 1_000_000_000_000_000_000_000_000_000_000;
+    let Ok(left) = Frac::new(power, 1) else {
+        return None;
+    };
+    let Ok(right) = Frac::new(1, power) else {
+        return None;
+    };
+    Some(Wide {
+        op: Op::Minus,
+        left,
+        right,
+    })
+}
+
+// The turn and the operation are those that were printed.
+fn expect_stop(rt: &impl Abort, stop: &Stop) {
+    match stop {
+        Stop::Pivots(site) => expect_site(rt, site),
+        Stop::Wide(site, step, wide) => {
+            expect_site(rt, site);
+            assert_eq!(rt; *step, 17);
+            assert_eq!(rt; Some(*wide), difference());
+        }
+        _ => assert!(rt; false, "another stop"),
+    }
+}
+
+// A stop for want of pivots, or of room.
+fn expect_stopped(rt: &impl Abort, answer: &Answer, wide: bool) {
+    match answer {
+        Answer::Stopped(stop) => {
+            assert_eq!(rt; is_wide(stop), wide);
+            expect_stop(rt, stop);
+        }
+        _ => assert!(rt; false, "another answer"),
+    }
+}
+
+// Whether an operation was too wide.
+fn is_wide(stop: &Stop) -> bool {
+    match stop {
+        Stop::Wide(_, _, _) => true,
+        _ => false,
+    }
+}
+
+// A budget that was set.
+fn expect_done(rt: &impl Abort, entry: &Entry, pivots: u64, line: u64) {
+    assert_eq!(rt; entry.command, Command::Pivots(pivots));
+    assert_eq!(rt; entry.line, line);
+    match &entry.answer {
+        Answer::Done => (),
+        _ => assert!(rt; false, "another answer"),
+    }
+}
+
+#[test]
+fn stops_and_budgets(rt: HostRuntime) -> Result<(), Fail> {
+    let Ok(report) = read(rt.alloc(), STOPS) else {
+        return Err(Fail::from(AllocError));
+    };
+    let entries = report.entries.as_slice();
+    assert_eq!(rt; entries.len(), 4);
+    if entries.len() == 4 {
+        expect_done(&rt, &entries[0], 0, 2);
+        expect_stopped(&rt, &entries[1].answer, false);
+        expect_done(&rt, &entries[2], 1_000_000, 8);
+        assert_eq!(rt; entries[3].command, Command::Check);
+        assert_eq!(rt; entries[3].line, 10);
+        expect_stopped(&rt, &entries[3].answer, true);
+    }
+    Ok(())
+}
+
+#[test]
+fn bad_budgets(rt: HostRuntime) -> Result<(), Fail> {
+    bad(&rt, 2, "command budget pivots 01\n")?;
+    bad(&rt, 2, "command budget pivots 1000001\n")?;
+    bad(&rt, 2, "command budget pivots\n")?;
+    bad(&rt, 2, "command budget pivots +1\n")?;
+    bad(&rt, 3, "command check\ndone\n")?;
+    bad(&rt, 3, "command budget pivots 5\nfeasible\n")?;
+    bad(&rt, 3, "command budget pivots 5\npivots spent\n")?;
+    bad(&rt, 4, "command budget pivots 5\ndone\nend\n")?;
+    Ok(())
+}
+
+// The line with this number is bad where these lines follow the first one of an operation that is too wide.
+fn bad_wide(rt: &(impl Abort + AllocGlobal), line: u64, text: &str) -> Result<(), AllocError> {
+    let text = format!(in rt.alloc(); "command check\ntoo wide\n{text}\n")?;
+    bad(rt, line, text.as_str())
+}
+
+#[test]
+fn bad_stops(rt: HostRuntime) -> Result<(), Fail> {
+    bad(&rt, 3, "command iis deletion\npivots spent\n")?;
+    bad(&rt, 3, "command check\nsite settle\n")?;
+    bad(&rt, 4, "command check\npivots spent\nsite improve\n")?;
+    bad(&rt, 5, "command check\npivots spent\nsite settle\nstep 0\n")?;
+    bad_wide(&rt, 4, "end")?;
+    bad_wide(&rt, 4, "site stretch")?;
+    bad_wide(&rt, 5, "site settle\nend")?;
+    bad_wide(&rt, 5, "site settle\nstep 00")?;
+    bad_wide(&rt, 5, "site settle\nstep 18446744073709551616")?;
+    bad_wide(&rt, 6, "site settle\nstep 0\nend")?;
+    bad_wide(&rt, 6, "site settle\nstep 0\noperation plus 2/4 1")?;
+    bad_wide(&rt, 6, "site settle\nstep 0\noperation sum 1 1")?;
+    bad_wide(
+        &rt,
+        7,
+        "site settle\nstep 18446744073709551615\noperation over 1 0\nstep 0",
+    )?;
     Ok(())
 }
 
@@ -249,6 +377,9 @@ fn bad_proofs(rt: HostRuntime) -> Result<(), Fail> {
 fn fronts(rt: HostRuntime) -> Result<(), Fail> {
     for count in 0..COMBINATION.len() {
         stops(&rt, &COMBINATION[..count], ReportStop::Truncated);
+    }
+    for count in 0..STOPS.len() {
+        stops(&rt, &STOPS[..count], ReportStop::Truncated);
     }
     Ok(())
 }
