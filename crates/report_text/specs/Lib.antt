@@ -5,3 +5,4 @@ pub mod Phrases
 pub mod Drafts
 pub mod Words
 pub mod Printing
+pub mod Commands

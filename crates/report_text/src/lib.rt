@@ -3,6 +3,7 @@
 
 mod advancing;
 mod building;
+mod commands;
 mod drafts;
 mod following;
 mod keywords;
@@ -19,6 +20,7 @@ mod stopping;
 mod tests;
 mod writing;
 
+pub use commands::{CommandStop, command_law, read_command};
 pub use laws::{
     bad_is_not_truncated, one_bad_line, one_report, read_is_not_bad, read_is_not_truncated,
 };

@@ -1,0 +1,179 @@
+-- What the text of a command is read as.
+use Rattle.std.proofs.Common.{rules, ◌≡◌, ◌≢◌, ℕ, zero, suc, ◌+◌, ◌-◌, ◌*◌, ◌^◌, ◌<◌, ◌≤◌, ◌==◌, Bool, true, false, ◌&&◌, ◌||◌, cond, true≢false, List, [], ◌∷◌, ◌++◌, length, take, drop, get_or, Option, Some, None, refl, sym, ap, ◌∙◌, arith, map, filter}
+use Rattle.std.specs.Prelude.{nat_lt, nat_le, codes, decimal, option_map, IfSome}
+use Rattle.std.specs.List.{All, list_all, list_any, slice_split, slice_index}
+use Rattle.std.specs.Str.{bytes_eq}
+use Rattle.std.specs.Char.{digit_value}
+use Rattle.std.specs.Str.Parse.{AllDigits}
+use Rattle.std.proofs.lemmas.Bool.{lt-ltb, ltb-false, and_parts, false_from_ne_true}
+use Rattle.std.proofs.lemmas.Bool.Decides.{nat_tests}
+use Rattle.std.proofs.lemmas.Fmt.{decimal_is_IsNumeral, length-decimal-le, decimal_nonempty, digits_decimal, digits_value-decimal}
+use Rattle.std.proofs.lemmas.Str.Parse.{IsNumeralModel, numerals_by_fold}
+use Rattle.std.proofs.lemmas.List.{at_drop_more, nil_from_length}
+use Rattle.std.proofs.lemmas.List.Elements.{All-nil, All-cons}
+use Rattle.std.proofs.lemmas.List.Splits.{slice_split_none}
+use Rattle.lane_scan.specs.Bytes.{is_blank, is_foreign}
+use Rattle.frac128.specs.Literal.{is_dec, number_after, number_of}
+use Rattle.text_fields.specs.declared.faults.TextKind.{TextKind}
+use Rattle.text_fields.specs.declared.faults.TextKind.TheVariants.{LongLine, ForeignByte}
+use Rattle.text_fields.specs.Fields.{is_filled, fields_of, field_fault, is_long, is_comment}
+use Rattle.report_text.specs.declared.report.Command.{Command}
+use Rattle.report_text.specs.declared.report.Command.TheVariants.{Check, Iis, Pivots}
+use Rattle.report_text.specs.declared.report.Method.{Method}
+use Rattle.report_text.specs.declared.report.Method.TheVariants.{Deletion, Additive, Sensitivity}
+use Rattle.report_text.specs.Form.{most_pivots}
+use Rattle.report_text.specs.Grammar.{command_text}
+use Rattle.report_text.specs.Commands.{is_numeral, pivots_of, lone_command, budget_command, command_said, unless_fault, command_of, IsBuilt, CommandLaw}
+
+-- ---- the number of pivots
+by_tests : (a b c : Bool) (n : ℕ) → a ≡ true → b ≡ true → c ≡ true → cond ((a && b) && c) (Some n) None ≡ Some n
+by_tests a b c n e f g = rw (e, f, g) refl
+
+-- no digits
+pub no_pivots-empty : (word : List ℕ) → length word ≡ 0 → pivots_of word ≡ None
+no_pivots-empty word e = ap pivots_of (nil_from_length word e)
+
+-- a byte is no digit
+pub no_pivots-digits : (word : List ℕ) → list_all is_dec word ≡ false → pivots_of word ≡ None
+no_pivots-digits word e = by (nat_lt 0 (length word)) (list_all is_dec word) (nat_le (number_of word) most_pivots) e
+  where
+    by : (a b c : Bool) → b ≡ false → cond ((a && b) && c) (Some (number_of word)) None ≡ None
+    by true true c f = absurd (true≢false f)
+    by true false c f = refl
+    by false b c f = refl
+
+-- too many
+pub no_pivots-many : (word : List ℕ) → ¬ (number_of word ≤ most_pivots) → pivots_of word ≡ None
+no_pivots-many word h = by (is_numeral word) (nat_le (number_of word) most_pivots) (grind (arith, nat_tests))
+  where
+    by : (a c : Bool) → c ≡ false → cond (a && c) (Some (number_of word)) None ≡ None
+    by true true f = absurd (true≢false f)
+    by true false f = refl
+    by false c f = refl
+
+-- as many as digits write
+pub some_pivots : (word : List ℕ) (n : ℕ) → length word ≢ 0 → list_all is_dec word ≡ true → number_of word ≡ n → n ≤ most_pivots → pivots_of word ≡ Some n
+some_pivots word n some digits e h =
+    by_tests (nat_lt 0 (length word)) (list_all is_dec word) (nat_le (number_of word) most_pivots) (number_of word) (grind (arith, nat_tests)) digits (grind (arith, nat_tests)) ∙ ap Some e
+
+-- one digit more
+pub digits-more : (word : List ℕ) (i : ℕ) (b : Bool) → i < length word → is_dec (get_or word i 0) ≡ b → list_all is_dec (drop i word) ≡ b && list_all is_dec (drop (i + 1) word)
+digits-more word i b h e = at_drop_more (list_all is_dec) word i 0 h ∙ ap (λ (t : Bool). t && list_all is_dec (drop (i + 1) word)) e
+
+pub pivots_within : (word : List ℕ) (n : ℕ) → pivots_of word ≡ Some n → n ≤ most_pivots
+pivots_within word n e = by (is_numeral word) (nat_le (number_of word) most_pivots) refl e
+  where
+    by : (a c : Bool) → nat_le (number_of word) most_pivots ≡ c → cond (a && c) (Some (number_of word)) None ≡ Some n → n ≤ most_pivots
+    by true true f g = grind (arith, nat_tests)
+    by true false f g = grind arith
+    by false c f g = grind arith
+
+-- ---- what a script may have
+none_built : (c : Command) → None ≡ Some c → IsBuilt c
+none_built c e = grind arith
+
+lone_built : (a : List ℕ) (c : Command) → lone_command a ≡ Some c → IsBuilt c
+lone_built a Check e = tt
+lone_built a (Iis method) e = by (bytes_eq a (codes "check")) e
+  where
+    by : (t : Bool) → cond t (Some Check) None ≡ Some (Iis method) → ⊥
+    by true g = grind arith
+    by false g = grind arith
+lone_built a (Pivots n) e = by (bytes_eq a (codes "check")) e
+  where
+    by : (t : Bool) → cond t (Some Check) None ≡ Some (Pivots n) → n ≤ most_pivots
+    by true g = grind arith
+    by false g = grind arith
+
+budget_built : (first second third : List ℕ) (c : Command) → budget_command first second third ≡ Some c → IsBuilt c
+budget_built first second third c e = by (bytes_eq first (codes "budget") && bytes_eq second (codes "pivots")) (pivots_of third) (pivots_within third) c e
+  where
+    by : (t : Bool) (found : Option ℕ) → ((n : ℕ) → found ≡ Some n → n ≤ most_pivots) → (c : Command) → cond t (option_map Pivots found) None ≡ Some c → IsBuilt c
+    by true None h c g = none_built c g
+    by true (Some n) h Check g = tt
+    by true (Some n) h (Iis method) g = grind arith
+    by true (Some n) h (Pivots m) g = h m (grind arith)
+    by false found h c g = none_built c g
+
+said_built : (fields : List (List ℕ)) (c : Command) → command_said fields ≡ Some c → IsBuilt c
+said_built [] c e = none_built c e
+said_built (first ∷ []) c e = lone_built first c e
+said_built (first ∷ second ∷ []) c e = none_built c e
+said_built (first ∷ second ∷ third ∷ []) c e = budget_built first second third c e
+said_built (first ∷ second ∷ third ∷ fourth ∷ fields) c e = none_built c e
+
+pub line_built : (line : List ℕ) (c : Command) → command_of line ≡ Some c → IsBuilt c
+line_built line c e = by (field_fault line) e
+  where
+    by : (fault : Option TextKind) → unless_fault fault (command_said (fields_of line)) ≡ Some c → IsBuilt c
+    by None g = said_built (fields_of line) c g
+    by (Some fault) g = none_built c g
+
+-- ---- the text of a command
+digit-dec : (c : ℕ) → digit_value c < 10 → is_dec c ≡ true
+digit-dec c h = grind (arith, nat_tests)
+
+digit-no_blank : (c : ℕ) → digit_value c < 10 → is_blank c ≡ false
+digit-no_blank c h = grind (arith, nat_tests)
+
+digit-no_foreign : (c : ℕ) → digit_value c < 10 → is_foreign c ≡ false
+digit-no_foreign c h = grind (arith, nat_tests)
+
+digits-no_blank : (ds : List ℕ) → AllDigits 10 ds → All (λ c. is_blank c ≡ false) ds
+digits-no_blank [] h = All-nil (λ c. is_blank c ≡ false)
+digits-no_blank (c ∷ ds) h = All-cons (λ c. is_blank c ≡ false) c ds (digit-no_blank c h.0) (digits-no_blank ds h.1)
+
+digits-no_foreign : (ds : List ℕ) → AllDigits 10 ds → list_any is_foreign ds ≡ false
+digits-no_foreign [] h = refl
+digits-no_foreign (c ∷ ds) h = ap (λ (t : Bool). t || list_any is_foreign ds) (digit-no_foreign c h.0) ∙ digits-no_foreign ds h.1
+
+own : IsNumeralModel (λ ds. list_all is_dec ds ≡ true) (number_after 0)
+unfolding number_after
+own = numerals_by_fold _ (search rules) number_after (search rules)
+
+-- a word alone is the one field of its line
+word_alone : (word : List ℕ) → 0 < length word → All (λ c. is_blank c ≡ false) word → fields_of word ≡ word ∷ []
+unfolding fields_of
+word_alone word some h = ap (filter is_filled) (slice_split_none is_blank word h) ∙ ap (λ (t : Bool). cond t (word ∷ []) []) (lt-ltb 0 (length word) some)
+
+-- the fields of a budget's text
+budget_fields : (rest : List ℕ) → fields_of (codes "budget" ++ 32 ∷ (codes "pivots" ++ 32 ∷ rest)) ≡ codes "budget" ∷ codes "pivots" ∷ fields_of rest
+unfolding fields_of
+budget_fields rest = refl
+
+-- a budget's text has no fault
+budget_faultless : (rest : List ℕ) → length rest ≤ 7 → list_any is_foreign rest ≡ false → field_fault (codes "budget" ++ 32 ∷ (codes "pivots" ++ 32 ∷ rest)) ≡ None
+unfolding field_fault
+budget_faultless rest short e = by (is_long (codes "budget" ++ 32 ∷ (codes "pivots" ++ 32 ∷ rest))) (list_any is_foreign rest) (grind (arith, nat_tests)) e
+  where
+    by : (t b : Bool) → t ≡ false → b ≡ false → cond t (Some LongLine) (cond b (Some ForeignByte) None) ≡ None
+    by t b f g = rw (f, g) refl
+
+budget_text : (rest : List ℕ) (n : ℕ) → field_fault (codes "budget" ++ 32 ∷ (codes "pivots" ++ 32 ∷ rest)) ≡ None → fields_of rest ≡ rest ∷ [] → pivots_of rest ≡ Some n → command_of (codes "budget" ++ 32 ∷ (codes "pivots" ++ 32 ∷ rest)) ≡ Some (Pivots n)
+budget_text rest n none fields number =
+    let line : List ℕ = codes "budget" ++ 32 ∷ (codes "pivots" ++ 32 ∷ rest) in
+    ap (λ (f : Option TextKind). unless_fault f (command_said (fields_of line))) none
+    ∙ ap command_said (budget_fields rest ∙ ap (λ (l : List (List ℕ)). codes "budget" ∷ codes "pivots" ∷ l) fields)
+    ∙ ap (option_map Pivots) number
+
+check_text : command_of (codes "check") ≡ Some Check
+unfolding fields_of field_fault
+check_text = refl
+
+pub own_text : (c : Command) → IsBuilt c → command_of (command_text c) ≡ Some c
+own_text Check h = check_text
+own_text (Iis method) h = absurd h
+own_text (Pivots n) h =
+    let small : n < 2 ^ 64 = omega arith in
+    let digits = (decimal_is_IsNumeral n small).0.1 in
+    let some : 0 < length (decimal n) = decimal_nonempty n small in
+    budget_text (decimal n) n
+    (budget_faultless (decimal n) (length-decimal-le 7 n (omega arith) (omega arith) small) (digits-no_foreign (decimal n) digits))
+    (word_alone (decimal n) some (digits-no_blank (decimal n) digits))
+    (some_pivots (decimal n) n (λ e. omega arith) (digits_decimal own n small) (digits_value-decimal own n small) h)
+
+pub no_method : (method : Method) → command_of (command_text (Iis method)) ≡ None
+unfolding fields_of field_fault
+no_method Deletion = refl
+no_method Additive = refl
+no_method Sensitivity = refl
