@@ -35,3 +35,7 @@ pub mod Numbered
 pub mod Translated
 pub mod HasLists
 pub mod Parted
+pub mod PlainForms
+pub mod PlainPoints
+pub mod PlainPaths
+pub mod PlainCuts

@@ -27,7 +27,7 @@ end_of number None (Blocked i side) = Infeasible i
 end_of number None (Exchange i side j) = Spent
 
 module _ (most : ℕ) (system : LinearSystem) where
-  agree : (basis : List Place) (a b : TableauAt system basis) → Agrees a.tableau b.tableau
+  pub agree : (basis : List Place) (a b : TableauAt system basis) → Agrees a.tableau b.tableau
   agree basis a b = record {
     limits = a.is_of.limits ∙ sym b.is_of.limits;
     objective = a.is_of.objective ∙ sym b.is_of.objective;

@@ -30,7 +30,7 @@ use Rattle.certs.specs.Named.{bound_of, member_of, named, stands_for, translated
 use Rattle.certs.proofs.Further.{further_columns_law}
 
 -- ---- numbers in order
-length_numbers : (a n : ℕ) → length (numbers_from a n) ≡ n
+pub length_numbers : (a n : ℕ) → length (numbers_from a n) ≡ n
 length_numbers a zero = refl
 length_numbers a (suc n) = length-append (numbers_from a n) ((a + n) ∷ []) ∙ ap (λ z. z + 1) (length_numbers a n) ∙ (let e : n + 1 ≡ suc n = omega arith in e)
 
@@ -45,7 +45,7 @@ at_end [] a (suc n) d e = absurd (omega arith)
 at_end (x ∷ xs) a zero d e = absurd (omega arith)
 at_end (x ∷ xs) a (suc n) d e = at_end xs a n d (let g : length xs ≡ n = omega arith in g)
 
-number_at : (a n i d : ℕ) → i < n → get_or (numbers_from a n) i d ≡ a + i
+pub number_at : (a n i d : ℕ) → i < n → get_or (numbers_from a n) i d ≡ a + i
 number_at a zero i d l = absurd (omega arith)
 number_at a (suc n) i d l =
     elim (cases_lt i n) [
@@ -55,12 +55,12 @@ number_at a (suc n) i d l =
           subst (λ k. get_or (numbers_from a n ++ (a + n) ∷ []) k d ≡ a + k) e (at_end (numbers_from a n) (a + n) n d (length_numbers a n)))
     ]
 
-mapped_at : {A : Type 0} (f : ℕ → A) (n i : ℕ) (d : A) → i < n → get_or (map f (numbers_from 0 n)) i d ≡ f i
+pub mapped_at : {A : Type 0} (f : ℕ → A) (n i : ℕ) (d : A) → i < n → get_or (map f (numbers_from 0 n)) i d ≡ f i
 mapped_at f n i d l =
     get_or-map f (numbers_from 0 n) i 0 d (subst (λ z. i < z) (sym (length_numbers 0 n)) l)
     ∙ ap f (number_at 0 n i 0 l ∙ (let e : 0 + i ≡ i = omega arith in e))
 
-length_mapped : {A : Type 0} (f : ℕ → A) (n : ℕ) → length (map f (numbers_from 0 n)) ≡ n
+pub length_mapped : {A : Type 0} (f : ℕ → A) (n : ℕ) → length (map f (numbers_from 0 n)) ≡ n
 length_mapped f n = length-map (numbers_from 0 n) f ∙ length_numbers 0 n
 
 -- ---- sums

@@ -36,7 +36,8 @@ pub use plain_systems::plain_system;
 pub use points::check_point;
 pub use run_laws::{
     blocked_is_combination, combination_is_translated, flip_keeps_system, one_end, one_table,
-    pivot_keeps_system, settled_is_solution, start_is_of_system,
+    pivot_keeps_system, plain_cut_refutes, plain_is_formed, plain_point_keeps_path,
+    plain_point_satisfies, settled_is_solution, start_is_of_system,
 };
 pub use solving::{NodeEnd, Path, Site, SiteKind, Stop, Stretched, Verdict};
 pub use systems::{Limits, System};

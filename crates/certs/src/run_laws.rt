@@ -2,6 +2,7 @@
 ghost use Rattle.certs.specs.Ended.{BlockedLaw, FeasibleLaw};
 ghost use Rattle.certs.specs.Named.{TranslationLaw};
 ghost use Rattle.certs.specs.Runs.{OneEndLaw};
+ghost use Rattle.certs.specs.PlainLaws.{PlainCutLaw, PlainFormedLaw, PlainPathLaw, PlainPointLaw};
 ghost use Rattle.certs.specs.Tableau.{StartLaw, TableLaw};
 ghost use Rattle.certs.specs.Turns.{FlipLaw, PivotLaw};
 
@@ -43,4 +44,24 @@ pub fn one_end()
 /// A combination of the plain system of a set on a path stands for one of the set on the path.
 pub fn combination_is_translated()
     ensures { TranslationLaw }
+{}
+
+/// Where no limits cross, the plain system of a set is well formed.
+pub fn plain_is_formed()
+    ensures { PlainFormedLaw }
+{}
+
+/// Where the run of a set's plain system settles, the point satisfies every member of the set but the marks.
+pub fn plain_point_satisfies()
+    ensures { PlainPointLaw }
+{}
+
+/// Where the run of a set's plain system settles, the point keeps the path.
+pub fn plain_point_keeps_path()
+    ensures { PlainPathLaw }
+{}
+
+/// Where limits of a set's plain system cross, or its run ends infeasible, what comes is a combination of the set.
+pub fn plain_cut_refutes()
+    ensures { PlainCutLaw }
 {}
