@@ -11,3 +11,4 @@ pub mod Sounds
 pub mod Fills
 pub mod Begins
 pub mod SampleForms
+mod Formed

@@ -5,3 +5,4 @@ pub mod Sound
 pub mod Stops
 pub mod Starts
 pub mod Samples
+pub mod Forming

@@ -2,6 +2,7 @@
 #![tactic(auto)]
 
 mod dictionaries;
+mod forming;
 mod layouts;
 mod numbers;
 mod places;
@@ -10,6 +11,7 @@ mod starts;
 mod table;
 
 pub use dictionaries::{Dictionary, PivotStop};
+pub use forming::is_formed;
 
 #[cfg(test)]
 mod tests;

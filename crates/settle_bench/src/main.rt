@@ -7,11 +7,10 @@ ghost use Rattle.certs.specs.Tableau.{IsWellFormedSystem};
 ghost use Rattle.dictionary.specs.Starts.{FitSystem};
 
 use certs::{Limits, System};
-use dictionary::Dictionary;
+use dictionary::{Dictionary, is_formed};
 use frac128::Frac;
 use lp_model::{Row, Term, Terms, Weight};
 use simplex::{RunStop, Settled, settle};
-use slow_runs::is_formed;
 use std::alloc::{AllocError, Global};
 use std::{env, io};
 

@@ -14,7 +14,8 @@ use Rattle.certs.specs.Tableau.{Tableau, IsTableauOf}
 use Rattle.certs.specs.Turns.{limited, settle_choice}
 use Rattle.certs.specs.Turns.Choice.{Blocked}
 use Rattle.certs.proofs.Choices.{blocked_parts}
-use Rattle.simplex.specs.Combined.{column_shares, is_on, named, row_shares}
+use Rattle.certs.specs.Named.{named}
+use Rattle.simplex.specs.Combined.{column_shares, is_on, row_shares}
 
 -- ---- one share
 pub share_above : (v : ℕ) (c : ℚ) → eq_ℚ c zero_ℚ ≡ false → lt_q zero_ℚ c ≡ true → share_for v c ≡ record { variable = v; side = Up; weight = c } ∷ []

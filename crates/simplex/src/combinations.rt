@@ -5,6 +5,7 @@ ghost use Rattle.frac128.specs.Limit.{limit};
 ghost use Rattle.frac128.specs.Calculation.{first_wide};
 ghost use Rattle.lp_model.specs.declared.members.Side.{Side as OneSide};
 ghost use Rattle.certs.specs.Ended.{blocked_multiple, blocked_shares, share_for};
+ghost use Rattle.certs.specs.Named.{IsNamedCombination, member_of, named};
 ghost use Rattle.certs.specs.System.{LinearSystem, is_basic};
 ghost use Rattle.certs.specs.Tableau.{IsTableauOf, IsWellFormedSystem};
 ghost use Rattle.certs.specs.Turns.{Choice, limited, settle_choice, settle_values};
@@ -13,7 +14,7 @@ ghost use Rattle.dictionary.specs.Layouts.{side_of};
 ghost use Rattle.dictionary.specs.Value.{tableau_of};
 ghost use Rattle.simplex.specs.Ends.{IsEnd};
 ghost use Rattle.simplex.specs.declared.settling.Settled.TheVariants.{Infeasible};
-ghost use Rattle.simplex.specs.Combined.{IsNamedCombination, column_shares, is_on, member_of, named, row_shares};
+ghost use Rattle.simplex.specs.Combined.{column_shares, is_on, row_shares};
 
 use crate::choices::{Missed, first_outside, is_less, limited_variables};
 use certs::{Combo, Share, Shares, Source};
@@ -91,8 +92,8 @@ fn member(columns: u32, variable: u32, side: Side) -> Member
     }
 }
 
-// A side of a variable, so many times.
-fn share_on(columns: u32, variable: u32, side: Side, weight: Frac) -> Share
+/// A limit of a variable of a system with so many columns, so many times: a bound of a column, or a side of a row.
+pub fn limit_share(columns: u32, variable: u32, side: Side, weight: Frac) -> Share
     ensures { result ≡ named columns (record { variable = variable; side = side; weight = weight }) }
 {
     Share {
@@ -111,9 +112,9 @@ fn share(columns: u32, variable: u32, count: Frac) -> Option<Share>
         return None;
     }
     if is_less(zero, count) {
-        return Some(share_on(columns, variable, Side::Up, count));
+        return Some(limit_share(columns, variable, Side::Up, count));
     }
-    Some(share_on(columns, variable, Side::Lo, count.negate()))
+    Some(limit_share(columns, variable, Side::Lo, count.negate()))
 }
 
 // The share where it is of an upper limit, or where it is of a lower one.

@@ -6,7 +6,7 @@ mod combinations;
 mod points;
 mod settling;
 
-pub use combinations::combo_of;
+pub use combinations::{combo_of, limit_share};
 pub use points::point_of;
 pub use settling::{RunStop, Settled, settle};
 

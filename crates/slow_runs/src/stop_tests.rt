@@ -9,7 +9,7 @@ ghost use Rattle.simplex.specs.Ends.{IsEnd};
 use super::*;
 use crate::plain::{Form, Plain, form, limited_variables, number, row, system};
 use certs::{Share, Shares, Source, System};
-use dictionary::Dictionary;
+use dictionary::{Dictionary, is_formed};
 use frac128::{Frac, FracStop, Op, Wide};
 use lp_model::{Member, Side, Term, Terms};
 use simplex::{RunStop, Settled, combo_of, settle};

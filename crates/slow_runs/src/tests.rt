@@ -11,7 +11,7 @@ use super::*;
 use crate::bases::is_basic;
 use crate::plain::{Form, Plain, limited_variables, system};
 use certs::System;
-use dictionary::Dictionary;
+use dictionary::{Dictionary, is_formed};
 use frac128::Frac;
 use lp_model::{Side, Term};
 use simplex::{RunStop, Settled, point_of, settle};

@@ -4,7 +4,8 @@ use Rattle.certs.specs.Turns.{limited}
 use Rattle.certs.proofs.Blocked.{blocked_law}
 use Rattle.dictionary.specs.Layouts.{side_of}
 use Rattle.dictionary.specs.Value.{tableau_of}
-use Rattle.simplex.specs.Combined.{column_shares, named, row_shares}
+use Rattle.certs.specs.Named.{named}
+use Rattle.simplex.specs.Combined.{column_shares, row_shares}
 use Rattle.simplex.proofs.Combining.{all_shares, one_side, rows_left}
 use Rattle.simplex.proofs.combinations.combo_of.Goals as goal
 

@@ -3,7 +3,8 @@ use Rattle.std.specs.Prelude.{filter}
 use Rattle.certs.specs.Ended.{blocked_multiple, share_for}
 use Rattle.dictionary.specs.Layouts.{side_of}
 use Rattle.dictionary.specs.Value.{tableau_of}
-use Rattle.simplex.specs.Combined.{column_shares, is_on, named}
+use Rattle.certs.specs.Named.{named}
+use Rattle.simplex.specs.Combined.{column_shares, is_on}
 use Rattle.simplex.proofs.Combining.{columns_more}
 use Rattle.simplex.proofs.combinations.push_columns.Goals as goal
 

@@ -2,7 +2,8 @@ use Rattle.std.proofs.Common.{◌≡◌, ◌+◌, ◌-◌, sym, ◌∙◌, ap, a
 use Rattle.certs.specs.Ended.{blocked_multiple, share_for}
 use Rattle.dictionary.specs.Layouts.{side_of}
 use Rattle.dictionary.specs.Value.{tableau_of}
-use Rattle.simplex.specs.Combined.{row_shares, named}
+use Rattle.certs.specs.Named.{named}
+use Rattle.simplex.specs.Combined.{row_shares}
 use Rattle.simplex.proofs.Combining.{rows_more}
 use Rattle.simplex.proofs.combinations.push_rows.Goals as goal
 

@@ -3,8 +3,8 @@ use Rattle.std.specs.Prelude.{All}
 use Rattle.frac128.specs.Limit.{limit}
 use Rattle.certs.specs.Checks.{every}
 use Rattle.dictionary.specs.Starts.{FitLimits}
-use Rattle.slow_runs.specs.Forming.{uncrossed}
-use Rattle.slow_runs.proofs.forming.are_uncrossed.Given as goal
+use Rattle.dictionary.specs.Forming.{uncrossed}
+use Rattle.dictionary.proofs.forming.are_uncrossed.Given as goal
 
 -- the limits left decide, and those before them fit
 abbrev pub invariant-loop-one : goal.invariant-loop-one

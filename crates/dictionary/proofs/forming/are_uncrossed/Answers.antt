@@ -2,9 +2,9 @@ use Rattle.std.proofs.Common.{sym, subst, ◌∙◌}
 use Rattle.std.proofs.lemmas.List.Elements.{All-more}
 use Rattle.frac128.specs.Limit.{limit}
 use Rattle.dictionary.specs.Starts.{FitLimits}
-use Rattle.slow_runs.specs.Forming.{uncrossed}
-use Rattle.slow_runs.proofs.Formed.{every_step, every_item_fits}
-use Rattle.slow_runs.proofs.forming.are_uncrossed.Goals as goal
+use Rattle.dictionary.specs.Forming.{uncrossed}
+use Rattle.dictionary.proofs.Formed.{every_step, every_item_fits}
+use Rattle.dictionary.proofs.forming.are_uncrossed.Goals as goal
 
 pub loop-one-preserved : goal.loop-one-preserved
 loop-one-preserved c =

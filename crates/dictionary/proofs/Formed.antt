@@ -20,7 +20,7 @@ use Rattle.certs.proofs.Evaluate.{every_all}
 use Rattle.certs.proofs.Refused.{every_passes}
 use Rattle.certs.proofs.Lists.{all_front, all_back}
 use Rattle.dictionary.specs.Starts.{FitForm, FitLimits, FitSystem}
-use Rattle.slow_runs.specs.Forming.{follows, ascends, in_order, uncrossed, passes}
+use Rattle.dictionary.specs.Forming.{follows, ascends, in_order, uncrossed, passes}
 
 -- ---- forms
 next_is : (n least : ℕ) (t : Term) → follows n least t ≡ true → (least ≤ t.column) × ((t.column < n) × (t.factor ≢ zero_ℚ))

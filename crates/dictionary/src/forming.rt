@@ -5,7 +5,7 @@ ghost use Rattle.certs.specs.Checks.{every};
 ghost use Rattle.certs.specs.Rows.{row_of};
 ghost use Rattle.certs.specs.Tableau.{IsWellFormedSystem, variables};
 ghost use Rattle.dictionary.specs.Starts.{Fits, FitForm, FitLimits, FitSystem};
-ghost use Rattle.slow_runs.specs.Forming.{ascends, follows, in_order, passes, uncrossed};
+ghost use Rattle.dictionary.specs.Forming.{ascends, follows, in_order, passes, uncrossed};
 
 use certs::{Limits, System};
 use frac128::{Exact, Frac};

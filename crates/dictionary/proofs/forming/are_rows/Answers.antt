@@ -4,9 +4,9 @@ use Rattle.frac128.specs.Limit.{limit}
 use Rattle.lp_model.specs.declared.parts.Row.{Row}
 use Rattle.certs.specs.Rows.{row_of}
 use Rattle.dictionary.specs.Starts.{FitForm, FitLimits}
-use Rattle.slow_runs.specs.Forming.{passes}
-use Rattle.slow_runs.proofs.Formed.{every_step, every_item_fits}
-use Rattle.slow_runs.proofs.forming.are_rows.Goals as goal
+use Rattle.dictionary.specs.Forming.{passes}
+use Rattle.dictionary.proofs.Formed.{every_step, every_item_fits}
+use Rattle.dictionary.proofs.forming.are_rows.Goals as goal
 
 pub loop-row-preserved : goal.loop-row-preserved
 loop-row-preserved c =

@@ -5,8 +5,8 @@ use Rattle.lp_model.specs.declared.parts.Row.{Row}
 use Rattle.certs.specs.Checks.{every}
 use Rattle.certs.specs.Rows.{row_of}
 use Rattle.dictionary.specs.Starts.{FitForm, FitLimits}
-use Rattle.slow_runs.specs.Forming.{passes}
-use Rattle.slow_runs.proofs.forming.are_rows.Given as goal
+use Rattle.dictionary.specs.Forming.{passes}
+use Rattle.dictionary.proofs.forming.are_rows.Given as goal
 
 -- the rows left decide, and those before them fit
 abbrev pub invariant-loop-row : goal.invariant-loop-row

@@ -1,8 +1,8 @@
 use Rattle.std.proofs.Common.{◌≡◌, drop, take}
 use Rattle.frac128.specs.Limit.{limit}
 use Rattle.dictionary.specs.Starts.{FitForm}
-use Rattle.slow_runs.specs.Forming.{ascends}
-use Rattle.slow_runs.proofs.forming.is_form.Given as goal
+use Rattle.dictionary.specs.Forming.{ascends}
+use Rattle.dictionary.proofs.forming.is_form.Given as goal
 
 -- the terms left decide, and those before them fit
 abbrev pub invariant-loop-term : goal.invariant-loop-term

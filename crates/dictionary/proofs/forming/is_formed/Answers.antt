@@ -6,9 +6,9 @@ use Rattle.certs.specs.Rows.{row_of}
 use Rattle.certs.specs.Tableau.{IsWellFormedSystem}
 use Rattle.std.specs.Prelude.{All}
 use Rattle.dictionary.specs.Starts.{FitForm, FitLimits, FitSystem}
-use Rattle.slow_runs.specs.Forming.{uncrossed, passes}
-use Rattle.slow_runs.proofs.Formed.{seen, formed_by, fitting, columns_pass, rows_of, objective_passing}
-use Rattle.slow_runs.proofs.forming.is_formed.Goals as goal
+use Rattle.dictionary.specs.Forming.{uncrossed, passes}
+use Rattle.dictionary.proofs.Formed.{seen, formed_by, fitting, columns_pass, rows_of, objective_passing}
+use Rattle.dictionary.proofs.forming.is_formed.Goals as goal
 
 pub returns-then-not-are_uncrossed-clause-all : goal.returns-then-not-are_uncrossed-clause-all
 returns-then-not-are_uncrossed-clause-all c =

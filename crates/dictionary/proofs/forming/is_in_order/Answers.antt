@@ -1,8 +1,8 @@
 use Rattle.std.proofs.Common.{not, ◌∙◌, ap, sym}
 use Rattle.std.specs.Ordering.{is_lt}
 use Rattle.rational.proofs.Compare.{lt_q-is}
-use Rattle.slow_runs.proofs.Formed.{both_there}
-use Rattle.slow_runs.proofs.forming.is_in_order.Goals as goal
+use Rattle.dictionary.proofs.Formed.{both_there}
+use Rattle.dictionary.proofs.forming.is_in_order.Goals as goal
 
 pub returns : goal.returns
 returns c =

@@ -3,9 +3,9 @@ use Rattle.std.proofs.lemmas.List.Elements.{All-more}
 use Rattle.frac128.specs.Limit.{limit}
 use Rattle.rational.specs.Linear.{Term}
 use Rattle.dictionary.specs.Starts.{Fits}
-use Rattle.slow_runs.specs.Forming.{ascends, follows}
-use Rattle.slow_runs.proofs.Formed.{ascends_step, every_item_fits}
-use Rattle.slow_runs.proofs.forming.is_form.Goals as goal
+use Rattle.dictionary.specs.Forming.{ascends, follows}
+use Rattle.dictionary.proofs.Formed.{ascends_step, every_item_fits}
+use Rattle.dictionary.proofs.forming.is_form.Goals as goal
 
 pub loop-term-preserved : goal.loop-term-preserved
 loop-term-preserved c =
