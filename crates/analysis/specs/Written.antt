@@ -1,5 +1,5 @@
 -- What an analysis writes: the head with the notes, an entry for each command, and the foot.
-use Rattle.std.specs.Prelude.{◌≡◌, ◌⊎◌, ◌<◌, ⊤, ℕ, ◌+◌, ◌==◌, Bool, true, false, cond, List, [], ◌∷◌, ◌++◌, map, flat_map, length, codes, Option}
+use Rattle.std.specs.Prelude.{◌≡◌, ◌⊎◌, ℕ, ◌+◌, ◌==◌, Bool, true, false, cond, List, [], ◌++◌, flat_map, length, Option}
 use Rattle.std.specs.List.{list_any}
 use Rattle.lp_model.specs.Program.{Program}
 use Rattle.analysis.specs.Puts.{PutWhole, PutFailed, PutsNothing}
@@ -8,14 +8,15 @@ use Rattle.report_text.specs.declared.report.Answer.{Answer}
 use Rattle.report_text.specs.declared.report.Answer.TheVariants.{Feasible, Infeasible, Irreducible, Done, Stopped}
 use Rattle.report_text.specs.declared.report.Entry.{Entry}
 use Rattle.report_text.specs.declared.report.Report.{Report}
-use Rattle.report_text.specs.Grammar.{note_line, entry_lines, report_lines, text_of}
+use Rattle.report_text.specs.Grammar.{entry_lines, report_lines, text_of}
+use Rattle.report_text.specs.Printing.{head_lines, foot_lines}
 use Rattle.report_text.specs.Form.{AreNumbered}
 use Rattle.analysis.specs.Right.{AreRight, first_budgets}
 
 -- ---- the text
 -- the head and the notes
 abbrev pub head_text : Program → List ℕ
-head_text model = text_of (codes "iisan report 1" ∷ map (note_line model) model.notes)
+head_text model = text_of (head_lines model model.notes)
 
 -- the entries
 abbrev pub entries_text : Program → List Entry → List ℕ
@@ -23,7 +24,7 @@ entries_text model entries = text_of (flat_map (entry_lines model) entries)
 
 -- the last line
 abbrev pub foot_text : List ℕ
-foot_text = text_of (codes "report end" ∷ [])
+foot_text = text_of foot_lines
 
 -- the whole text of a report with these entries
 abbrev pub whole_text : Program → List Entry → List ℕ

@@ -1,12 +1,18 @@
 //! The answer to a command.
-ghost use Rattle.std.specs.Prelude.{◌≡◌, ◌<◌, ◌^◌, IfOk, All, false};
+ghost use Rattle.std.specs.Prelude.{◌≡◌, ◌<◌, ◌^◌, [], Err, IfOk, All, false};
 ghost use Rattle.lp_model.specs.Members.{active_members, is_mark};
+ghost use Rattle.lp_model.specs.MemberSets.{active_set};
 ghost use Rattle.certs.specs.Sites.{Budgets as Allowed};
-ghost use Rattle.report_text.specs.Form.{IsAnswerFor, can_answer};
-ghost use Rattle.analysis.specs.Right.{Right, budgets_after};
-ghost use Rattle.analysis.specs.Commands.{IsBuilt};
+ghost use Rattle.certs.specs.Tales.{IsNodeEnd};
+ghost use Rattle.report_text.specs.Commands.{IsBuilt};
+ghost use Rattle.report_text.specs.Form.{IsWholeSite};
+ghost use Rattle.report_text.specs.Printing.{IsKnownAnswer};
+ghost use Rattle.analysis.specs.Answers.{IsLeafProof, budgets_of};
+ghost use Rattle.analysis.specs.Right.{IsChecked, Right, budgets_after, first_budgets as budgets_at_first};
 
-use certs::{Oracle, Stop, Verdict, members_used};
+use certs::{
+    MemberSet, Oracle, Path, Proof, Site, SiteKind, Stop, Verdict, members_used,
+};
 use linear_oracle::LinearOracle;
 use lp_model::Model;
 use report_text::{Answer, Command};
@@ -54,7 +60,7 @@ pub(crate) fn answer(
     requires built { IsBuilt command }
     requires few { budgets.pivots < 2 ^ 63 }
     ensures right { IfOk result (Right model.now (budgets_of budgets) command) }
-    ensures form { IfOk result (IsPrintable model.now command) }
+    ensures known { IfOk result (IsKnownAnswer model.now) }
 {
     match command {
         Command::Check => check(alloc, model, budgets),
@@ -68,29 +74,70 @@ fn check(alloc: Global, model: &Model, budgets: Budgets) -> Result<Answer, Alloc
     requires linear { All (λ m. is_mark m ≡ false) (active_members model.now) }
     requires few { budgets.pivots < 2 ^ 63 }
     ensures right { IfOk result (IsChecked model.now (budgets_of budgets)) }
-    ensures form { IfOk result (IsPrintable model.now Command.Check) }
+    ensures known { IfOk result (IsKnownAnswer model.now) }
 {
+    // That the program is well formed is told with the count.
+    let _rows = model.row_count();
     let set = model.members(alloc)?;
     let mut oracle = LinearOracle::new(alloc, model, budgets.pivots);
     match oracle.ask(alloc, &set) {
         Ok(Verdict::Feasible(point)) => Ok(Answer::Feasible(point)),
-        Ok(Verdict::Infeasible(proof)) => refuted(alloc, &set, proof),
-        Err(stop) => stopped(stop),
+        Ok(Verdict::Infeasible(proof)) => refuted(alloc, model, &set, proof),
+        Err(stop) => stopped(alloc, model, set, stop),
     }
 }
 
-// The members that a proof uses, with the proof.
-fn refuted(alloc: Global, set: &MemberSet, proof: Proof) -> Result<Answer, AllocError>
+// The active members that a proof uses, with the proof.
+fn refuted(
+    alloc: Global,
+    model: &Model,
+    set: &MemberSet,
+    proof: Proof,
+) -> Result<Answer, AllocError>
+    requires whole { set.now ≡ active_set model.now }
+    requires leaf { IsLeafProof model.now proof }
+    ensures right { (budgets : Allowed) → IfOk result (IsChecked model.now budgets) }
+    ensures known { IfOk result (IsKnownAnswer model.now) }
 {
     let used = members_used(alloc, set, &proof)?;
     Ok(Answer::Infeasible(used, proof))
 }
 
-// A stop as an answer, but for want of memory.
-fn stopped(stop: Stop) -> Result<Answer, AllocError>
+// A stop of the run of all active members as an answer, but for want of memory.
+fn stopped(
+    alloc: Global,
+    model: &Model,
+    set: MemberSet,
+    stop: Stop,
+) -> Result<Answer, AllocError>
+    requires whole { set ≡ active_set model.now }
+    ensures right { (budgets : Allowed) → IsNodeEnd model.now (active_members model.now) [] budgets.pivots (Err stop) → IfOk result (IsChecked model.now budgets) }
+    ensures known { IfOk result (IsKnownAnswer model.now) }
 {
     match stop {
+        Stop::Wide(_, step, wide) => {
+            let site = whole_site(alloc, model, set)?;
+            Ok(Answer::Stopped(Stop::Wide(site, step, wide)))
+        }
+        Stop::Pivots(_) => {
+            let site = whole_site(alloc, model, set)?;
+            Ok(Answer::Stopped(Stop::Pivots(site)))
+        }
+        Stop::Nodes(_) => Err(AllocError),
+        Stop::Large(_) => Err(AllocError),
         Stop::Memory => Err(AllocError),
-        _ => Ok(Answer::Stopped(stop)),
     }
+}
+
+// The site of the run of all active members.
+fn whole_site(alloc: Global, model: &Model, set: MemberSet) -> Result<Site, AllocError>
+    requires { set ≡ active_set model.now }
+    ensures { IfOk result (IsWholeSite model.now) }
+{
+    Ok(Site {
+        kind: SiteKind::Settle,
+        set,
+        enforced: MemberSet::empty(alloc, model)?,
+        path: Path::new(Vec::new(alloc)),
+    })
 }

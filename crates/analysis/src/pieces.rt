@@ -21,6 +21,8 @@ pub enum Want {
 }
 
 impl From<AllocError> for Want {
+    ghost from_gives = { λ _ want. want ≡ Want.Memory };
+
     fn from(_error: AllocError) -> Want {
         Want::Memory
     }
