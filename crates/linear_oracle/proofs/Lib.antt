@@ -1,4 +1,0 @@
-mod Firsts
-mod Shares
-mod Runs
-mod Members
