@@ -1,11 +1,11 @@
 -- What the text of a command is read as.
-use Rattle.std.proofs.Common.{rules, ◌≡◌, ◌≢◌, ℕ, zero, suc, ◌+◌, ◌-◌, ◌*◌, ◌^◌, ◌<◌, ◌≤◌, ◌==◌, Bool, true, false, ◌&&◌, ◌||◌, cond, true≢false, List, [], ◌∷◌, ◌++◌, length, take, drop, get_or, Option, Some, None, refl, sym, ap, ◌∙◌, arith, map, filter}
-use Rattle.std.specs.Prelude.{nat_lt, nat_le, codes, decimal, option_map, IfSome}
-use Rattle.std.specs.List.{All, list_all, list_any, slice_split, slice_index}
+use Rattle.std.proofs.Common.{rules, ◌≡◌, ◌≢◌, ℕ, ◌+◌, ◌^◌, ◌<◌, ◌≤◌, Bool, true, false, ◌&&◌, ◌||◌, cond, true≢false, List, [], ◌∷◌, ◌++◌, length, drop, get_or, Option, Some, None, refl, ap, ◌∙◌, arith, filter}
+use Rattle.std.specs.Prelude.{nat_lt, nat_le, codes, decimal, option_map}
+use Rattle.std.specs.List.{All, list_all, list_any}
 use Rattle.std.specs.Str.{bytes_eq}
 use Rattle.std.specs.Char.{digit_value}
 use Rattle.std.specs.Str.Parse.{AllDigits}
-use Rattle.std.proofs.lemmas.Bool.{lt-ltb, ltb-false, and_parts, false_from_ne_true}
+use Rattle.std.proofs.lemmas.Bool.{lt-ltb}
 use Rattle.std.proofs.lemmas.Bool.Decides.{nat_tests}
 use Rattle.std.proofs.lemmas.Fmt.{decimal_is_IsNumeral, length-decimal-le, decimal_nonempty, digits_decimal, digits_value-decimal}
 use Rattle.std.proofs.lemmas.Str.Parse.{IsNumeralModel, numerals_by_fold}
@@ -16,14 +16,14 @@ use Rattle.lane_scan.specs.Bytes.{is_blank, is_foreign}
 use Rattle.frac128.specs.Literal.{is_dec, number_after, number_of}
 use Rattle.text_fields.specs.declared.faults.TextKind.{TextKind}
 use Rattle.text_fields.specs.declared.faults.TextKind.TheVariants.{LongLine, ForeignByte}
-use Rattle.text_fields.specs.Fields.{is_filled, fields_of, field_fault, is_long, is_comment}
+use Rattle.text_fields.specs.Fields.{is_filled, fields_of, field_fault, is_long}
 use Rattle.report_text.specs.declared.report.Command.{Command}
 use Rattle.report_text.specs.declared.report.Command.TheVariants.{Check, Iis, Pivots}
 use Rattle.report_text.specs.declared.report.Method.{Method}
 use Rattle.report_text.specs.declared.report.Method.TheVariants.{Deletion, Additive, Sensitivity}
 use Rattle.report_text.specs.Form.{most_pivots}
 use Rattle.report_text.specs.Grammar.{command_text}
-use Rattle.report_text.specs.Commands.{is_numeral, pivots_of, lone_command, budget_command, command_said, unless_fault, command_of, IsBuilt, CommandLaw}
+use Rattle.report_text.specs.Commands.{is_numeral, pivots_of, lone_command, budget_command, command_said, unless_fault, command_of, IsBuilt}
 
 -- ---- the number of pivots
 by_tests : (a b c : Bool) (n : ℕ) → a ≡ true → b ≡ true → c ≡ true → cond ((a && b) && c) (Some n) None ≡ Some n
