@@ -12,3 +12,4 @@ pub mod Lasts
 pub mod Listed
 pub mod OneReport
 pub mod Printed
+pub mod Kept

@@ -16,6 +16,8 @@ mod report;
 #[cfg(test)]
 mod tests;
 mod writing;
+#[cfg(test)]
+mod writing_tests;
 
 pub use laws::{
     bad_is_not_truncated, one_bad_line, one_report, read_is_not_bad, read_is_not_truncated,
