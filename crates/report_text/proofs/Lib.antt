@@ -13,3 +13,4 @@ pub mod Listed
 pub mod OneReport
 pub mod Printed
 pub mod Scripted
+pub mod Kept

@@ -96,3 +96,11 @@ head_ended model notes i first start s0 done e first_is h =
     ∙ (h
     ∙ (ap (λ t. t ++ text_of (map (note_line model) notes)) first_is
     ∙ append_assoc start (ended first) (text_of (map (note_line model) notes)))))
+
+-- one line more
+pub line_more : (start done next : List ℕ) (lines : List Line) (l : Line) → done ≡ start ++ text_of lines → next ≡ done ++ ended l → next ≡ start ++ text_of (lines ++ l ∷ [])
+line_more start done next lines l d e =
+    e
+    ∙ (ap (λ t. t ++ ended l) d
+    ∙ (append_assoc start (text_of lines) (ended l)
+    ∙ ap (λ t. start ++ t) (ap (λ t. text_of lines ++ t) (sym (append-nil (ended l))) ∙ sym (text_both lines (l ∷ [])))))

@@ -23,6 +23,11 @@ use Rattle.report_text.specs.Reading.{Reads}
 abbrev pub ended : Line → List ℕ
 ended line = line ++ 10 ∷ []
 
+-- what stands after a text was to follow: what stood there, and perhaps more
+pub record Keeps (old new : List ℕ) : Type 0 where
+  pub more : List ℕ
+  pub is : new ≡ old ++ more
+
 -- ---- what can be printed: what names rows and columns that there are
 -- a member whose row or column there is
 abbrev pub IsKnownMember : Program → Member → Type 0

@@ -19,6 +19,8 @@ mod stopping;
 #[cfg(test)]
 mod tests;
 mod writing;
+#[cfg(test)]
+mod writing_tests;
 
 pub use commands::{CommandStop, command_law, read_command};
 pub use laws::{

@@ -1,11 +1,12 @@
 //! The printed lines of commands, answers and reports.
+#![tactic(auto, using(crate::proofs::Kept::keeps_on, crate::proofs::Kept::keeps_more, crate::proofs::Kept::keeps_same))]
 ghost use Rattle.std.specs.Prelude.{◌≡◌, ◌++◌, ◌∷◌, [], ◌<◌, ◌≤◌, OnOk, codes, decimal, length, map, flat_map, zip, ℕ, All};
 ghost use Rattle.std.specs.Fmt.{signed_decimal};
 ghost use Rattle.frac128.specs.Printed.{printed};
 ghost use Rattle.certs.specs.Checks.{IsSetOf};
 ghost use Rattle.lp_model.specs.Program.{noted_column};
 ghost use Rattle.report_text.specs.Grammar.{◌then◌, column_name, name_of, kind_word, member_line, value_line, value_lines, point_lines, side_word, source_text, use_line, node_lines, proof_lines, op_word, site_word, site_line, step_line, operation_line, stop_lines, witness_lines, answer_lines, method_word, command_text, entry_lines, note_line, text_of};
-ghost use Rattle.report_text.specs.Printing.{CanPrintLaw, PartsLaw, PrintedLaw, ended, head_lines, foot_lines, IsKnownMember, IsKnownSource, IsKnownNode, IsKnownProof, IsKnownPoint, IsKnownCore, IsKnownAnswer};
+ghost use Rattle.report_text.specs.Printing.{CanPrintLaw, PartsLaw, PrintedLaw, ended, head_lines, foot_lines, IsKnownMember, IsKnownSource, IsKnownNode, IsKnownProof, IsKnownPoint, IsKnownCore, IsKnownAnswer, Keeps};
 
 use crate::report::{Answer, Command, Core, Method};
 use certs::{Node, Point, Proof, Share, Site, SiteKind, Source, Stop};
@@ -16,7 +17,8 @@ use std::alloc::AllocError;
 
 // Appends a word and a blank.
 fn push_word(word: &[u8], into: &mut Vec<u8>) -> Result<(), AllocError>
-    ensures { OnOk result (into.new.items ≡ into.old.items ++ (word.now ++ 32 ∷ [])) }
+    ensures text { OnOk result (into.new.items ≡ into.old.items ++ (word.now ++ 32 ∷ [])) }
+    ensures front { Keeps into.old.items into.new.items }
 {
     into.extend_from_slice(word)?;
     into.push(b' ')?;
@@ -25,7 +27,8 @@ fn push_word(word: &[u8], into: &mut Vec<u8>) -> Result<(), AllocError>
 
 // Appends the last word of a line.
 fn push_line(word: &[u8], into: &mut Vec<u8>) -> Result<(), AllocError>
-    ensures { OnOk result (into.new.items ≡ into.old.items ++ ended word.now) }
+    ensures text { OnOk result (into.new.items ≡ into.old.items ++ ended word.now) }
+    ensures front { Keeps into.old.items into.new.items }
 {
     into.extend_from_slice(word)?;
     into.push(b'\n')?;
@@ -34,7 +37,8 @@ fn push_line(word: &[u8], into: &mut Vec<u8>) -> Result<(), AllocError>
 
 // Appends a fraction as the last word of a line.
 fn push_fraction(value: Frac, into: &mut Vec<u8>) -> Result<(), AllocError>
-    ensures { OnOk result (into.new.items ≡ into.old.items ++ ended (printed value)) }
+    ensures text { OnOk result (into.new.items ≡ into.old.items ++ ended (printed value)) }
+    ensures front { Keeps into.old.items into.new.items }
 {
     value.print(into)?;
     into.push(b'\n')?;
@@ -43,7 +47,8 @@ fn push_fraction(value: Frac, into: &mut Vec<u8>) -> Result<(), AllocError>
 
 // Appends a count.
 fn push_decimal(count: u64, into: &mut Vec<u8>) -> Result<(), AllocError>
-    ensures { OnOk result (into.new.items ≡ into.old.items ++ decimal count) }
+    ensures text { OnOk result (into.new.items ≡ into.old.items ++ decimal count) }
+    ensures front { Keeps into.old.items into.new.items }
 {
     let mut buffer = Buffer::new();
     into.extend_from_slice(buffer.format(count).as_bytes())
@@ -51,7 +56,8 @@ fn push_decimal(count: u64, into: &mut Vec<u8>) -> Result<(), AllocError>
 
 // Appends a count as the last word of a line.
 fn push_count(count: u64, into: &mut Vec<u8>) -> Result<(), AllocError>
-    ensures { OnOk result (into.new.items ≡ into.old.items ++ ended (decimal count)) }
+    ensures text { OnOk result (into.new.items ≡ into.old.items ++ ended (decimal count)) }
+    ensures front { Keeps into.old.items into.new.items }
 {
     push_decimal(count, into)?;
     into.push(b'\n')?;
@@ -60,7 +66,8 @@ fn push_count(count: u64, into: &mut Vec<u8>) -> Result<(), AllocError>
 
 // Appends a whole number as the last word of a line.
 fn push_whole(number: i128, into: &mut Vec<u8>) -> Result<(), AllocError>
-    ensures { OnOk result (into.new.items ≡ into.old.items ++ ended (signed_decimal number)) }
+    ensures text { OnOk result (into.new.items ≡ into.old.items ++ ended (signed_decimal number)) }
+    ensures front { Keeps into.old.items into.new.items }
 {
     let mut buffer = Buffer::new();
     push_line(buffer.format(number).as_bytes(), into)
@@ -93,7 +100,8 @@ fn member_name(model: &Model, member: Member) -> &[u8]
 // Appends the line of a member.
 fn print_member(model: &Model, member: Member, into: &mut Vec<u8>) -> Result<(), AllocError>
     requires { IsKnownMember model.now member }
-    ensures { OnOk result (into.new.items ≡ into.old.items ++ ended (member_line model.now member)) }
+    ensures text { OnOk result (into.new.items ≡ into.old.items ++ ended (member_line model.now member)) }
+    ensures front { Keeps into.old.items into.new.items }
 {
     push_word(b"member", into)?;
     push_word(kind_name(member).as_bytes(), into)?;
@@ -108,7 +116,8 @@ fn print_value(
     into: &mut Vec<u8>,
 ) -> Result<(), AllocError>
     requires { column < length model.now.columns }
-    ensures { OnOk result (into.new.items ≡ into.old.items ++ ended (value_line model.now column value)) }
+    ensures text { OnOk result (into.new.items ≡ into.old.items ++ ended (value_line model.now column value)) }
+    ensures front { Keeps into.old.items into.new.items }
 {
     push_word(b"value", into)?;
     push_word(model.column_name(column), into)?;
@@ -123,7 +132,8 @@ fn print_nonzero(
     into: &mut Vec<u8>,
 ) -> Result<(), AllocError>
     requires { column < length model.now.columns }
-    ensures { OnOk result (into.new.items ≡ into.old.items ++ text_of (value_lines model.now column (value ∷ []))) }
+    ensures text { OnOk result (into.new.items ≡ into.old.items ++ text_of (value_lines model.now column (value ∷ []))) }
+    ensures front { Keeps into.old.items into.new.items }
 {
     if value == Frac::whole(0) {
         return Ok(());
@@ -134,7 +144,8 @@ fn print_nonzero(
 // Appends the lines of a point.
 fn print_point(model: &Model, point: &Point, into: &mut Vec<u8>) -> Result<(), AllocError>
     requires { IsKnownPoint model.now point.now }
-    ensures { OnOk result (into.new.items ≡ into.old.items ++ text_of (point_lines model.now point.now)) }
+    ensures text { OnOk result (into.new.items ≡ into.old.items ++ text_of (point_lines model.now point.now)) }
+    ensures front { Keeps into.old.items into.new.items }
 {
     push_line(b"point", into)?;
     let values = point.values.as_slice();
@@ -161,7 +172,8 @@ fn push_side(
     into: &mut Vec<u8>,
 ) -> Result<(), AllocError>
     requires { IsKnownMember model.now member }
-    ensures { OnOk result (into.new.items ≡ into.old.items ++ (source_text model.now (Source.Member member) side ++ 32 ∷ [])) }
+    ensures text { OnOk result (into.new.items ≡ into.old.items ++ (source_text model.now (Source.Member member) side ++ 32 ∷ [])) }
+    ensures front { Keeps into.old.items into.new.items }
 {
     push_word(kind_name(member).as_bytes(), into)?;
     push_word(member_name(model, member), into)?;
@@ -176,7 +188,8 @@ fn push_source(
     into: &mut Vec<u8>,
 ) -> Result<(), AllocError>
     requires { IsKnownSource model.now source }
-    ensures { OnOk result (into.new.items ≡ into.old.items ++ (source_text model.now source side ++ 32 ∷ [])) }
+    ensures text { OnOk result (into.new.items ≡ into.old.items ++ (source_text model.now source side ++ 32 ∷ [])) }
+    ensures front { Keeps into.old.items into.new.items }
 {
     match source {
         Source::Member(member) => push_side(model, member, side, into),
@@ -194,7 +207,8 @@ fn push_source(
 // Appends the line of a share.
 fn print_use(model: &Model, share: &Share, into: &mut Vec<u8>) -> Result<(), AllocError>
     requires { IsKnownSource model.now share.now.source }
-    ensures { OnOk result (into.new.items ≡ into.old.items ++ ended (use_line model.now share.now)) }
+    ensures text { OnOk result (into.new.items ≡ into.old.items ++ ended (use_line model.now share.now)) }
+    ensures front { Keeps into.old.items into.new.items }
 {
     push_word(b"use", into)?;
     push_source(model, share.source, share.side, into)?;
@@ -204,7 +218,8 @@ fn print_use(model: &Model, share: &Share, into: &mut Vec<u8>) -> Result<(), All
 // Appends the lines of a leaf.
 fn print_leaf(model: &Model, shares: &[Share], into: &mut Vec<u8>) -> Result<(), AllocError>
     requires { All (λ s. IsKnownSource model.now s.source) shares.now }
-    ensures { OnOk result (into.new.items ≡ into.old.items ++ text_of (codes "leaf" ∷ map (use_line model.now) shares.now)) }
+    ensures text { OnOk result (into.new.items ≡ into.old.items ++ text_of (codes "leaf" ∷ map (use_line model.now) shares.now)) }
+    ensures front { Keeps into.old.items into.new.items }
 {
     push_line(b"leaf", into)?;
     for share in shares {
@@ -221,7 +236,8 @@ fn print_split(
     into: &mut Vec<u8>,
 ) -> Result<(), AllocError>
     requires { column < length model.now.columns }
-    ensures { OnOk result (into.new.items ≡ into.old.items ++ text_of (node_lines model.now (Node.Split column at))) }
+    ensures text { OnOk result (into.new.items ≡ into.old.items ++ text_of (node_lines model.now (Node.Split column at))) }
+    ensures front { Keeps into.old.items into.new.items }
 {
     push_word(b"split", into)?;
     push_word(model.column_name(column), into)?;
@@ -231,7 +247,8 @@ fn print_split(
 // Appends the lines of a node.
 fn print_node(model: &Model, node: &Node, into: &mut Vec<u8>) -> Result<(), AllocError>
     requires { IsKnownNode model.now node.now }
-    ensures { OnOk result (into.new.items ≡ into.old.items ++ text_of (node_lines model.now node.now)) }
+    ensures text { OnOk result (into.new.items ≡ into.old.items ++ text_of (node_lines model.now node.now)) }
+    ensures front { Keeps into.old.items into.new.items }
 {
     match node {
         Node::Split { column, at } => print_split(model, *column, *at, into),
@@ -242,7 +259,8 @@ fn print_node(model: &Model, node: &Node, into: &mut Vec<u8>) -> Result<(), Allo
 // Appends the lines of a proof.
 fn print_proof(model: &Model, proof: &Proof, into: &mut Vec<u8>) -> Result<(), AllocError>
     requires { IsKnownProof model.now proof.now }
-    ensures { OnOk result (into.new.items ≡ into.old.items ++ text_of (proof_lines model.now proof.now)) }
+    ensures text { OnOk result (into.new.items ≡ into.old.items ++ text_of (proof_lines model.now proof.now)) }
+    ensures front { Keeps into.old.items into.new.items }
 {
     push_line(b"proof", into)?;
     for node in proof.nodes.as_slice() {
@@ -276,7 +294,8 @@ fn site_name(kind: SiteKind) -> &'static str
 
 // Appends the line of a site.
 fn print_site(site: &Site, into: &mut Vec<u8>) -> Result<(), AllocError>
-    ensures { OnOk result (into.new.items ≡ into.old.items ++ ended (site_line site.now)) }
+    ensures text { OnOk result (into.new.items ≡ into.old.items ++ ended (site_line site.now)) }
+    ensures front { Keeps into.old.items into.new.items }
 {
     push_word(b"site", into)?;
     push_line(site_name(site.kind).as_bytes(), into)
@@ -284,7 +303,8 @@ fn print_site(site: &Site, into: &mut Vec<u8>) -> Result<(), AllocError>
 
 // Appends the line of a turn's number.
 fn print_step(step: u64, into: &mut Vec<u8>) -> Result<(), AllocError>
-    ensures { OnOk result (into.new.items ≡ into.old.items ++ ended (step_line step)) }
+    ensures text { OnOk result (into.new.items ≡ into.old.items ++ ended (step_line step)) }
+    ensures front { Keeps into.old.items into.new.items }
 {
     push_word(b"step", into)?;
     push_count(step, into)
@@ -292,7 +312,8 @@ fn print_step(step: u64, into: &mut Vec<u8>) -> Result<(), AllocError>
 
 // Appends the line of an operation.
 fn print_operation(operation: &Wide, into: &mut Vec<u8>) -> Result<(), AllocError>
-    ensures { OnOk result (into.new.items ≡ into.old.items ++ ended (operation_line operation.now)) }
+    ensures text { OnOk result (into.new.items ≡ into.old.items ++ ended (operation_line operation.now)) }
+    ensures front { Keeps into.old.items into.new.items }
 {
     push_word(b"operation", into)?;
     push_word(op_name(operation.op).as_bytes(), into)?;
@@ -308,18 +329,21 @@ fn print_wide(
     operation: &Wide,
     into: &mut Vec<u8>,
 ) -> Result<(), AllocError>
-    ensures { OnOk result (into.new.items ≡ into.old.items ++ text_of (stop_lines (Stop.Wide site.now step operation.now))) }
+    ensures text { OnOk result (into.new.items ≡ into.old.items ++ text_of (stop_lines (Stop.Wide site.now step operation.now))) }
+    ensures front { Keeps into.old.items into.new.items }
 {
     push_line(b"too wide", into)?;
     print_site(site, into)?;
     print_step(step, into)?;
     print_operation(operation, into)?;
-    push_line(b"end", into)
+    push_line(b"end", into)?;
+    Ok(())
 }
 
 // Appends a line, that of a site, and the end.
 fn print_spent(what: &[u8], site: &Site, into: &mut Vec<u8>) -> Result<(), AllocError>
-    ensures { OnOk result (into.new.items ≡ into.old.items ++ text_of (what.now ∷ site_line site.now ∷ codes "end" ∷ [])) }
+    ensures text { OnOk result (into.new.items ≡ into.old.items ++ text_of (what.now ∷ site_line site.now ∷ codes "end" ∷ [])) }
+    ensures front { Keeps into.old.items into.new.items }
 {
     push_line(what, into)?;
     print_site(site, into)?;
@@ -328,7 +352,8 @@ fn print_spent(what: &[u8], site: &Site, into: &mut Vec<u8>) -> Result<(), Alloc
 
 // Appends the lines of a stop at a size.
 fn print_large(size: u64, into: &mut Vec<u8>) -> Result<(), AllocError>
-    ensures { OnOk result (into.new.items ≡ into.old.items ++ text_of (stop_lines (Stop.Large size))) }
+    ensures text { OnOk result (into.new.items ≡ into.old.items ++ text_of (stop_lines (Stop.Large size))) }
+    ensures front { Keeps into.old.items into.new.items }
 {
     push_word(b"too large", into)?;
     push_count(size, into)?;
@@ -337,7 +362,8 @@ fn print_large(size: u64, into: &mut Vec<u8>) -> Result<(), AllocError>
 
 // Appends the lines of a stop.
 fn print_stop(stop: &Stop, into: &mut Vec<u8>) -> Result<(), AllocError>
-    ensures { OnOk result (into.new.items ≡ into.old.items ++ text_of (stop_lines stop.now)) }
+    ensures text { OnOk result (into.new.items ≡ into.old.items ++ text_of (stop_lines stop.now)) }
+    ensures front { Keeps into.old.items into.new.items }
 {
     match stop {
         Stop::Wide(site, step, operation) => print_wide(site, *step, operation, into),
@@ -351,7 +377,8 @@ fn print_stop(stop: &Stop, into: &mut Vec<u8>) -> Result<(), AllocError>
 // Appends the lines of members.
 fn print_members(model: &Model, set: &MemberSet, into: &mut Vec<u8>) -> Result<(), AllocError>
     requires { IsSetOf model.now set.now }
-    ensures { OnOk result (into.new.items ≡ into.old.items ++ text_of (map (member_line model.now) set.now.members)) }
+    ensures text { OnOk result (into.new.items ≡ into.old.items ++ text_of (map (member_line model.now) set.now.members)) }
+    ensures front { Keeps into.old.items into.new.items }
 {
     // That the members stand in order is told with their count.
     let _count = set.count();
@@ -372,7 +399,8 @@ fn print_witness(
 ) -> Result<(), AllocError>
     requires member { IsKnownMember model.now member }
     requires witness { IsKnownPoint model.now witness.now }
-    ensures { OnOk result (into.new.items ≡ into.old.items ++ text_of (witness_lines model.now (member, witness.now))) }
+    ensures text { OnOk result (into.new.items ≡ into.old.items ++ text_of (witness_lines model.now (member, witness.now))) }
+    ensures front { Keeps into.old.items into.new.items }
 {
     print_member(model, member, into)?;
     print_point(model, witness, into)
@@ -387,7 +415,8 @@ fn print_witnesses(
 ) -> Result<(), AllocError>
     requires set { IsSetOf model.now set.now }
     requires points { All (IsKnownPoint model.now) witnesses.now }
-    ensures { OnOk result (into.new.items ≡ into.old.items ++ text_of (flat_map (witness_lines model.now) (zip set.now.members witnesses.now))) }
+    ensures text { OnOk result (into.new.items ≡ into.old.items ++ text_of (flat_map (witness_lines model.now) (zip set.now.members witnesses.now))) }
+    ensures front { Keeps into.old.items into.new.items }
 {
     let _count = set.count();
     let mut after = None;
@@ -404,7 +433,8 @@ fn print_witnesses(
 // Appends the lines of an answer that a point is.
 fn print_feasible(model: &Model, point: &Point, into: &mut Vec<u8>) -> Result<(), AllocError>
     requires { IsKnownPoint model.now point.now }
-    ensures { OnOk result (into.new.items ≡ into.old.items ++ text_of (answer_lines model.now (Answer.Feasible point.now))) }
+    ensures text { OnOk result (into.new.items ≡ into.old.items ++ text_of (answer_lines model.now (Answer.Feasible point.now))) }
+    ensures front { Keeps into.old.items into.new.items }
 {
     push_line(b"feasible", into)?;
     print_point(model, point, into)?;
@@ -420,7 +450,8 @@ fn print_infeasible(
 ) -> Result<(), AllocError>
     requires set { IsSetOf model.now set.now }
     requires proof { IsKnownProof model.now proof.now }
-    ensures { OnOk result (into.new.items ≡ into.old.items ++ text_of (answer_lines model.now (Answer.Infeasible set.now proof.now))) }
+    ensures text { OnOk result (into.new.items ≡ into.old.items ++ text_of (answer_lines model.now (Answer.Infeasible set.now proof.now))) }
+    ensures front { Keeps into.old.items into.new.items }
 {
     push_line(b"infeasible", into)?;
     print_members(model, set, into)?;
@@ -432,7 +463,8 @@ fn print_infeasible(
 // Appends the lines of an answer that an irreducible set is.
 fn print_irreducible(model: &Model, core: &Core, into: &mut Vec<u8>) -> Result<(), AllocError>
     requires { IsKnownCore model.now core.now }
-    ensures { OnOk result (into.new.items ≡ into.old.items ++ text_of (answer_lines model.now (Answer.Irreducible core.now))) }
+    ensures text { OnOk result (into.new.items ≡ into.old.items ++ text_of (answer_lines model.now (Answer.Irreducible core.now))) }
+    ensures front { Keeps into.old.items into.new.items }
 {
     push_line(b"irreducible", into)?;
     print_witnesses(model, &core.members, core.witnesses.as_slice(), into)?;
@@ -444,7 +476,8 @@ fn print_irreducible(model: &Model, core: &Core, into: &mut Vec<u8>) -> Result<(
 /// Appends the lines of an answer.
 pub fn print_answer(model: &Model, answer: &Answer, into: &mut Vec<u8>) -> Result<(), AllocError>
     requires { IsKnownAnswer model.now answer.now }
-    ensures { OnOk result (into.new.items ≡ into.old.items ++ text_of (answer_lines model.now answer.now)) }
+    ensures text { OnOk result (into.new.items ≡ into.old.items ++ text_of (answer_lines model.now answer.now)) }
+    ensures front { Keeps into.old.items into.new.items }
 {
     match answer {
         Answer::Feasible(point) => print_feasible(model, point, into),
@@ -467,7 +500,8 @@ fn method_name(method: Method) -> &'static str
 
 // Appends a command that looks for an irreducible set.
 fn print_iis(method: Method, into: &mut Vec<u8>) -> Result<(), AllocError>
-    ensures { OnOk result (into.new.items ≡ into.old.items ++ command_text (Command.Iis method)) }
+    ensures text { OnOk result (into.new.items ≡ into.old.items ++ command_text (Command.Iis method)) }
+    ensures front { Keeps into.old.items into.new.items }
 {
     push_word(b"iis", into)?;
     into.extend_from_slice(method_name(method).as_bytes())
@@ -475,7 +509,8 @@ fn print_iis(method: Method, into: &mut Vec<u8>) -> Result<(), AllocError>
 
 // Appends a command that sets the budget of pivots.
 fn print_budget(most: u64, into: &mut Vec<u8>) -> Result<(), AllocError>
-    ensures { OnOk result (into.new.items ≡ into.old.items ++ command_text (Command.Pivots most)) }
+    ensures text { OnOk result (into.new.items ≡ into.old.items ++ command_text (Command.Pivots most)) }
+    ensures front { Keeps into.old.items into.new.items }
 {
     push_word(b"budget pivots", into)?;
     push_decimal(most, into)?;
@@ -484,7 +519,8 @@ fn print_budget(most: u64, into: &mut Vec<u8>) -> Result<(), AllocError>
 
 /// Appends a command.
 pub fn print_command(command: &Command, into: &mut Vec<u8>) -> Result<(), AllocError>
-    ensures { OnOk result (into.new.items ≡ into.old.items ++ command_text command.now) }
+    ensures text { OnOk result (into.new.items ≡ into.old.items ++ command_text command.now) }
+    ensures front { Keeps into.old.items into.new.items }
 {
     match command {
         Command::Check => into.extend_from_slice(b"check"),
@@ -501,7 +537,8 @@ pub fn print_entry(
     into: &mut Vec<u8>,
 ) -> Result<(), AllocError>
     requires { IsKnownAnswer model.now answer.now }
-    ensures { (line : ℕ) → OnOk result (into.new.items ≡ into.old.items ++ text_of (entry_lines model.now (record { command = command.now; answer = answer.now; line = line }))) }
+    ensures text { (line : ℕ) → OnOk result (into.new.items ≡ into.old.items ++ text_of (entry_lines model.now (record { command = command.now; answer = answer.now; line = line }))) }
+    ensures front { Keeps into.old.items into.new.items }
 {
     push_word(b"command", into)?;
     print_command(command, into)?;
@@ -517,7 +554,8 @@ fn print_noted(
     into: &mut Vec<u8>,
 ) -> Result<(), AllocError>
     requires { column < length model.now.columns }
-    ensures { OnOk result (into.new.items ≡ into.old.items ++ ended (codes "note" then column_name model.now column then what.now)) }
+    ensures text { OnOk result (into.new.items ≡ into.old.items ++ ended (codes "note" then column_name model.now column then what.now)) }
+    ensures front { Keeps into.old.items into.new.items }
 {
     push_word(b"note", into)?;
     push_word(model.column_name(column), into)?;
@@ -527,7 +565,8 @@ fn print_noted(
 // Appends the line of a note.
 fn print_note(model: &Model, note: Note, into: &mut Vec<u8>) -> Result<(), AllocError>
     requires { noted_column note < length model.now.columns }
-    ensures { OnOk result (into.new.items ≡ into.old.items ++ ended (note_line model.now note)) }
+    ensures text { OnOk result (into.new.items ≡ into.old.items ++ ended (note_line model.now note)) }
+    ensures front { Keeps into.old.items into.new.items }
 {
     match note {
         Note::LowerRemoved(column) => print_noted(model, column, b"lower removed", into),
@@ -537,7 +576,8 @@ fn print_note(model: &Model, note: Note, into: &mut Vec<u8>) -> Result<(), Alloc
 
 /// Appends the lines of a report that stand before its entries: the notes are those of the program's reader.
 pub fn print_head(model: &Model, into: &mut Vec<u8>) -> Result<(), AllocError>
-    ensures { OnOk result (into.new.items ≡ into.old.items ++ text_of (head_lines model.now model.now.notes)) }
+    ensures text { OnOk result (into.new.items ≡ into.old.items ++ text_of (head_lines model.now model.now.notes)) }
+    ensures front { Keeps into.old.items into.new.items }
 {
     // That the notes name columns that there are is told with the count.
     let _rows = model.row_count();
@@ -550,7 +590,8 @@ pub fn print_head(model: &Model, into: &mut Vec<u8>) -> Result<(), AllocError>
 
 /// Appends the last line of a report.
 pub fn print_foot(into: &mut Vec<u8>) -> Result<(), AllocError>
-    ensures { OnOk result (into.new.items ≡ into.old.items ++ text_of foot_lines) }
+    ensures text { OnOk result (into.new.items ≡ into.old.items ++ text_of foot_lines) }
+    ensures front { Keeps into.old.items into.new.items }
 {
     push_line(b"report end", into)
 }

@@ -4,12 +4,12 @@ use Rattle.report_text.specs.Grammar.{witness_lines, proof_lines, text_of}
 use Rattle.report_text.proofs.Printed.{in_parts}
 use Rattle.report_text.proofs.writing.print_irreducible.Goals as goal
 
-pub returns : goal.returns
-returns c =
+pub returns-clause-text : goal.returns-clause-text
+returns-clause-text c =
     let model = c.args.model.now in
     let core = c.args.core.now in
     in_parts (codes "irreducible") (codes "end") (flat_map (witness_lines model) (zip core.members.members core.witnesses)) (proof_lines model core.proof) _ _ _ _ _
-    c.in_ok-push_line.ensures
-    (c.in_ok-print_witnesses.ensures ∙ ap (λ ws. c.push_line.new.into.items ++ text_of (flat_map (witness_lines model) (zip core.members.members ws))) c.as_slice.ensures)
-    c.in_ok-print_proof.ensures
-    c.in_ok-push_line-2.ensures
+    c.in_ok-push_line.ensures.text
+    (c.in_ok-print_witnesses.ensures.text ∙ ap (λ ws. c.push_line.new.into.items ++ text_of (flat_map (witness_lines model) (zip core.members.members ws))) c.as_slice.ensures)
+    c.in_ok-print_proof.ensures.text
+    c.in_ok-push_line-2.ensures.text
