@@ -1,0 +1,4 @@
+mod Firsts
+mod Shares
+mod Runs
+mod Members

@@ -1,0 +1,41 @@
+-- Members of sets, and what the ends of runs show of them.
+use Rattle.std.proofs.Common.{◌≡◌, ◌≤◌, ◌<◌, ℕ, zero, suc, sym, ◌∙◌, ap, subst, Bool, true, false, true≢false, cond, not, List, [], ◌∷◌, length, filter, Ok, Err, refl, arith}
+use Rattle.std.specs.Prelude.{All, Contains, IfOk, Result}
+use Rattle.std.specs.List.{list_any}
+use Rattle.std.proofs.lemmas.List.Elements.{All-contains, All-contains_itself, All-filter, All-weaker}
+use Rattle.std.proofs.lemmas.List.Folds.{list_any_none}
+use Rattle.lp_model.specs.declared.members.Member.{Member}
+use Rattle.lp_model.specs.Members.{has, is_mark}
+use Rattle.lp_model.specs.MemberSets.{SetValue, IsMemberFor, IsPossibleIn, members_for, possible_in}
+use Rattle.lp_model.specs.Program.{Program, IsWellFormed}
+use Rattle.lp_model.specs.Satisfaction.{Holds, IsPart}
+use Rattle.lp_model.proofs.Marked.{possible_is}
+use Rattle.certs.specs.declared.evidence.Branch.{Branch}
+use Rattle.certs.specs.declared.solving.NodeEnd.{NodeEnd}
+use Rattle.certs.specs.declared.solving.NodeEnd.TheVariants.{Point, Cut}
+use Rattle.certs.specs.declared.solving.Stop.{Stop}
+use Rattle.certs.specs.Checks.{IsSetOf}
+use Rattle.certs.specs.Tales.{IsNodeEnd}
+use Rattle.certs.proofs.PlainCuts.{plain_cut}
+use Rattle.certs.proofs.PlainPoints.{plain_point}
+use Rattle.linear_oracle.specs.Ended.{Shows}
+
+-- the members of a set may be in it
+pub all_possible : (set : SetValue) → set.members ≡ filter (has set.members) (possible_in set) → All (IsPossibleIn set) set.members
+all_possible set is =
+    let every : All (IsPossibleIn set) (possible_in set) = All-weaker (Contains (possible_in set)) (IsPossibleIn set) (λ m c. possible_is set.rows set.columns m c) (possible_in set) (All-contains_itself (possible_in set)) in
+    subst (All (IsPossibleIn set)) (sym is) (All-filter (has set.members) (IsPossibleIn set) (possible_in set) every)
+
+-- the end of a run shows what it is an end for
+pub shows_end : (model : Program) (set : List Member) (path : List Branch) (pivots : ℕ) (result : Result NodeEnd Stop) → IsWellFormed model
+    → All (IsMemberFor (length model.rows) (length model.columns)) set → All (λ b. b.column < length model.columns) path
+    → IsNodeEnd model set path pivots result → IfOk result (Shows model set path)
+shows_end model set path pivots (Ok (Point point)) formed possible known h = plain_point model set path pivots point.values formed possible h
+shows_end model set path pivots (Ok (Cut combo)) formed possible known h = plain_cut model set path pivots combo.shares formed known h
+shows_end model set path pivots (Err stop) formed possible known h = tt
+
+-- those of a set of a program's
+pub members_for_model : (model : Program) (set : SetValue) → IsSetOf model set → set.members ≡ filter (has set.members) (possible_in set) → All (IsMemberFor (length model.rows) (length model.columns)) set.members
+members_for_model model set same is =
+    subst (λ n. All (IsMemberFor (length model.rows) n) set.members) same.columns
+    (subst (λ n. All (IsMemberFor n set.columns) set.members) same.rows (all_possible set is))

@@ -1,0 +1,43 @@
+-- What contracts see of an oracle, and what it answers.
+use Rattle.std.specs.Prelude.{◌≡◌, ℕ, Bool, false, not, List, [], ◌∷◌, Option, Result, Ok, Err}
+use Rattle.std.specs.List.{list_any}
+use Rattle.lp_model.specs.declared.members.Member.{Member}
+use Rattle.lp_model.specs.Program.{Program}
+use Rattle.lp_model.specs.Members.{is_mark}
+use Rattle.certs.specs.declared.evidence.Combo.{Combo}
+use Rattle.certs.specs.declared.evidence.Node.TheVariants.{Leaf}
+use Rattle.certs.specs.declared.solving.Stop.{Stop}
+use Rattle.certs.specs.declared.solving.Verdict.{Verdict}
+use Rattle.certs.specs.declared.solving.Verdict.TheVariants.{Feasible, Infeasible}
+use Rattle.certs.specs.Plain.{plain_system}
+use Rattle.certs.specs.Solves.{SettlesAt, IsPlainCut}
+use Rattle.certs.specs.Tales.{Stopped, FirstCore, IsNodeEnd}
+
+-- the program, the pivots of each run, how often it was asked, its stops in order, and the first core
+pub record OracleValue : Type 0 where
+  pub model : Program
+  pub pivots : ℕ
+  pub asks : ℕ
+  pub stops : List Stopped
+  pub first : Option FirstCore
+
+-- no member of the set is a mark
+abbrev pub is_linear : List Member → Bool
+is_linear set = not (list_any is_mark set)
+
+-- the verdict is a proof of one leaf, which is the combination
+abbrev pub IsLeafOf : Combo → Verdict → Type 0
+IsLeafOf combo (Infeasible proof) = proof.nodes ≡ Leaf combo ∷ []
+IsLeafOf combo (Feasible point) = ⊥
+
+-- the plain cut of the set at a leaf
+pub record IsPlainProof (model : Program) (set : List Member) (pivots : ℕ) (verdict : Verdict) : Type 0 where
+  pub combo : Combo
+  pub leaf : IsLeafOf combo verdict
+  pub cut : IsPlainCut model set [] pivots combo.shares
+
+-- The run of the set's plain system settles at the point, or gives the one leaf of the proof, or stops so.
+abbrev pub IsPlainVerdict : Program → List Member → ℕ → Result Verdict Stop → Type 0
+IsPlainVerdict model set pivots (Ok (Feasible point)) = SettlesAt (plain_system model set [] false) pivots point.values
+IsPlainVerdict model set pivots (Ok (Infeasible proof)) = IsPlainProof model set pivots (Infeasible proof)
+IsPlainVerdict model set pivots (Err stop) = IsNodeEnd model set [] pivots (Err stop)
