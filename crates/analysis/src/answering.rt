@@ -99,6 +99,8 @@ fn refuted(
     ensures right { (budgets : Allowed) → IfOk result (IsChecked model.now budgets) }
     ensures known { IfOk result (IsKnownAnswer model.now) }
 {
+    // That the members of a set are possible members is told with their count.
+    let _count = set.count();
     let used = members_used(alloc, set, &proof)?;
     Ok(Answer::Infeasible(used, proof))
 }
