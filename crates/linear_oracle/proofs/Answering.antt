@@ -7,7 +7,7 @@ use Rattle.std.proofs.lemmas.List.Elements.{All-contains, All-weaker}
 use Rattle.std.proofs.lemmas.List.Folds.{list_any_at, list_any_none}
 use Rattle.lp_model.specs.declared.members.Member.{Member}
 use Rattle.lp_model.specs.Members.{is_mark}
-use Rattle.lp_model.specs.MemberSets.{SetValue, IsPossibleIn}
+use Rattle.lp_model.specs.MemberSets.{SetValue, IsPossibleIn, set_with}
 use Rattle.lp_model.specs.Program.{Program}
 use Rattle.lp_model.specs.Satisfaction.{Holds, IsPart, values_at}
 use Rattle.certs.specs.declared.evidence.Branch.{Branch}
@@ -29,6 +29,7 @@ use Rattle.certs.specs.Tales.{IsNodeEnd, IsNodeSite, IsSiteWithin, IsVerdict}
 use Rattle.std.proofs.lemmas.List.Elements.{All-contains_itself}
 use Rattle.linear_oracle.specs.Ended.{Shows}
 use Rattle.linear_oracle.specs.Value.{IsLeafOf, is_linear}
+use Rattle.linear_oracle.proofs.Members.{with_unmarked}
 use Rattle.linear_oracle.proofs.Shares.{columns_are}
 
 -- ---- sets without marks
@@ -88,3 +89,7 @@ pub cut_verdict : (model : Program) (set : List Member) (end : NodeEnd) (combo :
     → IfOk result (IsVerdict model set)
 cut_verdict model set end combo e shows (Ok verdict) leaf = leaf_verdict model set combo verdict (subst (Shows model set []) e shows) leaf
 cut_verdict model set end combo e shows (Err stop) leaf = tt
+
+-- with a member that is no mark the set has none
+pub with_linear : (set : SetValue) (m : Member) → is_linear set.members ≡ true → is_mark m ≡ false → is_linear (set_with set m).members ≡ true
+with_linear set m h e = ap not (list_any_none is_mark (set_with set m).members (with_unmarked set m (unmarked set.members h) e))

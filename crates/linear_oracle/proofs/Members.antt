@@ -5,7 +5,7 @@ use Rattle.std.specs.List.{list_any}
 use Rattle.std.proofs.lemmas.List.Elements.{All-contains, All-contains_itself, All-filter, All-weaker, filter_passes}
 use Rattle.std.proofs.lemmas.List.Folds.{list_any_none}
 use Rattle.lp_model.specs.declared.members.Member.{Member}
-use Rattle.lp_model.specs.Members.{has, is_mark}
+use Rattle.lp_model.specs.Members.{has, is_mark, is_same}
 use Rattle.lp_model.specs.MemberSets.{SetValue, IsMemberFor, IsPossibleIn, members_for, possible_in, set_with}
 use Rattle.lp_model.specs.Program.{Program, IsWellFormed}
 use Rattle.lp_model.specs.Satisfaction.{Holds, IsPart}
