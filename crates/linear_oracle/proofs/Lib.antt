@@ -2,3 +2,4 @@ mod Firsts
 mod Shares
 mod Runs
 mod Members
+mod Answering

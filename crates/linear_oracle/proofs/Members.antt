@@ -1,15 +1,16 @@
 -- Members of sets, and what the ends of runs show of them.
-use Rattle.std.proofs.Common.{◌≡◌, ◌≤◌, ◌<◌, ℕ, zero, suc, sym, ◌∙◌, ap, subst, Bool, true, false, true≢false, cond, not, List, [], ◌∷◌, length, filter, Ok, Err, refl, arith}
+use Rattle.std.proofs.Common.{◌≡◌, ◌≤◌, ◌<◌, ℕ, zero, suc, sym, ◌∙◌, ap, subst, Bool, true, false, true≢false, cond, not, ◌||◌, List, [], ◌∷◌, length, filter, Ok, Err, refl, arith}
 use Rattle.std.specs.Prelude.{All, Contains, IfOk, Result}
 use Rattle.std.specs.List.{list_any}
-use Rattle.std.proofs.lemmas.List.Elements.{All-contains, All-contains_itself, All-filter, All-weaker}
+use Rattle.std.proofs.lemmas.List.Elements.{All-contains, All-contains_itself, All-filter, All-weaker, filter_passes}
 use Rattle.std.proofs.lemmas.List.Folds.{list_any_none}
 use Rattle.lp_model.specs.declared.members.Member.{Member}
-use Rattle.lp_model.specs.Members.{has, is_mark}
-use Rattle.lp_model.specs.MemberSets.{SetValue, IsMemberFor, IsPossibleIn, members_for, possible_in}
+use Rattle.lp_model.specs.Members.{has, is_mark, is_same}
+use Rattle.lp_model.specs.MemberSets.{SetValue, IsMemberFor, IsPossibleIn, members_for, possible_in, set_with}
 use Rattle.lp_model.specs.Program.{Program, IsWellFormed}
 use Rattle.lp_model.specs.Satisfaction.{Holds, IsPart}
 use Rattle.lp_model.proofs.Marked.{possible_is}
+use Rattle.lp_model.proofs.Sets.{contains_of_has, same_members}
 use Rattle.certs.specs.declared.evidence.Branch.{Branch}
 use Rattle.certs.specs.declared.solving.NodeEnd.{NodeEnd}
 use Rattle.certs.specs.declared.solving.NodeEnd.TheVariants.{Point, Cut}
@@ -39,3 +40,13 @@ pub members_for_model : (model : Program) (set : SetValue) → IsSetOf model set
 members_for_model model set same is =
     subst (λ n. All (IsMemberFor (length model.rows) n) set.members) same.columns
     (subst (λ n. All (IsMemberFor n set.columns) set.members) same.rows (all_possible set is))
+
+-- what is put in is no mark
+pub with_unmarked : (set : SetValue) (m : Member) → All (λ n. is_mark n ≡ false) set.members → is_mark m ≡ false → All (λ n. is_mark n ≡ false) (set_with set m).members
+with_unmarked set m free e =
+    let test : Member → Bool = λ n. is_same n m || has set.members n in
+    All-weaker (λ n. test n ≡ true) (λ n. is_mark n ≡ false) (λ n t. one n (is_same n m) refl t) (filter test (possible_in set)) (filter_passes test (possible_in set))
+  where
+    one : (n : Member) → (b : Bool) → is_same n m ≡ b → (b || has set.members n) ≡ true → is_mark n ≡ false
+    one n true s t = ap is_mark (same_members n m s) ∙ e
+    one n false s t = All-contains (λ k. is_mark k ≡ false) set.members n free (contains_of_has set.members n t)

@@ -1,5 +1,6 @@
 //! The oracle.
 ghost use Rattle.std.specs.Prelude.{◌≡◌, ◌≤◌, ◌<◌, ◌^◌, [], ◌∷◌, true, None, Ok, All, IfErr, IfOk, List, length};
+ghost use Rattle.std.specs.Option.{option_map};
 ghost use Rattle.lp_model.specs.declared.members.Member.{Member as OneMember};
 ghost use Rattle.lp_model.specs.Satisfaction.{IsPart};
 ghost use Rattle.certs.specs.Checks.{IsSetOf};
@@ -53,6 +54,27 @@ impl<'a> LinearOracle<'a> {
             first: None,
         }
     }
+
+    /// How often it was asked.
+    pub fn asks(&self) -> u64
+        ensures { result ≡ self.now.asks }
+    {
+        self.asks
+    }
+
+    /// Its stops, in order.
+    pub fn stops(&self) -> &[StopRecord]
+        ensures { result.now ≡ self.now.stops }
+    {
+        self.stops.as_slice()
+    }
+
+    /// The members that the first infeasible verdict used.
+    pub fn first_core(&self) -> Option<&CoreRecord>
+        ensures { option_map (λ r. r.now) result ≡ self.now.first }
+    {
+        self.first.as_ref()
+    }
 }
 
 impl Oracle for LinearOracle<'_> {
@@ -69,6 +91,8 @@ impl Oracle for LinearOracle<'_> {
     ghost first_core = { λ o. o.first };
 
     fn ask(&mut self, alloc: Global, set: &MemberSet) -> Result<Verdict, Stop>
+        requires same { IsSetOf self.old.model set.now }
+        requires served { is_linear set.now.members ≡ true }
         ensures verdict { IfOk result (IsVerdict self.old.model set.now.members) }
         ensures within { IfErr result (IsSiteWithin set.now.members) }
         ensures asks { self.new.asks ≡ one_more self.old.asks }
@@ -82,6 +106,8 @@ impl Oracle for LinearOracle<'_> {
         ensures plain { IsPlainVerdict self.old.model set.now.members self.old.pivots result }
     {
         self.asks = self.asks.saturating_add(1);
+        // That the members of a set are possible members is told with their count.
+        let _count = set.count();
         let end = match solve(alloc, self.model, set, &[], self.pivots) {
             Ok(end) => end,
             Err(stop) => return Err(answered(alloc, &mut self.stops, set, stop)),
