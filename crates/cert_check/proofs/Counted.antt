@@ -1,5 +1,5 @@
 -- How many entries are settled, and how many are not.
-use Rattle.std.proofs.Common.{◌≡◌, ◌+◌, refl, ap, ◌∙◌, ℕ, suc, Bool, true, false, cond, not, List, [], ◌∷◌, length, filter, arith}
+use Rattle.std.proofs.Common.{◌≡◌, ◌+◌, refl, Bool, true, false, cond, not, List, [], ◌∷◌, length, filter, arith}
 use Rattle.report_text.specs.declared.report.Entry.{Entry}
 use Rattle.cert_check.specs.Trials.{settles, settled_count, unsettled_count}
 

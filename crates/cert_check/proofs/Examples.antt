@@ -1,5 +1,5 @@
 -- Small reports, tried on the definitions by computation.
-use Rattle.std.proofs.Common.{◌≡◌, refl, Bool, true, false, List, [], ◌∷◌, Option, None, Some, length}
+use Rattle.std.proofs.Common.{◌≡◌, refl, Bool, true, false, List, [], ◌∷◌, Option, None, Some}
 use lib.IntN.{ℤ, pos}
 use Rattle.algebra.specs.Gcd.{gcd, gcd_within}
 use Rattle.rational.specs.Rational.{ℚ, frac, whole, one_ℚ, ◌+ℚ◌, ◌*ℚ◌, neg_ℚ, lt_q, le_q, eq_ℚ}

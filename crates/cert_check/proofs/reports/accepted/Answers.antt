@@ -1,4 +1,4 @@
-use Rattle.std.proofs.Common.{◌≡◌, ◌+◌, ◌-◌, ◌∙◌, ap, length, arith}
+use Rattle.std.proofs.Common.{◌≡◌, ◌-◌, ◌∙◌, ap, length, arith}
 use Rattle.cert_check.specs.declared.outcome.Outcome.TheVariants.{Accepted}
 use Rattle.cert_check.specs.Trials.{settled_count, unsettled_count}
 use Rattle.cert_check.proofs.Counted.{all_counted}

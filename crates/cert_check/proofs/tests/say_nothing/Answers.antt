@@ -1,4 +1,4 @@
-use Rattle.std.proofs.Common.{◌<◌, sym, ap, subst, length, ℕ, arith}
+use Rattle.std.proofs.Common.{◌<◌, sym, subst, length, arith}
 use Rattle.lp_model.specs.Program.{Program}
 use Rattle.report_text.specs.declared.report.Report.{Report}
 use Rattle.report_text.specs.Grammar.{report_lines}
