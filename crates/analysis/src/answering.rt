@@ -83,7 +83,7 @@ fn check(alloc: Global, model: &Model, budgets: Budgets) -> Result<Answer, Alloc
     match oracle.ask(alloc, &set) {
         Ok(Verdict::Feasible(point)) => Ok(Answer::Feasible(point)),
         Ok(Verdict::Infeasible(proof)) => refuted(alloc, model, &set, proof),
-        Err(stop) => stopped(alloc, model, set, stop),
+        Err(stop) => stopped(alloc, model, set, &stop),
     }
 }
 
@@ -110,16 +110,16 @@ fn stopped(
     alloc: Global,
     model: &Model,
     set: MemberSet,
-    stop: Stop,
+    stop: &Stop,
 ) -> Result<Answer, AllocError>
     requires whole { set ≡ active_set model.now }
-    ensures right { (budgets : Allowed) → IsNodeEnd model.now (active_members model.now) [] budgets.pivots (Err stop) → IfOk result (IsChecked model.now budgets) }
+    ensures right { (budgets : Allowed) → IsNodeEnd model.now (active_members model.now) [] budgets.pivots (Err stop.now) → IfOk result (IsChecked model.now budgets) }
     ensures known { IfOk result (IsKnownAnswer model.now) }
 {
     match stop {
         Stop::Wide(_, step, wide) => {
             let site = whole_site(alloc, model, set)?;
-            Ok(Answer::Stopped(Stop::Wide(site, step, wide)))
+            Ok(Answer::Stopped(Stop::Wide(site, *step, *wide)))
         }
         Stop::Pivots(_) => {
             let site = whole_site(alloc, model, set)?;
