@@ -31,6 +31,6 @@ pub use report::{
     Answer, Command, Core, Entries, Entry, Method, Notes, Report, ReportStop, Witnesses,
 };
 pub use writing::{
-    answers_can_be_printed, print_answer, print_command, print_entry, print_foot, print_head, printed_is_read,
-    report_has_parts,
+    answers_can_be_printed, print_answer, print_command, print_entry, print_foot, print_head,
+    printed_is_read, report_has_parts,
 };

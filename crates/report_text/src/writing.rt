@@ -1,5 +1,6 @@
 //! The printed lines of commands, answers and reports.
 #![tactic(auto, using(crate::proofs::Kept::keeps_on, crate::proofs::Kept::keeps_more, crate::proofs::Kept::keeps_same))]
+
 ghost use Rattle.std.specs.Prelude.{◌≡◌, ◌++◌, ◌∷◌, [], ◌<◌, ◌≤◌, OnOk, codes, decimal, length, map, flat_map, zip, ℕ, All};
 ghost use Rattle.std.specs.Fmt.{signed_decimal};
 ghost use Rattle.frac128.specs.Printed.{printed};
@@ -229,12 +230,7 @@ fn print_leaf(model: &Model, shares: &[Share], into: &mut Vec<u8>) -> Result<(),
 }
 
 // Appends the line of a split.
-fn print_split(
-    model: &Model,
-    column: u32,
-    at: i128,
-    into: &mut Vec<u8>,
-) -> Result<(), AllocError>
+fn print_split(model: &Model, column: u32, at: i128, into: &mut Vec<u8>) -> Result<(), AllocError>
     requires { column < length model.now.columns }
     ensures text { OnOk result (into.new.items ≡ into.old.items ++ text_of (node_lines model.now (Node.Split column at))) }
     ensures front { Keeps into.old.items into.new.items }

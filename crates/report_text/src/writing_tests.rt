@@ -15,19 +15,19 @@ use std::alloc::{AllocError, Global};
 use std::process::Abort;
 use std::test::Fail;
 
-// A column without bounds.
-fn free_column() -> Column
+// A column from 0 to 3.
+fn box_column() -> Column
     ensures { (name : List ℕ) → IsWellFormedColumn (named_column name result) }
 {
     Column {
-        lo: None,
-        up: None,
+        lo: Some(Frac::whole(0)),
+        up: Some(Frac::whole(3)),
         whole: false,
         lower_active: true,
         upper_active: true,
         whole_active: true,
-        lower_weight: Weight::Soft(Frac::whole(1)),
-        upper_weight: Weight::Soft(Frac::whole(1)),
+        lower_weight: Weight::Rigid,
+        upper_weight: Weight::Rigid,
     }
 }
 
@@ -46,16 +46,16 @@ fn free_row(alloc: Global) -> Row
 }
 
 // Puts a column last.
-fn add_free(model: &mut Model, alloc: Global, name: &[u8]) -> Result<u32, ModelStop> {
-    model.add_column(alloc, name, free_column())
+fn add_box(model: &mut Model, alloc: Global, name: &[u8]) -> Result<u32, ModelStop> {
+    model.add_column(alloc, name, box_column())
 }
 
 // The program.
 fn program(alloc: Global) -> Result<Model, ModelStop> {
     let mut model = Model::new(alloc, false);
-    add_free(&mut model, alloc, b"x")?;
-    add_free(&mut model, alloc, b"y")?;
-    add_free(&mut model, alloc, b"z")?;
+    add_box(&mut model, alloc, b"x")?;
+    add_box(&mut model, alloc, b"y")?;
+    add_box(&mut model, alloc, b"z")?;
     model.add_row(alloc, b"c1", free_row(alloc))?;
     model.add_row(alloc, b"c2", free_row(alloc))?;
     Ok(model)
@@ -198,35 +198,47 @@ fn infeasible(rt: HostRuntime) -> Result<(), Fail> {
 }
 
 // The settle run of all members.
-fn site(alloc: Global, model: &Model) -> Result<Site, AllocError> {
+fn site(alloc: Global) -> Result<Site, AllocError> {
+    let Ok(model) = program(alloc) else {
+        return Err(AllocError);
+    };
     Ok(Site {
         kind: SiteKind::Settle,
-        set: MemberSet::empty(alloc, model)?,
-        enforced: MemberSet::empty(alloc, model)?,
+        set: MemberSet::empty(alloc, &model)?,
+        enforced: MemberSet::empty(alloc, &model)?,
         path: Path::new(Vec::new(alloc)),
     })
 }
 
-#[test]
-fn stops(rt: HostRuntime) -> Result<(), Fail> {
+// The stop is printed so.
+fn prints_stop(rt: &(impl Abort + AllocGlobal), stop: Stop, text: &[u8]) -> Result<(), AllocError> {
     let Ok(model) = program(rt.alloc()) else {
-        return Err(Fail::from(AllocError));
+        return Err(AllocError);
     };
+    let answer = Answer::Stopped(stop);
+    prints(rt, &model, &answer, text)
+}
+
+#[test]
+fn wide_stop(rt: HostRuntime) -> Result<(), Fail> {
     let wide = Wide {
         op: Op::Over,
         left: halves(1),
         right: Frac::whole(-3),
     };
-    let answer = Answer::Stopped(Stop::Wide(site(rt.alloc(), &model)?, 7, wide));
-    prints(
+    let stop = Stop::Wide(site(rt.alloc())?, 7, wide);
+    prints_stop(
         &rt,
-        &model,
-        &answer,
+        stop,
         b"too wide\nsite settle\nstep 7\noperation over 1/2 -3\nend\n",
     )?;
-    let answer = Answer::Stopped(Stop::Pivots(site(rt.alloc(), &model)?));
-    prints(&rt, &model, &answer, b"pivots spent\nsite settle\nend\n")?;
-    prints(&rt, &model, &Answer::Done, b"done\n")?;
+    Ok(())
+}
+
+#[test]
+fn spent_stop(rt: HostRuntime) -> Result<(), Fail> {
+    let stop = Stop::Pivots(site(rt.alloc())?);
+    prints_stop(&rt, stop, b"pivots spent\nsite settle\nend\n")?;
     Ok(())
 }
 
