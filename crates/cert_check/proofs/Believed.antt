@@ -18,7 +18,7 @@ use Rattle.certs.specs.Checks.{outcome, point_steps}
 use Rattle.certs.proofs.Passed.{point_check_law}
 use Rattle.certs.proofs.Sound.{satisfiable_law, unsatisfiable_law}
 use Rattle.report_text.specs.declared.report.Answer.{Answer}
-use Rattle.report_text.specs.declared.report.Answer.TheVariants.{Feasible, Infeasible, Irreducible}
+use Rattle.report_text.specs.declared.report.Answer.TheVariants.{Feasible, Infeasible, Irreducible, Done, Stopped}
 use Rattle.report_text.specs.declared.report.Entry.{Entry}
 use Rattle.report_text.specs.Form.{IsAnswerFor, IsEntryFor}
 use Rattle.report_text.specs.Grammar.{witness_lines}
@@ -151,6 +151,8 @@ true_answer model n (Irreducible core) f h e =
       witnessed = All-weaker (Tried model set) (λ w. Satisfies model (others set w.0) (values_at w.1.values)) (λ w t. point_check_law limit model (others set w.0) (values_at w.1.values) t.1) (witnesses_of core) each;
       irreducible = record { cannot = cannot; minimal = irreducible_by model set core.witnesses h.members.in_order h.each each };
     }
+true_answer model n Done f h e = tt
+true_answer model n (Stopped stop) f h e = tt
 
 pub true_entries : (model : Program) (entries : List Entry) → IsWellFormed model → All (IsEntryFor model) entries → first_stop (flat_map (entry_trials model) entries) ≡ None → All (IsTrueOf model) entries
 true_entries model [] f h e = All-nil (IsTrueOf model)

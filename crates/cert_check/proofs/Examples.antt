@@ -21,8 +21,10 @@ use Rattle.certs.specs.declared.evidence.Point.{Point}
 use Rattle.certs.specs.declared.evidence.Node.TheVariants.{Leaf}
 use Rattle.certs.specs.declared.evidence.Proof.{Proof}
 use Rattle.report_text.specs.declared.report.Method.TheVariants.{Deletion}
-use Rattle.report_text.specs.declared.report.Command.TheVariants.{Check, Iis}
-use Rattle.report_text.specs.declared.report.Answer.TheVariants.{Feasible, Infeasible, Irreducible}
+use Rattle.certs.specs.declared.solving.SiteKind.TheVariants.{Improve}
+use Rattle.certs.specs.declared.solving.Stop.TheVariants.{Pivots as Spent}
+use Rattle.report_text.specs.declared.report.Command.TheVariants.{Check, Iis, Pivots}
+use Rattle.report_text.specs.declared.report.Answer.TheVariants.{Feasible, Infeasible, Irreducible, Done, Stopped}
 use Rattle.report_text.specs.declared.report.Entry.{Entry}
 use Rattle.cert_check.specs.declared.outcome.Outcome.{Outcome}
 use Rattle.cert_check.specs.declared.outcome.Outcome.TheVariants.{Accepted, Rejected, Wide as TooWide}
@@ -63,7 +65,7 @@ abbrev feasible : ℤ → Entry
 feasible x = record { command = Check; answer = Feasible (at x); line = 12 }
 
 abbrev check : List Note → List Entry → Outcome
-check notes entries = outcome_of (length entries) (trials program (record { notes = notes; entries = entries }))
+check notes entries = outcome_of entries (trials program (record { notes = notes; entries = entries }))
 
 abbrev noted : List Note
 noted = LowerKept 0 ∷ []
@@ -75,6 +77,21 @@ pair = Row 0 ∷ Row 1 ∷ []
 refuted : check noted (infeasible pair (leaf (pos 1) (Row 1) (pos 1)) ∷ []) ≡ Accepted 1 0
 unfolding frac ◌+ℚ◌ ◌*ℚ◌ neg_ℚ gcd gcd_within le_q lt_q eq_ℚ first_wide is_wide product_steps
 refuted = refl
+
+-- a stop is not settled, whatever it says, and a command that is done is
+abbrev stopped : Entry
+stopped = record {
+  command = Check;
+  answer = Stopped (Spent (record { kind = Improve; set = record { rows = 0; columns = 0; members = [] }; enforced = record { rows = 0; columns = 0; members = [] }; path = [] }));
+  line = 12;
+}
+
+abbrev finished : Entry
+finished = record { command = Pivots 7; answer = Done; line = 16 }
+
+counted : check noted (infeasible pair (leaf (pos 1) (Row 1) (pos 1)) ∷ stopped ∷ finished ∷ []) ≡ Accepted 2 1
+unfolding frac ◌+ℚ◌ ◌*ℚ◌ neg_ℚ gcd gcd_within le_q lt_q eq_ℚ first_wide is_wide product_steps
+counted = refl
 
 -- ---- notes: one missing, one too many, another
 note_missing : check [] (infeasible pair (leaf (pos 1) (Row 1) (pos 1)) ∷ []) ≡ Rejected 2

@@ -5,6 +5,7 @@ pub mod Numbers
 pub mod Witnessed
 pub mod Entered
 pub mod Ended
+pub mod Counted
 pub mod Believed
 mod Examples
 pub mod SampleForms

@@ -12,16 +12,20 @@ use Rattle.frac128.specs.Limit.{limit}
 use Rattle.frac128.specs.Width.{is_too_wide}
 use Rattle.lp_model.specs.declared.members.Member.TheVariants.{Row}
 use Rattle.lp_model.specs.declared.members.Side.TheVariants.{Lo, Up}
-use Rattle.lp_model.specs.Program.{IsForm, noted_column}
+use Rattle.lp_model.specs.Program.{Program, IsForm, noted_column}
 use Rattle.lp_model.specs.Members.{comes_before}
 use Rattle.certs.specs.declared.evidence.Source.TheVariants.{Member as Of}
 use Rattle.certs.specs.declared.evidence.Share.{Share}
-use Rattle.report_text.specs.declared.report.Command.TheVariants.{Check}
-use Rattle.report_text.specs.declared.report.Answer.TheVariants.{Infeasible}
+use Rattle.certs.specs.declared.solving.SiteKind.TheVariants.{Settle}
+use Rattle.certs.specs.declared.solving.Stop.TheVariants.{Pivots as Spent}
+use Rattle.report_text.specs.declared.report.Command.TheVariants.{Check, Pivots}
+use Rattle.report_text.specs.declared.report.Answer.TheVariants.{Infeasible, Done, Stopped}
+use Rattle.report_text.specs.declared.report.Entry.{Entry}
+use Rattle.lp_model.specs.MemberSets.{active_set, empty_set}
 use Rattle.report_text.specs.Grammar.{report_lines}
 use Rattle.report_text.specs.Form.{IsNamedColumn, IsNamedMember, IsUse, IsEntryFor, IsReportFor, share_before}
 use Rattle.report_text.proofs.Endings.{pair_in_order}
-use Rattle.cert_check.specs.Samples.{sample, sample_terms, sample_set, sample_nodes, sample_report}
+use Rattle.cert_check.specs.Samples.{sample, sample_terms, sample_set, sample_nodes, sample_report, stop_report}
 
 pub one_term : IsForm 1 sample_terms
 one_term = record {
@@ -47,6 +51,7 @@ pub report_form : (w : ℚ) → zero_ℚ <ℚ w → is_too_wide limit w ≡ fals
 report_form w p f = record {
   notes = All-nil (λ note. IsNamedColumn sample (noted_column note));
   entries = All-cons (IsEntryFor sample) (record { command = Check; answer = Infeasible sample_set (record { nodes = sample_nodes w }); line = 2 }) [] (record {
+    command = tt;
     kind = refl;
     answer = (
       record {
@@ -78,3 +83,18 @@ one_positive = lt_q-true zero_ℚ (whole (pos 1)) refl
 pub two_positive : zero_ℚ <ℚ whole (pos 2)
 unfolding frac gcd gcd_within lt_q
 two_positive = lt_q-true zero_ℚ (whole (pos 2)) refl
+
+-- ---- a budget and a stop
+pub stop_form : (model : Program) → IsReportFor model (stop_report model)
+stop_form model =
+    let budget : Entry = record { command = Pivots 0; answer = Done; line = 2 } in
+    let stop : Entry = record { command = Check; answer = Stopped (Spent (record { kind = Settle; set = active_set model; enforced = empty_set model; path = [] })); line = 4 } in
+    record {
+      notes = All-nil (λ note. IsNamedColumn model (noted_column note));
+      entries = All-cons (IsEntryFor model) budget (stop ∷ []) (record { command = omega arith; kind = refl; answer = tt })
+          (All-cons (IsEntryFor model) stop [] (record { command = tt; kind = refl; answer = record { kind = refl; set_is = refl; enforced_is = refl; path_is = refl } }) (All-nil (IsEntryFor model)));
+      numbered = (refl, (refl, tt));
+    }
+
+pub stop_lines_few : (model : Program) → length (report_lines model (stop_report model)) ≡ 8
+stop_lines_few model = refl

@@ -5,12 +5,14 @@ use Rattle.rational.specs.Linear.{Term}
 use Rattle.lp_model.specs.declared.parts.Weight.TheVariants.{Rigid}
 use Rattle.lp_model.specs.declared.members.Member.TheVariants.{Row}
 use Rattle.lp_model.specs.declared.members.Side.TheVariants.{Lo, Up}
-use Rattle.lp_model.specs.MemberSets.{SetValue}
+use Rattle.lp_model.specs.MemberSets.{SetValue, active_set, empty_set}
 use Rattle.certs.specs.declared.evidence.Source.TheVariants.{Member as Of}
 use Rattle.certs.specs.declared.evidence.Node.{Node}
 use Rattle.certs.specs.declared.evidence.Node.TheVariants.{Leaf}
-use Rattle.report_text.specs.declared.report.Command.TheVariants.{Check}
-use Rattle.report_text.specs.declared.report.Answer.TheVariants.{Infeasible}
+use Rattle.certs.specs.declared.solving.SiteKind.TheVariants.{Settle}
+use Rattle.certs.specs.declared.solving.Stop.TheVariants.{Pivots as Spent}
+use Rattle.report_text.specs.declared.report.Command.TheVariants.{Check, Pivots}
+use Rattle.report_text.specs.declared.report.Answer.TheVariants.{Infeasible, Done, Stopped}
 use Rattle.report_text.specs.declared.report.Report.{Report}
 use Rattle.lp_model.specs.Program.{Program, NamedRow, NamedColumn}
 
@@ -47,3 +49,13 @@ sample_set = record { rows = 2; columns = 1; members = Row 0 ∷ Row 1 ∷ [] }
 -- that no point satisfies both rows
 abbrev pub sample_report : ℚ → Report
 sample_report w = record { notes = []; entries = record { command = Check; answer = Infeasible sample_set (record { nodes = sample_nodes w }); line = 2 } ∷ [] }
+
+-- that a budget is set, and that a check stopped where no pivot was left
+abbrev pub stop_report : Program → Report
+stop_report model = record {
+  notes = [];
+  entries =
+      record { command = Pivots 0; answer = Done; line = 2 }
+      ∷ record { command = Check; answer = Stopped (Spent (record { kind = Settle; set = active_set model; enforced = empty_set model; path = [] })); line = 4 }
+      ∷ [];
+}

@@ -19,7 +19,7 @@ use Rattle.certs.specs.Violation.{is_of}
 use Rattle.certs.specs.Checks.{outcome, point_steps, combination_steps}
 use Rattle.report_text.specs.declared.report.Core.{Core}
 use Rattle.report_text.specs.declared.report.Answer.{Answer}
-use Rattle.report_text.specs.declared.report.Answer.TheVariants.{Feasible, Infeasible, Irreducible}
+use Rattle.report_text.specs.declared.report.Answer.TheVariants.{Feasible, Infeasible, Irreducible, Done, Stopped}
 use Rattle.report_text.specs.declared.report.Entry.{Entry}
 use Rattle.report_text.specs.declared.report.Report.{Report}
 use Rattle.report_text.specs.Grammar.{witness_lines}
@@ -112,11 +112,13 @@ irreducible_trials model n core =
     witness_trials model core.members.members (n + 2) (witnesses_of core)
     ++ leaf_trial model core.members.members (n + (3 + length (flat_map (witness_lines model) (witnesses_of core)))) core.proof ∷ []
 
--- those of an answer
+-- those of an answer; nothing is tried of a command that is done, nor of a stop
 abbrev pub answer_trials : Program → ℕ → Answer → List Trial
 answer_trials model n (Feasible p) = feasible_trials model n p
 answer_trials model n (Infeasible set proof) = infeasible_trials model n set proof
 answer_trials model n (Irreducible core) = irreducible_trials model n core
+answer_trials model n Done = []
+answer_trials model n (Stopped stop) = []
 
 -- those of an entry, from the line of its command
 abbrev pub entry_trials : Program → Entry → List Trial
@@ -133,10 +135,23 @@ unless_failed n Yes rest = rest
 unless_failed n No rest = Rejected n
 unless_failed n (Wide o) rest = TooWide n o
 
--- The first line that does not pass decides. Where all pass, so many entries are settled, and none is unsettled.
-abbrev pub outcome_of : ℕ → List Trial → Outcome
-outcome_of settled [] = Accepted settled 0
-outcome_of settled (t ∷ rest) = unless_failed t.line t.found (outcome_of settled rest)
+-- an answer settles its command, unless it is a stop
+abbrev pub settles : Answer → Bool
+settles (Stopped stop) = false
+settles _ = true
+
+-- how many entries are settled
+abbrev pub settled_count : List Entry → ℕ
+settled_count entries = length (filter (λ e. settles e.answer) entries)
+
+-- how many are not: they are stops
+abbrev pub unsettled_count : List Entry → ℕ
+unsettled_count entries = length (filter (λ e. not (settles e.answer)) entries)
+
+-- The first line that does not pass decides. Where all pass, the entries that are settled are counted, and those that are not.
+abbrev pub outcome_of : List Entry → List Trial → Outcome
+outcome_of entries [] = Accepted (settled_count entries) (unsettled_count entries)
+outcome_of entries (t ∷ rest) = unless_failed t.line t.found (outcome_of entries rest)
 
 -- the report was accepted
 abbrev pub IsAccepted : Outcome → Type 0

@@ -6,7 +6,7 @@ use Rattle.lp_model.specs.Members.{active_members}
 use Rattle.lp_model.specs.Satisfaction.{values_at, Satisfies, IsUnsatisfiable, IsIrreducible, IsPart}
 use Rattle.certs.specs.declared.evidence.Point.{Point}
 use Rattle.report_text.specs.declared.report.Answer.{Answer}
-use Rattle.report_text.specs.declared.report.Answer.TheVariants.{Feasible, Infeasible, Irreducible}
+use Rattle.report_text.specs.declared.report.Answer.TheVariants.{Feasible, Infeasible, Irreducible, Done, Stopped}
 use Rattle.report_text.specs.declared.report.Entry.{Entry}
 use Rattle.cert_check.specs.Trials.{others}
 
@@ -22,11 +22,13 @@ pub record IsIrreducibleBy (model : Program) (set : List Member) (witnesses : Li
   pub witnessed : All (λ w. Satisfies model (others set w.0) (values_at w.1.values)) (zip set witnesses)
   pub irreducible : IsIrreducible model set
 
--- what an answer claims: its point satisfies the active members, or its members are refuted, or irreducible by its witnesses
+-- What an answer claims: its point satisfies the active members, or its members are refuted, or irreducible by its witnesses. Where a command is done, or a solve stopped, nothing is claimed of the program.
 abbrev pub IsTrueAnswer : Program → Answer → Type 0
 IsTrueAnswer model (Feasible p) = Satisfies model (active_members model) (values_at p.values)
 IsTrueAnswer model (Infeasible set proof) = IsRefuted model set.members
 IsTrueAnswer model (Irreducible core) = IsIrreducibleBy model core.members.members core.witnesses
+IsTrueAnswer model Done = Unit {0}
+IsTrueAnswer model (Stopped stop) = Unit {0}
 
 -- what an entry claims is so
 abbrev pub IsTrueOf : Program → Entry → Type 0

@@ -62,6 +62,7 @@ fn check_answer(
             check_infeasible(alloc, model, members, proof, line, sums)
         }
         Answer::Irreducible(core) => check_core(alloc, model, core, line, sums),
+        Answer::Done | Answer::Stopped(_) => Ok(()),
     }
 }
 

@@ -2,7 +2,7 @@
 ghost use Rattle.std.specs.Prelude.{◌≡◌, ◌⊎◌, ◌<◌, All, length};
 ghost use Rattle.report_text.specs.Form.{IsReportFor};
 ghost use Rattle.report_text.specs.Grammar.{report_lines};
-ghost use Rattle.cert_check.specs.Trials.{trials, outcome_of, IsAccepted};
+ghost use Rattle.cert_check.specs.Trials.{trials, settles as settles_command, settled_count, unsettled_count, outcome_of, IsAccepted};
 ghost use Rattle.cert_check.specs.Stops.{first_stop, Says, ending};
 ghost use Rattle.cert_check.specs.Truth.{IsTrueOf};
 
@@ -10,7 +10,7 @@ use crate::entries::check_entries;
 use crate::notes::check_notes;
 use crate::outcome::{Outcome, Stop};
 use lp_model::Model;
-use report_text::Report;
+use report_text::{Answer, Entry, Report};
 use std::alloc::Global;
 
 /// Checks a report against a program, line by line, and answers with the first line that fails or has an operation that
@@ -23,26 +23,23 @@ use std::alloc::Global;
 /// may be the `proof` line. A proof fails on its `leaf` line where its shares are no combination of the printed
 /// members.
 ///
-/// `Accepted` shows that the notes are those of the program, and that what each entry says is so. All entries are
-/// settled.
+/// `Accepted` shows that the notes are those of the program, and that what each entry says is so. Each entry is settled
+/// but the stops: these say nothing of the program, and nothing of them is checked.
 ///
 /// The report is to stand in the grammar for the program, as one that was read for it does, and to have fewer than 2^31
 /// lines.
 pub fn verify(alloc: Global, model: &Model, report: &Report) -> Outcome
     requires form { IsReportFor model.now report.now }
     requires short { length (report_lines model.now report.now) < 2147483648 }
-    ensures said { (result ≡ Outcome.Memory) ⊎ (result ≡ outcome_of (length report.now.entries) (trials model.now report.now)) }
+    ensures said { (result ≡ Outcome.Memory) ⊎ (result ≡ outcome_of report.now.entries (trials model.now report.now)) }
     ensures notes { IsAccepted result → report.now.notes ≡ model.now.notes }
     ensures true_answers { IsAccepted result → All (IsTrueOf model.now) report.now.entries }
-    ensures settled { IsAccepted result → result ≡ Outcome.Accepted (length report.now.entries) 0 }
+    ensures settled { IsAccepted result → result ≡ Outcome.Accepted (settled_count report.now.entries) (unsettled_count report.now.entries) }
 {
     // That the program is well formed is told with the count.
     let _rows = model.row_count();
     match check_report(alloc, model, report) {
-        Ok(()) => Outcome::Accepted {
-            settled: report.entries.as_slice().len() as u64,
-            unsettled: 0,
-        },
+        Ok(()) => accepted(report.entries.as_slice()),
         Err(stop) => ending_of(stop),
     }
 }
@@ -55,6 +52,40 @@ fn check_report(alloc: Global, model: &Model, report: &Report) -> Result<(), Sto
 {
     check_notes(report.notes.as_slice(), model.notes())?;
     check_entries(alloc, model, report.entries.as_slice())
+}
+
+// What is answered where no line fails.
+fn accepted(entries: &[Entry]) -> Outcome
+    ensures { result ≡ Outcome.Accepted (settled_count entries.now) (unsettled_count entries.now) }
+{
+    let settled = count_settled(entries);
+    Outcome::Accepted {
+        settled,
+        unsettled: entries.len() as u64 - settled,
+    }
+}
+
+// How many entries are settled.
+fn count_settled(entries: &[Entry]) -> u64
+    ensures { result ≡ settled_count entries.now }
+{
+    let mut count: u64 = 0;
+    for entry in entries {
+        if settles(&entry.answer) {
+            count += 1;
+        }
+    }
+    count
+}
+
+// Whether an answer settles its command.
+fn settles(answer: &Answer) -> bool
+    ensures { result ≡ settles_command answer.now }
+{
+    match answer {
+        Answer::Stopped(_) => false,
+        _ => true,
+    }
 }
 
 // What a stop is answered as.

@@ -1,12 +1,15 @@
 //! A program of the rows x <= 1 and x >= 2, and reports that no point satisfies them.
 ghost use Rattle.std.specs.Prelude.{◌≡◌, ℕ, List, [], IfOk, pos, ◌≤◌};
 ghost use Rattle.rational.specs.Rational.{whole, zero_ℚ, ◌<ℚ◌};
+ghost use Rattle.lp_model.specs.MemberSets.{active_set, empty_set};
+ghost use Rattle.certs.specs.declared.solving.SiteKind.TheVariants.{Settle};
+ghost use Rattle.certs.specs.declared.solving.Stop.TheVariants.{Pivots as Spent};
 ghost use Rattle.lp_model.specs.Program.{IsWellFormedColumn, NamedRow};
 ghost use Rattle.lp_model.specs.Shown.{named_row, named_column};
-ghost use Rattle.cert_check.specs.Samples.{sample, sample_column, sample_terms, sample_row, sample_nodes, sample_set, sample_report};
+ghost use Rattle.cert_check.specs.Samples.{sample, sample_column, sample_terms, sample_row, sample_nodes, sample_set, sample_report, stop_report};
 
 use super::*;
-use certs::{Combo, Node, Nodes, Proof, Share, Shares, Source};
+use certs::{Combo, Node, Nodes, Path, Proof, Share, Shares, Site, SiteKind, Source, Stop};
 use frac128::{Exact, Frac};
 use lp_model::{Column, Member, MemberSet, Model, ModelStop, Note, Row, Side, Term, Terms, Weight};
 use report_text::{Answer, Command, Entries, Entry, Notes, Report};
@@ -162,6 +165,62 @@ fn say_nothing(alloc: Global) -> Result<Outcome, AllocError> {
     model.add_note(Note::LowerKept(0))?;
     let report = nothing(alloc);
     Ok(verify(alloc, &model, &report))
+}
+
+// The stop of a check where no pivot was left.
+fn spent(alloc: Global, model: &Model) -> Result<Stop, AllocError>
+    ensures { IfOk result (λ s. s ≡ Spent (record { kind = Settle; set = active_set model.now; enforced = empty_set model.now; path = [] })) }
+{
+    let set = model.members(alloc)?;
+    let enforced = MemberSet::empty(alloc, model)?;
+    Ok(Stop::Pivots(Site {
+        kind: SiteKind::Settle,
+        set,
+        enforced,
+        path: Path::new(Vec::new(alloc)),
+    }))
+}
+
+// A report that a budget is set, and that a check stopped.
+fn stopped(alloc: Global, model: &Model) -> Result<Report, AllocError>
+    ensures { IfOk result (λ r. r ≡ stop_report model.now) }
+{
+    let stop = spent(alloc, model)?;
+    let mut items = Vec::new(alloc);
+    items.push(Entry {
+        command: Command::Pivots(0),
+        answer: Answer::Done,
+        line: 2,
+    })?;
+    items.push(Entry {
+        command: Command::Check,
+        answer: Answer::Stopped(stop),
+        line: 4,
+    })?;
+    Ok(Report {
+        notes: Notes::new(Vec::new(alloc)),
+        entries: Entries::new(items),
+    })
+}
+
+// What is said of it.
+fn say_stopped(alloc: Global) -> Result<Outcome, AllocError> {
+    let Ok(model) = program(alloc) else {
+        return Err(AllocError);
+    };
+    let report = stopped(alloc, &model)?;
+    Ok(verify(alloc, &model, &report))
+}
+
+#[test]
+fn a_stop_and_a_budget(rt: HostRuntime) -> Result<(), Fail> {
+    let outcome = say_stopped(rt.alloc())?;
+    let accepted = Outcome::Accepted {
+        settled: 1,
+        unsettled: 1,
+    };
+    assert_eq!(rt; outcome, accepted);
+    Ok(())
 }
 
 #[test]

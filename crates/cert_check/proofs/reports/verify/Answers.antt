@@ -1,7 +1,8 @@
-use Rattle.std.proofs.Common.{◌≡◌, ◌⊎◌, sym, ◌∙◌, ap, subst, inr, length, flat_map}
+use Rattle.std.proofs.Common.{◌≡◌, ◌⊎◌, sym, ◌∙◌, ap, subst, inr, List, flat_map}
+use Rattle.report_text.specs.declared.report.Entry.{Entry}
 use Rattle.cert_check.specs.declared.outcome.Outcome.{Outcome}
 use Rattle.cert_check.specs.declared.outcome.Outcome.TheVariants.{Accepted, Memory}
-use Rattle.cert_check.specs.Trials.{paired_trials, same_note, entry_trials, trials, outcome_of}
+use Rattle.cert_check.specs.Trials.{paired_trials, same_note, entry_trials, trials, settled_count, unsettled_count, outcome_of}
 use Rattle.cert_check.proofs.Firsts.{parts_pass}
 use Rattle.cert_check.proofs.Ended.{ends_as, outcome_is, stop_is}
 use Rattle.cert_check.proofs.Believed.{same_notes, true_entries}
@@ -10,8 +11,7 @@ use Rattle.cert_check.proofs.reports.verify.Goals as goal
 pub returns-in-Ok-clause-said : goal.returns-in-Ok-clause-said
 returns-in-Ok-clause-said c =
     let report = c.args.report.now in
-    let settled = length report.entries in
-    inr (ap (λ l. Accepted (length l) 0) c.as_slice.ensures ∙ sym (outcome_is settled (trials c.args.model.now report) ∙ ap (ends_as settled) c.in-Ok.ensures))
+    inr (c.accepted.ensures ∙ ap (λ (l : List Entry). Accepted (settled_count l) (unsettled_count l)) c.as_slice.ensures ∙ sym (outcome_is report.entries (trials c.args.model.now report) ∙ ap (ends_as report.entries) c.in-Ok.ensures))
 
 pub returns-in-Ok-clause-notes : goal.returns-in-Ok-clause-notes
 returns-in-Ok-clause-notes c = λ _.
@@ -30,6 +30,8 @@ returns-in-Ok-clause-true_answers c = λ _.
 pub returns-in-Err-clause-said : goal.returns-in-Err-clause-said
 returns-in-Err-clause-said c =
     let report = c.args.report.now in
-    let settled = length report.entries in
-    subst (λ (o : Outcome). (o ≡ Memory) ⊎ (o ≡ outcome_of settled (trials c.args.model.now report))) (sym c.ending_of.ensures)
-    (stop_is settled (trials c.args.model.now report) c.in-Err.stop c.in-Err.ensures)
+    subst (λ (o : Outcome). (o ≡ Memory) ⊎ (o ≡ outcome_of report.entries (trials c.args.model.now report))) (sym c.ending_of.ensures)
+    (stop_is report.entries (trials c.args.model.now report) c.in-Err.stop c.in-Err.ensures)
+
+pub returns-in-Ok-clause-settled : goal.returns-in-Ok-clause-settled
+returns-in-Ok-clause-settled c = λ _. c.accepted.ensures ∙ ap (λ (l : List Entry). Accepted (settled_count l) (unsettled_count l)) c.as_slice.ensures
