@@ -1,4 +1,4 @@
-//! Sessions: the scripts of commands that they follow.
+//! The scripts of commands that a session follows.
 #![tactic(auto)]
 
 mod scripts;

@@ -4,6 +4,7 @@ ghost use Rattle.std.specs.List.{list_all};
 ghost use Rattle.text_fields.specs.Lines.{lines_of};
 ghost use Rattle.report_text.specs.Commands.{command_of, IsBuilt, IsCommandStop};
 ghost use Rattle.iis_session.specs.Scripts.{is_remark, is_blank_line, said_by, saying_of, commands_of, first_bad, IsScriptStop, Takes, IsLineStop, ScriptLaw};
+ghost use Rattle.iis_session.specs.declared.scripts.ScriptStop.TheVariants.{Memory as ScriptMemory};
 
 use report_text::{Command, CommandStop, read_command};
 use std::alloc::{AllocError, AllocFailed, Global};
@@ -56,7 +57,7 @@ pub enum ScriptStop {
 }
 
 impl From<AllocError> for ScriptStop {
-    ghost from_gives = { λ _ stop. stop ≡ ScriptStop.Memory };
+    ghost from_gives = { λ _ stop. stop ≡ ScriptMemory };
 
     fn from(_refused: AllocError) -> ScriptStop {
         ScriptStop::Memory
@@ -64,7 +65,7 @@ impl From<AllocError> for ScriptStop {
 }
 
 impl<T: Drop> From<AllocFailed<T>> for ScriptStop {
-    ghost from_gives = { λ _ stop. stop ≡ ScriptStop.Memory };
+    ghost from_gives = { λ _ stop. stop ≡ ScriptMemory };
 
     fn from(_refused: AllocFailed<T>) -> ScriptStop {
         ScriptStop::Memory

@@ -1,11 +1,12 @@
 -- What the text of a command is read as.
-use Rattle.std.proofs.Common.{rules, ◌≡◌, ◌≢◌, ℕ, zero, suc, ◌+◌, ◌-◌, ◌*◌, ◌^◌, ◌<◌, ◌≤◌, ◌==◌, Bool, true, false, ◌&&◌, ◌||◌, cond, true≢false, List, [], ◌∷◌, ◌++◌, length, take, drop, get_or, Option, Some, None, refl, sym, ap, ◌∙◌, arith, map, filter}
-use Rattle.std.specs.Prelude.{nat_lt, nat_le, codes, decimal, option_map, IfSome}
-use Rattle.std.specs.List.{All, list_all, list_any, slice_split, slice_index}
+use Rattle.std.proofs.Math.Numerals.{one-add}
+use Rattle.std.proofs.Common.{rules, sym, take, eqb-true, ◌≡◌, ◌≢◌, ℕ, ◌+◌, ◌^◌, ◌<◌, ◌≤◌, Bool, true, false, ◌&&◌, ◌||◌, cond, true≢false, List, [], ◌∷◌, ◌++◌, length, drop, get_or, Option, Some, None, refl, ap, ◌∙◌, arith, filter}
+use Rattle.std.specs.Prelude.{nat_lt, nat_le, codes, decimal, option_map}
+use Rattle.std.specs.List.{All, list_all, list_any, position_or_len}
 use Rattle.std.specs.Str.{bytes_eq}
 use Rattle.std.specs.Char.{digit_value}
 use Rattle.std.specs.Str.Parse.{AllDigits}
-use Rattle.std.proofs.lemmas.Bool.{lt-ltb, ltb-false, and_parts, false_from_ne_true}
+use Rattle.std.proofs.lemmas.Bool.{lt-ltb}
 use Rattle.std.proofs.lemmas.Bool.Decides.{nat_tests}
 use Rattle.std.proofs.lemmas.Fmt.{decimal_is_IsNumeral, length-decimal-le, decimal_nonempty, digits_decimal, digits_value-decimal}
 use Rattle.std.proofs.lemmas.Str.Parse.{IsNumeralModel, numerals_by_fold}
@@ -17,13 +18,14 @@ use Rattle.frac128.specs.Literal.{is_dec, number_after, number_of}
 use Rattle.text_fields.specs.declared.faults.TextKind.{TextKind}
 use Rattle.text_fields.specs.declared.faults.TextKind.TheVariants.{LongLine, ForeignByte}
 use Rattle.text_fields.specs.Fields.{is_filled, fields_of, field_fault, is_long, is_comment}
+use Rattle.text_fields.proofs.FieldLists.{fields_of-first}
 use Rattle.report_text.specs.declared.report.Command.{Command}
 use Rattle.report_text.specs.declared.report.Command.TheVariants.{Check, Iis, Pivots}
 use Rattle.report_text.specs.declared.report.Method.{Method}
 use Rattle.report_text.specs.declared.report.Method.TheVariants.{Deletion, Additive, Sensitivity}
 use Rattle.report_text.specs.Form.{most_pivots}
 use Rattle.report_text.specs.Grammar.{command_text}
-use Rattle.report_text.specs.Commands.{is_numeral, pivots_of, lone_command, budget_command, command_said, unless_fault, command_of, IsBuilt, CommandLaw}
+use Rattle.report_text.specs.Commands.{is_numeral, pivots_of, lone_command, budget_command, command_said, unless_fault, command_of, IsBuilt}
 
 -- ---- the number of pivots
 by_tests : (a b c : Bool) (n : ℕ) → a ≡ true → b ≡ true → c ≡ true → cond ((a && b) && c) (Some n) None ≡ Some n
@@ -108,6 +110,58 @@ line_built line c e = by (field_fault line) e
     by : (fault : Option TextKind) → unless_fault fault (command_said (fields_of line)) ≡ Some c → IsBuilt c
     by None g = said_built (fields_of line) c g
     by (Some fault) g = none_built c g
+
+-- ---- what no line is that is a command
+long_fault : (line : List ℕ) → is_long line ≡ true → field_fault line ≡ Some LongLine
+unfolding field_fault
+long_fault line e = rw e refl
+
+foreign_fault : (line : List ℕ) → is_long line ≡ false → is_comment line ≡ false → list_any is_foreign line ≡ true → field_fault line ≡ Some ForeignByte
+unfolding field_fault
+foreign_fault line e f g = by (is_long line) (is_comment line) (list_any is_foreign line) e f g
+  where
+    by : (a b c : Bool) → a ≡ false → b ≡ false → c ≡ true → cond a (Some LongLine) (cond b None (cond c (Some ForeignByte) None)) ≡ Some ForeignByte
+    by a b c e f g = rw (e, f, g) refl
+
+no_fault-none : (line : List ℕ) → command_said (fields_of line) ≡ None → command_of line ≡ None
+no_fault-none line e = by (field_fault line)
+  where
+    by : (fault : Option TextKind) → unless_fault fault (command_said (fields_of line)) ≡ None
+    by None = e
+    by (Some fault) = refl
+
+faulty-none : (line : List ℕ) (fault : TextKind) → field_fault line ≡ Some fault → command_of line ≡ None
+faulty-none line fault e = ap (λ (f : Option TextKind). unless_fault f (command_said (fields_of line))) e
+
+-- a field that begins with `*` is in no command's place
+star_said : (part : List ℕ) (fields : List (List ℕ)) → command_said ((42 ∷ part) ∷ fields) ≡ None
+star_said part [] = refl
+star_said part (second ∷ []) = refl
+star_said part (second ∷ third ∷ []) = refl
+star_said part (second ∷ third ∷ fourth ∷ fields) = refl
+
+starred : (cs : List ℕ) → command_said (fields_of (42 ∷ cs)) ≡ None
+starred cs =
+    let n : ℕ = position_or_len is_blank cs in
+    let front : take (1 + n) (42 ∷ cs) ≡ 42 ∷ take n cs = rw one-add refl in
+    ap command_said (fields_of-first (42 ∷ cs) (omega arith))
+    ∙ ap (λ (w : List ℕ). command_said (w ∷ fields_of (drop (1 + n) (42 ∷ cs)))) front
+    ∙ star_said (take n cs) (fields_of (drop (1 + n) (42 ∷ cs)))
+
+commented : (line : List ℕ) → is_comment line ≡ true → command_said (fields_of line) ≡ None
+commented [] e = absurd (true≢false (sym e))
+commented (c ∷ cs) e = ap (λ (b : ℕ). command_said (fields_of (b ∷ cs))) (eqb-true c 42 e) ∙ starred cs
+
+pub long_none : (line : List ℕ) → 65536 < length line → command_of line ≡ None
+long_none line h = faulty-none line LongLine (long_fault line (grind (arith, nat_tests)))
+
+pub foreign_none : (line : List ℕ) → list_any is_foreign line ≡ true → command_of line ≡ None
+foreign_none line e = by (is_long line) (is_comment line) refl refl
+  where
+    by : (a b : Bool) → is_long line ≡ a → is_comment line ≡ b → command_of line ≡ None
+    by true b f g = faulty-none line LongLine (long_fault line f)
+    by false true f g = no_fault-none line (commented line g)
+    by false false f g = faulty-none line ForeignByte (foreign_fault line f g e)
 
 -- ---- the text of a command
 digit-dec : (c : ℕ) → digit_value c < 10 → is_dec c ≡ true

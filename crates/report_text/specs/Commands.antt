@@ -1,7 +1,8 @@
 -- What a line of a script says.
-use Rattle.std.specs.Prelude.{◌≡◌, ℕ, ◌≤◌, ◌&&◌, nat_lt, nat_le, Bool, cond, List, [], ◌∷◌, length, codes, Option, Some, None, option_map}
-use Rattle.std.specs.List.{list_all}
+use Rattle.std.specs.Prelude.{◌≡◌, ℕ, ◌<◌, ◌≤◌, ◌&&◌, nat_lt, nat_le, Bool, true, cond, List, [], ◌∷◌, length, codes, Option, Some, None, option_map}
+use Rattle.std.specs.List.{list_all, list_any}
 use Rattle.std.specs.Str.{bytes_eq}
+use Rattle.lane_scan.specs.Bytes.{is_foreign}
 use Rattle.frac128.specs.Literal.{is_dec, number_of}
 use Rattle.text_fields.specs.declared.faults.TextKind.{TextKind}
 use Rattle.text_fields.specs.declared.faults.FieldStop.{FieldStop}
@@ -70,5 +71,8 @@ pub record CommandLaw : Type 0 where
   pub own : (c : Command) → IsBuilt c → command_of (command_text c) ≡ Some c
   -- no line is another command
   pub built : (line : List ℕ) (c : Command) → command_of line ≡ Some c → IsBuilt c
+  -- a long line is none, and no line with a foreign byte is one
+  pub long : (line : List ℕ) → 65536 < length line → command_of line ≡ None
+  pub clean : (line : List ℕ) → list_any is_foreign line ≡ true → command_of line ≡ None
   -- the text of a search for an irreducible set is none as yet
   pub methods : (method : Method) → command_of (command_text (Iis method)) ≡ None
