@@ -8,7 +8,7 @@ use Rattle.report_text.specs.Commands.{IsBuilt}
 use Rattle.analysis.specs.Written.{IsAnalysis}
 use Rattle.iis_run.specs.Words.{Request}
 use Rattle.iis_run.specs.Limits.{limit_of}
-use Rattle.iis_run.specs.Causes.{IsNoModel, IsReportEnding}
+use Rattle.iis_run.specs.Causes.{IsNoModel, IsDecided, IsReportEnding}
 use Rattle.iis_run.specs.Scripts.{IsCommands, IsBadScript}
 use Rattle.iis_run.specs.Said.{Ends}
 use Rattle.iis_run.specs.Run.{IsCaused, IsAskedSession}
@@ -44,7 +44,7 @@ IsCheckEnd program file before now (TooLong Report) = IfSome file (λ r. limit_o
 IsCheckEnd program file before now Memory = ⊤
 IsCheckEnd program file before now (BadReport n) = IfSome file (λ r. IsReportOf program r (BadReport n))
 IsCheckEnd program file before now CutReport = IfSome file (λ r. IsReportOf program r CutReport)
-IsCheckEnd program file before now (Checked outcome) = IfSome file (λ r. IsReportOf program r (Checked outcome))
+IsCheckEnd program file before now (Checked outcome) = IsDecided outcome × IfSome file (λ r. IsReportOf program r (Checked outcome))
 IsCheckEnd program file before now _ = ⊥
 
 -- why there is no script
