@@ -19,10 +19,10 @@ use Rattle.iis_run.specs.declared.endings.Ending.TheVariants.{Usage, ReadFault, 
 use Rattle.report_text.specs.declared.report.Command.{Command}
 use Rattle.analysis.specs.Puts.{PutWhole}
 use Rattle.analysis.specs.Written.{IsAnalysis, IsWhole, IsCut, IsWant, is_stop}
-use Rattle.iis_run.specs.Causes.{IsModelOf, AreReported, IsTrueReport, CallsFor, IsToldFor}
+use Rattle.iis_run.specs.Causes.{IsModelOf, AreReported, IsTrueReport}
 use Rattle.iis_run.specs.Scripts.{IsCommands, CallsForScript}
 use Rattle.iis_run.specs.Said.{IsSaid, EndsInWant, Ends, line_of, status_of, status_after_fault}
-use Rattle.iis_run.specs.Run.{name_of, HasFailed, IsTooLong, AreTold, Calls, AskedFor, IsAskedSession, IsCaused, IsEnded, IsAnalysed, IsRun, HasFetchStop, IsTextRefused, IsAnswered, IsDone, IsAccepted, IsUnsettled, IsRefuted, IsBorneOut, IsCalm, IsToldAs, IsToldSession, SettlesFor, Settles}
+use Rattle.iis_run.specs.Run.{name_of, HasFailed, IsTooLong, AreTold, Calls, AskedFor, IsAskedSession, IsCaused, IsEnded, IsAnalysed, IsRun, HasFetchStop, IsTextRefused, IsAnswered, IsDone, IsAccepted, IsUnsettled, IsRefuted, IsBorneOut, IsCalm, IsToldAs, IsToldSession, Settles}
 use Rattle.iis_run.specs.declared.plans.Plan.{Plan}
 use Rattle.iis_run.specs.declared.plans.Plan.TheVariants.{Say, Answer}
 use Rattle.iis_run.specs.Steps.{IsPlanned, Follows}

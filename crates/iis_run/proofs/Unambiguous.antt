@@ -1,5 +1,5 @@
 -- Told files call for one ending.
-use Rattle.std.proofs.Common.{◌≡◌, ◌<◌, ◌≤◌, refl, sym, ap, subst, ◌∙◌, ℕ, List, length, Option, Some, None, IfSome, true≢false, arith}
+use Rattle.std.proofs.Common.{◌≡◌, ◌<◌, ◌≤◌, refl, sym, ap, subst, ◌∙◌, ℕ, List, Option, Some, None, IfSome, true≢false, arith}
 use Rattle.lp_model.specs.Program.{Program}
 use Rattle.small_forms.proofs.Meaning.{one_model}
 use Rattle.small_forms.specs.Meaning.{DeclaresModel}
@@ -15,7 +15,6 @@ use Rattle.iis_run.specs.declared.endings.Which.TheVariants.{Model, Report, Scri
 use Rattle.iis_run.specs.declared.endings.Ending.{Ending}
 use Rattle.iis_run.specs.declared.endings.Ending.TheVariants.{Usage, ReadFault, TooLong, Memory, ModelRefused, BadReport, CutReport, BadScript, Checked}
 use Rattle.report_text.specs.declared.report.Command.{Command}
-use Rattle.text_fields.specs.Lines.{lines_of}
 use Rattle.iis_run.specs.Causes.{IsModel, IsNoModel, IsModelOf, IsReported, IsReportEnding, CallsFor, IsToldFor}
 use Rattle.iis_run.specs.Scripts.{IsCommands, IsBadScript, CallsForScript, OneEndingLaw}
 

@@ -1,7 +1,6 @@
 -- What an ending writes, and the status that it gives.
 use Rattle.std.specs.Prelude.{◌≡◌, ◌⊎◌, ℕ, ◌==◌, cond, List, [], Option}
 use Rattle.analysis.specs.Puts.{PutWhole, PutFailed, PutsNothing}
-use Rattle.cert_check.specs.declared.outcome.Outcome.{Outcome}
 use Rattle.cert_check.specs.declared.outcome.Outcome.TheVariants.{Accepted, Rejected, Wide, Memory as Want}
 use Rattle.iis_run.specs.Lines.{usage_line, read_fault_line, too_long_line, model_refused_line, bad_report_line, cut_report_line, bad_script_line, accepted_line, rejected_line, wide_line}
 use Rattle.iis_run.specs.declared.endings.Ending.{Ending}

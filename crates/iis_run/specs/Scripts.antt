@@ -1,15 +1,13 @@
 -- What the told files of an analysis call for.
 use Rattle.std.specs.Prelude.{◌≡◌, ℕ, ◌<◌, ◌≤◌, List, length, Option, Some, None, IfSome}
-use Rattle.lp_model.specs.Program.{Program}
-use Rattle.small_forms.specs.Meaning.{DeclaresModel}
 use Rattle.text_fields.specs.Lines.{lines_of}
 use Rattle.report_text.specs.declared.report.Command.{Command}
 use Rattle.iis_session.specs.declared.scripts.ScriptStop.{ScriptStop}
 use Rattle.iis_session.specs.declared.scripts.ScriptStop.TheVariants.{BadLine, Memory as NoMemory}
 use Rattle.iis_session.specs.Scripts.{commands_of, first_bad}
 use Rattle.iis_run.specs.Limits.{limit_of}
-use Rattle.iis_run.specs.Causes.{IsModel, IsNoModel, IsModelOf, CallsFor, IsToldFor}
-use Rattle.iis_run.specs.declared.endings.Which.TheVariants.{Model, Report, Script}
+use Rattle.iis_run.specs.Causes.{IsModel, IsNoModel, CallsFor, IsToldFor}
+use Rattle.iis_run.specs.declared.endings.Which.TheVariants.{Model, Script}
 use Rattle.iis_run.specs.declared.endings.Ending.{Ending}
 use Rattle.iis_run.specs.declared.endings.Ending.TheVariants.{TooLong, Memory, ModelRefused, BadScript}
 

@@ -1,9 +1,8 @@
 -- What the steps of a run come to.
-use Rattle.std.specs.Prelude.{◌≡◌, ◌<◌, ◌≤◌, ⊤, ℕ, Bool, false, List, length, Option, IfSome, All}
+use Rattle.std.specs.Prelude.{◌≡◌, ◌<◌, ◌≤◌, ⊤, ℕ, false, List, length, Option, IfSome, All}
 use Rattle.iis_edge.specs.Causes.{Rose}
 use Rattle.lp_model.specs.Program.{Program}
 use Rattle.lp_model.specs.Members.{active_members, is_mark}
-use Rattle.report_text.specs.declared.report.Command.{Command}
 use Rattle.report_text.specs.Commands.{IsBuilt}
 use Rattle.analysis.specs.Written.{IsAnalysis}
 use Rattle.iis_run.specs.Words.{Request}
