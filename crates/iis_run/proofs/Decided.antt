@@ -1,5 +1,5 @@
 -- What fetched bytes call for.
-use Rattle.std.proofs.Common.{◌≡◌, ◌≤◌, refl, sym, subst, ℕ, List, [], ◌∷◌, length, Option, Some, None, IfSome, ◌⊎◌, inl, inr}
+use Rattle.std.proofs.Common.{◌≡◌, ◌≤◌, sym, subst, ℕ, List, [], ◌∷◌, length, Option, Some, None, IfSome, ◌⊎◌, inl, inr, arith}
 use Rattle.std.specs.Prelude.{All}
 use Rattle.certs.specs.declared.evidence.Checked.{Checked as Found}
 use Rattle.certs.specs.declared.evidence.Checked.TheVariants.{Yes, No, Wide as TooWide}
@@ -15,51 +15,207 @@ use Rattle.lp_model.specs.Program.{Program}
 use Rattle.small_forms.specs.Meaning.{DeclaresModel}
 use Rattle.iis_run.specs.Words.{Request}
 use Rattle.iis_run.specs.declared.endings.Which.{Which}
-use Rattle.iis_run.specs.declared.endings.Which.TheVariants.{Model, Report}
+use Rattle.iis_run.specs.declared.endings.Which.TheVariants.{Model, Report, Script}
 use Rattle.iis_run.specs.declared.endings.Ending.{Ending}
-use Rattle.iis_run.specs.declared.endings.Ending.TheVariants.{Usage, ReadFault, TooLong, Memory, ModelRefused, BadReport, CutReport, Checked}
+use Rattle.iis_run.specs.declared.endings.Ending.TheVariants.{Usage, ReadFault, TooLong, Memory, ModelRefused, BadReport, CutReport, BadScript, Checked}
 use Rattle.iis_run.specs.Limits.{limit_of}
-use Rattle.iis_run.specs.Causes.{IsModel, IsNoModel, AreReported, IsReportEnding, IsDecided, IsChecked, ComesTo, checked_ending, refused_ending}
-use Rattle.iis_run.specs.Run.{told, IsCaused}
+use Rattle.text_fields.specs.Lines.{lines_of}
+use Rattle.report_text.specs.declared.report.Command.{Command}
+use Rattle.report_text.specs.declared.report.Entry.{Entry}
+use Rattle.iis_session.specs.declared.scripts.ScriptStop.{ScriptStop}
+use Rattle.iis_session.specs.declared.scripts.ScriptStop.TheVariants.{BadLine as BadCommand, Memory as NoScriptMemory}
+use Rattle.iis_session.specs.Scripts.{commands_of, first_bad, IsScriptStop}
+use Rattle.iis_edge.specs.Causes.{Rose}
+use Rattle.iis_run.specs.declared.words.Verb.{Verb}
+use Rattle.iis_run.specs.declared.words.Verb.TheVariants.{Verify, Analyse}
+use Rattle.iis_run.specs.declared.plans.Plan.{Plan}
+use Rattle.iis_run.specs.declared.plans.Plan.TheVariants.{Say, Answer}
+use Rattle.iis_run.specs.Asked.{request_for}
+use Rattle.iis_run.specs.Fetches.{IsFetchStop}
+use Rattle.iis_run.specs.Causes.{IsModel, IsNoModel, IsModelOf, AreReported, IsReportEnding, IsDecided, IsChecked, ComesTo, checked_ending, refused_ending}
+use Rattle.iis_run.specs.Scripts.{IsCommands, IsBadScript, script_ending}
+use Rattle.iis_run.specs.Run.{IsCaused}
+use Rattle.iis_run.specs.Steps.{IsModelStop, IsReportOf, IsCheckEnd, IsScriptEnd, IsSecondPlan, IsPlanned}
 
 -- these bytes were fetched of a file, where it is told
 abbrev pub IsFetched : Option (List ℕ) → List ℕ → Which → Type 0
 IsFetched file bytes which = IfSome file (λ b. (bytes ≡ b) × (length b ≤ limit_of which))
 
+-- what holds of fetched bytes holds of the file
+fetched : (file : Option (List ℕ)) (bytes : List ℕ) (which : Which) (P : List ℕ → Type 0) → IsFetched file bytes which → (length bytes ≤ limit_of which → P bytes) → IfSome file P
+fetched None bytes which P is h = tt
+fetched (Some b) bytes which P is h = subst P is.0 (h (subst (λ (bs : List ℕ). length bs ≤ limit_of which) (sym is.0) is.1))
+
+-- ---- the model
 -- bytes that declare no program
 pub model_refused : (file : Option (List ℕ)) (bytes : List ℕ) → IsFetched file bytes Model → ((p : Program) → ¬ (DeclaresModel bytes p)) → IfSome file IsNoModel
-model_refused None bytes is none = tt
-model_refused (Some b) bytes is none = record { short = is.1; none = λ p h. none p (subst (λ (bs : List ℕ). DeclaresModel bs p) (sym is.0) h) }
+model_refused file bytes is none = fetched file bytes Model IsNoModel is (λ short. record { short = short; none = none })
 
 -- bytes that declare one
-model_read : (file : Option (List ℕ)) (bytes : List ℕ) (p : Program) → IsFetched file bytes Model → DeclaresModel bytes p → IfSome file IsModel
-model_read None bytes p is h = tt
-model_read (Some b) bytes p is h = record { short = is.1; program = p; declares = subst (λ (bs : List ℕ). DeclaresModel bs p) is.0 h }
+pub model_read : (file : Option (List ℕ)) (bytes : List ℕ) (p : Program) → IsFetched file bytes Model → DeclaresModel bytes p → IfSome file (λ b. IsModelOf b p)
+model_read file bytes p is h = fetched file bytes Model (λ (b : List ℕ). IsModelOf b p) is (λ short. record { short = short; declares = h })
 
--- a report that comes to an ending
-reported : (model report : Option (List ℕ)) (model_bytes report_bytes : List ℕ) (p : Program) (e : Ending) → IsFetched model model_bytes Model → IsFetched report report_bytes Report → DeclaresModel model_bytes p → IsReportEnding p report_bytes e → AreReported model report e
-reported None report mb rb p e im ir h is = (tt, tt)
-reported (Some m) None mb rb p e im ir h is = (model_read (Some m) mb p im h, tt)
-reported (Some m) (Some r) mb rb p e im ir h is = (
-  model_read (Some m) mb p im h,
-  record {
-    short = ir.1;
-    program = p;
-    declares = subst (λ (bs : List ℕ). DeclaresModel bs p) im.0 h;
-    comes = subst (λ (bs : List ℕ). IsReportEnding p bs e) ir.0 is;
-  },
-)
+-- the model was not fetched
+pub model_stopped : (file : Option (List ℕ)) (before now : ℕ) (e : Ending) → IsFetchStop file before now Model e → IsModelStop file before now e
+model_stopped file before now (ReadFault Model) h = h.1
+model_stopped file before now (ReadFault Report) h = let wrong = h.0 in absurd (cc)
+model_stopped file before now (ReadFault Script) h = let wrong = h.0 in absurd (cc)
+model_stopped file before now (TooLong Model) h = h.1
+model_stopped file before now (TooLong Report) h = let wrong = h.0 in absurd (cc)
+model_stopped file before now (TooLong Script) h = let wrong = h.0 in absurd (cc)
+model_stopped file before now Memory h = tt
+model_stopped file before now Usage h = absurd h
+model_stopped file before now ModelRefused h = absurd h
+model_stopped file before now (BadReport n) h = absurd h
+model_stopped file before now CutReport h = absurd h
+model_stopped file before now (BadScript n) h = absurd h
+model_stopped file before now (Checked v) h = absurd h
 
--- the ending of a report has its cause
-pub report_caused : (file : List ℕ → Option (List ℕ)) (before now : List ℕ → ℕ) (q : Request) (model_bytes report_bytes : List ℕ) (p : Program) (e : Ending) → IsFetched (told file q Model) model_bytes Model → IsFetched (told file q Report) report_bytes Report → DeclaresModel model_bytes p → ComesTo p report_bytes e → IsCaused file before now (Some q) e
-report_caused file before now q mb rb p Usage im ir h is = absurd is
-report_caused file before now q mb rb p (ReadFault which) im ir h is = absurd is
-report_caused file before now q mb rb p (TooLong which) im ir h is = absurd is
-report_caused file before now q mb rb p ModelRefused im ir h is = absurd is
-report_caused file before now q mb rb p Memory im ir h is = tt
-report_caused file before now q mb rb p (BadReport n) im ir h is = reported (told file q Model) (told file q Report) mb rb p (BadReport n) im ir h is
-report_caused file before now q mb rb p CutReport im ir h is = reported (told file q Model) (told file q Report) mb rb p CutReport im ir h is
-report_caused file before now q mb rb p (Checked v) im ir h is = (is.0, reported (told file q Model) (told file q Report) mb rb p (Checked v) im ir h is)
+-- ---- the report
+-- the report was not fetched
+pub report_stopped : (p : Program) (file : Option (List ℕ)) (before now : ℕ) (e : Ending) → IsFetchStop file before now Report e → IsCheckEnd p file before now e
+report_stopped p file before now (ReadFault Report) h = h.1
+report_stopped p file before now (ReadFault Model) h = let wrong = h.0 in absurd (cc)
+report_stopped p file before now (ReadFault Script) h = let wrong = h.0 in absurd (cc)
+report_stopped p file before now (TooLong Report) h = h.1
+report_stopped p file before now (TooLong Model) h = let wrong = h.0 in absurd (cc)
+report_stopped p file before now (TooLong Script) h = let wrong = h.0 in absurd (cc)
+report_stopped p file before now Memory h = tt
+report_stopped p file before now Usage h = absurd h
+report_stopped p file before now ModelRefused h = absurd h
+report_stopped p file before now (BadReport n) h = absurd h
+report_stopped p file before now CutReport h = absurd h
+report_stopped p file before now (BadScript n) h = absurd h
+report_stopped p file before now (Checked v) h = absurd h
+
+-- the report came to an ending
+report_of : (p : Program) (file : Option (List ℕ)) (bytes : List ℕ) (e : Ending) → IsFetched file bytes Report → IsReportEnding p bytes e → IfSome file (λ r. IsReportOf p r e)
+report_of p file bytes e is h = fetched file bytes Report (λ (r : List ℕ). IsReportOf p r e) is (λ short. record { short = short; comes = h })
+
+pub report_ended : (p : Program) (file : Option (List ℕ)) (before now : ℕ) (bytes : List ℕ) (e : Ending) → IsFetched file bytes Report → ComesTo p bytes e → IsCheckEnd p file before now e
+report_ended p file before now bytes (BadReport n) is h = report_of p file bytes (BadReport n) is h
+report_ended p file before now bytes CutReport is h = report_of p file bytes CutReport is h
+report_ended p file before now bytes (Checked v) is h = (h.0, report_of p file bytes (Checked v) is h)
+report_ended p file before now bytes Memory is h = tt
+report_ended p file before now bytes Usage is h = absurd h
+report_ended p file before now bytes (ReadFault which) is h = absurd h
+report_ended p file before now bytes (TooLong which) is h = absurd h
+report_ended p file before now bytes ModelRefused is h = absurd h
+report_ended p file before now bytes (BadScript n) is h = absurd h
+
+-- ---- the script
+-- the script was not fetched
+pub script_stopped : (file : Option (List ℕ)) (before now : ℕ) (e : Ending) → IsFetchStop file before now Script e → IsScriptEnd file before now e
+script_stopped file before now (ReadFault Script) h = h.1
+script_stopped file before now (ReadFault Model) h = let wrong = h.0 in absurd (cc)
+script_stopped file before now (ReadFault Report) h = let wrong = h.0 in absurd (cc)
+script_stopped file before now (TooLong Script) h = h.1
+script_stopped file before now (TooLong Model) h = let wrong = h.0 in absurd (cc)
+script_stopped file before now (TooLong Report) h = let wrong = h.0 in absurd (cc)
+script_stopped file before now Memory h = tt
+script_stopped file before now Usage h = absurd h
+script_stopped file before now ModelRefused h = absurd h
+script_stopped file before now (BadReport n) h = absurd h
+script_stopped file before now CutReport h = absurd h
+script_stopped file before now (BadScript n) h = absurd h
+script_stopped file before now (Checked v) h = absurd h
+
+-- the script is commands
+pub script_read : (file : Option (List ℕ)) (bytes : List ℕ) (commands : List Command) → IsFetched file bytes Script → commands ≡ commands_of (lines_of bytes) → first_bad (lines_of bytes) ≡ None → IfSome file (λ s. IsCommands s commands)
+script_read file bytes commands is said right = fetched file bytes Script (λ (s : List ℕ). IsCommands s commands) is (λ short. record { short = short; right = right; said = said })
+
+-- the script was not read
+pub script_unread : (file : Option (List ℕ)) (before now : ℕ) (bytes : List ℕ) (stop : ScriptStop) → IsFetched file bytes Script → IsScriptStop bytes stop → IsScriptEnd file before now (script_ending stop)
+script_unread file before now bytes (BadCommand n) is h = fetched file bytes Script (λ (s : List ℕ). IsBadScript s n) is (λ short. record { short = short; bad = h })
+script_unread file before now bytes NoScriptMemory is h = tt
+
+-- ---- causes
+-- a count that has risen since a later time has risen
+rose_since : (before mid now : ℕ) → before ≤ mid → Rose mid now → Rose before now
+rose_since before mid now h rose = omega arith
+
+is_model : (file : Option (List ℕ)) (p : Program) → IfSome file (λ b. IsModelOf b p) → IfSome file IsModel
+is_model None p h = tt
+is_model (Some b) p h = record { short = h.short; program = p; declares = h.declares }
+
+-- both files are told to come to an ending, where they are told
+reported : (model report : Option (List ℕ)) (p : Program) (e : Ending) → IfSome model (λ b. IsModelOf b p) → IfSome report (λ r. IsReportOf p r e) → AreReported model report e
+reported None report p e m r = (tt, tt)
+reported (Some b) None p e m r = (is_model (Some b) p m, tt)
+reported (Some b) (Some c) p e m r = (is_model (Some b) p m, record { short = r.short; program = p; declares = m.declares; comes = r.comes })
+
+module _ (file : List ℕ → Option (List ℕ)) (before mid now : List ℕ → ℕ) (model second : List ℕ) (p : Program) where
+  check_caused : (e : Ending) → IfSome (file model) (λ b. IsModelOf b p) → before second ≤ mid second → IsCheckEnd p (file second) (mid second) (now second) e → IsCaused file before now (Some (Request.Verify model second)) e
+  check_caused (ReadFault Report) m later h = (rose_since _ _ _ later h, is_model (file model) p m)
+  check_caused (ReadFault Model) m later h = absurd h
+  check_caused (ReadFault Script) m later h = absurd h
+  check_caused (TooLong Report) m later h = (is_model (file model) p m, h)
+  check_caused (TooLong Model) m later h = absurd h
+  check_caused (TooLong Script) m later h = absurd h
+  check_caused Memory m later h = tt
+  check_caused (BadReport n) m later h = reported (file model) (file second) p (BadReport n) m h
+  check_caused CutReport m later h = reported (file model) (file second) p CutReport m h
+  check_caused (Checked v) m later h = (h.0, reported (file model) (file second) p (Checked v) m h.1)
+  check_caused Usage m later h = absurd h
+  check_caused ModelRefused m later h = absurd h
+  check_caused (BadScript n) m later h = absurd h
+
+  script_caused : (e : Ending) → IfSome (file model) (λ b. IsModelOf b p) → before second ≤ mid second → IsScriptEnd (file second) (mid second) (now second) e → IsCaused file before now (Some (Request.Analyse model second)) e
+  script_caused (ReadFault Script) m later h = (rose_since _ _ _ later h, is_model (file model) p m)
+  script_caused (ReadFault Model) m later h = absurd h
+  script_caused (ReadFault Report) m later h = absurd h
+  script_caused (TooLong Script) m later h = (is_model (file model) p m, h)
+  script_caused (TooLong Model) m later h = absurd h
+  script_caused (TooLong Report) m later h = absurd h
+  script_caused Memory m later h = tt
+  script_caused (BadScript n) m later h = (is_model (file model) p m, h)
+  script_caused (BadReport n) m later h = absurd h
+  script_caused CutReport m later h = absurd h
+  script_caused (Checked v) m later h = absurd h
+  script_caused Usage m later h = absurd h
+  script_caused ModelRefused m later h = absurd h
+
+  -- what the second file comes to has its cause
+  pub second_planned : (verb : Verb) (plan : Plan) → IfSome (file model) (λ b. IsModelOf b p) → before second ≤ mid second → IsSecondPlan verb p (file second) (mid second) (now second) plan → IsPlanned file before now (Some (request_for verb model second)) plan
+  second_planned Verify (Say e) m later h = check_caused e m later h
+  second_planned Verify (Answer q commands) m later h = absurd h
+  second_planned Analyse (Say e) m later h = script_caused e m later h
+  second_planned Analyse (Answer q commands) m later h = record { declares = subst (λ (r : Program). IfSome (file model) (λ b. IsModelOf b r)) (sym h.0) m; says = h.1 }
+
+-- there is no model
+pub model_planned : (file : List ℕ → Option (List ℕ)) (before now : List ℕ → ℕ) (verb : Verb) (model second : List ℕ) (e : Ending) → IsModelStop (file model) (before model) (now model) e → IsCaused file before now (Some (request_for verb model second)) e
+model_planned file before now Verify model second e h = by e h
+  where
+    by : (f : Ending) → IsModelStop (file model) (before model) (now model) f → IsCaused file before now (Some (Request.Verify model second)) f
+    by (ReadFault Model) g = g
+    by (ReadFault Report) g = absurd g
+    by (ReadFault Script) g = absurd g
+    by (TooLong Model) g = g
+    by (TooLong Report) g = absurd g
+    by (TooLong Script) g = absurd g
+    by ModelRefused g = g
+    by Memory g = tt
+    by Usage g = absurd g
+    by (BadReport n) g = absurd g
+    by CutReport g = absurd g
+    by (BadScript n) g = absurd g
+    by (Checked v) g = absurd g
+model_planned file before now Analyse model second e h = by e h
+  where
+    by : (f : Ending) → IsModelStop (file model) (before model) (now model) f → IsCaused file before now (Some (Request.Analyse model second)) f
+    by (ReadFault Model) g = g
+    by (ReadFault Report) g = absurd g
+    by (ReadFault Script) g = absurd g
+    by (TooLong Model) g = g
+    by (TooLong Report) g = absurd g
+    by (TooLong Script) g = absurd g
+    by ModelRefused g = g
+    by Memory g = tt
+    by Usage g = absurd g
+    by (BadReport n) g = absurd g
+    by CutReport g = absurd g
+    by (BadScript n) g = absurd g
+    by (Checked v) g = absurd g
 
 -- ---- what a report comes to
 -- a report that was not read
@@ -68,21 +224,21 @@ stop_comes p bytes (BadLine n) h = h
 stop_comes p bytes Truncated h = h
 stop_comes p bytes NoMemory h = tt
 
--- an outcome of the trials leaves no entry unsettled, and is no want of memory
-decided : (settled : ℕ) (list : List Trial) → IsDecided (outcome_of settled list)
-decided settled [] = refl
-decided settled (t ∷ list) = by t.found (decided settled list)
+-- an outcome of the trials is no want of memory
+decided : (entries : List Entry) (list : List Trial) → IsDecided (outcome_of entries list)
+decided entries [] = tt
+decided entries (t ∷ list) = by t.found (decided entries list)
   where
-    by : (found : Found) → IsDecided (outcome_of settled list) → IsDecided (unless_failed t.line found (outcome_of settled list))
+    by : (found : Found) → IsDecided (outcome_of entries list) → IsDecided (unless_failed t.line found (outcome_of entries list))
     by Yes rest = rest
     by No rest = tt
     by (TooWide o) rest = tt
 
 -- a report that was checked
-pub check_comes : (p : Program) (bytes : List ℕ) (report : Entries) (o : Outcome) → Reads p bytes report → (o ≡ Want) ⊎ (o ≡ outcome_of (length report.entries) (trials p report))
+pub check_comes : (p : Program) (bytes : List ℕ) (report : Entries) (o : Outcome) → Reads p bytes report → (o ≡ Want) ⊎ (o ≡ outcome_of report.entries (trials p report))
     → (IsAccepted o → report.notes ≡ p.notes) → (IsAccepted o → All (IsTrueOf p) report.entries) → ComesTo p bytes (checked_ending o)
 check_comes p bytes report o reads (inl want) notes answers = subst (λ (x : Outcome). ComesTo p bytes (checked_ending x)) (sym want) tt
-check_comes p bytes report o reads (inr same) notes answers = by o (subst IsDecided (sym same) (decided (length report.entries) (trials p report))) (record { report = report; reads = reads; found = same; so = λ a. record { notes = notes a; entries = answers a } })
+check_comes p bytes report o reads (inr same) notes answers = by o (subst IsDecided (sym same) (decided report.entries (trials p report))) (record { report = report; reads = reads; found = same; so = λ a. record { notes = notes a; entries = answers a } })
   where
     by : (x : Outcome) → IsDecided x → IsChecked p bytes x → ComesTo p bytes (checked_ending x)
     by (Accepted settled unsettled) d h = (d, h)

@@ -1,6 +1,7 @@
 -- What each status tells of a run.
 use Rattle.std.proofs.Common.{◌≡◌, ◌≢◌, ◌≤◌, refl, sym, ap, ◌∙◌, subst, ℕ, ◌==◌, Bool, true, false, cond, List, Option, Some, None, arith, inl, inr}
 use Rattle.std.specs.Prelude.{◌⊎◌, ◌↔◌, IfSome}
+use Rattle.std.specs.List.{list_any}
 use Rattle.iis_edge.specs.Causes.{Rose}
 use Rattle.iis_run.specs.Words.{Request}
 use Rattle.std.proofs.lemmas.Bool.{eqb-true}
@@ -12,12 +13,20 @@ use Rattle.small_forms.specs.Meaning.{DeclaresModel}
 use Rattle.report_text.specs.declared.report.Report.{Report as Entries}
 use Rattle.report_text.specs.Reading.{Reads}
 use Rattle.iis_run.specs.declared.endings.Which.{Which}
-use Rattle.iis_run.specs.declared.endings.Which.TheVariants.{Model, Report}
+use Rattle.iis_run.specs.declared.endings.Which.TheVariants.{Model, Report, Script}
 use Rattle.iis_run.specs.declared.endings.Ending.{Ending}
-use Rattle.iis_run.specs.declared.endings.Ending.TheVariants.{Usage, ReadFault, TooLong, Memory, ModelRefused, BadReport, CutReport, Checked}
-use Rattle.iis_run.specs.Causes.{AreReported, IsTrueReport, CallsFor, IsToldFor}
-use Rattle.iis_run.specs.Run.{told, HasFailed, IsCaused, PutWhole, IsSaid, EndsInWant, Ends, line_of, status_of, status_after_fault, IsRun, HasFetchStop, AskedFor, IsReportRefused, IsAccepted, IsRefuted, IsBorneOut, IsCalm, Settles}
-use Rattle.iis_run.proofs.Unambiguous.{one_ending, the_report}
+use Rattle.iis_run.specs.declared.endings.Ending.TheVariants.{Usage, ReadFault, TooLong, Memory, ModelRefused, BadReport, CutReport, BadScript, Checked}
+use Rattle.report_text.specs.declared.report.Command.{Command}
+use Rattle.analysis.specs.Puts.{PutWhole}
+use Rattle.analysis.specs.Written.{IsAnalysis, IsWhole, IsCut, IsWant, is_stop}
+use Rattle.iis_run.specs.Causes.{IsModelOf, AreReported, IsTrueReport}
+use Rattle.iis_run.specs.Scripts.{IsCommands, CallsForScript}
+use Rattle.iis_run.specs.Said.{IsSaid, EndsInWant, Ends, line_of, status_of, status_after_fault}
+use Rattle.iis_run.specs.Run.{name_of, HasFailed, IsTooLong, AreTold, Calls, AskedFor, IsAskedSession, IsCaused, IsEnded, IsAnalysed, IsRun, HasFetchStop, IsTextRefused, IsAnswered, IsDone, IsAccepted, IsUnsettled, IsRefuted, IsBorneOut, IsCalm, IsToldAs, IsToldSession, Settles}
+use Rattle.iis_run.specs.declared.plans.Plan.{Plan}
+use Rattle.iis_run.specs.declared.plans.Plan.TheVariants.{Say, Answer}
+use Rattle.iis_run.specs.Steps.{IsPlanned, Follows}
+use Rattle.iis_run.proofs.Unambiguous.{one_ending, none_called, none_called_as_told, one_session, the_report}
 
 -- ---- the ending by its status
 -- an accepted report has status 0 or 1
@@ -32,6 +41,7 @@ usage_only (TooLong which) h = absurd (omega arith)
 usage_only Memory h = absurd (omega arith)
 usage_only ModelRefused h = absurd (omega arith)
 usage_only (BadReport n) h = absurd (omega arith)
+usage_only (BadScript n) h = absurd (omega arith)
 usage_only CutReport h = absurd (omega arith)
 usage_only (Checked (Accepted settled unsettled)) h = absurd (zero_or_one (unsettled == 0) 2 (λ k. omega arith) (λ k. omega arith) h)
 usage_only (Checked (Rejected n)) h = absurd (omega arith)
@@ -45,24 +55,44 @@ model_refused_only (ReadFault which) h = absurd (omega arith)
 model_refused_only (TooLong which) h = absurd (omega arith)
 model_refused_only Memory h = absurd (omega arith)
 model_refused_only (BadReport n) h = absurd (omega arith)
+model_refused_only (BadScript n) h = absurd (omega arith)
 model_refused_only CutReport h = absurd (omega arith)
 model_refused_only (Checked (Accepted settled unsettled)) h = absurd (zero_or_one (unsettled == 0) 5 (λ k. omega arith) (λ k. omega arith) h)
 model_refused_only (Checked (Rejected n)) h = absurd (omega arith)
 model_refused_only (Checked (Wide n w)) h = absurd (omega arith)
 model_refused_only (Checked Want) h = absurd (omega arith)
 
-report_refused_only : (e : Ending) → status_of e ≡ 6 → (e ≡ CutReport) ⊎ ((n : ℕ) × (e ≡ BadReport n))
-report_refused_only CutReport h = inl refl
-report_refused_only (BadReport n) h = inr (n, refl)
-report_refused_only Usage h = absurd (omega arith)
-report_refused_only (ReadFault which) h = absurd (omega arith)
-report_refused_only (TooLong which) h = absurd (omega arith)
-report_refused_only Memory h = absurd (omega arith)
-report_refused_only ModelRefused h = absurd (omega arith)
-report_refused_only (Checked (Accepted settled unsettled)) h = absurd (zero_or_one (unsettled == 0) 6 (λ k. omega arith) (λ k. omega arith) h)
-report_refused_only (Checked (Rejected n)) h = absurd (omega arith)
-report_refused_only (Checked (Wide n w)) h = absurd (omega arith)
-report_refused_only (Checked Want) h = absurd (omega arith)
+text_refused_only : (e : Ending) → status_of e ≡ 6 → (e ≡ CutReport) ⊎ (((n : ℕ) × (e ≡ BadReport n)) ⊎ ((n : ℕ) × (e ≡ BadScript n)))
+text_refused_only CutReport h = inl refl
+text_refused_only (BadReport n) h = inr (inl (n, refl))
+text_refused_only (BadScript n) h = inr (inr (n, refl))
+text_refused_only Usage h = absurd (omega arith)
+text_refused_only (ReadFault which) h = absurd (omega arith)
+text_refused_only (TooLong which) h = absurd (omega arith)
+text_refused_only Memory h = absurd (omega arith)
+text_refused_only ModelRefused h = absurd (omega arith)
+text_refused_only (Checked (Accepted settled unsettled)) h = absurd (zero_or_one (unsettled == 0) 6 (λ k. omega arith) (λ k. omega arith) h)
+text_refused_only (Checked (Rejected n)) h = absurd (omega arith)
+text_refused_only (Checked (Wide n w)) h = absurd (omega arith)
+text_refused_only (Checked Want) h = absurd (omega arith)
+
+-- some entries are unsettled
+unsettled_only : (e : Ending) → status_of e ≡ 1 → (settled : ℕ) × ((unsettled : ℕ) × ((unsettled ≢ 0) × (e ≡ Checked (Accepted settled unsettled))))
+unsettled_only (Checked (Accepted settled unsettled)) h = (settled, (unsettled, (λ none. some none, refl)))
+  where
+    some : unsettled ≡ 0 → ⊥
+    some none = let at : status_of (Checked (Accepted settled 0)) ≡ 1 = subst (λ (u : ℕ). status_of (Checked (Accepted settled u)) ≡ 1) none h in omega arith
+unsettled_only Usage h = absurd (omega arith)
+unsettled_only (ReadFault which) h = absurd (omega arith)
+unsettled_only (TooLong which) h = absurd (omega arith)
+unsettled_only Memory h = absurd (omega arith)
+unsettled_only ModelRefused h = absurd (omega arith)
+unsettled_only (BadReport n) h = absurd (omega arith)
+unsettled_only CutReport h = absurd (omega arith)
+unsettled_only (BadScript n) h = absurd (omega arith)
+unsettled_only (Checked (Rejected n)) h = absurd (omega arith)
+unsettled_only (Checked (Wide n w)) h = absurd (omega arith)
+unsettled_only (Checked Want) h = absurd (omega arith)
 
 accepted_only : (e : Ending) → status_of e ≡ 0 → (settled : ℕ) × (e ≡ Checked (Accepted settled 0))
 accepted_only (Checked (Accepted settled unsettled)) h = (settled, ap (λ u. Checked (Accepted settled u)) (none (unsettled == 0) refl 0 refl h))
@@ -76,6 +106,7 @@ accepted_only (TooLong which) h = absurd (omega arith)
 accepted_only Memory h = absurd (omega arith)
 accepted_only ModelRefused h = absurd (omega arith)
 accepted_only (BadReport n) h = absurd (omega arith)
+accepted_only (BadScript n) h = absurd (omega arith)
 accepted_only CutReport h = absurd (omega arith)
 accepted_only (Checked (Rejected n)) h = absurd (omega arith)
 accepted_only (Checked (Wide n w)) h = absurd (omega arith)
@@ -91,6 +122,7 @@ refuted_only (TooLong which) h = absurd (omega arith)
 refuted_only Memory h = absurd (omega arith)
 refuted_only ModelRefused h = absurd (omega arith)
 refuted_only (BadReport n) h = absurd (omega arith)
+refuted_only (BadScript n) h = absurd (omega arith)
 refuted_only CutReport h = absurd (omega arith)
 refuted_only (Checked (Accepted settled unsettled)) h = absurd (zero_or_one (unsettled == 0) 8 (λ k. omega arith) (λ k. omega arith) h)
 refuted_only (Checked Want) h = absurd (omega arith)
@@ -103,6 +135,7 @@ stopped_only Usage h = absurd (omega arith)
 stopped_only Memory h = absurd (omega arith)
 stopped_only ModelRefused h = absurd (omega arith)
 stopped_only (BadReport n) h = absurd (omega arith)
+stopped_only (BadScript n) h = absurd (omega arith)
 stopped_only CutReport h = absurd (omega arith)
 stopped_only (Checked (Accepted settled unsettled)) h = absurd (zero_or_one (unsettled == 0) 3 (λ k. omega arith) (λ k. omega arith) h)
 stopped_only (Checked (Rejected n)) h = absurd (omega arith)
@@ -122,28 +155,11 @@ status_bounds (TooLong which) = (omega arith, λ h. omega arith)
 status_bounds Memory = (omega arith, λ h. omega arith)
 status_bounds ModelRefused = (omega arith, λ h. omega arith)
 status_bounds (BadReport n) = (omega arith, λ h. omega arith)
+status_bounds (BadScript n) = (omega arith, λ h. omega arith)
 status_bounds CutReport = (omega arith, λ h. omega arith)
 status_bounds (Checked (Rejected n)) = (omega arith, λ h. omega arith)
 status_bounds (Checked (Wide n w)) = (omega arith, λ h. omega arith)
 status_bounds (Checked Want) = (omega arith, λ h. omega arith)
-
--- no entry is left unsettled as yet
-not_one : (file : List ℕ → Option (List ℕ)) (before now : List ℕ → ℕ) (request : Option Request) (e : Ending) → IsCaused file before now request e → status_of e ≢ 1
-not_one file before now None e cause h = let k : status_of Usage ≡ 1 = subst (λ (x : Ending). status_of x ≡ 1) cause h in absurd (omega arith)
-not_one file before now (Some q) (Checked (Accepted settled unsettled)) cause h = not_both (status_of (Checked (Accepted settled unsettled))) (ap (λ u. status_of (Checked (Accepted settled u))) cause.0) h
-  where
-    not_both : (n : ℕ) → n ≡ 0 → n ≡ 1 → ⊥
-    not_both n z o = omega arith
-not_one file before now (Some q) Usage cause h = absurd (omega arith)
-not_one file before now (Some q) (ReadFault which) cause h = absurd (omega arith)
-not_one file before now (Some q) (TooLong which) cause h = absurd (omega arith)
-not_one file before now (Some q) Memory cause h = absurd (omega arith)
-not_one file before now (Some q) ModelRefused cause h = absurd (omega arith)
-not_one file before now (Some q) (BadReport n) cause h = absurd (omega arith)
-not_one file before now (Some q) CutReport cause h = absurd (omega arith)
-not_one file before now (Some q) (Checked (Rejected n)) cause h = absurd (omega arith)
-not_one file before now (Some q) (Checked (Wide n w)) cause h = absurd (omega arith)
-not_one file before now (Some q) (Checked Want) cause h = absurd (omega arith)
 
 -- ---- what is written
 -- the status is that of the ending; or 4, after a fault; or 7
@@ -162,6 +178,7 @@ after_fault (TooLong which) = inl refl
 after_fault Memory = inl refl
 after_fault ModelRefused = inl refl
 after_fault (BadReport n) = inl refl
+after_fault (BadScript n) = inl refl
 after_fault CutReport = inl refl
 after_fault (Checked (Rejected n)) = inl refl
 after_fault (Checked (Wide n w)) = inl refl
@@ -176,6 +193,7 @@ said_or_want faults taken old new (TooLong which) status h = inl h
 said_or_want faults taken old new Memory status h = inr h
 said_or_want faults taken old new ModelRefused status h = inl h
 said_or_want faults taken old new (BadReport n) status h = h
+said_or_want faults taken old new (BadScript n) status h = h
 said_or_want faults taken old new CutReport status h = inl h
 said_or_want faults taken old new (Checked outcome) status h = h
 
@@ -199,17 +217,26 @@ caused_without file before now None e same cause = refl
 caused_without file before now (Some q) e same cause = absurd (subst (IsCaused file before now (Some q)) same cause)
 
 -- the told files call for an ending that is neither of these
-asked : (file : List ℕ → Option (List ℕ)) (before now : List ℕ → ℕ) (request : Option Request) (e f : Ending) → e ≡ f → ((q : Request) → IsCaused file before now (Some q) f → CallsFor (told file q Model) (told file q Report) f) → f ≢ Usage → IsCaused file before now request e → AskedFor file request f
+asked : (file : List ℕ → Option (List ℕ)) (before now : List ℕ → ℕ) (request : Option Request) (e f : Ending) → e ≡ f → ((q : Request) → IsCaused file before now (Some q) f → Calls file q f) → f ≢ Usage → IsCaused file before now request e → AskedFor file request f
 asked file before now None e f same calls other cause = absurd (other (sym same ∙ cause))
 asked file before now (Some q) e f same calls other cause = calls q (subst (IsCaused file before now (Some q)) same cause)
+
+-- what is too long is asked for
+too_long : (file : List ℕ → Option (List ℕ)) (q : Request) (which : Which) → Calls file q (TooLong which) → IsTooLong file which (name_of q which)
+too_long file (Request.Verify model report) Model h = h
+too_long file (Request.Verify model report) Report h = h.1
+too_long file (Request.Verify model report) Script h = absurd h
+too_long file (Request.Analyse model script) Model h = h
+too_long file (Request.Analyse model script) Report h = absurd h
+too_long file (Request.Analyse model script) Script h = h.1
 
 fetch_stopped : (file : List ℕ → Option (List ℕ)) (before now : List ℕ → ℕ) (request : Option Request) (e : Ending) (which : Which) → (e ≡ ReadFault which) ⊎ (e ≡ TooLong which) → IsCaused file before now request e → HasFetchStop file before now request
 fetch_stopped file before now None e which (inl same) cause = let wrong : ReadFault which ≡ Usage = sym same ∙ cause in absurd (cc)
 fetch_stopped file before now None e which (inr same) cause = let wrong : TooLong which ≡ Usage = sym same ∙ cause in absurd (cc)
 fetch_stopped file before now (Some q) e Model (inl same) cause = (Model, inl (subst (IsCaused file before now (Some q)) same cause))
 fetch_stopped file before now (Some q) e Report (inl same) cause = let h = subst (IsCaused file before now (Some q)) same cause in (Report, inl h.0)
-fetch_stopped file before now (Some q) e Model (inr same) cause = (Model, inr (subst (IsCaused file before now (Some q)) same cause))
-fetch_stopped file before now (Some q) e Report (inr same) cause = let h = subst (IsCaused file before now (Some q)) same cause in (Report, inr h.1)
+fetch_stopped file before now (Some q) e Script (inl same) cause = let h = subst (IsCaused file before now (Some q)) same cause in (Script, inl h.0)
+fetch_stopped file before now (Some q) e which (inr same) cause = (which, inr (too_long file q which (subst (IsCaused file before now (Some q)) same cause)))
 
 -- words that are none of the forms
 no_request : (file : List ℕ → Option (List ℕ)) (before now : List ℕ → ℕ) (request : Option Request) (e : Ending) → request ≡ None → IsCaused file before now request e → e ≡ Usage
@@ -227,123 +254,289 @@ calm_written faults taken old new e status calm (inl (inl whole)) = inl whole
 calm_written faults taken old new e status calm (inl (inr failed)) = absurd (calm failed.1.rose)
 calm_written faults taken old new e status calm (inr want) = inr want
 
--- where no fetch failed and there is no want of memory, the ending is one that told files call for
-settled_ending : (file : List ℕ → Option (List ℕ)) (before now : List ℕ → ℕ) (q : Request) (e f : Ending) → ((which : Which) → ¬ (HasFailed before now q which)) → e ≢ Memory
-    → IsToldFor (told file q Model) (told file q Report) f → CallsFor (told file q Model) (told file q Report) f → IsCaused file before now (Some q) e → e ≡ f
-settled_ending file before now q Usage f calm other is calls cause = absurd cause
-settled_ending file before now q Memory f calm other is calls cause = absurd (other refl)
-settled_ending file before now q (ReadFault Model) f calm other is calls cause = absurd (calm Model cause)
-settled_ending file before now q (ReadFault Report) f calm other is calls cause = absurd (calm Report cause.0)
-settled_ending file before now q (TooLong Model) f calm other is calls cause = sym (one_ending _ _ f (TooLong Model) is calls cause)
-settled_ending file before now q (TooLong Report) f calm other is calls cause = sym (one_ending _ _ f (TooLong Report) is calls cause)
-settled_ending file before now q ModelRefused f calm other is calls cause = sym (one_ending _ _ f ModelRefused is calls cause)
-settled_ending file before now q (BadReport n) f calm other is calls cause = sym (one_ending _ _ f (BadReport n) is calls cause)
-settled_ending file before now q CutReport f calm other is calls cause = sym (one_ending _ _ f CutReport is calls cause)
-settled_ending file before now q (Checked v) f calm other is calls cause = sym (one_ending _ _ f (Checked v) is calls cause)
+-- the files of a request call for one ending
+one_call : (file : List ℕ → Option (List ℕ)) (q : Request) (e f : Ending) → AreTold file q f → Calls file q f → Calls file q e → e ≡ f
+one_call file (Request.Verify model report) e f told calls cause = sym (one_ending.checked (file model) (file report) f e told calls cause)
+one_call file (Request.Analyse model script) e f told calls cause = sym (one_ending.analysed (file model) (file script) f e told calls cause)
 
--- an ending is want of memory, or not
-is_memory : (e : Ending) → (e ≡ Memory) ⊎ (e ≢ Memory)
-is_memory Memory = inl refl
-is_memory Usage = inr (λ e. absurd (cc))
-is_memory (ReadFault which) = inr (λ e. absurd (cc))
-is_memory (TooLong which) = inr (λ e. absurd (cc))
-is_memory ModelRefused = inr (λ e. absurd (cc))
-is_memory (BadReport n) = inr (λ e. absurd (cc))
-is_memory CutReport = inr (λ e. absurd (cc))
-is_memory (Checked v) = inr (λ e. absurd (cc))
+-- where no fetch failed, an ending comes for want of memory, or told files call for it
+called_or_memory : (file : List ℕ → Option (List ℕ)) (before now : List ℕ → ℕ) (q : Request) (e : Ending) → ((which : Which) → ¬ (HasFailed before now q which)) → IsCaused file before now (Some q) e → (e ≡ Memory) ⊎ Calls file q e
+called_or_memory file before now q Usage calm cause = absurd cause
+called_or_memory file before now q Memory calm cause = inl refl
+called_or_memory file before now q (ReadFault Model) calm cause = absurd (calm Model cause)
+called_or_memory file before now q (ReadFault Report) calm cause = absurd (calm Report cause.0)
+called_or_memory file before now q (ReadFault Script) calm cause = absurd (calm Script cause.0)
+called_or_memory file before now q (TooLong which) calm cause = inr cause
+called_or_memory file before now q ModelRefused calm cause = inr cause
+called_or_memory file before now q (BadReport n) calm cause = inr cause
+called_or_memory file before now q CutReport calm cause = inr cause
+called_or_memory file before now q (BadScript n) calm cause = inr cause
+called_or_memory file before now q (Checked v) calm cause = inr cause
+
+-- ---- sessions
+-- files of an analysis call for no ending
+session_uncalled : (file : List ℕ → Option (List ℕ)) (q : Request) (p : Program) (commands : List Command) (e : Ending) → IsAskedSession file (Some q) p commands → AreTold file q e → Calls file q e → ⊥
+session_uncalled file (Request.Verify model report) p commands e session told calls = absurd session
+session_uncalled file (Request.Analyse model script) p commands e session told calls = none_called_as_told (file model) (file script) p commands e session.declares session.says told calls
+
+told_uncalled : (file : List ℕ → Option (List ℕ)) (q : Request) (p : Program) (commands : List Command) (e : Ending) → IsToldSession file q p commands → Calls file q e → ⊥
+told_uncalled file (Request.Verify model report) p commands e session calls = absurd session
+told_uncalled file (Request.Analyse model script) p commands e session calls = by (file model) (file script) session calls
+  where
+    by : (m s : Option (List ℕ)) → IsToldAs (λ b. IsModelOf b p) m × IsToldAs (λ b. IsCommands b commands) s → CallsForScript m s e → ⊥
+    by (Some m) (Some s) told c = none_called m s p commands e told.0 told.1 c
+    by (Some m) None told c = absurd told.1
+    by None s told c = absurd told.0
+
+told_same : (file : List ℕ → Option (List ℕ)) (q : Request) (p r : Program) (a b : List Command) → IsAskedSession file (Some q) p a → IsToldSession file q r b → (p ≡ r) × (a ≡ b)
+told_same file (Request.Verify model report) p r a b session told = absurd session
+told_same file (Request.Analyse model script) p r a b session told = by (file model) (file script) session.declares session.says told
+  where
+    by : (m s : Option (List ℕ)) → IfSome m (λ x. IsModelOf x p) → IfSome s (λ x. IsCommands x a) → IsToldAs (λ x. IsModelOf x r) m × IsToldAs (λ x. IsCommands x b) s → (p ≡ r) × (a ≡ b)
+    by (Some m) (Some s) declares says t = one_session m s p r a b declares t.0 says t.1
+    by (Some m) None declares says t = absurd t.1
+    by None s declares says t = absurd t.0
+
+-- ---- answers
+module _ {K : Type 0} (faults : K → ℕ) (taken : K → Option (List ℕ)) (old new : K) where
+  -- all commands are answered; or a put failed; or there is want of memory
+  abbrev AnswerStatus : Program → List Command → ℕ → Type 0
+  AnswerStatus p commands status = ((stopped : Bool) × ((status ≡ cond stopped 1 0) × IsAnswered faults taken old new p commands stopped)) ⊎ (((status ≡ 4) × Rose (faults old) (faults new)) ⊎ (status ≡ 7))
+
+  answer_status : (p : Program) (commands : List Command) (status : ℕ) → IsAnalysis faults taken old new p commands status → AnswerStatus p commands status
+  answer_status p commands status a = by a.written
+    where
+      by : IsWhole faults taken old new p commands a.entries status ⊎ (IsCut faults taken old new p commands a.entries status ⊎ IsWant faults taken old new p a.entries status) → AnswerStatus p commands status
+      by (inl whole) = inl (list_any (λ e. is_stop e.answer) a.entries, (whole.status_is, record { entries = a.entries; right = a.right; numbered = a.numbered; all = whole.all; stops = refl; put = whole.put }))
+      by (inr (inl cut)) = inr (inl (cut.status_is, cut.put.rose))
+      by (inr (inr want)) = inr (inr want.status_is)
+
+  -- the statuses of an analysis
+  no_other : (p : Program) (commands : List Command) (status n : ℕ) → n ≢ 0 → n ≢ 1 → n ≢ 4 → n ≢ 7 → status ≡ n → AnswerStatus p commands status → ⊥
+  no_other p commands status n zero one four seven h (inl (true, answered)) = one (sym h ∙ answered.0)
+  no_other p commands status n zero one four seven h (inl (false, answered)) = zero (sym h ∙ answered.0)
+  no_other p commands status n zero one four seven h (inr (inl fault)) = four (sym h ∙ fault.0)
+  no_other p commands status n zero one four seven h (inr (inr want)) = seven (sym h ∙ want)
+
+  -- with status 0 no answer is a stop, and with status 1 some answer is
+  by_status : (p : Program) (commands : List Command) (status : ℕ) (stopped : Bool) → status ≡ cond stopped 1 0 → AnswerStatus p commands status → IsAnswered faults taken old new p commands stopped
+  by_status p commands status true h (inl (true, answered)) = answered.1
+  by_status p commands status false h (inl (false, answered)) = answered.1
+  by_status p commands status true h (inl (false, answered)) = let e : status ≡ 0 = answered.0 in let f : status ≡ 1 = h in absurd (omega arith)
+  by_status p commands status false h (inl (true, answered)) = let e : status ≡ 1 = answered.0 in let f : status ≡ 0 = h in absurd (omega arith)
+  by_status p commands status true h (inr (inl fault)) = let e = fault.0 in let f : status ≡ 1 = h in absurd (omega arith)
+  by_status p commands status false h (inr (inl fault)) = let e = fault.0 in let f : status ≡ 0 = h in absurd (omega arith)
+  by_status p commands status true h (inr (inr want)) = let f : status ≡ 1 = h in absurd (omega arith)
+  by_status p commands status false h (inr (inr want)) = let f : status ≡ 0 = h in absurd (omega arith)
+
+  within_eight : (p : Program) (commands : List Command) (status : ℕ) → AnswerStatus p commands status → status ≤ 8
+  within_eight p commands status (inl (true, answered)) = let e : status ≡ 1 = answered.0 in omega arith
+  within_eight p commands status (inl (false, answered)) = let e : status ≡ 0 = answered.0 in omega arith
+  within_eight p commands status (inr (inl fault)) = let e = fault.0 in omega arith
+  within_eight p commands status (inr (inr want)) = omega arith
 
 module _ {S K : Type 0} (file : S → List ℕ → Option (List ℕ)) (fetch_faults : S → List ℕ → ℕ) (put_faults : K → ℕ) (taken : K → Option (List ℕ)) (shelf_old shelf_new : S) (out_old out_new : K) where
+  abbrev Ended : Option Request → ℕ → Type 0
+  Ended request status = IsEnded file fetch_faults put_faults taken shelf_old shelf_new out_old out_new request status
+
+  abbrev Analysed : Option Request → ℕ → Type 0
+  Analysed request status = IsAnalysed (file shelf_old) put_faults taken out_old out_new request status
+
   abbrev Run : Option Request → ℕ → Type 0
   Run request status = IsRun file fetch_faults put_faults taken shelf_old shelf_new out_old out_new request status
 
-  its : (request : Option Request) (status : ℕ) → (run : Run request status) → Status put_faults out_old out_new run.ending status
+  its : (request : Option Request) (status : ℕ) → (run : Ended request status) → Status put_faults out_old out_new run.ending status
   its request status run = status_from put_faults taken out_old out_new run.ending status run.written
 
   -- the ending, where the status is neither 4 nor 7
-  its_own : (request : Option Request) (status n : ℕ) → (run : Run request status) → n ≢ 4 → n ≢ 7 → status ≡ n → status_of run.ending ≡ n
+  its_own : (request : Option Request) (status n : ℕ) → (run : Ended request status) → n ≢ 4 → n ≢ 7 → status ≡ n → status_of run.ending ≡ n
   its_own request status n run four seven h = own_status put_faults out_old out_new run.ending status n four seven h (its request status run)
 
+  its_answers : (request : Option Request) (status : ℕ) → (run : Analysed request status) → AnswerStatus put_faults taken out_old out_new run.program run.commands status
+  its_answers request status run = answer_status put_faults taken out_old out_new run.program run.commands status run.written
+
+  -- a status that no analysis has
+  unanswered : (request : Option Request) (status n : ℕ) → Analysed request status → n ≢ 0 → n ≢ 1 → n ≢ 4 → n ≢ 7 → status ≡ n → ⊥
+  unanswered request status n run zero one four seven h = no_other put_faults taken out_old out_new run.program run.commands status n zero one four seven h (its_answers request status run)
+
+  -- an analysis is asked for by words
+  some_words : (request : Option Request) (status : ℕ) → Analysed request status → request ≡ None → ⊥
+  some_words request status run none = subst (λ (r : Option Request). IsAskedSession (file shelf_old) r run.program run.commands) none run.asked
+
   pub usage_clause : (request : Option Request) (status : ℕ) → Run request status → (status ≡ 2) ↔ (request ≡ None)
-  usage_clause request status run = (
+  usage_clause request status (inl run) = (
     λ h. caused_without (file shelf_old) (fetch_faults shelf_old) (fetch_faults shelf_new) request run.ending (usage_only run.ending (its_own request status 2 run (λ e. omega arith) (λ e. omega arith) h)) run.cause,
     λ none. usage_status put_faults taken out_old out_new status
         (subst (λ (e : Ending). Ends put_faults taken out_old out_new e status) (no_request (file shelf_old) (fetch_faults shelf_old) (fetch_faults shelf_new) request run.ending none run.cause) run.written),
   )
+  usage_clause request status (inr run) = (
+    λ h. absurd (unanswered request status 2 run (λ e. omega arith) (λ e. omega arith) (λ e. omega arith) (λ e. omega arith) h),
+    λ none. absurd (some_words request status run none),
+  )
 
   pub fetch_stop_clause : (request : Option Request) (status : ℕ) → Run request status → status ≡ 3 → HasFetchStop (file shelf_old) (fetch_faults shelf_old) (fetch_faults shelf_new) request
-  fetch_stop_clause request status run h =
+  fetch_stop_clause request status (inl run) h =
       let s = stopped_only run.ending (its_own request status 3 run (λ e. omega arith) (λ e. omega arith) h) in
       fetch_stopped (file shelf_old) (fetch_faults shelf_old) (fetch_faults shelf_new) request run.ending s.0 s.1 run.cause
+  fetch_stop_clause request status (inr run) h = absurd (unanswered request status 3 run (λ e. omega arith) (λ e. omega arith) (λ e. omega arith) (λ e. omega arith) h)
 
   pub write_fault_clause : (request : Option Request) (status : ℕ) → Run request status → status ≡ 4 → Rose (put_faults out_old) (put_faults out_new)
-  write_fault_clause request status run h = by (its request status run)
+  write_fault_clause request status (inl run) h = by (its request status run)
     where
       by : Status put_faults out_old out_new run.ending status → Rose (put_faults out_old) (put_faults out_new)
       by (inl same) = absurd ((status_bounds run.ending).1 (sym same ∙ h))
       by (inr (inl fault)) = fault.1
       by (inr (inr want)) = absurd (omega arith)
+  write_fault_clause request status (inr run) h = by (its_answers request status run)
+    where
+      by : AnswerStatus put_faults taken out_old out_new run.program run.commands status → Rose (put_faults out_old) (put_faults out_new)
+      by (inl (true, answered)) = let e : status ≡ 1 = answered.0 in absurd (omega arith)
+      by (inl (false, answered)) = let e : status ≡ 0 = answered.0 in absurd (omega arith)
+      by (inr (inl fault)) = fault.1
+      by (inr (inr want)) = absurd (omega arith)
 
   -- a status that told files call for
-  called : (request : Option Request) (status : ℕ) (f : Ending) → (run : Run request status) → run.ending ≡ f → ((q : Request) → IsCaused (file shelf_old) (fetch_faults shelf_old) (fetch_faults shelf_new) (Some q) f → CallsFor (told (file shelf_old) q Model) (told (file shelf_old) q Report) f) → f ≢ Usage → AskedFor (file shelf_old) request f
+  called : (request : Option Request) (status : ℕ) (f : Ending) → (run : Ended request status) → run.ending ≡ f → ((q : Request) → IsCaused (file shelf_old) (fetch_faults shelf_old) (fetch_faults shelf_new) (Some q) f → Calls (file shelf_old) q f) → f ≢ Usage → AskedFor (file shelf_old) request f
   called request status f run same calls other = asked (file shelf_old) (fetch_faults shelf_old) (fetch_faults shelf_new) request run.ending f same calls other run.cause
 
   pub model_clause : (request : Option Request) (status : ℕ) → Run request status → status ≡ 5 → AskedFor (file shelf_old) request ModelRefused
-  model_clause request status run h =
+  model_clause request status (inl run) h =
       called request status ModelRefused run (model_refused_only run.ending (its_own request status 5 run (λ e. omega arith) (λ e. omega arith) h)) (λ q c. c) (λ e. absurd (cc))
+  model_clause request status (inr run) h = absurd (unanswered request status 5 run (λ e. omega arith) (λ e. omega arith) (λ e. omega arith) (λ e. omega arith) h)
 
-  pub report_clause : (request : Option Request) (status : ℕ) → Run request status → status ≡ 6 → IsReportRefused (file shelf_old) request
-  report_clause request status run h = by (report_refused_only run.ending (its_own request status 6 run (λ e. omega arith) (λ e. omega arith) h))
+  pub text_clause : (request : Option Request) (status : ℕ) → Run request status → status ≡ 6 → IsTextRefused (file shelf_old) request
+  text_clause request status (inl run) h = by (text_refused_only run.ending (its_own request status 6 run (λ e. omega arith) (λ e. omega arith) h))
     where
-      by : (run.ending ≡ CutReport) ⊎ ((n : ℕ) × (run.ending ≡ BadReport n)) → IsReportRefused (file shelf_old) request
+      by : (run.ending ≡ CutReport) ⊎ (((n : ℕ) × (run.ending ≡ BadReport n)) ⊎ ((n : ℕ) × (run.ending ≡ BadScript n))) → IsTextRefused (file shelf_old) request
       by (inl cut) = record { ending = CutReport; refused = inl refl; asked = called request status CutReport run cut (λ q c. c) (λ e. absurd (cc)) }
-      by (inr (n, bad)) = record { ending = BadReport n; refused = inr (n, refl); asked = called request status (BadReport n) run bad (λ q c. c) (λ e. absurd (cc)) }
+      by (inr (inl (n, bad))) = record { ending = BadReport n; refused = inr (inl (n, refl)); asked = called request status (BadReport n) run bad (λ q c. c) (λ e. absurd (cc)) }
+      by (inr (inr (n, bad))) = record { ending = BadScript n; refused = inr (inr (n, refl)); asked = called request status (BadScript n) run bad (λ q c. c) (λ e. absurd (cc)) }
+  text_clause request status (inr run) h = absurd (unanswered request status 6 run (λ e. omega arith) (λ e. omega arith) (λ e. omega arith) (λ e. omega arith) h)
 
-  pub accepted_clause : (request : Option Request) (status : ℕ) → Run request status → status ≡ 0 → IsAccepted (file shelf_old) request
-  accepted_clause request status run h =
+  pub refuted_clause : (request : Option Request) (status : ℕ) → Run request status → status ≡ 8 → IsRefuted (file shelf_old) request
+  refuted_clause request status (inl run) h =
+      let r = refuted_only run.ending (its_own request status 8 run (λ e. omega arith) (λ e. omega arith) h) in
+      record { line = r.0; outcome = r.1.0; refused = r.1.1.0; asked = called request status (Checked r.1.0) run r.1.1.1 (λ q c. c) (λ e. absurd (cc)) }
+  refuted_clause request status (inr run) h = absurd (unanswered request status 8 run (λ e. omega arith) (λ e. omega arith) (λ e. omega arith) (λ e. omega arith) h)
+
+  -- all commands are answered
+  done : (request : Option Request) (status : ℕ) (stopped : Bool) (P : Option Request → Type 0) → (run : Analysed request status) → status ≡ cond stopped 1 0
+      → ((model script : List ℕ) → IsDone (file shelf_old) put_faults taken out_old out_new model script stopped → P (Some (Request.Analyse model script))) → P request
+  done request status stopped P run h make = by request run.asked
+    where
+      answered : IsAnswered put_faults taken out_old out_new run.program run.commands stopped
+      answered = by_status put_faults taken out_old out_new run.program run.commands status stopped h (its_answers request status run)
+
+      by : (r : Option Request) → IsAskedSession (file shelf_old) r run.program run.commands → P r
+      by None session = absurd session
+      by (Some (Request.Verify model report)) session = absurd session
+      by (Some (Request.Analyse model script)) session = make model script (record { program = run.program; commands = run.commands; session = session; answered = answered })
+
+  -- the check of a report accepts it
+  accepts : (request : Option Request) (status : ℕ) → (run : Ended request status) → status ≡ 0 → (settled : ℕ) × AskedFor (file shelf_old) request (Checked (Accepted settled 0))
+  accepts request status run h =
       let a = accepted_only run.ending (its_own request status 0 run (λ e. omega arith) (λ e. omega arith) h) in
-      record { settled = a.0; asked = called request status (Checked (Accepted a.0 0)) run a.1 (λ q c. c) (λ e. absurd (cc)) }
+      (a.0, called request status (Checked (Accepted a.0 0)) run a.1 (λ q c. c) (λ e. absurd (cc)))
+
+  leaves : (request : Option Request) (status : ℕ) → (run : Ended request status) → status ≡ 1 → (settled : ℕ) × ((unsettled : ℕ) × ((unsettled ≢ 0) × AskedFor (file shelf_old) request (Checked (Accepted settled unsettled))))
+  leaves request status run h =
+      let a = unsettled_only run.ending (its_own request status 1 run (λ e. omega arith) (λ e. omega arith) h) in
+      (a.0, (a.1.0, (a.1.1.0, called request status (Checked (Accepted a.0 a.1.0)) run a.1.1.1 (λ q c. c) (λ e. absurd (cc)))))
+
+  pub accepted_clause : (request : Option Request) (status : ℕ) → Run request status → status ≡ 0 → IsAccepted (file shelf_old) put_faults taken out_old out_new request
+  accepted_clause request status (inl run) h = by request (accepts request status run h)
+    where
+      by : (r : Option Request) → (settled : ℕ) × AskedFor (file shelf_old) r (Checked (Accepted settled 0)) → IsAccepted (file shelf_old) put_faults taken out_old out_new r
+      by None a = absurd a.1
+      by (Some (Request.Verify model report)) a = a
+      by (Some (Request.Analyse model script)) a = absurd a.1
+  accepted_clause request status (inr run) h = done request status false (IsAccepted (file shelf_old) put_faults taken out_old out_new) run h (λ model script d. d)
+
+  pub unsettled_clause : (request : Option Request) (status : ℕ) → Run request status → status ≡ 1 → IsUnsettled (file shelf_old) put_faults taken out_old out_new request
+  unsettled_clause request status (inl run) h = by request (leaves request status run h)
+    where
+      by : (r : Option Request) → (settled : ℕ) × ((unsettled : ℕ) × ((unsettled ≢ 0) × AskedFor (file shelf_old) r (Checked (Accepted settled unsettled)))) → IsUnsettled (file shelf_old) put_faults taken out_old out_new r
+      by None a = absurd a.1.1.1
+      by (Some (Request.Verify model report)) a = a
+      by (Some (Request.Analyse model script)) a = absurd a.1.1.1
+  unsettled_clause request status (inr run) h = done request status true (IsUnsettled (file shelf_old) put_faults taken out_old out_new) run h (λ model script d. d)
 
   -- what an accepted report says is so
-  pub borne_out_clause : (request : Option Request) (status : ℕ) → Run request status → status ≡ 0 → IsBorneOut (file shelf_old) request
-  borne_out_clause request status run h = by request (accepted_clause request status run h)
+  accepted_so : (request : Option Request) (settled unsettled : ℕ) → AskedFor (file shelf_old) request (Checked (Accepted settled unsettled)) → IsBorneOut (file shelf_old) request
+  accepted_so request settled unsettled h = by request h
     where
-      so : (m r : Option (List ℕ)) (n : ℕ) → AreReported m r (Checked (Accepted n 0)) → IfSome m (λ mb. IfSome r (λ rb. (program : Program) (report : Entries) → DeclaresModel mb program → Reads program rb report → IsTrueReport program report))
-      so None r n a = tt
-      so (Some mb) None n a = tt
-      so (Some mb) (Some rb) n a = λ program report declares reads.
+      so : (m r : Option (List ℕ)) → AreReported m r (Checked (Accepted settled unsettled)) → IfSome m (λ mb. IfSome r (λ rb. (program : Program) (report : Entries) → DeclaresModel mb program → Reads program rb report → IsTrueReport program report))
+      so None r a = tt
+      so (Some mb) None a = tt
+      so (Some mb) (Some rb) a = λ program report declares reads.
           let at = a.1 in
           let same = the_report mb rb at.program program at.comes.1.report report at.declares declares at.comes.1.reads reads in
           subst (λ (x : Entries). IsTrueReport program x) same.1 (subst (λ (p : Program). IsTrueReport p at.comes.1.report) same.0 (at.comes.1.so tt))
 
-      by : (r : Option Request) → IsAccepted (file shelf_old) r → IsBorneOut (file shelf_old) r
-      by None a = absurd a.asked
-      by (Some q) a = so (told (file shelf_old) q Model) (told (file shelf_old) q Report) a.settled a.asked.1
+      by : (r : Option Request) → AskedFor (file shelf_old) r (Checked (Accepted settled unsettled)) → IsBorneOut (file shelf_old) r
+      by None a = absurd a
+      by (Some (Request.Verify model report)) a = so (file shelf_old model) (file shelf_old report) a.1
+      by (Some (Request.Analyse model script)) a = absurd a
 
-  pub refuted_clause : (request : Option Request) (status : ℕ) → Run request status → status ≡ 8 → IsRefuted (file shelf_old) request
-  refuted_clause request status run h =
-      let r = refuted_only run.ending (its_own request status 8 run (λ e. omega arith) (λ e. omega arith) h) in
-      record { line = r.0; outcome = r.1.0; refused = r.1.1.0; asked = called request status (Checked r.1.0) run r.1.1.1 (λ q c. c) (λ e. absurd (cc)) }
+  pub borne_out_clause : (request : Option Request) (status : ℕ) → Run request status → (status ≡ 0) ⊎ (status ≡ 1) → IsBorneOut (file shelf_old) request
+  borne_out_clause request status (inl run) (inl h) = let a = accepts request status run h in accepted_so request a.0 0 a.1
+  borne_out_clause request status (inl run) (inr h) = let a = leaves request status run h in accepted_so request a.0 a.1.0 a.1.1.1
+  borne_out_clause request status (inr run) (inl h) = done request status false (IsBorneOut (file shelf_old)) run h (λ model script d. tt)
+  borne_out_clause request status (inr run) (inr h) = done request status true (IsBorneOut (file shelf_old)) run h (λ model script d. tt)
 
-  pub bounds_clause : (request : Option Request) (status : ℕ) → Run request status → (status ≤ 8) × (status ≢ 1)
-  bounds_clause request status run = by (its request status run)
+  pub bounds_clause : (request : Option Request) (status : ℕ) → Run request status → status ≤ 8
+  bounds_clause request status (inl run) = by (its request status run)
     where
-      by : Status put_faults out_old out_new run.ending status → (status ≤ 8) × (status ≢ 1)
-      by (inl same) = (rw same (status_bounds run.ending).0, λ e. not_one (file shelf_old) (fetch_faults shelf_old) (fetch_faults shelf_new) request run.ending run.cause (sym same ∙ e))
-      by (inr (inl fault)) = let h = fault.0 in (omega arith, λ e. omega arith)
-      by (inr (inr want)) = (omega arith, λ e. omega arith)
+      by : Status put_faults out_old out_new run.ending status → status ≤ 8
+      by (inl same) = rw same (status_bounds run.ending).0
+      by (inr (inl fault)) = let h = fault.0 in omega arith
+      by (inr (inr want)) = omega arith
+  bounds_clause request status (inr run) = within_eight put_faults taken out_old out_new run.program run.commands status (its_answers request status run)
 
   -- what told files call for is done, or there is want of memory
-  settled : (q : Request) (status : ℕ) (run : Run (Some q) status) (f : Ending) → IsCalm fetch_faults put_faults shelf_old shelf_new out_old out_new q → IsToldFor (told (file shelf_old) q Model) (told (file shelf_old) q Report) f → CallsFor (told (file shelf_old) q Model) (told (file shelf_old) q Report) f
+  ends : (q : Request) (status : ℕ) (run : Run (Some q) status) (f : Ending) → IsCalm fetch_faults put_faults shelf_old shelf_new out_old out_new q → AreTold (file shelf_old) q f → Calls (file shelf_old) q f
       → ((status ≡ status_of f) × PutWhole put_faults taken out_old out_new (line_of f)) ⊎ EndsInWant put_faults taken out_old out_new status
-  settled q status run f calm is calls = by (is_memory run.ending)
+  ends q status (inl run) f calm told calls = by (called_or_memory (file shelf_old) (fetch_faults shelf_old) (fetch_faults shelf_new) q run.ending calm.fetches run.cause)
     where
-      by : (run.ending ≡ Memory) ⊎ (run.ending ≢ Memory) → ((status ≡ status_of f) × PutWhole put_faults taken out_old out_new (line_of f)) ⊎ EndsInWant put_faults taken out_old out_new status
+      by : (run.ending ≡ Memory) ⊎ Calls (file shelf_old) q run.ending → ((status ≡ status_of f) × PutWhole put_faults taken out_old out_new (line_of f)) ⊎ EndsInWant put_faults taken out_old out_new status
       by (inl memory) = inr (subst (λ (e : Ending). Ends put_faults taken out_old out_new e status) memory run.written)
-      by (inr other) =
-          let same = settled_ending (file shelf_old) (fetch_faults shelf_old) (fetch_faults shelf_new) q run.ending f calm.fetches other is calls run.cause in
+      by (inr cause) =
+          let same = one_call (file shelf_old) q run.ending f told calls cause in
           calm_written put_faults taken out_old out_new f status calm.puts
           (said_or_want put_faults taken out_old out_new f status (subst (λ (e : Ending). Ends put_faults taken out_old out_new e status) same run.written))
+  ends q status (inr run) f calm told calls = absurd (session_uncalled (file shelf_old) q run.program run.commands f run.asked told calls)
+
+  -- the commands of told files are answered, or there is want of memory
+  answers : (q : Request) (status : ℕ) (run : Run (Some q) status) (p : Program) (commands : List Command) → IsCalm fetch_faults put_faults shelf_old shelf_new out_old out_new q → IsToldSession (file shelf_old) q p commands
+      → ((stopped : Bool) × ((status ≡ cond stopped 1 0) × IsAnswered put_faults taken out_old out_new p commands stopped)) ⊎ (status ≡ 7)
+  answers q status (inl run) p commands calm told = by (called_or_memory (file shelf_old) (fetch_faults shelf_old) (fetch_faults shelf_new) q run.ending calm.fetches run.cause)
+    where
+      of_want : EndsInWant put_faults taken out_old out_new status → status ≡ 7
+      of_want want = want.0
+
+      by : (run.ending ≡ Memory) ⊎ Calls (file shelf_old) q run.ending → ((stopped : Bool) × ((status ≡ cond stopped 1 0) × IsAnswered put_faults taken out_old out_new p commands stopped)) ⊎ (status ≡ 7)
+      by (inl memory) = inr (of_want (subst (λ (e : Ending). Ends put_faults taken out_old out_new e status) memory run.written))
+      by (inr cause) = absurd (told_uncalled (file shelf_old) q p commands run.ending told cause)
+  answers q status (inr run) p commands calm told = by (answer_status put_faults taken out_old out_new p commands status its_own_answers)
+    where
+      same : (run.program ≡ p) × (run.commands ≡ commands)
+      same = told_same (file shelf_old) q run.program p run.commands commands run.asked told
+
+      its_own_answers : IsAnalysis put_faults taken out_old out_new p commands status
+      its_own_answers =
+          subst (λ (c : List Command). IsAnalysis put_faults taken out_old out_new p c status) same.1
+          (subst (λ (r : Program). IsAnalysis put_faults taken out_old out_new r run.commands status) same.0 run.written)
+
+      by : AnswerStatus put_faults taken out_old out_new p commands status → ((stopped : Bool) × ((status ≡ cond stopped 1 0) × IsAnswered put_faults taken out_old out_new p commands stopped)) ⊎ (status ≡ 7)
+      by (inl answered) = inl answered
+      by (inr (inl fault)) = absurd (calm.puts fault.1)
+      by (inr (inr want)) = inr want
 
   pub settles_clause : (request : Option Request) (status : ℕ) → Run request status → Settles file fetch_faults put_faults taken shelf_old shelf_new out_old out_new request status
   settles_clause None status run = tt
-  settles_clause (Some q) status run = settled q status run
+  settles_clause (Some q) status run = record { ends = λ f. ends q status run f; answers = λ p commands. answers q status run p commands }
+
+  -- what follows a plan is a run
+  pub planned_run : (request : Option Request) (status : ℕ) (plan : Plan) → IsPlanned (file shelf_old) (fetch_faults shelf_old) (fetch_faults shelf_new) request plan → Follows put_faults taken out_old out_new plan status → Run request status
+  planned_run request status (Say ending) cause written = inl (record { ending = ending; cause = cause; written = written })
+  planned_run request status (Answer program commands) session written = inr (record { program = program; commands = commands; asked = session; written = written })

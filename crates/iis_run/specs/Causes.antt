@@ -15,6 +15,11 @@ use Rattle.iis_run.specs.declared.endings.Which.TheVariants.{Model, Report}
 use Rattle.iis_run.specs.declared.endings.Ending.{Ending}
 use Rattle.iis_run.specs.declared.endings.Ending.TheVariants.{TooLong, Memory, ModelRefused, BadReport, CutReport, Checked}
 
+-- the bytes of a model are within the limit and declare this program
+pub record IsModelOf (bytes : List ℕ) (program : Program) : Type 0 where
+  pub short : length bytes ≤ limit_of Model
+  pub declares : DeclaresModel bytes program
+
 -- the bytes of a model are within the limit and declare a program
 pub record IsModel (bytes : List ℕ) : Type 0 where
   pub short : length bytes ≤ limit_of Model
@@ -26,9 +31,9 @@ pub record IsNoModel (bytes : List ℕ) : Type 0 where
   pub short : length bytes ≤ limit_of Model
   pub none : (program : Program) → ¬ (DeclaresModel bytes program)
 
--- what a check that was not stopped by want of memory may come to: as yet it leaves no entry unsettled
+-- what a check that was not stopped by want of memory may come to
 abbrev pub IsDecided : Outcome → Type 0
-IsDecided (Accepted settled unsettled) = unsettled ≡ 0
+IsDecided (Accepted settled unsettled) = ⊤
 IsDecided (Rejected n) = ⊤
 IsDecided (Wide n o) = ⊤
 IsDecided Want = ⊥
@@ -42,7 +47,7 @@ pub record IsTrueReport (program : Program) (report : Entries) : Type 0 where
 pub record IsChecked (program : Program) (bytes : List ℕ) (outcome : Outcome) : Type 0 where
   pub report : Entries
   pub reads : Reads program bytes report
-  pub found : outcome ≡ outcome_of (length report.entries) (trials program report)
+  pub found : outcome ≡ outcome_of report.entries (trials program report)
   pub so : IsAccepted outcome → IsTrueReport program report
 
 -- what the bytes of a report come to, for a program: a line with which no report goes on, an end that comes too soon, or a check
@@ -63,7 +68,7 @@ pub record IsReported (model report : List ℕ) (ending : Ending) : Type 0 where
 abbrev pub AreReported : Option (List ℕ) → Option (List ℕ) → Ending → Type 0
 AreReported model report ending = IfSome model IsModel × IfSome model (λ m. IfSome report (λ r. IsReported m r ending))
 
--- the two files, as far as they are told, call for this ending
+-- the model and the report, as far as they are told, call for this ending
 abbrev pub CallsFor : Option (List ℕ) → Option (List ℕ) → Ending → Type 0
 CallsFor model report (TooLong Model) = IfSome model (λ m. limit_of Model < length m)
 CallsFor model report (TooLong Report) = IfSome model IsModel × IfSome report (λ r. limit_of Report < length r)
@@ -78,10 +83,6 @@ abbrev pub IsToldFor : Option (List ℕ) → Option (List ℕ) → Ending → Ty
 IsToldFor model report (TooLong Model) = IsSome model
 IsToldFor model report ModelRefused = IsSome model
 IsToldFor model report _ = IsSome model × IsSome report
-
--- told files call for one ending only
-abbrev pub OneEndingLaw : Type 0
-OneEndingLaw = (model report : Option (List ℕ)) (e f : Ending) → IsToldFor model report e → CallsFor model report e → CallsFor model report f → e ≡ f
 
 -- the outcome of a check as an ending, and a refused report as one
 abbrev pub checked_ending : Outcome → Ending

@@ -4,4 +4,7 @@ pub mod Lines
 pub mod Limits
 pub mod Fetches
 pub mod Causes
+pub mod Scripts
+pub mod Said
 pub mod Run
+pub mod Steps

@@ -1,11 +1,10 @@
 -- The lines that are printed.
 use Rattle.std.specs.Prelude.{ℕ, List, ◌++◌, codes, decimal}
-use Rattle.frac128.specs.declared.Op.{Op}
-use Rattle.frac128.specs.declared.Op.TheVariants.{Plus, Minus, Times, Over}
 use Rattle.frac128.specs.Printed.{printed}
 use Rattle.frac128.specs.declared.Wide.{Wide as Operation}
+use Rattle.report_text.specs.Grammar.{op_word}
 use Rattle.iis_run.specs.declared.endings.Which.{Which}
-use Rattle.iis_run.specs.declared.endings.Which.TheVariants.{Model, Report}
+use Rattle.iis_run.specs.declared.endings.Which.TheVariants.{Model, Report, Script}
 
 abbrev pub usage_line : List ℕ
 usage_line = codes "usage: iisan analyse MODEL SCRIPT | verify MODEL REPORT | make N\n"
@@ -13,10 +12,12 @@ usage_line = codes "usage: iisan analyse MODEL SCRIPT | verify MODEL REPORT | ma
 abbrev pub read_fault_line : Which → List ℕ
 read_fault_line Model = codes "read fault model\n"
 read_fault_line Report = codes "read fault report\n"
+read_fault_line Script = codes "read fault script\n"
 
 abbrev pub too_long_line : Which → List ℕ
 too_long_line Model = codes "too long model\n"
 too_long_line Report = codes "too long report\n"
+too_long_line Script = codes "too long script\n"
 
 abbrev pub model_refused_line : List ℕ
 model_refused_line = codes "model refused line 1 unsupported\n"
@@ -29,6 +30,10 @@ bad_report_line n = codes "report refused line " ++ (decimal n ++ codes "\n")
 abbrev pub cut_report_line : List ℕ
 cut_report_line = codes "report refused truncated\n"
 
+-- the first bad line of a script
+abbrev pub bad_script_line : ℕ → List ℕ
+bad_script_line n = codes "script refused line " ++ (decimal n ++ codes "\n")
+
 -- how many entries were checked and hold, and how many were not checked
 abbrev pub accepted_line : ℕ → ℕ → List ℕ
 accepted_line settled unsettled = codes "accepted settled " ++ (decimal settled ++ (codes " unsettled " ++ (decimal unsettled ++ codes "\n")))
@@ -36,13 +41,6 @@ accepted_line settled unsettled = codes "accepted settled " ++ (decimal settled 
 -- the line of the report that fails
 abbrev pub rejected_line : ℕ → List ℕ
 rejected_line n = codes "rejected line " ++ (decimal n ++ codes "\n")
-
--- the word of a kind of operation
-abbrev pub op_word : Op → List ℕ
-op_word Plus = codes "plus"
-op_word Minus = codes "minus"
-op_word Times = codes "times"
-op_word Over = codes "over"
 
 -- the line of the report on which an operation is too wide, and the operation with its operands
 abbrev pub wide_line : ℕ → Operation → List ℕ

@@ -1,148 +1,164 @@
 -- The endings of a run, with their causes and what is written.
-use Rattle.std.specs.Prelude.{◌≡◌, ◌<◌, ◌≤◌, ◌⊎◌, ⊤, ℕ, ◌==◌, cond, List, [], ◌++◌, length, take, Option, Some, None, option_map, IfSome}
+use Rattle.std.specs.Prelude.{◌≡◌, ◌≢◌, ◌<◌, ◌+◌, ◌⊎◌, ⊤, ℕ, Bool, true, false, cond, List, length, Option, Some, None, IfSome}
+use Rattle.std.specs.List.{list_any}
 use Rattle.frac128.specs.declared.Wide.{Wide as Operation}
-use Rattle.iis_edge.specs.Causes.{Rose}
-use Rattle.iis_run.specs.Words.{Request}
-use Rattle.iis_run.specs.Lines.{usage_line, read_fault_line, too_long_line, model_refused_line, bad_report_line, cut_report_line, accepted_line, rejected_line, wide_line}
-use Rattle.iis_run.specs.Limits.{limit_of}
-use Rattle.iis_run.specs.Causes.{IsModel, IsTrueReport, CallsFor, IsToldFor}
 use Rattle.lp_model.specs.Program.{Program}
 use Rattle.small_forms.specs.Meaning.{DeclaresModel}
+use Rattle.report_text.specs.declared.report.Command.{Command}
+use Rattle.report_text.specs.declared.report.Entry.{Entry}
 use Rattle.report_text.specs.declared.report.Report.{Report as Entries}
 use Rattle.report_text.specs.Reading.{Reads}
+use Rattle.report_text.specs.Form.{AreNumbered}
 use Rattle.cert_check.specs.declared.outcome.Outcome.{Outcome}
-use Rattle.cert_check.specs.declared.outcome.Outcome.TheVariants.{Accepted, Rejected, Wide, Memory as Want}
+use Rattle.cert_check.specs.declared.outcome.Outcome.TheVariants.{Accepted, Rejected, Wide}
+use Rattle.iis_edge.specs.Causes.{Rose}
+use Rattle.analysis.specs.Puts.{PutWhole}
+use Rattle.analysis.specs.Right.{AreRight, first_budgets}
+use Rattle.analysis.specs.Written.{IsAnalysis, is_stop, whole_text}
+use Rattle.iis_run.specs.Words.{Request}
+use Rattle.iis_run.specs.Limits.{limit_of}
+use Rattle.iis_run.specs.Causes.{IsModel, IsModelOf, IsTrueReport, CallsFor, IsToldFor}
+use Rattle.iis_run.specs.Scripts.{IsCommands, CallsForScript}
+use Rattle.iis_run.specs.Said.{line_of, status_of, EndsInWant, Ends}
 use Rattle.iis_run.specs.declared.endings.Which.{Which}
-use Rattle.iis_run.specs.declared.endings.Which.TheVariants.{Model, Report}
+use Rattle.iis_run.specs.declared.endings.Which.TheVariants.{Model, Report, Script}
 use Rattle.iis_run.specs.declared.endings.Ending.{Ending}
-use Rattle.iis_run.specs.declared.endings.Ending.TheVariants.{Usage, ReadFault, TooLong, Memory, ModelRefused, BadReport, CutReport, Checked}
+use Rattle.iis_run.specs.declared.endings.Ending.TheVariants.{Usage, ReadFault, Memory, BadReport, CutReport, BadScript, Checked}
 
--- the word that names the file
-abbrev pub name_of : Request → Which → List ℕ
-name_of (Request.Verify model report) Model = model
-name_of (Request.Verify model report) Report = report
+-- ---- files
+-- the word that names a file, where the request asks for it
+abbrev pub name_of : Request → Which → Option (List ℕ)
+name_of (Request.Verify model report) Model = Some model
+name_of (Request.Verify model report) Report = Some report
+name_of (Request.Verify model report) Script = None
+name_of (Request.Analyse model script) Model = Some model
+name_of (Request.Analyse model script) Report = None
+name_of (Request.Analyse model script) Script = Some script
 
--- a file of the request, where the shelf tells it
-abbrev pub told : (List ℕ → Option (List ℕ)) → Request → Which → Option (List ℕ)
-told file request which = file (name_of request which)
+-- the count of faults of a name has risen, where there is a name
+abbrev pub HasRisen : (List ℕ → ℕ) → (List ℕ → ℕ) → Option (List ℕ) → Type 0
+HasRisen before now None = ⊥
+HasRisen before now (Some name) = Rose (before name) (now name)
 
--- the count of faults of a file's own name has risen
+-- the request asks for the file, and the count of faults of its own name has risen
 abbrev pub HasFailed : (List ℕ → ℕ) → (List ℕ → ℕ) → Request → Which → Type 0
-HasFailed before now request which = Rose (before (name_of request which)) (now (name_of request which))
+HasFailed before now request which = HasRisen before now (name_of request which)
 
+-- a file of this name is too long, where there is a name and the file is told
+abbrev pub IsTooLong : (List ℕ → Option (List ℕ)) → Which → Option (List ℕ) → Type 0
+IsTooLong file which None = ⊥
+IsTooLong file which (Some name) = IfSome (file name) (λ b. limit_of which < length b)
+
+-- the first name of a request, which is the model's
+abbrev pub model_name : Request → List ℕ
+model_name (Request.Verify model report) = model
+model_name (Request.Analyse model script) = model
+
+-- ---- what files call for
+-- the files that the ending speaks of are told
+abbrev pub AreTold : (List ℕ → Option (List ℕ)) → Request → Ending → Type 0
+AreTold file (Request.Verify model report) ending = IsToldFor (file model) (file report) ending
+AreTold file (Request.Analyse model script) ending = IsToldFor (file model) (file script) ending
+
+-- the files of a request, as far as they are told, call for the ending
+abbrev pub Calls : (List ℕ → Option (List ℕ)) → Request → Ending → Type 0
+Calls file (Request.Verify model report) ending = CallsFor (file model) (file report) ending
+Calls file (Request.Analyse model script) ending = CallsForScript (file model) (file script) ending
+
+-- the same, where the words are one of the forms
+abbrev pub AskedFor : (List ℕ → Option (List ℕ)) → Option Request → Ending → Type 0
+AskedFor file None ending = ⊥
+AskedFor file (Some request) ending = Calls file request ending
+
+-- the model and the script, as far as they are told, are this program and these commands
+pub record IsSession (file : List ℕ → Option (List ℕ)) (model script : List ℕ) (program : Program) (commands : List Command) : Type 0 where
+  pub declares : IfSome (file model) (λ m. IsModelOf m program)
+  pub says : IfSome (file script) (λ s. IsCommands s commands)
+
+-- an analysis is asked for, of this program by these commands
+abbrev pub IsAskedSession : (List ℕ → Option (List ℕ)) → Option Request → Program → List Command → Type 0
+IsAskedSession file None program commands = ⊥
+IsAskedSession file (Some (Request.Verify model report)) program commands = ⊥
+IsAskedSession file (Some (Request.Analyse model script)) program commands = IsSession file model script program commands
+
+-- ---- the whole run
 -- the ending has its cause in this run, where `file` tells the files, and `before` and `now` are the counts of faults
 abbrev pub IsCaused : (List ℕ → Option (List ℕ)) → (List ℕ → ℕ) → (List ℕ → ℕ) → Option Request → Ending → Type 0
 IsCaused file before now None ending = ending ≡ Usage
 IsCaused file before now (Some request) Usage = ⊥
 IsCaused file before now (Some request) Memory = ⊤
 IsCaused file before now (Some request) (ReadFault Model) = HasFailed before now request Model
-IsCaused file before now (Some request) (ReadFault Report) = HasFailed before now request Report × IfSome (told file request Model) IsModel
-IsCaused file before now (Some request) ending = CallsFor (told file request Model) (told file request Report) ending
+IsCaused file before now (Some request) (ReadFault Report) = HasFailed before now request Report × IfSome (file (model_name request)) IsModel
+IsCaused file before now (Some request) (ReadFault Script) = HasFailed before now request Script × IfSome (file (model_name request)) IsModel
+IsCaused file before now (Some request) ending = Calls file request ending
 
--- ---- what is written
--- the text was put whole, and no put failed
-pub record PutWhole {K : Type 0} (faults : K → ℕ) (taken : K → Option (List ℕ)) (old new : K) (text : List ℕ) : Type 0 where
-  pub bytes : taken new ≡ option_map (λ b. b ++ text) (taken old)
-  pub quiet : faults new ≡ faults old
-
--- a put failed, and a front of the text was put
-pub record PutFailed {K : Type 0} (faults : K → ℕ) (taken : K → Option (List ℕ)) (old new : K) (text : List ℕ) : Type 0 where
-  pub bytes : (n : ℕ) × (taken new ≡ option_map (λ b. b ++ take n text) (taken old))
-  pub rose : Rose (faults old) (faults new)
-  pub kept : faults old ≤ faults new
-
--- one or the other
-abbrev pub Puts : {K : Type 0} → (K → ℕ) → (K → Option (List ℕ)) → K → K → List ℕ → Type 0
-Puts faults taken old new text = PutWhole faults taken old new text ⊎ PutFailed faults taken old new text
-
--- nothing was put
-pub record PutsNothing {K : Type 0} (faults : K → ℕ) (taken : K → Option (List ℕ)) (old new : K) : Type 0 where
-  pub bytes : taken new ≡ taken old
-  pub quiet : faults new ≡ faults old
-
--- the line of an ending, and the status that it gives
-abbrev pub line_of : Ending → List ℕ
-line_of Usage = usage_line
-line_of (ReadFault which) = read_fault_line which
-line_of (TooLong which) = too_long_line which
-line_of Memory = []
-line_of ModelRefused = model_refused_line
-line_of (BadReport n) = bad_report_line n
-line_of CutReport = cut_report_line
-line_of (Checked (Accepted settled unsettled)) = accepted_line settled unsettled
-line_of (Checked (Rejected n)) = rejected_line n
-line_of (Checked (Wide n w)) = wide_line n w
-line_of (Checked Want) = []
-
-abbrev pub status_of : Ending → ℕ
-status_of Usage = 2
-status_of (ReadFault which) = 3
-status_of (TooLong which) = 3
-status_of Memory = 7
-status_of ModelRefused = 5
-status_of (BadReport n) = 6
-status_of CutReport = 6
-status_of (Checked (Accepted settled unsettled)) = cond (unsettled == 0) 0 1
-status_of (Checked (Rejected n)) = 8
-status_of (Checked (Wide n w)) = 8
-status_of (Checked Want) = 7
-
--- the status where the put of the line fails: that of a refusal stays, but an accepted report is not said to be one
-abbrev pub status_after_fault : Ending → ℕ
-status_after_fault (Checked (Accepted settled unsettled)) = 4
-status_after_fault ending = status_of ending
-
--- the line is put
-abbrev pub IsSaid : {K : Type 0} → (K → ℕ) → (K → Option (List ℕ)) → K → K → Ending → ℕ → Type 0
-IsSaid faults taken old new ending status =
-    ((status ≡ status_of ending) × PutWhole faults taken old new (line_of ending))
-    ⊎ ((status ≡ status_after_fault ending) × PutFailed faults taken old new (line_of ending))
-
--- want of memory: status 7, and nothing is written
-abbrev pub EndsInWant : {K : Type 0} → (K → ℕ) → (K → Option (List ℕ)) → K → K → ℕ → Type 0
-EndsInWant faults taken old new status = (status ≡ 7) × PutsNothing faults taken old new
-
--- what an ending writes, and its status; a line with numbers takes memory
-abbrev pub Ends : {K : Type 0} → (K → ℕ) → (K → Option (List ℕ)) → K → K → Ending → ℕ → Type 0
-Ends faults taken old new Memory status = EndsInWant faults taken old new status
-Ends faults taken old new (BadReport n) status = IsSaid faults taken old new (BadReport n) status ⊎ EndsInWant faults taken old new status
-Ends faults taken old new (Checked outcome) status = IsSaid faults taken old new (Checked outcome) status ⊎ EndsInWant faults taken old new status
-Ends faults taken old new ending status = IsSaid faults taken old new ending status
-
--- ---- the whole run
 -- an ending with its cause, what it writes and its status
-pub record IsRun {S K : Type 0} (file : S → List ℕ → Option (List ℕ)) (fetch_faults : S → List ℕ → ℕ) (put_faults : K → ℕ) (taken : K → Option (List ℕ)) (shelf_old shelf_new : S) (out_old out_new : K) (request : Option Request) (status : ℕ) : Type 0 where
+pub record IsEnded {S K : Type 0} (file : S → List ℕ → Option (List ℕ)) (fetch_faults : S → List ℕ → ℕ) (put_faults : K → ℕ) (taken : K → Option (List ℕ)) (shelf_old shelf_new : S) (out_old out_new : K) (request : Option Request) (status : ℕ) : Type 0 where
   pub ending : Ending
   pub cause : IsCaused (file shelf_old) (fetch_faults shelf_old) (fetch_faults shelf_new) request ending
   pub written : Ends put_faults taken out_old out_new ending status
 
+-- an analysis of the program by the commands that the files are
+pub record IsAnalysed {K : Type 0} (file : List ℕ → Option (List ℕ)) (put_faults : K → ℕ) (taken : K → Option (List ℕ)) (out_old out_new : K) (request : Option Request) (status : ℕ) : Type 0 where
+  pub program : Program
+  pub commands : List Command
+  pub asked : IsAskedSession file request program commands
+  pub written : IsAnalysis put_faults taken out_old out_new program commands status
+
+-- an ending is said, or the commands are answered
+abbrev pub IsRun : {S K : Type 0} → (S → List ℕ → Option (List ℕ)) → (S → List ℕ → ℕ) → (K → ℕ) → (K → Option (List ℕ)) → S → S → K → K → Option Request → ℕ → Type 0
+IsRun file fetch_faults put_faults taken shelf_old shelf_new out_old out_new request status =
+    IsEnded file fetch_faults put_faults taken shelf_old shelf_new out_old out_new request status
+    ⊎ IsAnalysed (file shelf_old) put_faults taken out_old out_new request status
+
+-- ---- what a status tells
 -- a fetch of one of the asked files failed in this run, or the file is too long where it is told
 abbrev pub HasFetchStop : (List ℕ → Option (List ℕ)) → (List ℕ → ℕ) → (List ℕ → ℕ) → Option Request → Type 0
 HasFetchStop file before now None = ⊥
-HasFetchStop file before now (Some request) = (which : Which) × (HasFailed before now request which ⊎ IfSome (told file request which) (λ b. limit_of which < length b))
+HasFetchStop file before now (Some request) = (which : Which) × (HasFailed before now request which ⊎ IsTooLong file which (name_of request which))
 
--- the told files call for the ending
-abbrev pub AskedFor : (List ℕ → Option (List ℕ)) → Option Request → Ending → Type 0
-AskedFor file None ending = ⊥
-AskedFor file (Some request) ending = CallsFor (told file request Model) (told file request Report) ending
-
--- the told files call for one of two refusals of the report
-pub record IsReportRefused (file : List ℕ → Option (List ℕ)) (request : Option Request) : Type 0 where
+-- the told files call for a refusal of the report, or of the script
+pub record IsTextRefused (file : List ℕ → Option (List ℕ)) (request : Option Request) : Type 0 where
   pub ending : Ending
-  pub refused : (ending ≡ CutReport) ⊎ ((n : ℕ) × (ending ≡ BadReport n))
+  pub refused : (ending ≡ CutReport) ⊎ (((n : ℕ) × (ending ≡ BadReport n)) ⊎ ((n : ℕ) × (ending ≡ BadScript n)))
   pub asked : AskedFor file request ending
 
--- the check of told files accepts all the entries of the report, each of them settled
-pub record IsAccepted (file : List ℕ → Option (List ℕ)) (request : Option Request) : Type 0 where
-  pub settled : ℕ
-  pub asked : AskedFor file request (Checked (Accepted settled 0))
+-- all commands are answered rightly, the whole text is written, and some answer is a stop or none is
+pub record IsAnswered {K : Type 0} (put_faults : K → ℕ) (taken : K → Option (List ℕ)) (out_old out_new : K) (program : Program) (commands : List Command) (stopped : Bool) : Type 0 where
+  pub entries : List Entry
+  pub right : AreRight program first_budgets commands entries
+  pub numbered : AreNumbered program (2 + length program.notes) entries
+  pub all : length entries ≡ length commands
+  pub stops : list_any (λ e. is_stop e.answer) entries ≡ stopped
+  pub put : PutWhole put_faults taken out_old out_new (whole_text program entries)
+
+-- the same of the program and the commands that the files are
+pub record IsDone {K : Type 0} (file : List ℕ → Option (List ℕ)) (put_faults : K → ℕ) (taken : K → Option (List ℕ)) (out_old out_new : K) (model script : List ℕ) (stopped : Bool) : Type 0 where
+  pub program : Program
+  pub commands : List Command
+  pub session : IsSession file model script program commands
+  pub answered : IsAnswered put_faults taken out_old out_new program commands stopped
+
+-- Under `verify` the check of told files accepts all the entries of the report, each of them settled. Under `analyse` all commands are answered, and no answer is a stop.
+abbrev pub IsAccepted : {K : Type 0} → (List ℕ → Option (List ℕ)) → (K → ℕ) → (K → Option (List ℕ)) → K → K → Option Request → Type 0
+IsAccepted file put_faults taken out_old out_new None = ⊥
+IsAccepted file put_faults taken out_old out_new (Some (Request.Verify model report)) = (settled : ℕ) × CallsFor (file model) (file report) (Checked (Accepted settled 0))
+IsAccepted file put_faults taken out_old out_new (Some (Request.Analyse model script)) = IsDone file put_faults taken out_old out_new model script false
+
+-- Under `verify` the check of told files accepts the report, of which some entries are unsettled. Under `analyse` all commands are answered, and some answer is a stop.
+abbrev pub IsUnsettled : {K : Type 0} → (List ℕ → Option (List ℕ)) → (K → ℕ) → (K → Option (List ℕ)) → K → K → Option Request → Type 0
+IsUnsettled file put_faults taken out_old out_new None = ⊥
+IsUnsettled file put_faults taken out_old out_new (Some (Request.Verify model report)) =
+    (settled : ℕ) × ((unsettled : ℕ) × ((unsettled ≢ 0) × CallsFor (file model) (file report) (Checked (Accepted settled unsettled))))
+IsUnsettled file put_faults taken out_old out_new (Some (Request.Analyse model script)) = IsDone file put_faults taken out_old out_new model script true
 
 -- what the told report says of the told model is true: its notes, and what each entry claims
 abbrev pub IsBorneOut : (List ℕ → Option (List ℕ)) → Option Request → Type 0
 IsBorneOut file None = ⊥
-IsBorneOut file (Some request) =
-    IfSome (told file request Model) (λ m. IfSome (told file request Report) (λ r.
-    (program : Program) (report : Entries) → DeclaresModel m program → Reads program r report → IsTrueReport program report))
+IsBorneOut file (Some (Request.Verify model report)) =
+    IfSome (file model) (λ m. IfSome (file report) (λ r.
+    (program : Program) (entries : Entries) → DeclaresModel m program → Reads program r entries → IsTrueReport program entries))
+IsBorneOut file (Some (Request.Analyse model script)) = ⊤
 
 -- the check of told files came out as a refusal, on a line of the report
 pub record IsRefuted (file : List ℕ → Option (List ℕ)) (request : Option Request) : Type 0 where
@@ -151,16 +167,34 @@ pub record IsRefuted (file : List ℕ → Option (List ℕ)) (request : Option R
   pub refused : (outcome ≡ Rejected line) ⊎ ((w : Operation) × (outcome ≡ Wide line w))
   pub asked : AskedFor file request (Checked outcome)
 
--- no fetch of the two files and no put failed in this run
+-- ---- where nothing fails
+-- no fetch of the asked files and no put failed in this run
 pub record IsCalm {S K : Type 0} (fetch_faults : S → List ℕ → ℕ) (put_faults : K → ℕ) (shelf_old shelf_new : S) (out_old out_new : K) (request : Request) : Type 0 where
   pub fetches : (which : Which) → ¬ (HasFailed (fetch_faults shelf_old) (fetch_faults shelf_new) request which)
   pub puts : ¬ (Rose (put_faults out_old) (put_faults out_new))
 
--- where nothing fails and the told files call for an ending, its line is written and its status given, or there is want of memory
+-- a file is told, and so
+abbrev pub IsToldAs : {A : Type 0} → (A → Type 0) → Option A → Type 0
+IsToldAs P None = ⊥
+IsToldAs P (Some a) = P a
+
+-- an analysis is asked for, and both files are told: they are this program and these commands
+abbrev pub IsToldSession : (List ℕ → Option (List ℕ)) → Request → Program → List Command → Type 0
+IsToldSession file (Request.Verify model report) program commands = ⊥
+IsToldSession file (Request.Analyse model script) program commands = IsToldAs (λ m. IsModelOf m program) (file model) × IsToldAs (λ s. IsCommands s commands) (file script)
+
+-- Where nothing fails and the told files call for an ending, its line is written and its status given, or there is want of memory.
+-- Where nothing fails and they are a model and a script that reads, all commands are answered, with status 0 or 1; or there is want of memory, with status 7.
+pub record SettlesFor {S K : Type 0} (file : S → List ℕ → Option (List ℕ)) (fetch_faults : S → List ℕ → ℕ) (put_faults : K → ℕ) (taken : K → Option (List ℕ)) (shelf_old shelf_new : S) (out_old out_new : K) (request : Request) (status : ℕ) : Type 0 where
+  pub ends : (ending : Ending) → IsCalm fetch_faults put_faults shelf_old shelf_new out_old out_new request
+      → AreTold (file shelf_old) request ending
+      → Calls (file shelf_old) request ending
+      → ((status ≡ status_of ending) × PutWhole put_faults taken out_old out_new (line_of ending)) ⊎ EndsInWant put_faults taken out_old out_new status
+  pub answers : (program : Program) (commands : List Command) → IsCalm fetch_faults put_faults shelf_old shelf_new out_old out_new request
+      → IsToldSession (file shelf_old) request program commands
+      → ((stopped : Bool) × ((status ≡ cond stopped 1 0) × IsAnswered put_faults taken out_old out_new program commands stopped)) ⊎ (status ≡ 7)
+
+-- where the words are one of the forms
 abbrev pub Settles : {S K : Type 0} → (S → List ℕ → Option (List ℕ)) → (S → List ℕ → ℕ) → (K → ℕ) → (K → Option (List ℕ)) → S → S → K → K → Option Request → ℕ → Type 0
 Settles file fetch_faults put_faults taken shelf_old shelf_new out_old out_new None status = ⊤
-Settles file fetch_faults put_faults taken shelf_old shelf_new out_old out_new (Some request) status =
-    (ending : Ending) → IsCalm fetch_faults put_faults shelf_old shelf_new out_old out_new request
-    → IsToldFor (told (file shelf_old) request Model) (told (file shelf_old) request Report) ending
-    → CallsFor (told (file shelf_old) request Model) (told (file shelf_old) request Report) ending
-    → ((status ≡ status_of ending) × PutWhole put_faults taken out_old out_new (line_of ending)) ⊎ EndsInWant put_faults taken out_old out_new status
+Settles file fetch_faults put_faults taken shelf_old shelf_new out_old out_new (Some request) status = SettlesFor file fetch_faults put_faults taken shelf_old shelf_new out_old out_new request status

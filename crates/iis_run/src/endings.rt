@@ -7,6 +7,7 @@ use cert_check::Outcome;
 pub enum Which {
     Model,
     Report,
+    Script,
 }
 
 /// How a run ends, before anything is written.
@@ -21,6 +22,8 @@ pub enum Ending {
     BadReport(u64),
     /// The report ends too soon.
     CutReport,
+    /// A line of the script, by its number, that is the first bad one.
+    BadScript(u32),
     /// The report was checked.
     Checked(Outcome),
 }

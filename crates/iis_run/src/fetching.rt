@@ -11,12 +11,15 @@ const MODEL_LIMIT: usize = 16_777_216;
 
 const REPORT_LIMIT: usize = 67_108_864;
 
+const SCRIPT_LIMIT: usize = 16_777_216;
+
 fn limit(which: Which) -> usize
     ensures { result ≡ limit_of which }
 {
     match which {
         Which::Model => MODEL_LIMIT,
         Which::Report => REPORT_LIMIT,
+        Which::Script => SCRIPT_LIMIT,
     }
 }
 

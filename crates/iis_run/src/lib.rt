@@ -1,10 +1,12 @@
-//! The top call: words, files, a check and one line of output.
+//! The top call: words, files, a check and its line, or the answers to a script.
 #![tactic(auto)]
 
 mod endings;
 mod fetching;
 mod laws;
+mod plans;
 mod printing;
+mod reading;
 mod running;
 mod saying;
 mod words;

@@ -1,6 +1,7 @@
 //! The lines that are printed.
 ghost use Rattle.std.specs.Prelude.{◌≡◌, ◌++◌, IfOk, OnOk, decimal};
-ghost use Rattle.iis_run.specs.Lines.{read_fault_line, too_long_line, bad_report_line, accepted_line, rejected_line, op_word, wide_line};
+ghost use Rattle.iis_run.specs.Lines.{read_fault_line, too_long_line, bad_report_line, bad_script_line, accepted_line, rejected_line, wide_line};
+ghost use Rattle.report_text.specs.Grammar.{op_word};
 
 use crate::endings::Which;
 use frac128::{Op, Wide};
@@ -15,6 +16,7 @@ pub(crate) fn read_fault_text(which: Which) -> &'static str
     match which {
         Which::Model => "read fault model\n",
         Which::Report => "read fault report\n",
+        Which::Script => "read fault script\n",
     }
 }
 
@@ -24,6 +26,7 @@ pub(crate) fn too_long_text(which: Which) -> &'static str
     match which {
         Which::Model => "too long model\n",
         Which::Report => "too long report\n",
+        Which::Script => "too long script\n",
     }
 }
 
@@ -53,6 +56,16 @@ pub(crate) fn print_bad_report(alloc: Global, line: u64) -> Result<Vec<u8>, Allo
 {
     let mut text = Vec::new(alloc);
     print_part(b"report refused line ", line, &mut text)?;
+    text.push(b'\n')?;
+    Ok(text)
+}
+
+/// The line that names the first bad line of a script.
+pub(crate) fn print_bad_script(alloc: Global, line: u32) -> Result<Vec<u8>, AllocError>
+    ensures { IfOk result (λ text. text.items ≡ bad_script_line line) }
+{
+    let mut text = Vec::new(alloc);
+    print_part(b"script refused line ", u64::from(line), &mut text)?;
     text.push(b'\n')?;
     Ok(text)
 }

@@ -1,94 +1,96 @@
-//! A run: what is asked for is fetched, read and checked, and its line is put.
-ghost use Rattle.std.specs.Prelude.{◌≡◌, ◌≢◌, ◌≤◌, ◌↔◌, ℕ, List, None, length};
+//! A run: what is asked for is fetched and read, and checked or answered.
+ghost use Rattle.std.specs.Prelude.{◌≡◌, ◌⊎◌, ◌≤◌, ◌↔◌, ℕ, List, None};
 ghost use Rattle.iis_edge.specs.Causes.{Rose};
 ghost use Rattle.iis_run.specs.Words.{request_of};
-ghost use Rattle.iis_run.specs.Causes.{ComesTo, checked_ending, refused_ending};
-ghost use Rattle.iis_run.specs.Run.{IsCaused, IsRun, HasFetchStop, AskedFor, IsReportRefused, IsAccepted, IsRefuted, IsBorneOut, Settles};
+ghost use Rattle.iis_run.specs.Run.{IsRun, HasFetchStop, AskedFor, IsTextRefused, IsAccepted, IsUnsettled, IsRefuted, IsBorneOut, Settles};
+ghost use Rattle.iis_run.specs.Steps.{IsMarkless, IsPlanned, IsReady, IsScriptPlan, IsSecondPlan, Follows};
 
-use crate::endings::{Ending, Which};
-use crate::fetching::fetch_file;
+use crate::endings::Ending;
+use crate::plans::Plan;
+use crate::reading::{check_file, fetch_model, fetch_script};
 use crate::saying::say;
-use crate::words;
-use cert_check::{Outcome, verify};
+use crate::words::{self, Verb};
+use analysis::analyse;
 use iis_edge::{Shelf, Sink};
 use lp_model::Model;
-use report_text::{ReportStop, read_report};
-use small_forms::read_model;
 use std::alloc::Global;
 
-// What the check of a report comes to.
-fn checked(outcome: Outcome) -> Ending
-    ensures { result ≡ checked_ending outcome }
+// Fetches the script and plans the answers to it.
+fn plan_answers<S: Shelf>(alloc: Global, model: Model, shelf: &mut S, name: &str) -> Plan
+    requires { IsMarkless model }
+    ensures planned { IsScriptPlan model (S.file shelf.old name.now) (S.faults shelf.old name.now) (S.faults shelf.new name.now) result }
+    ensures ready { IsReady result }
+    ensures counts { (n : List ℕ) → S.faults shelf.old n ≤ S.faults shelf.new n }
+    ensures files { (n : List ℕ) → S.file shelf.new n ≡ S.file shelf.old n }
 {
-    match outcome {
-        Outcome::Memory => Ending::Memory,
-        _ => Ending::Checked(outcome),
+    match fetch_script(alloc, shelf, name) {
+        Ok(script) => Plan::Answer(model, script),
+        Err(ending) => Plan::Say(ending),
     }
 }
 
-// Why a report was not read.
-fn refused(stop: ReportStop) -> Ending
-    ensures { result ≡ refused_ending stop }
+// Fetches the second file: a report is checked, and the answers to a script are planned.
+fn plan_second<S: Shelf>(alloc: Global, model: Model, shelf: &mut S, verb: Verb, name: &str) -> Plan
+    requires { IsMarkless model }
+    ensures planned { IsSecondPlan verb model (S.file shelf.old name.now) (S.faults shelf.old name.now) (S.faults shelf.new name.now) result }
+    ensures ready { IsReady result }
+    ensures counts { (n : List ℕ) → S.faults shelf.old n ≤ S.faults shelf.new n }
+    ensures files { (n : List ℕ) → S.file shelf.new n ≡ S.file shelf.old n }
 {
-    match stop {
-        ReportStop::BadLine(line) => Ending::BadReport(line),
-        ReportStop::Truncated => Ending::CutReport,
-        ReportStop::Memory => Ending::Memory,
+    match verb {
+        Verb::Verify => Plan::Say(check_file(alloc, &model, shelf, name)),
+        Verb::Analyse => plan_answers(alloc, model, shelf, name),
     }
 }
 
-// Reads a report and checks it.
-fn check_report(alloc: Global, model: &Model, bytes: &[u8]) -> Ending
-    requires { length bytes.now ≤ 67108864 }
-    ensures { ComesTo model.now bytes.now result }
-{
-    match read_report(alloc, bytes, model) {
-        Ok(report) => checked(verify(alloc, model, &report)),
-        Err(stop) => refused(stop),
-    }
-}
-
-// Fetches the files, reads them and checks.
-fn decide<S: Shelf>(alloc: Global, words: &[String], shelf: &mut S) -> Ending
-    ensures cause { IsCaused (S.file shelf.old) (S.faults shelf.old) (S.faults shelf.new) (request_of words.now) result }
+// Fetches the files and reads them, the model first, and checks a report.
+fn decide<S: Shelf>(alloc: Global, words: &[String], shelf: &mut S) -> Plan
+    ensures planned { IsPlanned (S.file shelf.old) (S.faults shelf.old) (S.faults shelf.new) (request_of words.now) result }
+    ensures ready { IsReady result }
     ensures counts { (n : List ℕ) → S.faults shelf.old n ≤ S.faults shelf.new n }
     ensures files { (n : List ℕ) → S.file shelf.new n ≡ S.file shelf.old n }
 {
     let Some(asked) = words::parse(words) else {
-        return Ending::Usage;
+        return Plan::Say(Ending::Usage);
     };
-    let model_bytes = match fetch_file(alloc, shelf, asked.model, Which::Model) {
-        Ok(bytes) => bytes,
-        Err(ending) => return ending,
+    let model = match fetch_model(alloc, shelf, asked.model) {
+        Ok(model) => model,
+        Err(ending) => return Plan::Say(ending),
     };
-    let Ok(found) = read_model(alloc, model_bytes.as_slice()) else {
-        return Ending::Memory;
-    };
-    let Some(model) = found else {
-        return Ending::ModelRefused;
-    };
-    let report_bytes = match fetch_file(alloc, shelf, asked.report, Which::Report) {
-        Ok(bytes) => bytes,
-        Err(ending) => return ending,
-    };
-    check_report(alloc, &model, report_bytes.as_slice())
+    plan_second(alloc, model, shelf, asked.verb, asked.second)
 }
 
-/// Does what the words ask for, puts its line, and gives the status.
+// Says the ending, or answers the commands, and gives the status.
+fn follow<W: Sink>(alloc: Global, plan: Plan, out: &mut W) -> u8
+    requires { IsReady plan }
+    ensures { Follows W.faults W.taken out.old out.new plan result }
+{
+    match plan {
+        Plan::Say(ending) => say(alloc, ending, out),
+        Plan::Answer(model, script) => analyse(alloc, &model, &script, out),
+    }
+}
+
+/// Does what the words ask for, writes its line or its report, and gives the status.
 ///
-/// `words` are the command line without the program's name. The form that is built is `verify MODEL REPORT`. The
-/// statuses are:
+/// `words` are the command line without the program's name. The forms that are built are `verify MODEL REPORT`, which
+/// checks a report and writes one line, and `analyse MODEL SCRIPT`, which answers the commands of a script in order and
+/// writes the report of the answers. The model is fetched and read first, and only a model that reads lets the second
+/// file be fetched. The statuses are:
 ///
-/// - 0: the report is accepted: `accepted settled N unsettled 0` for its N entries. What each of them claims of the
-///   model is true.
+/// - 0: under `verify` the report is accepted: `accepted settled N unsettled 0` for its N entries. What each of them
+///   claims of the model is true. Under `analyse` the whole report is written, and no answer is a stop.
+/// - 1: under `verify` the same with some entries that are stops: `accepted settled N unsettled M`. Under `analyse` the
+///   whole report is written, and some answer is a stop.
 /// - 2: the words are none of the forms; the usage line.
 /// - 3: `read fault WHICH`, only where the shelf's count of faults of that file's own name rose; or `too long WHICH`,
 ///   exactly where a told file is longer than its limit.
-/// - 4: the put of the `accepted` line failed.
+/// - 4: the put of the `accepted` line failed, or the put of a piece of the report.
 /// - 5: `model refused line 1 unsupported`, exactly where the bytes are not in the small form.
 /// - 6: `report refused line N`, where no report on that model goes on with whole line N, the first such one; or
-///   `report refused truncated`, where every whole line is right and the report ends too soon.
-/// - 7: want of memory; nothing is written.
+///   `report refused truncated`, where every whole line is right and the report ends too soon; or `script refused line
+///   N`, where line N is the first of the script that is no command, or one too many.
+/// - 7: want of memory; nothing is written, or under `analyse` perhaps the head and the first answers.
 /// - 8: `rejected line N`, where line N of the report is the first that does not hold of the model; or `wide line N OP
 ///   LEFT RIGHT`, where the check of line N comes to an operation that is too wide, and no line before it fails.
 pub fn run<S: Shelf, W: Sink>(alloc: Global, words: &[String], shelf: &mut S, out: &mut W) -> u8
@@ -98,24 +100,26 @@ pub fn run<S: Shelf, W: Sink>(alloc: Global, words: &[String], shelf: &mut S, ou
     ensures fetch_stop { result ≡ 3 → HasFetchStop (S.file shelf.old) (S.faults shelf.old) (S.faults shelf.new) (request_of words.now) }
     // Status 4 comes only where the sink failed in this call.
     ensures write_fault { result ≡ 4 → Rose (W.faults out.old) (W.faults out.new) }
-    // Statuses 5, 6, 0 and 8 come only where the told files call for them.
+    // Statuses 5, 6 and 8 come only where the told files call for them.
     ensures model_refused { result ≡ 5 → AskedFor (S.file shelf.old) (request_of words.now) Ending.ModelRefused }
-    ensures report_refused { result ≡ 6 → IsReportRefused (S.file shelf.old) (request_of words.now) }
-    ensures accepted { result ≡ 0 → IsAccepted (S.file shelf.old) (request_of words.now) }
+    ensures text_refused { result ≡ 6 → IsTextRefused (S.file shelf.old) (request_of words.now) }
     ensures refuted { result ≡ 8 → IsRefuted (S.file shelf.old) (request_of words.now) }
+    // Statuses 0 and 1 come only where a report is accepted, or where all commands are answered: 1 where some entry is a stop.
+    ensures accepted { result ≡ 0 → IsAccepted (S.file shelf.old) W.faults W.taken out.old out.new (request_of words.now) }
+    ensures unsettled { result ≡ 1 → IsUnsettled (S.file shelf.old) W.faults W.taken out.old out.new (request_of words.now) }
     // What an accepted report claims of the model is true.
-    ensures borne_out { result ≡ 0 → IsBorneOut (S.file shelf.old) (request_of words.now) }
+    ensures borne_out { (result ≡ 0) ⊎ (result ≡ 1) → IsBorneOut (S.file shelf.old) (request_of words.now) }
     // No other status is answered.
-    ensures statuses { (result ≤ 8) × (result ≢ 1) }
-    // Where no fetch and no put fails, what the told files call for is done: its line and its status, or want of memory.
+    ensures statuses { result ≤ 8 }
+    // Where no fetch and no put fails, what the told files call for is done, or there is want of memory.
     ensures settles { Settles S.file S.faults W.faults W.taken shelf.old shelf.new out.old out.new (request_of words.now) result }
     // The counts of faults never fall, and the told files stay.
     ensures fetch_counts { (n : List ℕ) → S.faults shelf.old n ≤ S.faults shelf.new n }
     ensures put_count { W.faults out.old ≤ W.faults out.new }
     ensures files { (n : List ℕ) → S.file shelf.new n ≡ S.file shelf.old n }
-    // Each status comes with its cause, and its line, or a front of it after a fault, is what is written.
+    // Each status comes with its cause, and its line, or a front of it after a fault, is what is written; or the answers are.
     ensures ran { IsRun S.file S.faults W.faults W.taken shelf.old shelf.new out.old out.new (request_of words.now) result }
 {
-    let ending = decide(alloc, words, shelf);
-    say(alloc, ending, out)
+    let plan = decide(alloc, words, shelf);
+    follow(alloc, plan, out)
 }

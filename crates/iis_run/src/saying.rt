@@ -1,12 +1,13 @@
 //! What an ending writes, and its status.
 ghost use Rattle.std.specs.Prelude.{◌≡◌, ◌==◌, cond, MatchResult};
 ghost use Rattle.cert_check.specs.declared.outcome.Outcome.TheVariants.{Accepted, Rejected, Wide as TooWide};
-ghost use Rattle.iis_run.specs.Run.{PutWhole, PutFailed, Puts, IsSaid, EndsInWant, Ends};
+ghost use Rattle.analysis.specs.Puts.{PutWhole, PutFailed};
+ghost use Rattle.iis_run.specs.Said.{Puts, IsSaid, EndsInWant, Ends};
 
 use crate::endings::Ending;
 use crate::printing::{
-    USAGE, print_accepted, print_bad_report, print_rejected, print_wide, read_fault_text,
-    too_long_text,
+    USAGE, print_accepted, print_bad_report, print_bad_script, print_rejected, print_wide,
+    read_fault_text, too_long_text,
 };
 use cert_check::Outcome;
 use frac128::Wide;
@@ -80,6 +81,17 @@ fn say_bad_report<W: Sink>(alloc: Global, line: u64, out: &mut W) -> u8
     6
 }
 
+// Puts the line that names the first bad line of a script, and gives the status.
+fn say_bad_script<W: Sink>(alloc: Global, line: u32, out: &mut W) -> u8
+    ensures { Ends W.faults W.taken out.old out.new (Ending.BadScript line) result }
+{
+    let Ok(text) = print_bad_script(alloc, line) else {
+        return 7;
+    };
+    put_any(out, text.as_slice());
+    6
+}
+
 /// Puts the line of an ending, and gives its status.
 pub(crate) fn say<W: Sink>(alloc: Global, ending: Ending, out: &mut W) -> u8
     ensures { Ends W.faults W.taken out.old out.new ending result }
@@ -107,6 +119,7 @@ pub(crate) fn say<W: Sink>(alloc: Global, ending: Ending, out: &mut W) -> u8
             put_any(out, b"report refused truncated\n");
             6
         }
+        Ending::BadScript(line) => say_bad_script(alloc, line, out),
         Ending::Checked(outcome) => say_outcome(alloc, outcome, out),
     }
 }

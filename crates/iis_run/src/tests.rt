@@ -15,6 +15,8 @@ const ACCEPTED: &str = "accepted settled 1 unsettled 0\n";
 
 const BOTH: &[&str] = &["verify", "m.mps", "r.txt"];
 
+const ANALYSE: &[&str] = &["analyse", "m.mps", "s.txt"];
+
 fn owned(alloc: Global, words: &[&str]) -> Result<Vec<String>, AllocError> {
     let mut all = Vec::new(alloc);
     for word in words {
@@ -42,7 +44,23 @@ struct Outcome {
     written: Vec<u8>,
 }
 
-// The run of the words over this model and report, where these fetches and puts fail.
+// The run of the words over these files, where these fetches and puts fail.
+fn run_files(
+    alloc: Global,
+    words: &[&str],
+    files: Vec<File>,
+    failing: &[u32],
+    cuts: &[Cut],
+) -> Result<Outcome, AllocError> {
+    let words = owned(alloc, words)?;
+    let mut shelf = MemShelf::new(alloc, files, failing.to_vec(alloc)?);
+    let mut out = MemSink::new(alloc, 1000, cuts.to_vec(alloc)?)?;
+    let status = run(alloc, words.as_slice(), &mut shelf, &mut out);
+    let written = out.bytes().to_vec(alloc)?;
+    Ok(Outcome { status, written })
+}
+
+// The run of the words over this model and report.
 fn run_over(
     alloc: Global,
     words: &[&str],
@@ -54,12 +72,21 @@ fn run_over(
     let mut files = Vec::new(alloc);
     files.push(file(alloc, "m.mps", model)?)?;
     files.push(file(alloc, "r.txt", report)?)?;
-    let words = owned(alloc, words)?;
-    let mut shelf = MemShelf::new(alloc, files, failing.to_vec(alloc)?);
-    let mut out = MemSink::new(alloc, 1000, cuts.to_vec(alloc)?)?;
-    let status = run(alloc, words.as_slice(), &mut shelf, &mut out);
-    let written = out.bytes().to_vec(alloc)?;
-    Ok(Outcome { status, written })
+    run_files(alloc, words, files, failing, cuts)
+}
+
+// The analysis of this model by this script.
+fn run_script(
+    alloc: Global,
+    model: &str,
+    script: &str,
+    failing: &[u32],
+    cuts: &[Cut],
+) -> Result<Outcome, AllocError> {
+    let mut files = Vec::new(alloc);
+    files.push(file(alloc, "m.mps", model)?)?;
+    files.push(file(alloc, "s.txt", script)?)?;
+    run_files(alloc, ANALYSE, files, failing, cuts)
 }
 
 fn expect(rt: &impl Abort, outcome: &Outcome, status: u8, written: &str) {
@@ -139,7 +166,8 @@ fn words(rt: HostRuntime) -> Result<(), Fail> {
     let empty: &[&str] = &["verify", "", "r.txt"];
     let dash: &[&str] = &["verify", "m.mps", "-r"];
     let other: &[&str] = &["check", "m.mps", "r.txt"];
-    for words in [none, short, empty, dash, other] {
+    let long: &[&str] = &["analyse", "m.mps", "s.txt", "s.txt"];
+    for words in [none, short, empty, dash, other, long] {
         expect(&rt, &run_over(alloc, words, MODEL, "", &[], &[])?, 2, USAGE);
     }
     Ok(())
@@ -173,13 +201,18 @@ const TWO_MEMBERS: &str = "infeasible\nmember row c1\nmember row c2\n";
 
 const PROOF: &str = "proof\nleaf\nuse row c1 up 1\nuse row c2 lo 3/2\nend\n";
 
+fn joined(alloc: Global, pieces: &[&str]) -> Result<String, AllocError> {
+    let mut text = String::new(alloc);
+    for piece in pieces {
+        text.push_str(piece)?;
+    }
+    Ok(text)
+}
+
 // The run of these pieces of a report on the two rows.
 fn run_pieces(alloc: Global, sides: i64, pieces: &[&str]) -> Result<Outcome, AllocError> {
     let model = two_rows(alloc, sides)?;
-    let mut report = String::new(alloc);
-    for piece in pieces {
-        report.push_str(piece)?;
-    }
+    let report = joined(alloc, pieces)?;
     run_over(alloc, BOTH, model.as_str(), report.as_str(), &[], &[])
 }
 
@@ -376,5 +409,85 @@ fn steady(rt: HostRuntime) -> Result<(), Fail> {
     let mut shelf = SteadyShelf::new(files);
     let mut out = SteadySink::new();
     assert_eq!(rt; run(alloc, words.as_slice(), &mut shelf, &mut out), 6);
+    Ok(())
+}
+
+const FOOT: &str = "report end\n";
+
+#[test]
+fn answers(rt: HostRuntime) -> Result<(), Fail> {
+    let alloc = rt.alloc();
+    let model = two_rows(alloc, 1)?;
+    let report = joined(alloc, &[CHECK, TWO_MEMBERS, PROOF, FOOT])?;
+    let checked = run_script(alloc, model.as_str(), "check\n", &[], &[])?;
+    expect(&rt, &checked, 0, report.as_str());
+    let verified = run_over(alloc, BOTH, model.as_str(), report.as_str(), &[], &[])?;
+    expect(&rt, &verified, 0, ACCEPTED);
+    Ok(())
+}
+
+const SPENT: &str =
+    "iisan report 1\ncommand budget pivots 0\ndone\ncommand check\npivots spent\nsite settle\nend\n";
+
+const AGAIN: &str = "command budget pivots 1\ndone\ncommand check\n";
+
+#[test]
+fn budgets(rt: HostRuntime) -> Result<(), Fail> {
+    let alloc = rt.alloc();
+    let model = two_rows(alloc, 1)?;
+    let script = "budget pivots 0\ncheck\nbudget pivots 1\ncheck\n";
+    let report = joined(alloc, &[SPENT, AGAIN, TWO_MEMBERS, PROOF, FOOT])?;
+    let stopped = run_script(alloc, model.as_str(), script, &[], &[])?;
+    expect(&rt, &stopped, 1, report.as_str());
+    let verified = run_over(alloc, BOTH, model.as_str(), report.as_str(), &[], &[])?;
+    expect(&rt, &verified, 1, "accepted settled 3 unsettled 1\n");
+    Ok(())
+}
+
+#[test]
+fn scripts(rt: HostRuntime) -> Result<(), Fail> {
+    let alloc = rt.alloc();
+    let refused = run_script(alloc, MODEL, "reduce\n", &[], &[])?;
+    expect(&rt, &refused, 6, "script refused line 1\n");
+    let empty = run_script(alloc, MODEL, "", &[], &[])?;
+    expect(&rt, &empty, 0, "iisan report 1\nreport end\n");
+    let feasible = run_script(alloc, MODEL, "check\n", &[], &[])?;
+    let point = report(alloc, "value x 3/2\n")?;
+    expect(&rt, &feasible, 0, point.as_str());
+    Ok(())
+}
+
+// The analysis of the two rows whose third put, that of the last line, takes so many bytes, and fails.
+fn run_cut_foot(alloc: Global, model: &str, taken: usize) -> Result<Outcome, AllocError> {
+    run_script(alloc, model, "check\n", &[], &[Cut { call: 3, taken }])
+}
+
+#[test]
+fn cut_reports(rt: HostRuntime) -> Result<(), Fail> {
+    let alloc = rt.alloc();
+    let model = two_rows(alloc, 1)?;
+    for (taken, foot) in [(0, ""), (1, "r"), (11, FOOT)] {
+        let written = joined(alloc, &[CHECK, TWO_MEMBERS, PROOF, foot])?;
+        let outcome = run_cut_foot(alloc, model.as_str(), taken)?;
+        expect(&rt, &outcome, 4, written.as_str());
+    }
+    Ok(())
+}
+
+#[test]
+fn script_fetches(rt: HostRuntime) -> Result<(), Fail> {
+    let alloc = rt.alloc();
+    let unread = run_script(alloc, MODEL, "check\n", &[2], &[])?;
+    expect(&rt, &unread, 3, "read fault script\n");
+    let unasked = run_script(alloc, "", "check\n", &[2], &[])?;
+    expect(&rt, &unasked, 5, "model refused line 1 unsupported\n");
+    let mut files = Vec::new(alloc);
+    files.push(file(alloc, "m.mps", MODEL)?)?;
+    files.push(File {
+        name: "s.txt".as_bytes().to_vec(alloc)?,
+        bytes: vec![in alloc; 10; 16_777_217]?,
+    })?;
+    let long = run_files(alloc, ANALYSE, files, &[], &[])?;
+    expect(&rt, &long, 3, "too long script\n");
     Ok(())
 }

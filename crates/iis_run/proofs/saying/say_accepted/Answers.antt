@@ -1,5 +1,5 @@
 use Rattle.std.proofs.Common.{subst, ◌∙◌, inl}
-use Rattle.iis_run.specs.Run.{PutWhole}
+use Rattle.analysis.specs.Puts.{PutWhole}
 use Rattle.iis_run.proofs.saying.say_accepted.Goals as goal
 
 pub returns-in-Ok-put_line : goal.returns-in-Ok-put_line

@@ -1,7 +1,7 @@
 use Rattle.std.proofs.Common.{sym, subst}
 use Rattle.cert_check.specs.declared.outcome.Outcome.{Outcome}
 use Rattle.iis_run.specs.declared.endings.Ending.TheVariants.{Checked}
-use Rattle.iis_run.specs.Run.{Ends}
+use Rattle.iis_run.specs.Said.{Ends}
 use Rattle.iis_run.proofs.saying.say_outcome.Goals as goal
 
 pub returns-in-Accepted : goal.returns-in-Accepted

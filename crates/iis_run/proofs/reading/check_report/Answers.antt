@@ -1,7 +1,7 @@
 use Rattle.std.proofs.Common.{ap, length, arith}
 use Rattle.report_text.specs.Grammar.{report_lines}
 use Rattle.cert_check.proofs.Numbers.{lines_fit}
-use Rattle.iis_run.proofs.running.check_report.Goals as goal
+use Rattle.iis_run.proofs.reading.check_report.Goals as goal
 
 pub verify-requires-clause-short : goal.verify-requires-clause-short
 verify-requires-clause-short c =

@@ -1,0 +1,85 @@
+-- What the steps of a run come to.
+use Rattle.std.specs.Prelude.{◌≡◌, ◌<◌, ◌≤◌, ⊤, ℕ, false, List, length, Option, IfSome, All}
+use Rattle.iis_edge.specs.Causes.{Rose}
+use Rattle.lp_model.specs.Program.{Program}
+use Rattle.lp_model.specs.Members.{active_members, is_mark}
+use Rattle.report_text.specs.Commands.{IsBuilt}
+use Rattle.analysis.specs.Written.{IsAnalysis}
+use Rattle.iis_run.specs.Words.{Request}
+use Rattle.iis_run.specs.Limits.{limit_of}
+use Rattle.iis_run.specs.Causes.{IsNoModel, IsDecided, IsReportEnding}
+use Rattle.iis_run.specs.Scripts.{IsCommands, IsBadScript}
+use Rattle.iis_run.specs.Said.{Ends}
+use Rattle.iis_run.specs.Run.{IsCaused, IsAskedSession}
+use Rattle.iis_run.specs.declared.endings.Which.TheVariants.{Model, Report, Script}
+use Rattle.iis_run.specs.declared.endings.Ending.{Ending}
+use Rattle.iis_run.specs.declared.endings.Ending.TheVariants.{ReadFault, TooLong, Memory, ModelRefused, BadReport, CutReport, BadScript, Checked}
+use Rattle.iis_run.specs.declared.words.Verb.{Verb}
+use Rattle.iis_run.specs.declared.words.Verb.TheVariants.{Verify, Analyse}
+use Rattle.iis_run.specs.declared.plans.Plan.{Plan}
+use Rattle.iis_run.specs.declared.plans.Plan.TheVariants.{Say, Answer}
+
+-- why there is no model: the count of faults of its name has risen; or the file calls for it, where it is told; or there is want of memory
+abbrev pub IsModelStop : Option (List ℕ) → ℕ → ℕ → Ending → Type 0
+IsModelStop file before now (ReadFault Model) = Rose before now
+IsModelStop file before now (TooLong Model) = IfSome file (λ m. limit_of Model < length m)
+IsModelStop file before now ModelRefused = IfSome file IsNoModel
+IsModelStop file before now Memory = ⊤
+IsModelStop file before now _ = ⊥
+
+-- no active member is a mark
+abbrev pub IsMarkless : Program → Type 0
+IsMarkless program = All (λ m. is_mark m ≡ false) (active_members program)
+
+-- within the limit, and they come to this ending for the program
+pub record IsReportOf (program : Program) (bytes : List ℕ) (ending : Ending) : Type 0 where
+  pub short : length bytes ≤ limit_of Report
+  pub comes : IsReportEnding program bytes ending
+
+-- what a report comes to for a program
+abbrev pub IsCheckEnd : Program → Option (List ℕ) → ℕ → ℕ → Ending → Type 0
+IsCheckEnd program file before now (ReadFault Report) = Rose before now
+IsCheckEnd program file before now (TooLong Report) = IfSome file (λ r. limit_of Report < length r)
+IsCheckEnd program file before now Memory = ⊤
+IsCheckEnd program file before now (BadReport n) = IfSome file (λ r. IsReportOf program r (BadReport n))
+IsCheckEnd program file before now CutReport = IfSome file (λ r. IsReportOf program r CutReport)
+IsCheckEnd program file before now (Checked outcome) = IsDecided outcome × IfSome file (λ r. IsReportOf program r (Checked outcome))
+IsCheckEnd program file before now _ = ⊥
+
+-- why there is no script
+abbrev pub IsScriptEnd : Option (List ℕ) → ℕ → ℕ → Ending → Type 0
+IsScriptEnd file before now (ReadFault Script) = Rose before now
+IsScriptEnd file before now (TooLong Script) = IfSome file (λ s. limit_of Script < length s)
+IsScriptEnd file before now Memory = ⊤
+IsScriptEnd file before now (BadScript n) = IfSome file (λ s. IsBadScript s n)
+IsScriptEnd file before now _ = ⊥
+
+-- what a script comes to for a program that was read
+abbrev pub IsScriptPlan : Program → Option (List ℕ) → ℕ → ℕ → Plan → Type 0
+IsScriptPlan program file before now (Say ending) = IsScriptEnd file before now ending
+IsScriptPlan program file before now (Answer p commands) = (p ≡ program) × IfSome file (λ s. IsCommands s commands)
+
+-- what a report comes to: an ending
+abbrev pub IsReportPlan : Program → Option (List ℕ) → ℕ → ℕ → Plan → Type 0
+IsReportPlan program file before now (Say ending) = IsCheckEnd program file before now ending
+IsReportPlan program file before now (Answer p commands) = ⊥
+
+-- what the second file comes to, by the verb
+abbrev pub IsSecondPlan : Verb → Program → Option (List ℕ) → ℕ → ℕ → Plan → Type 0
+IsSecondPlan Verify program file before now plan = IsReportPlan program file before now plan
+IsSecondPlan Analyse program file before now plan = IsScriptPlan program file before now plan
+
+-- a plan has its cause: the ending that is to be said, or the program and the commands that the files are
+abbrev pub IsPlanned : (List ℕ → Option (List ℕ)) → (List ℕ → ℕ) → (List ℕ → ℕ) → Option Request → Plan → Type 0
+IsPlanned file before now request (Say ending) = IsCaused file before now request ending
+IsPlanned file before now request (Answer program commands) = IsAskedSession file request program commands
+
+-- what is to be answered can be: there are no marks, and a script may have each command
+abbrev pub IsReady : Plan → Type 0
+IsReady (Say ending) = ⊤
+IsReady (Answer program commands) = IsMarkless program × All IsBuilt commands
+
+-- what a plan writes, and its status
+abbrev pub Follows : {K : Type 0} → (K → ℕ) → (K → Option (List ℕ)) → K → K → Plan → ℕ → Type 0
+Follows faults taken old new (Say ending) status = Ends faults taken old new ending status
+Follows faults taken old new (Answer program commands) status = IsAnalysis faults taken old new program commands status

@@ -1,0 +1,123 @@
+//! Files that are fetched and read.
+ghost use Rattle.std.specs.Prelude.{◌≡◌, ◌≤◌, ℕ, List, length, All, IfOk, IfErr, IfSome};
+ghost use Rattle.report_text.specs.Commands.{IsBuilt};
+ghost use Rattle.iis_run.specs.Causes.{ComesTo, IsModelOf, checked_ending, refused_ending};
+ghost use Rattle.iis_run.specs.Scripts.{IsCommands, script_ending};
+ghost use Rattle.iis_run.specs.Steps.{IsModelStop, IsMarkless, IsCheckEnd, IsScriptEnd};
+
+use crate::endings::{Ending, Which};
+use crate::fetching::fetch_file;
+use cert_check::{Outcome, verify};
+use iis_edge::Shelf;
+use iis_session::{Script, ScriptStop, read_script};
+use lp_model::Model;
+use report_text::{ReportStop, read_report};
+use small_forms::read_model;
+use std::alloc::Global;
+
+/// Fetches the model and reads it.
+pub(crate) fn fetch_model<S: Shelf>(
+    alloc: Global,
+    shelf: &mut S,
+    name: &str,
+) -> Result<Model, Ending>
+    ensures read { IfOk result (λ model. IfSome (S.file shelf.old name.now) (λ b. IsModelOf b model)) }
+    ensures markless { IfOk result IsMarkless }
+    ensures stop { IfErr result (IsModelStop (S.file shelf.old name.now) (S.faults shelf.old name.now) (S.faults shelf.new name.now)) }
+    ensures counts { (n : List ℕ) → S.faults shelf.old n ≤ S.faults shelf.new n }
+    ensures files { (n : List ℕ) → S.file shelf.new n ≡ S.file shelf.old n }
+{
+    let bytes = match fetch_file(alloc, shelf, name, Which::Model) {
+        Ok(bytes) => bytes,
+        Err(ending) => return Err(ending),
+    };
+    let Ok(found) = read_model(alloc, bytes.as_slice()) else {
+        return Err(Ending::Memory);
+    };
+    let Some(model) = found else {
+        return Err(Ending::ModelRefused);
+    };
+    Ok(model)
+}
+
+// What the check of a report comes to.
+fn checked(outcome: Outcome) -> Ending
+    ensures { result ≡ checked_ending outcome }
+{
+    match outcome {
+        Outcome::Memory => Ending::Memory,
+        _ => Ending::Checked(outcome),
+    }
+}
+
+// Why a report was not read.
+fn refused(stop: ReportStop) -> Ending
+    ensures { result ≡ refused_ending stop }
+{
+    match stop {
+        ReportStop::BadLine(line) => Ending::BadReport(line),
+        ReportStop::Truncated => Ending::CutReport,
+        ReportStop::Memory => Ending::Memory,
+    }
+}
+
+// Reads a report and checks it.
+fn check_report(alloc: Global, model: &Model, bytes: &[u8]) -> Ending
+    requires { length bytes.now ≤ 67108864 }
+    ensures { ComesTo model.now bytes.now result }
+{
+    match read_report(alloc, bytes, model) {
+        Ok(report) => checked(verify(alloc, model, &report)),
+        Err(stop) => refused(stop),
+    }
+}
+
+/// Fetches the report, reads it and checks it.
+pub(crate) fn check_file<S: Shelf>(
+    alloc: Global,
+    model: &Model,
+    shelf: &mut S,
+    name: &str,
+) -> Ending
+    ensures end { IsCheckEnd model.now (S.file shelf.old name.now) (S.faults shelf.old name.now) (S.faults shelf.new name.now) result }
+    ensures counts { (n : List ℕ) → S.faults shelf.old n ≤ S.faults shelf.new n }
+    ensures files { (n : List ℕ) → S.file shelf.new n ≡ S.file shelf.old n }
+{
+    let bytes = match fetch_file(alloc, shelf, name, Which::Report) {
+        Ok(bytes) => bytes,
+        Err(ending) => return ending,
+    };
+    check_report(alloc, model, bytes.as_slice())
+}
+
+// Why a script was not read.
+fn unread(stop: ScriptStop) -> Ending
+    ensures { result ≡ script_ending stop }
+{
+    match stop {
+        ScriptStop::BadLine(line) => Ending::BadScript(line),
+        ScriptStop::Memory => Ending::Memory,
+    }
+}
+
+/// Fetches the script and reads it.
+pub(crate) fn fetch_script<S: Shelf>(
+    alloc: Global,
+    shelf: &mut S,
+    name: &str,
+) -> Result<Script, Ending>
+    ensures read { IfOk result (λ script. IfSome (S.file shelf.old name.now) (λ b. IsCommands b script)) }
+    ensures built { IfOk result (All IsBuilt) }
+    ensures stop { IfErr result (IsScriptEnd (S.file shelf.old name.now) (S.faults shelf.old name.now) (S.faults shelf.new name.now)) }
+    ensures counts { (n : List ℕ) → S.faults shelf.old n ≤ S.faults shelf.new n }
+    ensures files { (n : List ℕ) → S.file shelf.new n ≡ S.file shelf.old n }
+{
+    let bytes = match fetch_file(alloc, shelf, name, Which::Script) {
+        Ok(bytes) => bytes,
+        Err(ending) => return Err(ending),
+    };
+    match read_script(alloc, bytes.as_slice()) {
+        Ok(script) => Ok(script),
+        Err(stop) => Err(unread(stop)),
+    }
+}
