@@ -1,16 +1,15 @@
 -- What an oracle answers.
-use Rattle.std.proofs.Common.{◌≡◌, ◌<◌, ℕ, sym, ◌∙◌, ap, subst, Bool, true, false, true≢false, get_or, not, List, [], ◌∷◌, length, Ok, Err, refl, inl, inr}
+use Rattle.std.proofs.Common.{◌≡◌, ℕ, sym, ◌∙◌, ap, subst, Bool, true, false, true≢false, get_or, not, List, [], Ok, Err, inl, inr}
 use Rattle.std.specs.Prelude.{All, Contains, IfOk, Result, ◌⊎◌}
 use Rattle.std.specs.List.{list_any}
-use Rattle.std.proofs.lemmas.Bool.{false_from_ne_true, not_from_false, not-true}
+use Rattle.std.proofs.lemmas.Bool.{false_from_ne_true, not-true}
 use Rattle.std.proofs.lemmas.List.Elements.{All-contains, All-weaker}
 use Rattle.std.proofs.lemmas.List.Folds.{list_any_at, list_any_none}
 use Rattle.lp_model.specs.declared.members.Member.{Member}
 use Rattle.lp_model.specs.Members.{is_mark}
 use Rattle.lp_model.specs.MemberSets.{SetValue, IsPossibleIn, set_with}
 use Rattle.lp_model.specs.Program.{Program}
-use Rattle.lp_model.specs.Satisfaction.{Holds, IsPart, values_at}
-use Rattle.certs.specs.declared.evidence.Branch.{Branch}
+use Rattle.lp_model.specs.Satisfaction.{IsPart}
 use Rattle.certs.specs.declared.evidence.Combo.{Combo}
 use Rattle.certs.specs.declared.evidence.Point.{Point}
 use Rattle.certs.specs.declared.evidence.Share.{Share}
@@ -25,7 +24,7 @@ use Rattle.certs.specs.declared.solving.Verdict.TheVariants.{Feasible, Infeasibl
 use Rattle.certs.specs.Combination.{IsCombination, IsFrom, IsThere}
 use Rattle.certs.specs.Named.{IsKnownSource}
 use Rattle.certs.specs.Proof.{Tip}
-use Rattle.certs.specs.Tales.{IsNodeEnd, IsNodeSite, IsSiteWithin, IsVerdict}
+use Rattle.certs.specs.Tales.{IsNodeEnd, IsSiteWithin, IsVerdict}
 use Rattle.std.proofs.lemmas.List.Elements.{All-contains_itself}
 use Rattle.linear_oracle.specs.Ended.{Shows}
 use Rattle.linear_oracle.specs.Value.{IsLeafOf, is_linear}

@@ -1,5 +1,5 @@
 -- The first of the numbers from 0 on that passes a test.
-use Rattle.std.proofs.Common.{◌≡◌, ◌+◌, ◌<◌, ℕ, zero, suc, sym, ◌∙◌, ap, subst, Bool, true, cond, [], ◌∷◌, find, Option, Some, None, arith, inl, inr, refl}
+use Rattle.std.proofs.Common.{◌≡◌, ◌+◌, ◌<◌, ℕ, zero, suc, sym, ◌∙◌, ap, subst, Bool, true, cond, [], ◌∷◌, find, Option, Some, None, arith, inl, inr}
 use Rattle.std.specs.Prelude.{◌⊎◌, false}
 use Rattle.std.specs.Option.{option_or}
 use Rattle.std.proofs.lemmas.Bool.{cases_lt}

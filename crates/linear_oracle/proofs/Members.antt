@@ -1,14 +1,11 @@
 -- Members of sets, and what the ends of runs show of them.
-use Rattle.std.proofs.Common.{◌≡◌, ◌≤◌, ◌<◌, ℕ, zero, suc, sym, ◌∙◌, ap, subst, Bool, true, false, true≢false, cond, not, ◌||◌, List, [], ◌∷◌, length, filter, Ok, Err, refl, arith}
+use Rattle.std.proofs.Common.{◌≡◌, ◌<◌, ℕ, sym, ◌∙◌, ap, subst, Bool, true, false, ◌||◌, List, length, filter, Ok, Err, refl}
 use Rattle.std.specs.Prelude.{All, Contains, IfOk, Result}
-use Rattle.std.specs.List.{list_any}
 use Rattle.std.proofs.lemmas.List.Elements.{All-contains, All-contains_itself, All-filter, All-weaker, filter_passes}
-use Rattle.std.proofs.lemmas.List.Folds.{list_any_none}
 use Rattle.lp_model.specs.declared.members.Member.{Member}
 use Rattle.lp_model.specs.Members.{has, is_mark, is_same}
-use Rattle.lp_model.specs.MemberSets.{SetValue, IsMemberFor, IsPossibleIn, members_for, possible_in, set_with}
+use Rattle.lp_model.specs.MemberSets.{SetValue, IsMemberFor, IsPossibleIn, possible_in, set_with}
 use Rattle.lp_model.specs.Program.{Program, IsWellFormed}
-use Rattle.lp_model.specs.Satisfaction.{Holds, IsPart}
 use Rattle.lp_model.proofs.Marked.{possible_is}
 use Rattle.lp_model.proofs.Sets.{contains_of_has, same_members}
 use Rattle.certs.specs.declared.evidence.Branch.{Branch}

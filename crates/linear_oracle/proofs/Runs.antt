@@ -1,7 +1,5 @@
 -- Ends of runs in code as ends of runs.
-use Rattle.std.proofs.Common.{◌≡◌, ◌+◌, ◌-◌, ◌≤◌, ℕ, sym, ◌∙◌, ap, subst, Bool, true, false, cond, List, length, None, is_some, refl, arith}
-use Rattle.lp_model.specs.declared.members.Member.{Member}
-use Rattle.lp_model.specs.Program.{Program}
+use Rattle.std.proofs.Common.{◌≡◌, ◌+◌, ◌-◌, ◌≤◌, ℕ, sym, ◌∙◌, ap, subst, Bool, true, false, cond, length, None, is_some, refl, arith}
 use Rattle.frac128.specs.Limit.{limit}
 use Rattle.certs.specs.System.{LinearSystem}
 use Rattle.certs.specs.Tableau.{IsTableauOf, start_basis}

@@ -1,5 +1,5 @@
 -- What shares of a plain system name.
-use Rattle.std.proofs.Common.{◌≡◌, ◌+◌, ◌-◌, ◌<◌, ◌≤◌, ◌^◌, ℕ, sym, ◌∙◌, ap, subst, Bool, true, false, cond, List, [], ◌∷◌, filter, map, length, nat_lt, refl, arith, lt-ltb, Some}
+use Rattle.std.proofs.Common.{◌≡◌, ◌+◌, ◌-◌, ◌<◌, ◌≤◌, ◌^◌, ℕ, sym, ◌∙◌, ap, subst, Bool, true, false, cond, List, [], ◌∷◌, filter, map, length, nat_lt, refl, arith, Some}
 use Rattle.std.specs.Prelude.{All}
 use Rattle.std.proofs.lemmas.Bool.{ltb-true, ltb-false}
 use Rattle.std.proofs.lemmas.List.{length-map}

@@ -1,4 +1,4 @@
-use Rattle.std.proofs.Common.{◌≡◌, ◌+◌, ◌≤◌, ◌<◌, refl, sym, ◌∙◌, ap, subst, length, find, None, arith}
+use Rattle.std.proofs.Common.{◌≡◌, ◌+◌, refl, sym, ◌∙◌, ap, subst, length, find, None, arith}
 use Rattle.std.proofs.lemmas.List.{length-map}
 use Rattle.certs.specs.Ended.{numbers_from}
 use Rattle.certs.specs.Plain.{crosses}

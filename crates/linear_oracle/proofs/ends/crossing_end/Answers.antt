@@ -1,4 +1,4 @@
-use Rattle.std.proofs.Common.{◌≡◌, ◌∙◌, sym, ap, refl, map, false, inl, length}
+use Rattle.std.proofs.Common.{◌≡◌, ◌∙◌, ap, refl, map, inl, length}
 use Rattle.certs.specs.Named.{named, program_shares}
 use Rattle.certs.specs.Plain.{crossing_shares}
 use Rattle.linear_oracle.proofs.Shares.{crossing_named, of_plain}

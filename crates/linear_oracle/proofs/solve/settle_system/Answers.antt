@@ -1,4 +1,4 @@
-use Rattle.std.proofs.Common.{◌≡◌, ◌∙◌, sym, ap, subst, Ok, Err, false, length}
+use Rattle.std.proofs.Common.{◌∙◌, ap, subst, Ok, Err, length}
 use Rattle.certs.specs.Solves.{RunEnds}
 use Rattle.certs.specs.System.{LinearSystem}
 use Rattle.certs.specs.Tableau.{IsWellFormedSystem}
