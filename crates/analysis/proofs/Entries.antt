@@ -1,5 +1,5 @@
 -- Entries one after another: right answers, their numbers, their text.
-use Rattle.std.proofs.Common.{◌≡◌, ◌≤◌, ◌<◌, ◌+◌, refl, sym, ◌∙◌, ap, subst, ℕ, suc, Bool, true, false, ◌||◌, List, [], ◌∷◌, ◌++◌, append_assoc, length, length-append, take, arith, tt}
+use Rattle.std.proofs.Common.{◌≡◌, ◌≤◌, ◌<◌, ◌+◌, refl, sym, ◌∙◌, ap, subst, ℕ, suc, Bool, true, false, ◌||◌, List, [], ◌∷◌, ◌++◌, append_assoc, length, length-append, take, arith}
 use Rattle.std.specs.Prelude.{flat_map}
 use Rattle.std.specs.List.{list_any}
 use Rattle.std.proofs.lemmas.List.Concat.{flat_map-append}
@@ -48,7 +48,7 @@ numbered_more model n (x ∷ entries) e h k =
     ∙ (let a = length (entry_lines model x) in let b = length (flat_map (entry_lines model) entries) in let z : n + (a + b) ≡ n + a + b = omega arith in z))))
 
 -- one text more
-text_append : (a b : List (List ℕ)) → text_of (a ++ b) ≡ text_of a ++ text_of b
+pub text_append : (a b : List (List ℕ)) → text_of (a ++ b) ≡ text_of a ++ text_of b
 text_append a b = flat_map-append (λ (line : List ℕ). line ++ 10 ∷ []) a b
 
 pub text_more : (model : Program) (entries : List Entry) (e : Entry) → entries_text model (entries ++ e ∷ []) ≡ entries_text model entries ++ entry_text model e.command e.answer

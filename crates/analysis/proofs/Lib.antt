@@ -1,3 +1,5 @@
 pub mod Putting
 pub mod Entries
 pub mod Refuting
+pub mod Sofar
+pub mod Report

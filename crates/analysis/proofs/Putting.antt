@@ -1,7 +1,7 @@
 -- Puts one after another.
 use Rattle.std.proofs.Common.{◌≡◌, ◌≤◌, ◌+◌, refl, sym, ◌∙◌, ap, subst, ℕ, List, [], ◌∷◌, ◌++◌, append_assoc, length, take, Option, Some, None, option_map, arith, inl, inr}
 use Rattle.std.proofs.lemmas.Bool.{cases_lt}
-use Rattle.std.proofs.lemmas.List.{take-append-le, take-all}
+use Rattle.std.proofs.lemmas.List.{take-append-le, take_all}
 use Rattle.std.proofs.Math.Seq.{take-append-add, take-append_seam, take-length}
 use Rattle.iis_edge.specs.Causes.{Rose}
 use Rattle.analysis.specs.Puts.{PutWhole, PutFailed, PutsNothing}
@@ -45,7 +45,7 @@ failed_after faults taken a b c x y p q = record {
 front_of : (n : ℕ) (x y : List ℕ) → (m : ℕ) × (take n x ≡ take m (x ++ y))
 front_of n x y =
     elim (cases_lt (length x) n) [
-      | inl h ↦ (length x, take-all n x (let l : length x ≤ n = omega arith in l) ∙ sym (take-append_seam x y))
+      | inl h ↦ (length x, take_all n x (let l : length x ≤ n = omega arith in l) ∙ sym (take-append_seam x y))
       | inr h ↦ (n, sym (take-append-le n x y h))
     ]
 

@@ -1,13 +1,15 @@
 -- The members that a leaf uses: its combination is one of them alone.
-use Rattle.std.proofs.Common.{◌≡◌, ◌<◌, ℕ, zero, suc, refl, sym, ◌∙◌, ap, subst, Bool, true, false, ◌||◌, List, [], ◌∷◌, length, filter, get_or, arith, tt}
+use Rattle.std.proofs.Common.{◌≡◌, ◌<◌, ℕ, zero, suc, refl, sym, ◌∙◌, ap, subst, Bool, true, false, true≢false, ◌||◌, List, [], ◌∷◌, length, filter, Err, get_or, arith}
 use Rattle.std.specs.Prelude.{All, Contains, IsSome}
 use Rattle.std.specs.List.{list_any}
-use Rattle.std.proofs.lemmas.Bool.{or_right, or-false}
-use Rattle.std.proofs.lemmas.List.Elements.{All-weaker, All-contains, All-contains_itself, All-nil, All-cons}
+use Rattle.std.proofs.lemmas.Bool.{or_right}
+use Rattle.std.proofs.Math.Bool.{or-false}
+use Rattle.std.proofs.lemmas.List.Elements.{All-weaker, All-contains, All-contains_itself, All-filter, All-nil, All-cons}
 use Rattle.lp_model.specs.declared.members.Member.{Member}
-use Rattle.lp_model.specs.Program.{Program}
-use Rattle.lp_model.specs.Members.{active_members}
-use Rattle.lp_model.specs.MemberSets.{SetValue, IsMemberFor, IsPossibleIn, active_set}
+use Rattle.lp_model.specs.Program.{Program, IsWellFormed}
+use Rattle.lp_model.specs.Members.{active_members, has}
+use Rattle.lp_model.specs.MemberSets.{SetValue, IsPossibleIn, active_set, possible_in}
+use Rattle.lp_model.proofs.Marked.{possible_is}
 use Rattle.lp_model.proofs.Sets.{Contains-filter, same_self}
 use Rattle.certs.specs.declared.evidence.Source.{Source}
 use Rattle.certs.specs.declared.evidence.Source.TheVariants.{Member as Of, Below, Above}
@@ -24,16 +26,22 @@ use Rattle.certs.specs.Proof.{IsProof}
 use Rattle.certs.specs.Proof.Tree.{Tip}
 use Rattle.certs.specs.Violation.{is_of}
 use Rattle.certs.specs.Named.{IsKnownNode, IsKnownSource, node_uses, used_set}
+use Rattle.certs.specs.declared.evidence.Branch.{Branch}
+use Rattle.certs.specs.declared.solving.Stop.{Stop}
+use Rattle.certs.specs.declared.solving.Verdict.TheVariants.{Infeasible}
+use Rattle.certs.specs.Tales.{IsNodeEnd}
 use Rattle.certs.proofs.Sides.{all_both}
+use Rattle.certs.proofs.PlainCuts.{plain_cut}
+use Rattle.linear_oracle.specs.Value.{IsPlainProof}
 use Rattle.report_text.specs.Printing.{IsKnownSource as IsPrintedSource, IsKnownNode as IsPrintedNode}
 use Rattle.analysis.specs.Right.{IsRefutation}
 use Rattle.analysis.specs.Answers.{IsLeafProof}
 
 -- a test that an element passes, some pass
 any_passes : {A : Type 0} (p : A → Bool) (xs : List A) (x : A) → Contains xs x → p x ≡ true → list_any p xs ≡ true
-any_passes p [] x (k, (l, e)) h = absurd (omega arith)
-any_passes p (y ∷ xs) x (zero, (l, e)) h = ap (λ b. b || list_any p xs) (ap p e ∙ h)
-any_passes p (y ∷ xs) x (suc k, (l, e)) h = or_right (p y) (list_any p xs) (any_passes p xs x (k, ((let g : k < length xs = omega arith in g), e)) h)
+any_passes p [] x (k, l, e) h = absurd (omega arith)
+any_passes p (y ∷ xs) x (zero, l, e) h = ap (λ b. b || list_any p xs) (ap p e ∙ h)
+any_passes p (y ∷ xs) x (suc k, l, e) h = or_right (p y) (list_any p xs) (any_passes p xs x (k, (let g : k < length xs = omega arith in g), e) h)
 
 -- a leaf uses the members that its shares name
 leaf_uses : (combo : Combo) (m : Member) (s : Share) → Contains combo.shares s → s.source ≡ Of m → list_any (node_uses m) (Leaf combo ∷ []) ≡ true
@@ -76,6 +84,12 @@ refutes model proof printed leaf same = record { proves = proves; used = same }
     }
 
 -- ---- known members
+-- the members of a set may be in it
+pub all_possible : (set : SetValue) → set.members ≡ filter (has set.members) (possible_in set) → All (IsPossibleIn set) set.members
+all_possible set is =
+    let every : All (IsPossibleIn set) (possible_in set) = All-weaker (Contains (possible_in set)) (IsPossibleIn set) (λ m c. possible_is set.rows set.columns m c) (possible_in set) (All-contains_itself (possible_in set)) in
+    subst (All (IsPossibleIn set)) (sym is) (All-filter (has set.members) (IsPossibleIn set) (possible_in set) every)
+
 known_source : (set : SetValue) (source : Source) → All (IsPossibleIn set) set.members → IsFrom set.members source → IsKnownSource set source
 known_source set (Of m) all h = All-contains (IsPossibleIn set) set.members m all h
 known_source set (Below j) all h = tt
@@ -92,12 +106,12 @@ known_nodes model set proof whole all leaf =
 
 -- on no path there are no branches
 no_below : (model : Program) (j : ℕ) (side : Side) → IsSome (source_number model [] (Below j) side) → ⊥
-no_below model j Lo h = h
-no_below model j Up h = h
+no_below model j Lo h = absurd (true≢false (sym h))
+no_below model j Up h = absurd (true≢false (sym h))
 
 no_above : (model : Program) (j : ℕ) (side : Side) → IsSome (source_number model [] (Above j) side) → ⊥
-no_above model j Lo h = h
-no_above model j Up h = h
+no_above model j Lo h = absurd (true≢false (sym h))
+no_above model j Up h = absurd (true≢false (sym h))
 
 printed_source : (model : Program) (set : SetValue) (source : Source) (side : Side) → set ≡ active_set model → All (IsPossibleIn set) set.members
     → IsFrom (active_members model) source → IsSome (source_number model [] source side) → IsPrintedSource model source
@@ -122,3 +136,17 @@ used_of_model model set nodes used whole same = record {
   rows = ap (λ (l : SetValue). l.rows) same ∙ ap (λ (l : SetValue). l.rows) whole;
   columns = ap (λ (l : SetValue). l.columns) same ∙ ap (λ (l : SetValue). l.columns) whole;
 }
+
+-- ---- from what the oracle answers
+-- its proof is one leaf with a combination of the active members
+pub leaf_proof : (model : Program) (set : SetValue) (proof : Proof) (pivots : ℕ) → IsWellFormed model → set ≡ active_set model
+    → IsPlainProof model set.members pivots (Infeasible proof) → IsLeafProof model proof
+leaf_proof model set proof pivots formed whole h = record {
+  combo = h.combo;
+  leaf = h.leaf;
+  combination = subst (λ (l : SetValue). IsCombination model l.members [] h.combo.shares) whole (plain_cut model set.members [] pivots h.combo.shares formed (All-nil (λ (b : Branch). b.column < length model.columns)) h.cut);
+}
+
+-- its stop is that of the run of the active members
+pub stop_end : (model : Program) (set : SetValue) (stop : Stop) (pivots : ℕ) → set ≡ active_set model → IsNodeEnd model set.members [] pivots (Err stop) → IsNodeEnd model (active_members model) [] pivots (Err stop)
+stop_end model set stop pivots whole h = subst (λ (l : SetValue). IsNodeEnd model l.members [] pivots (Err stop)) whole h

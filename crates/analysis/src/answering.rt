@@ -36,10 +36,10 @@ pub(crate) fn first_budgets() -> Budgets
 }
 
 /// The budgets after a command.
-pub(crate) fn after(budgets: Budgets, command: Command) -> Budgets
-    ensures { budgets_of result ≡ budgets_after (budgets_of budgets) command }
+pub(crate) fn after(budgets: Budgets, command: &Command) -> Budgets
+    ensures { budgets_of result ≡ budgets_after (budgets_of budgets) command.now }
 {
-    match command {
+    match *command {
         Command::Check => budgets,
         Command::Iis(_) => budgets,
         Command::Pivots(pivots) => Budgets {

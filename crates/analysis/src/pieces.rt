@@ -1,5 +1,6 @@
 //! The pieces of an analysis: the head with the notes, an entry for each command, the foot.
-ghost use Rattle.std.specs.Prelude.{◌≡◌, All, false};
+ghost use Rattle.std.specs.Prelude.{◌≡◌, ◌<◌, ◌^◌, ◌||◌, All, cond, false};
+ghost use Rattle.analysis.specs.declared.pieces.Want.TheVariants.{Memory};
 ghost use Rattle.lp_model.specs.Members.{active_members, is_mark};
 ghost use Rattle.report_text.specs.Commands.{IsBuilt};
 ghost use Rattle.analysis.specs.Answers.{budgets_of};
@@ -21,7 +22,7 @@ pub enum Want {
 }
 
 impl From<AllocError> for Want {
-    ghost from_gives = { λ _ want. want ≡ Want.Memory };
+    ghost from_gives = { λ _ want. want ≡ Memory };
 
     fn from(_error: AllocError) -> Want {
         Want::Memory
@@ -42,10 +43,17 @@ pub fn analyse<W: Sink>(alloc: Global, model: &Model, script: &Script, out: &mut
     ensures { IsAnalysis W.faults W.taken out.old out.new model.now script.now result }
 {
     match put_report(alloc, model, script.as_slice(), out) {
-        Ok(stopped) => u8::from(stopped),
+        Ok(stopped) => status(stopped),
         Err(Want::Fault) => 4,
         Err(Want::Memory) => 7,
     }
+}
+
+// The status of a report that is put whole.
+fn status(stopped: bool) -> u8
+    ensures { result ≡ cond stopped 1 0 }
+{
+    if stopped { 1 } else { 0 }
 }
 
 // Puts the head, the entries and the foot, and tells whether some answer is a stop.
@@ -107,12 +115,18 @@ fn put_entries<W: Sink>(
     let mut budgets = first_budgets();
     let mut stopped = false;
     for command in commands {
-        if put_entry(alloc, model, budgets, *command, out)? {
-            stopped = true;
-        }
-        budgets = after(budgets, *command);
+        let stops = put_entry(alloc, model, budgets, command, out)?;
+        stopped = is_either(stopped, stops);
+        budgets = after(budgets, command);
     }
     Ok(stopped)
+}
+
+// Whether one of the two is so.
+fn is_either(first: bool, second: bool) -> bool
+    ensures { result ≡ (first || second) }
+{
+    first || second
 }
 
 // Puts the entry of a command, and tells whether its answer is a stop.
@@ -120,17 +134,17 @@ fn put_entry<W: Sink>(
     alloc: Global,
     model: &Model,
     budgets: Budgets,
-    command: Command,
+    command: &Command,
     out: &mut W,
 ) -> Result<bool, Want>
     requires linear { All (λ m. is_mark m ≡ false) (active_members model.now) }
-    requires built { IsBuilt command }
+    requires built { IsBuilt command.now }
     requires few { budgets.pivots < 2 ^ 63 }
-    ensures { EntryPut W.faults W.taken out.old out.new model.now (budgets_of budgets) command result }
+    ensures { EntryPut W.faults W.taken out.old out.new model.now (budgets_of budgets) command.now result }
 {
-    let answer = answer(alloc, model, budgets, command)?;
+    let answer = answer(alloc, model, budgets, *command)?;
     let mut text = Vec::new(alloc);
-    print_entry(model, &command, &answer, &mut text)?;
+    print_entry(model, command, &answer, &mut text)?;
     put(out, text.as_slice())?;
     Ok(is_stop(&answer))
 }
