@@ -9,3 +9,6 @@ mod solve;
 
 pub use oracle::LinearOracle;
 pub use records::{CoreRecord, StopRecord};
+
+#[cfg(test)]
+mod tests;
