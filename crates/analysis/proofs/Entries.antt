@@ -41,11 +41,12 @@ right_front model budgets (c ∷ commands) more (x ∷ entries) h = (h.0, (h.1.0
 -- one number more
 pub numbered_more : (model : Program) (n : ℕ) (entries : List Entry) (e : Entry) → AreNumbered model n entries → e.line ≡ n + length (flat_map (entry_lines model) entries) → AreNumbered model n (entries ++ e ∷ [])
 numbered_more model n [] e h k = (k ∙ (let z : n + 0 ≡ n = omega arith in z), tt)
-numbered_more model n (x ∷ entries) e h k =
-    (h.0,
-    numbered_more model (n + length (entry_lines model x)) entries e h.1
-    (k ∙ (ap (λ z. n + z) (length-append (entry_lines model x) (flat_map (entry_lines model) entries))
-    ∙ (let a = length (entry_lines model x) in let b = length (flat_map (entry_lines model) entries) in let z : n + (a + b) ≡ n + a + b = omega arith in z))))
+numbered_more model n (x ∷ entries) e h k = (
+  h.0,
+  numbered_more model (n + length (entry_lines model x)) entries e h.1
+      (k ∙ (ap (λ z. n + z) (length-append (entry_lines model x) (flat_map (entry_lines model) entries))
+      ∙ (let a = length (entry_lines model x) in let b = length (flat_map (entry_lines model) entries) in let z : n + (a + b) ≡ n + a + b = omega arith in z))),
+)
 
 -- one text more
 pub text_append : (a b : List (List ℕ)) → text_of (a ++ b) ≡ text_of a ++ text_of b

@@ -35,8 +35,10 @@ put_then_none faults taken a b c x p q = record { bytes = q.bytes ∙ p.bytes; q
 -- a front of the second text after the whole first one is a front of both
 pub failed_after : {K : Type 0} (faults : K → ℕ) (taken : K → Option (List ℕ)) (a b c : K) (x y : List ℕ) → PutWhole faults taken a b x → PutFailed faults taken b c y → PutFailed faults taken a c (x ++ y)
 failed_after faults taken a b c x y p q = record {
-  bytes = (length x + q.bytes.0,
-  q.bytes.1 ∙ (ap (option_map (λ z. z ++ take q.bytes.0 y)) p.bytes ∙ (joined (taken a) x (take q.bytes.0 y) ∙ ap (λ t. option_map (λ z. z ++ t) (taken a)) (sym (take-append-add x y q.bytes.0)))));
+  bytes = (
+    length x + q.bytes.0,
+    q.bytes.1 ∙ (ap (option_map (λ z. z ++ take q.bytes.0 y)) p.bytes ∙ (joined (taken a) x (take q.bytes.0 y) ∙ ap (λ t. option_map (λ z. z ++ t) (taken a)) (sym (take-append-add x y q.bytes.0)))),
+  );
   rose = subst (λ n. Rose n (faults c)) p.quiet q.rose;
   kept = subst (λ n. n ≤ faults c) p.quiet q.kept;
 }

@@ -62,8 +62,8 @@ module _ {K : Type 0} (faults : K → ℕ) (taken : K → Option (List ℕ)) (ol
       let entries = a.answers.entries in (
         a.answers,
         subst (λ (t : List ℕ). PutFailed faults taken old new (head_text model ++ (entries_text model entries ++ t))) (sym (tail_is entries a.all))
-        (failed_after faults taken old middle new (head_text model) (entries_text model entries ++ foot_text) h
-        (failed_after faults taken middle late new (entries_text model entries) foot_text p q)),
+            (failed_after faults taken old middle new (head_text model) (entries_text model entries ++ foot_text) h
+            (failed_after faults taken middle late new (entries_text model entries) foot_text p q)),
       )
   foot_err middle late new stopped Memory h (a, p) q =
       (a.answers, inl (put_then_none faults taken old late new (head_text model ++ entries_text model a.answers.entries) (put_two faults taken old middle late (head_text model) (entries_text model a.answers.entries) h p) q))
@@ -75,7 +75,7 @@ module _ {K : Type 0} (faults : K → ℕ) (taken : K → Option (List ℕ)) (ol
       let entries = a.answers.entries in (
         a,
         subst (PutWhole faults taken old new) (sym (whole_parts model entries))
-        (put_two faults taken old middle new (head_text model) (entries_text model entries ++ foot_text) h (put_two faults taken middle late new (entries_text model entries) foot_text p q)),
+            (put_two faults taken old middle new (head_text model) (entries_text model entries ++ foot_text) h (put_two faults taken middle late new (entries_text model entries) foot_text p q)),
       )
 
   -- ---- what it comes to

@@ -10,9 +10,7 @@ ghost use Rattle.report_text.specs.Printing.{IsKnownAnswer};
 ghost use Rattle.analysis.specs.Answers.{IsLeafProof, budgets_of};
 ghost use Rattle.analysis.specs.Right.{IsChecked, Right, budgets_after, first_budgets as budgets_at_first};
 
-use certs::{
-    MemberSet, Oracle, Path, Proof, Site, SiteKind, Stop, Verdict, members_used,
-};
+use certs::{MemberSet, Oracle, Path, Proof, Site, SiteKind, Stop, Verdict, members_used};
 use linear_oracle::LinearOracle;
 use lp_model::Model;
 use report_text::{Answer, Command};
@@ -106,12 +104,7 @@ fn refuted(
 }
 
 // A stop of the run of all active members as an answer, but for want of memory.
-fn stopped(
-    alloc: Global,
-    model: &Model,
-    set: MemberSet,
-    stop: &Stop,
-) -> Result<Answer, AllocError>
+fn stopped(alloc: Global, model: &Model, set: MemberSet, stop: &Stop) -> Result<Answer, AllocError>
     requires whole { set ≡ active_set model.now }
     ensures right { (budgets : Allowed) → IsNodeEnd model.now (active_members model.now) [] budgets.pivots (Err stop.now) → IfOk result (IsChecked model.now budgets) }
     ensures known { IfOk result (IsKnownAnswer model.now) }

@@ -445,9 +445,11 @@ fn budgets(rt: HostRuntime) -> Result<(), Fail> {
 }
 
 // Numbers that are too wide for the second pivot.
-const LONG_NUMBERS: &str = "ROWS\n E c1\n E c2\nCOLUMNS\n x c1 100000000000000003\n x c2 100000000000000009\n y c1 100000000000000009\n y c2 -100000000000000003\nRHS\n c1 1\nENDATA\n";
+const LONG_NUMBERS: &str =
+    "ROWS\n E c1\n E c2\nCOLUMNS\n x c1 100000000000000003\n x c2 100000000000000009\n y c1 100000000000000009\n y c2 -100000000000000003\nRHS\n c1 1\nENDATA\n";
 
-const WIDE_TURN: &str = "iisan report 1\ncommand check\ntoo wide\nsite settle\nstep 2\noperation times -100000000000000009/100000000000000003 -100000000000000009/20000000000000002400000000000000090\nend\n";
+const WIDE_TURN: &str =
+    "iisan report 1\ncommand check\ntoo wide\nsite settle\nstep 2\noperation times -100000000000000009/100000000000000003 -100000000000000009/20000000000000002400000000000000090\nend\n";
 
 const ONE_PIVOT: &str =
     "command budget pivots 1\ndone\ncommand check\npivots spent\nsite settle\nend\nreport end\n";
