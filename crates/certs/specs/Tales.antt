@@ -79,10 +79,11 @@ first_core_after None set (Ok (Feasible point)) = None
 first_core_after None set (Err stop) = None
 
 -- ---- runs of nodes
--- the site is the plain system's of just this set and path
+-- the site is the plain system's of just this set and path, and it has no enforced part
 pub record IsNodeSite (set : List Member) (path : List Branch) (site : Site) : Type 0 where
   pub kind : site.kind ≡ Settle
   pub set_is : site.set.members ≡ set
+  pub none_enforced : site.enforced.members ≡ []
   pub path_is : site.path ≡ path
 
 -- The run of the set on the path ends or stops so. Want of memory may come at any time.

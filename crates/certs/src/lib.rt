@@ -39,7 +39,7 @@ pub use run_laws::{
     pivot_keeps_system, plain_cut_refutes, plain_is_formed, plain_point_keeps_path,
     plain_point_satisfies, settled_is_solution, start_is_of_system,
 };
-pub use solving::{NodeEnd, Path, Site, SiteKind, Stop, Stretched, Verdict};
+pub use solving::{Irreducible, NodeEnd, Path, Site, SiteKind, Stop, Stretched, Verdict};
 pub use systems::{Limits, System};
 
 #[cfg(test)]

@@ -105,3 +105,15 @@ pub enum Stretched {
     Stretched(MemberSet),
     Cut(Combo),
 }
+
+/// What a filter gives: an irreducible set, with a point for each member in member order that satisfies the others, and
+/// a proof that none satisfies them all; or a point that satisfies the whole set.
+#[derive(Drop)]
+pub enum Irreducible {
+    Set {
+        members: MemberSet,
+        witnesses: Vec<Point>,
+        proof: Proof,
+    },
+    Feasible(Point),
+}

@@ -10,6 +10,7 @@ use report_text::{Command, CommandStop, read_command};
 use std::alloc::{AllocError, AllocFailed, Global};
 use std::marker::Model;
 use text_fields::{after_line, next_line};
+use thiserror::Error;
 
 // The most bytes that a line may have, its end not counted.
 const LONGEST_LINE: usize = 65_536;
@@ -50,9 +51,11 @@ impl Script {
 }
 
 /// Why a text was not read as a script: its first bad line, by its number from 1, or want of memory.
-#[derive(Clone, Copy, PartialEq, Eq, Debug)]
+#[derive(Clone, Copy, PartialEq, Eq, Debug, Error)]
 pub enum ScriptStop {
+    #[error("bad line {0}")]
     BadLine(u32),
+    #[error("want of memory")]
     Memory,
 }
 

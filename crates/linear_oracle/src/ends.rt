@@ -124,8 +124,7 @@ pub(crate) fn stop_end(alloc: Global, set: &MemberSet, path: &[Branch], stop: Ru
 
 // The site of a set's plain system on a path.
 fn settle_site(alloc: Global, set: &MemberSet, path: &[Branch]) -> Result<Site, AllocError>
-    ensures site { IfOk result (IsNodeSite set.now.members path.now) }
-    ensures enforced { IfOk result (λ site. site.enforced.members ≡ []) }
+    ensures { IfOk result (IsNodeSite set.now.members path.now) }
 {
     Ok(Site {
         kind: SiteKind::Settle,

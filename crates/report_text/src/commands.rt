@@ -9,14 +9,17 @@ ghost use Rattle.report_text.specs.declared.commands.CommandStop.{CommandStop};
 use crate::report::Command;
 use std::alloc::Global;
 use text_fields::{FieldStop, Line, Span, fields};
+use thiserror::Error;
 
 // The most pivots that a budget may be.
 const MOST_PIVOTS: u64 = 1_000_000;
 
 /// Why a line was not read as a command: it is none, or memory was refused.
-#[derive(Clone, Copy, PartialEq, Eq, Debug)]
+#[derive(Clone, Copy, PartialEq, Eq, Debug, Error)]
 pub enum CommandStop {
+    #[error("bad command")]
     Bad,
+    #[error("want of memory")]
     Memory,
 }
 

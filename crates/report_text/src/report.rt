@@ -4,6 +4,7 @@ ghost use Rattle.std.specs.Prelude.{◌≡◌};
 use certs::{Point, Proof, Stop};
 use lp_model::{MemberSet, Note};
 use std::marker::Model;
+use thiserror::Error;
 
 /// How an irreducible set of members is looked for.
 #[derive(Clone, Copy, PartialEq, Eq, Debug)]
@@ -176,9 +177,12 @@ pub struct Report {
 ///
 /// `BadLine` has the number of the first whole line with which no report goes on. `Truncated` comes where every whole
 /// line is right and the bytes end before the report does. `Memory` comes where memory was refused.
-#[derive(Clone, Copy, PartialEq, Eq, Debug)]
+#[derive(Clone, Copy, PartialEq, Eq, Debug, Error)]
 pub enum ReportStop {
+    #[error("bad line {0}")]
     BadLine(u64),
+    #[error("truncated")]
     Truncated,
+    #[error("want of memory")]
     Memory,
 }
