@@ -1,3 +1,5 @@
 pub mod Sets
 pub mod Proofs
 pub mod Reducing
+pub mod Witnessed
+pub mod Reached

@@ -4,7 +4,7 @@ use Rattle.std.specs.Prelude.{All, Contains, Result, OnOk}
 use Rattle.std.specs.List.{list_any}
 use Rattle.std.proofs.lemmas.List.Elements.{All-contains, All-filter, All-contains_itself}
 use Rattle.lp_model.specs.declared.members.Member.{Member}
-use Rattle.lp_model.specs.Members.{has}
+use Rattle.lp_model.specs.Members.{has, IsInOrder}
 use Rattle.lp_model.specs.MemberSets.{SetValue, IsMemberFor, IsPossibleIn, possible_in, set_without}
 use Rattle.lp_model.specs.Program.{Program}
 use Rattle.certs.specs.declared.evidence.Node.{Node}
@@ -18,13 +18,15 @@ use Rattle.certs.specs.Proof.{IsProof}
 use Rattle.certs.specs.Tales.{IsVerdict}
 use Rattle.filter_steps.specs.Isolated.{IsPointFor}
 use Rattle.filter_steps.specs.Reductions.{IsReduction, Tried, stays, goes}
-use Rattle.filter_steps.proofs.Sets.{rest_is_part}
+use Rattle.filter_steps.proofs.Sets.{rest_in_order, rest_is_part, rest_is_possible}
 use Rattle.filter_steps.proofs.Proofs.{proof_without, used_tells}
 
 -- at first
-pub reduction_starts : (model : Program) (set : SetValue) (nodes : List Node) → IsSetOf model set → IsProof model set.members nodes → IsReduction model set (used_set set nodes) nodes
-reduction_starts model set nodes same p = record {
+pub reduction_starts : (model : Program) (set : SetValue) (nodes : List Node) → IsSetOf model set → set.members ≡ filter (has set.members) (possible_in set) → IsInOrder set.members → IsProof model set.members nodes → IsReduction model set (used_set set nodes) nodes
+reduction_starts model set nodes same is order p = record {
   left_sized = same;
+  possible = is;
+  in_order = order;
   used_sized = record { rows = same.rows; columns = same.columns };
   proof = p;
   uses = used_tells set nodes;
@@ -34,6 +36,8 @@ reduction_starts model set nodes same p = record {
 pub unused_goes : (model : Program) (left used : SetValue) (nodes : List Node) (m : Member) → IsReduction model left used nodes → Contains left.members m → has used.members m ≡ false → IsReduction model (set_without left m) used nodes
 unused_goes model left used nodes m r c none = record {
   left_sized = record { rows = r.left_sized.rows; columns = r.left_sized.columns };
+  possible = rest_is_possible left m r.possible;
+  in_order = rest_in_order left m r.in_order;
   used_sized = r.used_sized;
   proof = proof_without model left m nodes (sym (r.uses m c) ∙ none) r.proof;
   uses = λ n d. r.uses n (All-contains (Contains left.members) (set_without left m).members n (rest_is_part left m) d);
@@ -49,7 +53,9 @@ pub refuted : (model : Program) (left used : SetValue) (before : List Node) (m :
     → removed ≡ set_without left m → IsProof model removed.members proof.nodes → left_now ≡ removed → used_now ≡ used_set removed proof.nodes → proof_now ≡ proof → IsReduction model left_now used_now proof_now.nodes
 refuted model left used before m removed left_now used_now proof proof_now r e p f u q =
     let sized : IsSetOf model removed = subst (IsSetOf model) (sym e) (record { rows = r.left_sized.rows; columns = r.left_sized.columns }) in
-    same_reduction model removed left_now (used_set removed proof.nodes) used_now proof.nodes proof_now.nodes f u (ap (λ (x : Proof). x.nodes) q) (reduction_starts model removed proof.nodes sized p)
+    let is : removed.members ≡ filter (has removed.members) (possible_in removed) = subst (λ (s : SetValue). s.members ≡ filter (has s.members) (possible_in s)) (sym e) (rest_is_possible left m r.possible) in
+    let order : IsInOrder removed.members = subst (λ (s : SetValue). IsInOrder s.members) (sym e) (rest_in_order left m r.in_order) in
+    same_reduction model removed left_now (used_set removed proof.nodes) used_now proof.nodes proof_now.nodes f u (ap (λ (x : Proof). x.nodes) q) (reduction_starts model removed proof.nodes sized is order p)
 
 -- ---- what was asked
 pub point_of_verdict : (model : Program) (members : List Member) (v : Verdict) (p : Point) → v ≡ Feasible p → IsVerdict model members v → IsPointFor model members p

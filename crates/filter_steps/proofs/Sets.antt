@@ -1,12 +1,13 @@
 -- Members taken out of a set, and put back.
-use Rattle.std.proofs.Common.{◌≡◌, ◌<◌, ◌≤◌, refl, sym, ◌∙◌, ap, subst, ℕ, zero, suc, Bool, true, false, true≢false, cond, not, ◌||◌, List, [], ◌∷◌, ◌++◌, length, get_or, filter, arith}
+use Rattle.std.proofs.Common.{◌≡◌, ◌<◌, ◌≤◌, refl, sym, ◌∙◌, ap, subst, ℕ, zero, suc, Bool, true, false, true≢false, cond, not, ◌&&◌, ◌||◌, List, [], ◌∷◌, ◌++◌, length, get_or, filter, arith}
 use Rattle.std.specs.Prelude.{All, Contains}
 use Rattle.std.proofs.lemmas.List.Elements.{All-weaker, All-contains, All-contains_itself, All-filter, All-head, All-tail, filter-append}
+use Rattle.std.proofs.lemmas.List.Kept.{AllPairs-filter}
 use Rattle.lp_model.specs.declared.members.Member.{Member}
 use Rattle.lp_model.specs.Members.{comes_before, has, is_same, IsInOrder}
 use Rattle.lp_model.specs.MemberSets.{SetValue, IsPossibleIn, possible_in, set_with, set_without}
 use Rattle.lp_model.specs.Satisfaction.{IsPart}
-use Rattle.lp_model.proofs.Marked.{possible_is}
+use Rattle.lp_model.proofs.Marked.{possible_is, is_what_it_has}
 use Rattle.lp_model.proofs.Orders.{not_itself}
 use Rattle.lp_model.proofs.Sets.{same_members, same_self, has_of_contains}
 use Rattle.certs.proofs.HasLists.{agree_on, has_kept}
@@ -32,6 +33,26 @@ put_back set m is c = ap (λ (l : List Member). record set { members = l }) (agr
 -- what is left without a member is a part
 pub rest_is_part : (set : SetValue) (m : Member) → IsPart (set_without set m).members set.members
 rest_is_part set m = All-filter (λ n. not (is_same n m)) (Contains set.members) set.members (All-contains_itself set.members)
+
+-- what is left of possible members is possible, too
+filter_twice : {A : Type 0} (p q : A → Bool) (xs : List A) → filter q (filter p xs) ≡ filter (λ x. p x && q x) xs
+filter_twice p q [] = refl
+filter_twice {A} p q (x ∷ xs) = go (p x) (filter_twice p q xs)
+  where
+    go : (b : Bool) → filter q (filter p xs) ≡ filter (λ x. p x && q x) xs → filter q (cond b (x ∷ filter p xs) (filter p xs)) ≡ cond (b && q x) (x ∷ filter (λ x. p x && q x) xs) (filter (λ x. p x && q x) xs)
+    go true rest = ap (λ ys. cond (q x) (x ∷ ys) ys) rest
+    go false rest = rest
+
+pub rest_is_possible : (set : SetValue) (m : Member) → set.members ≡ filter (has set.members) (possible_in set) → (set_without set m).members ≡ filter (has (set_without set m).members) (possible_in set)
+rest_is_possible set m is =
+    let test : Member → Bool = λ n. not (is_same n m) in
+    let both : Member → Bool = λ n. has set.members n && test n in
+    let joined : filter test set.members ≡ filter both (possible_in set) = ap (filter test) is ∙ filter_twice (has set.members) test (possible_in set) in
+    joined ∙ (is_what_it_has both (possible_in set) ∙ ap (λ (l : List Member). filter (has l) (possible_in set)) (sym joined))
+
+-- and in order
+pub rest_in_order : (set : SetValue) (m : Member) → IsInOrder set.members → IsInOrder (set_without set m).members
+rest_in_order set m order = AllPairs-filter (λ a b. comes_before a b ≡ true) (λ n. not (is_same n m)) set.members order
 
 -- ---- lists in order
 pairs_head : (m : Member) (list : List Member) → IsInOrder (m ∷ list) → All (λ n. comes_before m n ≡ true) list

@@ -1,9 +1,9 @@
 -- A set that is being reduced: no point satisfies it, and members are taken out one by one.
-use Rattle.std.specs.Prelude.{◌≡◌, Bool, true, List, [], ◌∷◌, ◌++◌, Contains}
+use Rattle.std.specs.Prelude.{◌≡◌, Bool, true, List, [], ◌∷◌, ◌++◌, filter, Contains}
 use Rattle.std.specs.List.{list_any}
 use Rattle.lp_model.specs.declared.members.Member.{Member}
-use Rattle.lp_model.specs.Members.{has}
-use Rattle.lp_model.specs.MemberSets.{SetValue, set_without}
+use Rattle.lp_model.specs.Members.{has, IsInOrder}
+use Rattle.lp_model.specs.MemberSets.{SetValue, possible_in, set_without}
 use Rattle.lp_model.specs.Program.{Program}
 use Rattle.certs.specs.declared.evidence.Point.{Point}
 use Rattle.certs.specs.declared.evidence.Node.{Node}
@@ -12,9 +12,11 @@ use Rattle.certs.specs.Named.{node_uses}
 use Rattle.certs.specs.Proof.{IsProof}
 use Rattle.filter_steps.specs.Isolated.{IsPointFor}
 
--- a set of members of the program, a proof that no point satisfies it, and which of its members the proof uses
+-- a set of members of the program, in order; a proof that no point satisfies it; and which of its members the proof uses
 pub record IsReduction (model : Program) (left used : SetValue) (nodes : List Node) : Type 0 where
   pub left_sized : IsSetOf model left
+  pub possible : left.members ≡ filter (has left.members) (possible_in left)
+  pub in_order : IsInOrder left.members
   pub used_sized : IsSetOf model used
   pub proof : IsProof model left.members nodes
   pub uses : (m : Member) → Contains left.members m → has used.members m ≡ list_any (node_uses m) nodes

@@ -118,14 +118,11 @@ pub fn try_without<O: Oracle>(
     ensures budgets { O.budgets oracle.new ≡ O.budgets oracle.old }
     ensures serves { (s : List OneMember) → O.serves oracle.new s ≡ O.serves oracle.old s }
 {
-    // That the members that are left may be in a set, and stand in order, is told with their count.
-    let _count = reduction.left.count();
     let is_used = reduction.used.contains(member);
     reduction.left.remove(member);
     if !is_used {
         return Ok(());
     }
-    let _others = reduction.left.count();
     let verdict = oracle.ask(alloc, &reduction.left)?;
     match verdict {
         Verdict::Feasible(point) => reduction.keep(member, point),

@@ -1,12 +1,13 @@
-use Rattle.std.proofs.Common.{◌≡◌, refl, sym, ◌∙◌, ap, subst, false, List}
+use Rattle.std.proofs.Common.{◌≡◌, refl, sym, ◌∙◌, ap, subst, false, filter, List}
 use Rattle.lp_model.specs.declared.members.Member.{Member}
-use Rattle.lp_model.specs.MemberSets.{SetValue, IsPossibleIn, set_with, set_without}
+use Rattle.lp_model.specs.Members.{has}
+use Rattle.lp_model.specs.MemberSets.{SetValue, IsPossibleIn, possible_in, set_with, set_without}
 use Rattle.certs.specs.declared.evidence.Proof.{Proof}
 use Rattle.certs.specs.Named.{used_set}
 use Rattle.certs.specs.Proof.{IsProof}
 use Rattle.filter_steps.specs.Isolated.{IsPointFor}
 use Rattle.filter_steps.specs.Reductions.{IsReduction}
-use Rattle.filter_steps.proofs.Sets.{is_possible, put_back}
+use Rattle.filter_steps.proofs.Sets.{is_possible, put_back, rest_is_possible}
 use Rattle.filter_steps.proofs.Proofs.{known_nodes}
 use Rattle.filter_steps.proofs.Reducing.{unused_goes, refuted, point_of_verdict, proof_of_verdict, on_ok, on_ok_both, on_ok_then, tried_stays, tried_goes, same_reduction, possible_in_used}
 use Rattle.filter_steps.proofs.reduction.try_without.Goals as goal
@@ -14,10 +15,10 @@ use Rattle.filter_steps.proofs.reduction.try_without.Goals as goal
 pub contains-is_used-requires : goal.contains-is_used-requires
 contains-is_used-requires g c =
     possible_in_used (g.O.Oracle.model c.args.oracle.now) c.args.reduction.now.left c.args.reduction.now.used c.args.reduction.now.proof.nodes c.args.member c.requires.reduced
-    (is_possible c.args.reduction.now.left c.args.member c.count-count.ensures.possible c.requires.there)
+    (is_possible c.args.reduction.now.left c.args.member c.requires.reduced.possible c.requires.there)
 
 pub remove-requires : goal.remove-requires
-remove-requires g c = is_possible c.args.reduction.now.left c.args.member c.count-count.ensures.possible c.requires.there
+remove-requires g c = is_possible c.args.reduction.now.left c.args.member c.requires.reduced.possible c.requires.there
 
 pub returns-then-not-is_used-clause-reduced : goal.returns-then-not-is_used-clause-reduced
 returns-then-not-is_used-clause-reduced g c =
@@ -31,18 +32,19 @@ returns-then-not-is_used-clause-tried g c =
 
 pub keep-requires : goal.keep-requires
 keep-requires g c =
-    subst (λ (s : SetValue). IsPossibleIn s c.args.member) (sym c.remove.ensures) (is_possible c.args.reduction.now.left c.args.member c.count-count.ensures.possible c.requires.there)
+    subst (λ (s : SetValue). IsPossibleIn s c.args.member) (sym c.remove.ensures) (is_possible c.args.reduction.now.left c.args.member c.requires.reduced.possible c.requires.there)
 
 pub refute-requires : goal.refute-requires
 refute-requires g c =
-    known_nodes (g.O.Oracle.model c.args.oracle.now) c.remove.new.self c.in-Infeasible.proof.nodes c.count-others.ensures.possible
+    known_nodes (g.O.Oracle.model c.args.oracle.now) c.remove.new.self c.in-Infeasible.proof.nodes
+    (subst (λ (s : SetValue). s.members ≡ filter (has s.members) (possible_in s)) (sym c.remove.ensures) (rest_is_possible c.args.reduction.now.left c.args.member c.requires.reduced.possible))
     (proof_of_verdict (g.O.Oracle.model c.args.oracle.now) c.remove.new.self.members c.in_ok-verdict.verdict c.in-Infeasible.proof c.in-Infeasible.is c.in_ok-verdict.ensures.verdict)
 
 pub returns-in-Feasible-clause-reduced : goal.returns-in-Feasible-clause-reduced
 returns-in-Feasible-clause-reduced g c =
     let r = c.args.reduction.now in
     let model = g.O.Oracle.model c.args.oracle.now in
-    let whole = c.keep.ensures.left ∙ (ap (λ (s : SetValue). set_with s c.args.member) c.remove.ensures ∙ put_back r.left c.args.member c.count-count.ensures.possible c.requires.there) in
+    let whole = c.keep.ensures.left ∙ (ap (λ (s : SetValue). set_with s c.args.member) c.remove.ensures ∙ put_back r.left c.args.member c.requires.reduced.possible c.requires.there) in
     on_ok c.keep.result (IsReduction model c.keep.new.self.left c.keep.new.self.used c.keep.new.self.proof.nodes)
     (same_reduction model r.left c.keep.new.self.left r.used c.keep.new.self.used r.proof.nodes c.keep.new.self.proof.nodes whole c.keep.ensures.used (ap (λ (p : Proof). p.nodes) c.keep.ensures.proof) c.requires.reduced)
 
@@ -50,7 +52,7 @@ pub returns-in-Feasible-clause-tried : goal.returns-in-Feasible-clause-tried
 returns-in-Feasible-clause-tried g c =
     let r = c.args.reduction.now in
     let model = g.O.Oracle.model c.args.oracle.now in
-    let whole = c.keep.ensures.left ∙ (ap (λ (s : SetValue). set_with s c.args.member) c.remove.ensures ∙ put_back r.left c.args.member c.count-count.ensures.possible c.requires.there) in
+    let whole = c.keep.ensures.left ∙ (ap (λ (s : SetValue). set_with s c.args.member) c.remove.ensures ∙ put_back r.left c.args.member c.requires.reduced.possible c.requires.there) in
     let point = subst (λ (s : SetValue). IsPointFor model s.members c.in-Feasible.point) c.remove.ensures (point_of_verdict model c.remove.new.self.members c.in_ok-verdict.verdict c.in-Feasible.point c.in-Feasible.is c.in_ok-verdict.ensures.verdict) in
     on_ok_then c.keep.result _ _ (λ w. tried_stays model r.left c.keep.new.self.left r.witnesses.items c.keep.new.self.witnesses.items c.args.member c.in-Feasible.point point whole w) c.keep.ensures.witnesses
 
