@@ -3,3 +3,4 @@ pub mod Proofs
 pub mod Reducing
 pub mod Witnessed
 pub mod Reached
+pub mod Answering

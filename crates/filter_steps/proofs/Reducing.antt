@@ -1,5 +1,5 @@
 -- A set that is being reduced.
-use Rattle.std.proofs.Common.{◌≡◌, refl, sym, ◌∙◌, ap, subst, Bool, true, false, filter, List, [], ◌∷◌, ◌++◌, Ok, Err}
+use Rattle.std.proofs.Common.{◌≡◌, refl, sym, ◌∙◌, ap, subst, Bool, true, false, filter, List, [], ◌∷◌, ◌++◌, append-nil, Ok, Err}
 use Rattle.std.specs.Prelude.{All, Contains, Result, OnOk}
 use Rattle.std.specs.List.{list_any}
 use Rattle.std.proofs.lemmas.List.Elements.{All-contains, All-filter, All-contains_itself}
@@ -15,8 +15,10 @@ use Rattle.certs.specs.declared.solving.Verdict.TheVariants.{Feasible, Infeasibl
 use Rattle.certs.specs.Checks.{IsSetOf}
 use Rattle.certs.specs.Named.{node_uses, used_set}
 use Rattle.certs.specs.Proof.{IsProof}
-use Rattle.certs.specs.Tales.{IsVerdict}
-use Rattle.filter_steps.specs.Isolated.{IsPointFor}
+use Rattle.certs.specs.declared.solving.Stop.{Stop}
+use Rattle.certs.specs.declared.solving.Stop.TheVariants.{Memory}
+use Rattle.certs.specs.Tales.{IsVerdict, Stopped, listed_stop}
+use Rattle.filter_steps.specs.Isolated.{IsPointFor, IsStoppedAt}
 use Rattle.filter_steps.specs.Reductions.{IsReduction, Tried, stays, goes}
 use Rattle.filter_steps.proofs.Sets.{rest_in_order, rest_is_part, rest_is_possible}
 use Rattle.filter_steps.proofs.Proofs.{proof_without, used_tells}

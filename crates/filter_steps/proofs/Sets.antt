@@ -79,6 +79,11 @@ keeps_all : (test : Member → Bool) (list : List Member) → All (λ n. test n 
 keeps_all test [] h = refl
 keeps_all test (n ∷ list) h = ap (λ b. cond b (n ∷ filter test list) (filter test list)) (All-head (λ m. test m ≡ true) n list h) ∙ ap (λ l. n ∷ l) (keeps_all test list (All-tail (λ m. test m ≡ true) n list h))
 
+-- a member in the middle of a list
+pub in_middle : (front : List Member) (m : Member) (back : List Member) → Contains (front ++ m ∷ back) m
+in_middle [] m back = (0, (let l : 0 < suc (length back) = omega arith in l), refl)
+in_middle (k ∷ front) m back = let c : Contains (front ++ m ∷ back) m = in_middle front m back in (suc c.0, (let g : c.0 < length (front ++ m ∷ back) = c.1 in let l : suc c.0 < suc (length (front ++ m ∷ back)) = omega arith in l), c.2)
+
 -- a list in order without one of its members
 pub list_without : (front : List Member) (m : Member) (back : List Member) → IsInOrder (front ++ m ∷ back) → filter (λ n. not (is_same n m)) (front ++ m ∷ back) ≡ front ++ back
 list_without [] m back h =
@@ -88,10 +93,6 @@ list_without (n ∷ front) m back h =
     ap (λ b. cond (not b) (n ∷ filter (λ n. not (is_same n m)) (front ++ m ∷ back)) (filter (λ n. not (is_same n m)) (front ++ m ∷ back)))
     (before_is_other n m (All-contains (λ k. comes_before n k ≡ true) (front ++ m ∷ back) m (pairs_head n (front ++ m ∷ back) h) (in_middle front m back)))
     ∙ ap (λ l. n ∷ l) (list_without front m back (pairs_tail n (front ++ m ∷ back) h))
-  where
-    in_middle : (front : List Member) (m : Member) (back : List Member) → Contains (front ++ m ∷ back) m
-    in_middle [] m back = (0, (let l : 0 < suc (length back) = omega arith in l), refl)
-    in_middle (k ∷ front) m back = let c : Contains (front ++ m ∷ back) m = in_middle front m back in (suc c.0, (let g : c.0 < length (front ++ m ∷ back) = c.1 in let l : suc c.0 < suc (length (front ++ m ∷ back)) = omega arith in l), c.2)
 
 -- a set that is so, without that member
 pub set_without_middle : (set : SetValue) (front : List Member) (m : Member) (back : List Member) → set.members ≡ front ++ m ∷ back → IsInOrder set.members → (set_without set m).members ≡ front ++ back
