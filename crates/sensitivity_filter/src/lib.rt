@@ -1,0 +1,6 @@
+//! What a late filter leaves of the first core.
+#![tactic(auto)]
+
+mod sensitivity;
+
+pub use sensitivity::isolate;
