@@ -1,0 +1,126 @@
+//! The additive filter.
+ghost use Rattle.std.specs.Prelude.{◌≡◌, ◌≤◌, ◌+◌, ◌↔◌, false, true, Some, IfErr, IfOk, IsTrue, List, OnOk, length, reverse};
+ghost use Rattle.lp_model.specs.declared.members.Member.{Member as OneMember};
+ghost use Rattle.lp_model.specs.Satisfaction.{IsIrreducible, IsPart, IsSatisfiable};
+ghost use Rattle.certs.specs.Checks.{IsSetOf};
+ghost use Rattle.certs.specs.Filter.{Early, IsEarlyTest};
+ghost use Rattle.certs.specs.Proof.{IsProof};
+ghost use Rattle.certs.specs.Tales.{FirstCore};
+ghost use Rattle.filter_steps.specs.Isolated.{AreWitnesses, IfFeasible, IfSet, IsPointFor, IsStoppedAt, is_feasible};
+
+use certs::{Irreducible, MemberSet, Oracle, Point, Proof, Stop, Verdict};
+use filter_steps::{Reduction, try_without};
+use lp_model::Member;
+use std::alloc::{AllocError, Global};
+
+/// What stays of a set when its members are tried from the last one back, each with all before it and those that stay
+/// after it: a member stays where the others can be satisfied. Or a point that satisfies the set.
+///
+/// This is what the additive method finds (Tamiz, Mardle and Jones, *Detecting IIS in infeasible linear programmes using
+/// techniques from goal programming*, 1996): it adds members in member order until no point satisfies them, keeps the one
+/// that was added last, and begins again with those that stay. `adding_gives_early` says that it comes to these members.
+/// They are found here from the last one back, since that asks less often: once for the whole set, and then once for
+/// each member that the last proof uses. A witness comes from one ask, and no two members have the same one, so no
+/// filter asks less often than once for each member that stays, and once more; this one asks besides only where a proof
+/// is replaced.
+///
+/// # Errors
+///
+/// The stop of an ask: of the whole set, or of a set that an early filter may ask for.
+pub fn isolate<O: Oracle>(
+    alloc: Global,
+    oracle: &mut O,
+    set: &MemberSet,
+) -> Result<Irreducible, Stop>
+    requires same { IsSetOf (O.model oracle.old) set.now }
+    requires served { O.serves oracle.old set.now.members ≡ true }
+    ensures early { IfOk result (IfSet (λ core. Early (O.model oracle.old) set.now.members core.set.members)) }
+    ensures proof { IfOk result (IfSet (λ core. IsProof (O.model oracle.old) core.set.members core.nodes)) }
+    ensures witnesses { IfOk result (IfSet (λ core. AreWitnesses (O.model oracle.old) core.set.members core.witnesses)) }
+    ensures irreducible { IfOk result (IfSet (λ core. IsIrreducible (O.model oracle.old) core.set.members)) }
+    ensures same { IfOk result (IfSet (λ core. IsSetOf (O.model oracle.old) core.set)) }
+    ensures point { IfOk result (IfFeasible (IsPointFor (O.model oracle.old) set.now.members)) }
+    // A point comes exactly where the set can be satisfied.
+    ensures which { IfOk result (λ answer. IsTrue (is_feasible answer) ↔ IsSatisfiable (O.model oracle.old) set.now.members) }
+    ensures stop { IfErr result (IsStoppedAt (IsEarlyTest (O.model oracle.old) set.now.members) (O.stops oracle.old) (O.stops oracle.new)) }
+    ensures quiet { OnOk result (O.stops oracle.new ≡ O.stops oracle.old) }
+
+    // At most one ask more than the set has members; the rest of the tale stays.
+    ensures asks { O.asks oracle.old ≤ O.asks oracle.new }
+    ensures few { O.asks oracle.new ≤ O.asks oracle.old + length set.now.members + 1 }
+    ensures first_core { (first : FirstCore) → O.first_core oracle.old ≡ Some first → O.first_core oracle.new ≡ Some first }
+    ensures model { O.model oracle.new ≡ O.model oracle.old }
+    ensures budgets { O.budgets oracle.new ≡ O.budgets oracle.old }
+    ensures serves { (s : List OneMember) → O.serves oracle.new s ≡ O.serves oracle.old s }
+{
+    let verdict = oracle.ask(alloc, set)?;
+    match verdict {
+        Verdict::Feasible(point) => Ok(Irreducible::Feasible(point)),
+        Verdict::Infeasible(proof) => isolate_refuted(alloc, oracle, set, proof),
+    }
+}
+
+// The same of a set that a proof shows to be unsatisfiable.
+fn isolate_refuted<O: Oracle>(
+    alloc: Global,
+    oracle: &mut O,
+    set: &MemberSet,
+    proof: Proof,
+) -> Result<Irreducible, Stop>
+    requires same { IsSetOf (O.model oracle.old) set.now }
+    requires served { (part : List OneMember) → IsPart part set.now.members → O.serves oracle.old part ≡ true }
+    requires proof { IsProof (O.model oracle.old) set.now.members proof.nodes }
+    ensures set { IfOk result (λ answer. is_feasible answer ≡ false) }
+    ensures early { IfOk result (IfSet (λ core. Early (O.model oracle.old) set.now.members core.set.members)) }
+    ensures proof { IfOk result (IfSet (λ core. IsProof (O.model oracle.old) core.set.members core.nodes)) }
+    ensures witnesses { IfOk result (IfSet (λ core. AreWitnesses (O.model oracle.old) core.set.members core.witnesses)) }
+    ensures irreducible { IfOk result (IfSet (λ core. IsIrreducible (O.model oracle.old) core.set.members)) }
+    ensures same { IfOk result (IfSet (λ core. IsSetOf (O.model oracle.old) core.set)) }
+    ensures stop { IfErr result (IsStoppedAt (IsEarlyTest (O.model oracle.old) set.now.members) (O.stops oracle.old) (O.stops oracle.new)) }
+    ensures quiet { OnOk result (O.stops oracle.new ≡ O.stops oracle.old) }
+
+    // At most one ask for each member; the rest of the tale stays.
+    ensures asks { O.asks oracle.old ≤ O.asks oracle.new }
+    ensures few { O.asks oracle.new ≤ O.asks oracle.old + length set.now.members }
+    ensures first_core { (first : FirstCore) → O.first_core oracle.old ≡ Some first → O.first_core oracle.new ≡ Some first }
+    ensures model { O.model oracle.new ≡ O.model oracle.old }
+    ensures budgets { O.budgets oracle.new ≡ O.budgets oracle.old }
+    ensures serves { (s : List OneMember) → O.serves oracle.new s ≡ O.serves oracle.old s }
+{
+    // That the members of the set may be in it, and stand in order, is told with their count.
+    let _count = set.count();
+    let Ok(mut front) = listed(alloc, set) else {
+        return Err(Stop::Memory);
+    };
+    let Ok(mut reduction) = Reduction::new(alloc, set, proof) else {
+        return Err(Stop::Memory);
+    };
+    while let Some(member) = front.pop() {
+        try_without(alloc, oracle, &mut reduction, member)?;
+    }
+    // The last member was tried first.
+    turn(&mut reduction.witnesses);
+    Ok(reduction.into_answer())
+}
+
+// The members of a set, as a list.
+fn listed(alloc: Global, set: &MemberSet) -> Result<Vec<Member>, AllocError>
+    ensures { IfOk result (λ list. list.items ≡ set.now.members) }
+{
+    // That the members of the set may be in it, and stand in order, is told with their count.
+    let _count = set.count();
+    let mut list = Vec::new(alloc);
+    let mut after = None;
+    while let Some(member) = set.next(after) {
+        list.push(member)?;
+        after = Some(member);
+    }
+    Ok(list)
+}
+
+// Puts points into the other order.
+fn turn(points: &mut Vec<Point>)
+    ensures { points.new.items ≡ reverse points.old.items }
+{
+    points.as_mut_slice().reverse();
+}
