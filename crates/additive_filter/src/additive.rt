@@ -9,9 +9,8 @@ ghost use Rattle.certs.specs.Tales.{FirstCore};
 ghost use Rattle.filter_steps.specs.Isolated.{AreWitnesses, IfFeasible, IfSet, IsPointFor, IsStoppedAt, is_feasible};
 
 use certs::{Irreducible, MemberSet, Oracle, Point, Proof, Stop, Verdict};
-use filter_steps::{Reduction, try_without};
-use lp_model::Member;
-use std::alloc::{AllocError, Global};
+use filter_steps::{Reduction, listed, try_without};
+use std::alloc::Global;
 
 /// What stays of a set when its members are tried from the last one back, each with all before it and those that stay
 /// after it: a member stays where the others can be satisfied. Or a point that satisfies the set.
@@ -101,21 +100,6 @@ fn isolate_refuted<O: Oracle>(
     // The last member was tried first.
     turn(&mut reduction.witnesses);
     Ok(reduction.into_answer())
-}
-
-// The members of a set, as a list.
-fn listed(alloc: Global, set: &MemberSet) -> Result<Vec<Member>, AllocError>
-    ensures { IfOk result (λ list. list.items ≡ set.now.members) }
-{
-    // That the members of the set may be in it, and stand in order, is told with their count.
-    let _count = set.count();
-    let mut list = Vec::new(alloc);
-    let mut after = None;
-    while let Some(member) = set.next(after) {
-        list.push(member)?;
-        after = Some(member);
-    }
-    Ok(list)
 }
 
 // Puts points into the other order.

@@ -2,7 +2,7 @@ use Rattle.std.proofs.Common.{◌≡◌, sym, ◌∙◌, ap, List, [], ◌∷◌
 use Rattle.lp_model.specs.declared.members.Member.{Member}
 use Rattle.lp_model.specs.MemberSets.{follows}
 use Rattle.certs.proofs.Walk.{all_follow, fewer_follow, next_possible, next_step, none_follow}
-use Rattle.additive_filter.proofs.additive.listed.Goals as goal
+use Rattle.filter_steps.proofs.listing.listed.Goals as goal
 
 pub loop-member-init : goal.loop-member-init
 loop-member-init c =

@@ -1,7 +1,7 @@
 use Rattle.std.proofs.Common.{◌≡◌, ◌++◌, MatchOption, filter, length}
 use Rattle.std.specs.Prelude.{⊤}
 use Rattle.lp_model.specs.MemberSets.{IsPossibleIn, follows}
-use Rattle.additive_filter.proofs.additive.listed.Given as goal
+use Rattle.filter_steps.proofs.listing.listed.Given as goal
 
 -- the members that follow are still to come
 abbrev pub invariant-loop-member : goal.invariant-loop-member

@@ -1,0 +1,21 @@
+//! The members of a set, as a list.
+ghost use Rattle.std.specs.Prelude.{◌≡◌, IfOk};
+
+use certs::MemberSet;
+use lp_model::Member;
+use std::alloc::{AllocError, Global};
+
+/// The members of a set, in member order.
+pub fn listed(alloc: Global, set: &MemberSet) -> Result<Vec<Member>, AllocError>
+    ensures { IfOk result (λ list. list.items ≡ set.now.members) }
+{
+    // That the members of the set may be in it, and stand in order, is told with their count.
+    let _count = set.count();
+    let mut list = Vec::new(alloc);
+    let mut after = None;
+    while let Some(member) = set.next(after) {
+        list.push(member)?;
+        after = Some(member);
+    }
+    Ok(list)
+}
