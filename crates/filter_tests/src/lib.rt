@@ -1,0 +1,5 @@
+//! Tests of the filters.
+#![tactic(auto)]
+
+#[cfg(test)]
+mod tests;

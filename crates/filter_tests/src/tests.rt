@@ -1,0 +1,244 @@
+//! The filters over the rows A: x <= 0, B: x >= 1 and C: x <= 0, with answers from a list.
+ghost use Rattle.std.specs.Prelude.{◌≡◌, None, IfOk};
+ghost use Rattle.certs.specs.Checks.{IsSetOf};
+
+use certs::{Combo, Irreducible, MemberSet, Point, Share, Shares, Source, Stop, Values};
+use filter_steps::listed;
+use frac128::Frac;
+use lp_model::{Member, Model, Side};
+use small_forms::read_model;
+use std::alloc::{AllocError, Global};
+use std::test::Fail;
+use table_oracle::{TableAnswer, TableOracle};
+
+const ROWS: &str = "ROWS\n L A\n G B\n L C\nCOLUMNS\n x A 1\n x B 1\n x C 1\nRHS\n B 1\nENDATA\n";
+
+/// An answer: x at this value, this row with row B, or that no pivot is left.
+#[derive(Clone, Copy)]
+enum Plan {
+    At(i64),
+    WithB(u32),
+    Spent,
+}
+
+#[derive(Clone, Copy)]
+enum Filter {
+    Deletion,
+    Additive,
+    Sensitivity,
+}
+
+// A side of a row, once.
+fn share(row: u32, side: Side) -> Share {
+    Share {
+        source: Source::Member(Member::Row(row)),
+        side,
+        weight: Frac::whole(1),
+    }
+}
+
+fn answer(alloc: Global, plan: Plan) -> Result<TableAnswer, AllocError> {
+    match plan {
+        Plan::At(value) => {
+            let values = Vec::from_slice(alloc, &[Frac::whole(value)])?;
+            Ok(TableAnswer::Point(Point {
+                values: Values::new(values),
+            }))
+        }
+        Plan::WithB(row) => {
+            let shares = Vec::from_slice(alloc, &[share(row, Side::Up), share(1, Side::Lo)])?;
+            Ok(TableAnswer::Leaf(Combo {
+                shares: Shares::new(shares),
+            }))
+        }
+        Plan::Spent => Ok(TableAnswer::Spent),
+    }
+}
+
+fn answers(alloc: Global, plans: &[Plan]) -> Result<Vec<TableAnswer>, AllocError> {
+    let mut list = Vec::new(alloc);
+    for plan in plans {
+        list.push(answer(alloc, *plan)?)?;
+    }
+    Ok(list)
+}
+
+fn program(alloc: Global) -> Result<Model, AllocError> {
+    match read_model(alloc, ROWS.as_bytes())? {
+        Some(model) => Ok(model),
+        None => Err(AllocError),
+    }
+}
+
+// The active members, without row B where there is to be a point.
+fn active(alloc: Global, model: &Model, without_b: bool) -> Result<MemberSet, AllocError>
+    ensures { IfOk result (IsSetOf model.now) }
+{
+    let mut set = model.members(alloc)?;
+    if without_b && model.row_count() > 1 {
+        set.remove(Member::Row(1));
+    }
+    Ok(set)
+}
+
+fn isolated(
+    alloc: Global,
+    filter: Filter,
+    model: &Model,
+    set: &MemberSet,
+    oracle: &mut TableOracle<'_>,
+) -> Result<Irreducible, Stop>
+    requires same { IsSetOf model.now set.now }
+    requires model { oracle.old.model ≡ model.now }
+    requires fresh { oracle.old.first ≡ None }
+{
+    match filter {
+        Filter::Deletion => deletion_filter::isolate(alloc, oracle, set),
+        Filter::Additive => additive_filter::isolate(alloc, oracle, set),
+        Filter::Sensitivity => sensitivity_filter::isolate(alloc, oracle, set),
+    }
+}
+
+fn letter(member: Member) -> char {
+    match member {
+        Member::Row(0) => 'A',
+        Member::Row(1) => 'B',
+        Member::Row(2) => 'C',
+        Member::Lower(_) => 'l',
+        _ => '?',
+    }
+}
+
+// Appends the letters of a set.
+fn say_set(alloc: Global, set: &MemberSet, text: &mut String) -> Result<(), AllocError> {
+    let members = listed(alloc, set)?;
+    for member in members.as_slice() {
+        text.push(letter(*member))?;
+    }
+    Ok(())
+}
+
+// Appends the values of points.
+fn say_points(points: &[Point], text: &mut String) -> Result<(), AllocError> {
+    for point in points {
+        for value in point.values.as_slice() {
+            text.push(if *value == Frac::whole(0) { '0' } else { '1' })?;
+        }
+    }
+    Ok(())
+}
+
+fn say_stop(alloc: Global, stop: &Stop, text: &mut String) -> Result<(), AllocError> {
+    match stop {
+        Stop::Pivots(site) => {
+            text.push_str("spent at ")?;
+            say_set(alloc, &site.set, text)
+        }
+        _ => text.push_str("another stop"),
+    }
+}
+
+fn say_answer(alloc: Global, answer: &Irreducible, text: &mut String) -> Result<(), AllocError> {
+    match answer {
+        Irreducible::Set {
+            members,
+            witnesses,
+            ..
+        } => {
+            text.push_str("set ")?;
+            say_set(alloc, members, text)?;
+            text.push_str(" by ")?;
+            say_points(witnesses.as_slice(), text)
+        }
+        Irreducible::Feasible(_) => text.push_str("point"),
+    }
+}
+
+// What a filter answers, and how often it asks.
+fn said(
+    alloc: Global,
+    filter: Filter,
+    without_b: bool,
+    plans: &[Plan],
+) -> Result<String, AllocError> {
+    let model = program(alloc)?;
+    let set = active(alloc, &model, without_b)?;
+    let mut oracle = TableOracle::new(alloc, &model, answers(alloc, plans)?);
+    let result = isolated(alloc, filter, &model, &set, &mut oracle);
+    let mut text = String::new(alloc);
+    match &result {
+        Ok(answer) => say_answer(alloc, answer, &mut text)?,
+        Err(stop) => say_stop(alloc, stop, &mut text)?,
+    }
+    let asks = oracle.asks();
+    format!(in alloc; "{text}, asks {asks}")
+}
+
+// Row A goes by an ask, and then B and C stay.
+#[test]
+fn deletion(rt: HostRuntime) -> Result<(), Fail> {
+    let plans = [Plan::WithB(0), Plan::WithB(2), Plan::At(0), Plan::At(1)];
+    let text = said(rt.alloc(), Filter::Deletion, false, &plans)?;
+    assert_eq!(rt; text.as_str(), "set BC by 01, asks 4");
+    Ok(())
+}
+
+// Row A goes without an ask, since the first proof does not use it.
+#[test]
+fn deletion_without_an_ask(rt: HostRuntime) -> Result<(), Fail> {
+    let plans = [Plan::WithB(2), Plan::At(0), Plan::At(1)];
+    let text = said(rt.alloc(), Filter::Deletion, false, &plans)?;
+    assert_eq!(rt; text.as_str(), "set BC by 01, asks 3");
+    Ok(())
+}
+
+#[test]
+fn additive(rt: HostRuntime) -> Result<(), Fail> {
+    let plans = [Plan::WithB(2), Plan::WithB(0), Plan::At(0), Plan::At(1)];
+    let text = said(rt.alloc(), Filter::Additive, false, &plans)?;
+    assert_eq!(rt; text.as_str(), "set AB by 10, asks 4");
+    Ok(())
+}
+
+// The first core is A and B.
+#[test]
+fn sensitivity(rt: HostRuntime) -> Result<(), Fail> {
+    let plans = [Plan::WithB(0), Plan::At(1), Plan::At(0)];
+    let text = said(rt.alloc(), Filter::Sensitivity, false, &plans)?;
+    assert_eq!(rt; text.as_str(), "set AB by 10, asks 3");
+    Ok(())
+}
+
+#[test]
+fn second_ask_stops(rt: HostRuntime) -> Result<(), Fail> {
+    let plans = [Plan::WithB(0), Plan::Spent];
+    let text = said(rt.alloc(), Filter::Deletion, false, &plans)?;
+    assert_eq!(rt; text.as_str(), "spent at BCl, asks 2");
+    let text = said(rt.alloc(), Filter::Additive, false, &plans)?;
+    assert_eq!(rt; text.as_str(), "spent at A, asks 2");
+    let text = said(rt.alloc(), Filter::Sensitivity, false, &plans)?;
+    assert_eq!(rt; text.as_str(), "spent at B, asks 2");
+    Ok(())
+}
+
+#[test]
+fn a_point(rt: HostRuntime) -> Result<(), Fail> {
+    let plans = [Plan::At(0)];
+    for filter in [Filter::Deletion, Filter::Additive, Filter::Sensitivity] {
+        let text = said(rt.alloc(), filter, true, &plans)?;
+        assert_eq!(rt; text.as_str(), "point, asks 1");
+    }
+    Ok(())
+}
+
+// The third ask is the last that the list answers; and a point that is not one of the set stops.
+#[test]
+fn stops_in_the_middle(rt: HostRuntime) -> Result<(), Fail> {
+    let plans = [Plan::WithB(0), Plan::WithB(2), Plan::At(0)];
+    let text = said(rt.alloc(), Filter::Deletion, false, &plans)?;
+    assert_eq!(rt; text.as_str(), "spent at Bl, asks 4");
+    let plans = [Plan::WithB(2), Plan::WithB(0), Plan::At(1)];
+    let text = said(rt.alloc(), Filter::Additive, false, &plans)?;
+    assert_eq!(rt; text.as_str(), "spent at A, asks 3");
+    Ok(())
+}
