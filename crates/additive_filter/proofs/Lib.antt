@@ -1,1 +1,2 @@
 pub mod EarlyStates
+pub mod Adding

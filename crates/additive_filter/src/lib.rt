@@ -2,5 +2,7 @@
 #![tactic(auto)]
 
 mod additive;
+mod laws;
 
 pub use additive::isolate;
+pub use laws::adding_gives_early;
