@@ -12,7 +12,7 @@ module _ {X : Type 0} (Can : List X → Type 0) (set : List X) (weaker : (a b c 
   all_go front [] {kept} denied d = subst (λ l. EarlyReaches Can set l kept) (append-nil front) d
   all_go front (x ∷ back) {kept} denied d =
       let longer : EarlyReaches Can set (front ++ x ∷ []) kept =
-              all_go (front ++ x ∷ []) back (λ h. denied (weaker front (x ∷ []) kept (subst Can (append_assoc front (x ∷ []) kept) h))) (subst (λ l. EarlyReaches Can set l kept) (sym (append_assoc front (x ∷ []) back)) d) in
+      all_go (front ++ x ∷ []) back (λ h. denied (weaker front (x ∷ []) kept (subst Can (append_assoc front (x ∷ []) kept) h))) (subst (λ l. EarlyReaches Can set l kept) (sym (append_assoc front (x ∷ []) back)) d) in
       EarlyReaches.goes x longer denied
 
   -- of two fronts of a list one is a front of the other
@@ -59,7 +59,7 @@ module _ {X : Type 0} (Can : List X → Type 0) (set : List X) (weaker : (a b c 
       let m : (more : List X) × (h.front ≡ front ++ x ∷ more) = h.shorter_fronts front x back e can in
       let whole : h.front ≡ (front ++ x ∷ []) ++ m.0 = m.1 ∙ sym (append_assoc front (x ∷ []) m.0) in
       let here : EarlyReaches Can set (front ++ x ∷ []) kept =
-              all_go (front ++ x ∷ []) m.0 (λ c. denied (subst Can (append_assoc front (x ∷ []) kept) c)) (subst (λ l. EarlyReaches Can set l kept) whole h.reached) in
+      all_go (front ++ x ∷ []) m.0 (λ c. denied (subst Can (append_assoc front (x ∷ []) kept) c)) (subst (λ l. EarlyReaches Can set l kept) whole h.reached) in
       record { front = front; reached = EarlyReaches.stays here can; shorter_fronts = before front x back (x ∷ kept) e denied }
 
   comes_to_early : {kept : List X} → Adds Can set kept → ¬ (Can kept) → EarlyReaches Can set [] kept

@@ -1,5 +1,5 @@
 -- How far a late filter has come.
-use Rattle.std.proofs.Common.{◌≡◌, ◌≤◌, ◌+◌, ℕ, suc, arith, refl, sym, ◌∙◌, ap, subst, List, [], ◌∷◌, ◌++◌, append_assoc, append-nil, length}
+use Rattle.std.proofs.Common.{◌≡◌, ◌≤◌, ◌+◌, ℕ, suc, arith, refl, sym, ◌∙◌, subst, List, [], ◌∷◌, ◌++◌, append_assoc, append-nil}
 use Rattle.std.specs.Prelude.{All, Contains}
 use Rattle.std.proofs.lemmas.List.Elements.{All-weaker, All-contains}
 use Rattle.lp_model.proofs.Sets.{part_without}
@@ -7,7 +7,7 @@ use Rattle.lp_model.specs.declared.members.Member.{Member}
 use Rattle.lp_model.specs.Members.{IsInOrder}
 use Rattle.lp_model.specs.MemberSets.{SetValue, set_without}
 use Rattle.lp_model.specs.Program.{Program}
-use Rattle.lp_model.specs.Satisfaction.{IsIrreducible, IsPart, IsSatisfiable, IsUnsatisfiable}
+use Rattle.lp_model.specs.Satisfaction.{IsIrreducible, IsPart, IsSatisfiable}
 use Rattle.certs.specs.declared.evidence.Node.{Node}
 use Rattle.certs.specs.declared.evidence.Point.{Point}
 use Rattle.certs.specs.Filter.{IsLateTest, Late, LateReaches, start, stays, goes}

@@ -1,9 +1,9 @@
 -- What filters answer.
-use Rattle.std.proofs.Common.{◌≡◌, refl, sym, ◌∙◌, ap, subst, Bool, true, false, true≢false, List, [], ◌++◌, append-nil, Ok, Err}
+use Rattle.std.proofs.Common.{◌≡◌, refl, sym, ◌∙◌, ap, true, false, true≢false, List, [], ◌++◌, append-nil, Ok, Err}
 use Rattle.std.specs.Prelude.{Result, IfOk, IsTrue, ◌↔◌}
 use Rattle.lp_model.specs.declared.members.Member.{Member}
 use Rattle.lp_model.specs.Program.{Program}
-use Rattle.lp_model.specs.Satisfaction.{IsSatisfiable, IsUnsatisfiable}
+use Rattle.lp_model.specs.Satisfaction.{IsSatisfiable}
 use Rattle.certs.specs.declared.evidence.Point.{Point}
 use Rattle.certs.specs.declared.evidence.Proof.{Proof}
 use Rattle.certs.specs.declared.solving.Irreducible.{Irreducible}
@@ -11,9 +11,9 @@ use Rattle.certs.specs.declared.solving.Stop.{Stop}
 use Rattle.certs.specs.declared.solving.Stop.TheVariants.{Memory}
 use Rattle.certs.specs.declared.solving.Verdict.{Verdict}
 use Rattle.certs.specs.declared.solving.Verdict.TheVariants.{Feasible, Infeasible}
-use Rattle.certs.specs.Tales.{IsSiteWithin, IsVerdict, Stopped, listed_stop, stops_after}
+use Rattle.certs.specs.Tales.{IsSiteWithin, IsVerdict, Stopped, listed_stop}
 use Rattle.certs.proofs.Refuted.{proof_law}
-use Rattle.filter_steps.specs.Isolated.{IsPointFor, IsStoppedAt, is_feasible}
+use Rattle.filter_steps.specs.Isolated.{IsStoppedAt, is_feasible}
 use Rattle.filter_steps.proofs.Reducing.{point_of_verdict, proof_of_verdict}
 use Rattle.filter_steps.proofs.Witnessed.{satisfiable_by}
 

@@ -1,8 +1,7 @@
 -- A set that is being reduced.
-use Rattle.std.proofs.Common.{◌≡◌, refl, sym, ◌∙◌, ap, subst, Bool, true, false, filter, List, [], ◌∷◌, ◌++◌, append-nil, Ok, Err}
-use Rattle.std.specs.Prelude.{All, Contains, Result, OnOk}
-use Rattle.std.specs.List.{list_any}
-use Rattle.std.proofs.lemmas.List.Elements.{All-contains, All-filter, All-contains_itself}
+use Rattle.std.proofs.Common.{◌≡◌, sym, ◌∙◌, ap, subst, false, filter, List, [], ◌∷◌, ◌++◌, Ok, Err}
+use Rattle.std.specs.Prelude.{Contains, Result, OnOk}
+use Rattle.std.proofs.lemmas.List.Elements.{All-contains}
 use Rattle.lp_model.specs.declared.members.Member.{Member}
 use Rattle.lp_model.specs.Members.{has, IsInOrder}
 use Rattle.lp_model.specs.MemberSets.{SetValue, IsMemberFor, IsPossibleIn, possible_in, set_without}
@@ -13,12 +12,10 @@ use Rattle.certs.specs.declared.evidence.Proof.{Proof}
 use Rattle.certs.specs.declared.solving.Verdict.{Verdict}
 use Rattle.certs.specs.declared.solving.Verdict.TheVariants.{Feasible, Infeasible}
 use Rattle.certs.specs.Checks.{IsSetOf}
-use Rattle.certs.specs.Named.{node_uses, used_set}
+use Rattle.certs.specs.Named.{used_set}
 use Rattle.certs.specs.Proof.{IsProof}
-use Rattle.certs.specs.declared.solving.Stop.{Stop}
-use Rattle.certs.specs.declared.solving.Stop.TheVariants.{Memory}
-use Rattle.certs.specs.Tales.{IsVerdict, Stopped, listed_stop}
-use Rattle.filter_steps.specs.Isolated.{IsPointFor, IsStoppedAt}
+use Rattle.certs.specs.Tales.{IsVerdict}
+use Rattle.filter_steps.specs.Isolated.{IsPointFor}
 use Rattle.filter_steps.specs.Reductions.{IsReduction, Tried, stays, goes}
 use Rattle.filter_steps.proofs.Sets.{rest_in_order, rest_is_part, rest_is_possible}
 use Rattle.filter_steps.proofs.Proofs.{proof_without, used_tells}

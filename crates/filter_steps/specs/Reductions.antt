@@ -1,5 +1,5 @@
 -- A set that is being reduced: no point satisfies it, and members are taken out one by one.
-use Rattle.std.specs.Prelude.{◌≡◌, Bool, true, List, [], ◌∷◌, ◌++◌, filter, Contains}
+use Rattle.std.specs.Prelude.{◌≡◌, List, [], ◌∷◌, ◌++◌, filter, Contains}
 use Rattle.std.specs.List.{list_any}
 use Rattle.lp_model.specs.declared.members.Member.{Member}
 use Rattle.lp_model.specs.Members.{has, IsInOrder}

@@ -1,6 +1,6 @@
 -- The first core, and what is asked for inside it.
 use Rattle.std.proofs.Common.{◌≡◌, sym, ◌∙◌, ap, subst, List, Some, Ok, Err}
-use Rattle.std.specs.Prelude.{All, Contains, Option, Result, IfErr, IfOk}
+use Rattle.std.specs.Prelude.{Contains, Option, Result, IfErr, IfOk}
 use Rattle.std.specs.List.{list_any}
 use Rattle.std.proofs.lemmas.List.Elements.{All-weaker, All-contains, All-contains_itself, All-filter}
 use Rattle.lp_model.specs.declared.members.Member.{Member}
@@ -11,7 +11,7 @@ use Rattle.certs.specs.declared.evidence.Node.{Node}
 use Rattle.certs.specs.declared.solving.Irreducible.{Irreducible}
 use Rattle.certs.specs.declared.solving.Irreducible.TheVariants.{Set, Feasible}
 use Rattle.certs.specs.declared.solving.Stop.{Stop}
-use Rattle.certs.specs.Filter.{IsLateTest, Late}
+use Rattle.certs.specs.Filter.{Late}
 use Rattle.certs.specs.Named.{node_uses, used_set}
 use Rattle.certs.specs.Tales.{FirstCore, core_of}
 use Rattle.filter_steps.specs.Isolated.{IfSet}

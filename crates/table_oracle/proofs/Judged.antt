@@ -1,6 +1,6 @@
 -- What right answers show.
-use Rattle.std.proofs.Common.{◌≡◌, ◌<◌, refl, sym, ◌∙◌, subst, ap, ℕ, Bool, true, false, true≢false, ◌==◌, ◌&&◌, List, [], ◌∷◌, length, None, Some, Ok, Err, inl, inr}
-use Rattle.std.specs.Prelude.{All, Option, Result, IfOk, IfErr, ◌⊎◌}
+use Rattle.std.proofs.Common.{◌≡◌, ◌<◌, refl, sym, subst, true, false, true≢false, ◌==◌, List, [], ◌∷◌, length, None, Some, Ok, Err, inl, inr}
+use Rattle.std.specs.Prelude.{Option, Result, IfOk, IfErr, ◌⊎◌}
 use Rattle.std.proofs.lemmas.Bool.{and_parts}
 use Rattle.std.proofs.lemmas.List.Elements.{All-nil, All-contains_itself}
 use lib.Dec.{T, eqb→eq}
@@ -8,7 +8,7 @@ use Rattle.frac128.specs.Limit.{limit}
 use Rattle.lp_model.specs.declared.members.Member.{Member}
 use Rattle.lp_model.specs.MemberSets.{SetValue}
 use Rattle.lp_model.specs.Program.{Program, IsWellFormed}
-use Rattle.lp_model.specs.Satisfaction.{IsPart, Satisfies, values_at}
+use Rattle.lp_model.specs.Satisfaction.{IsPart, values_at}
 use Rattle.certs.specs.declared.evidence.Branch.{Branch}
 use Rattle.certs.specs.declared.evidence.Checked.{Checked}
 use Rattle.certs.specs.declared.evidence.Checked.TheVariants.{Yes, No, Wide as TooWide}
@@ -37,8 +37,7 @@ yes_of (TooWide operation) e = absurd (true≢false (sym e))
 -- a point that is right
 pub point_verdict : (model : Program) (set : List Member) (p : Point) → is_point model set p ≡ true → IsVerdict model set (Feasible p)
 point_verdict model set p e =
-    let both = and_parts (length p.values == length model.columns) (is_yes (outcome (point_steps model set (values_at p.values)))) e in
-    (
+    let both = and_parts (length p.values == length model.columns) (is_yes (outcome (point_steps model set (values_at p.values)))) e in (
       eqb→eq (length p.values) (length model.columns) (subst T (sym both.0) tt),
       point_check_law limit model set (values_at p.values) (yes_of (outcome (point_steps model set (values_at p.values))) both.1),
     )

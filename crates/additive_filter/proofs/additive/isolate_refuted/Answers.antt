@@ -1,15 +1,13 @@
-use Rattle.std.proofs.Common.{◌≡◌, ◌≤◌, ◌+◌, refl, sym, ◌∙◌, ap, subst, List, [], ◌∷◌, ◌++◌, length, reverse, arith, rules, le_trans, Some}
-use Rattle.std.specs.Prelude.{IfErr}
+use Rattle.std.proofs.Common.{◌≡◌, ◌≤◌, ◌+◌, refl, sym, ◌∙◌, ap, subst, List, [], ◌++◌, length, arith, rules, le_trans}
 use Rattle.std.specs.Option.{option_to_list}
 use Rattle.std.proofs.lemmas.Result.{err_from_is_err_and}
 use Rattle.lp_model.specs.declared.members.Member.{Member}
 use Rattle.lp_model.specs.MemberSets.{SetValue, set_without}
 use Rattle.lp_model.specs.Program.{Program}
-use Rattle.certs.specs.declared.evidence.Point.{Point}
 use Rattle.certs.specs.declared.evidence.Proof.{Proof}
 use Rattle.certs.specs.Filter.{IsEarlyTest}
 use Rattle.certs.specs.Named.{used_set}
-use Rattle.filter_steps.specs.Isolated.{AreWitnesses, IsStoppedAt}
+use Rattle.filter_steps.specs.Isolated.{AreWitnesses}
 use Rattle.filter_steps.specs.Reductions.{IsReduction, Tried}
 use Rattle.filter_steps.proofs.Answering.{no_memory, stopped_at}
 use Rattle.filter_steps.proofs.Proofs.{known_nodes}

@@ -1,16 +1,13 @@
-use Rattle.std.proofs.Common.{◌≡◌, ◌≤◌, ◌+◌, refl, sym, ◌∙◌, ap, subst, List, [], ◌∷◌, filter, length, arith, le_trans, None, Some}
-use Rattle.std.specs.Prelude.{IfErr}
+use Rattle.std.proofs.Common.{◌≡◌, refl, sym, ◌∙◌, ap, subst, List, [], filter, length, arith, le_trans, None, Some}
 use Rattle.std.proofs.lemmas.Result.{err_from_is_err_and}
 use Rattle.lp_model.specs.declared.members.Member.{Member}
 use Rattle.lp_model.specs.MemberSets.{SetValue, follows, set_without}
 use Rattle.lp_model.specs.Program.{Program}
-use Rattle.certs.specs.declared.evidence.Node.{Node}
 use Rattle.certs.specs.declared.evidence.Proof.{Proof}
 use Rattle.certs.specs.declared.evidence.Point.{Point}
 use Rattle.certs.specs.Filter.{IsLateTest}
 use Rattle.certs.specs.Named.{used_set}
 use Rattle.certs.proofs.Walk.{all_follow, fewer_follow, next_possible, next_step, none_follow}
-use Rattle.filter_steps.specs.Isolated.{IsStoppedAt}
 use Rattle.filter_steps.specs.Reductions.{IsReduction, Tried}
 use Rattle.filter_steps.proofs.Proofs.{known_nodes}
 use Rattle.filter_steps.proofs.Answering.{no_memory, stopped_at}
@@ -63,7 +60,7 @@ try_without-requires-clause-served g c =
     let r = c.loop-member.reduction in
     let step = next_step c.loop-member.after set c.in-Some.member c.count-count.ensures.in_order (sym c.next.ensures ∙ c.in-Some.is) in
     let part = asked_is_part model set c.in-Some.member (filter (follows (Some c.in-Some.member)) set) r.left r.witnesses.items
-            (subst (λ (l : List Member). IsLateState model set l r.left.members r.witnesses.items) step c.loop-member.invariant.state) c.loop-member.invariant.reduced.in_order in
+    (subst (λ (l : List Member). IsLateState model set l r.left.members r.witnesses.items) step c.loop-member.invariant.state) c.loop-member.invariant.reduced.in_order in
     c.loop-member.invariant.serves (set_without r.left c.in-Some.member).members ∙ c.requires.served (set_without r.left c.in-Some.member).members part
 
 pub returns-in_err-try_without-clause-stop : goal.returns-in_err-try_without-clause-stop
@@ -73,7 +70,7 @@ returns-in_err-try_without-clause-stop g c =
     let r = c.loop-member.reduction in
     let step = next_step c.loop-member.after set c.in-Some.member c.count-count.ensures.in_order (sym c.next.ensures ∙ c.in-Some.is) in
     let test = asked_is_test model set c.in-Some.member (filter (follows (Some c.in-Some.member)) set) r.left r.witnesses.items
-            (subst (λ (l : List Member). IsLateState model set l r.left.members r.witnesses.items) step c.loop-member.invariant.state) c.loop-member.invariant.reduced.in_order in
+    (subst (λ (l : List Member). IsLateState model set l r.left.members r.witnesses.items) step c.loop-member.invariant.state) c.loop-member.invariant.reduced.in_order in
     let p = err_from_is_err_and c.from_residual.result c.from_residual.ensures.1 in
     let stops = g.O.Oracle.stops c.args.oracle.now in
     rw (p.1, p.2)

@@ -1,10 +1,7 @@
-use Rattle.std.proofs.Common.{◌≡◌, refl, sym, ◌∙◌, ap, subst, false, filter, List}
-use Rattle.lp_model.specs.declared.members.Member.{Member}
+use Rattle.std.proofs.Common.{◌≡◌, refl, sym, ◌∙◌, ap, subst, filter}
 use Rattle.lp_model.specs.Members.{has}
-use Rattle.lp_model.specs.MemberSets.{SetValue, IsPossibleIn, possible_in, set_with, set_without}
+use Rattle.lp_model.specs.MemberSets.{SetValue, IsPossibleIn, possible_in, set_with}
 use Rattle.certs.specs.declared.evidence.Proof.{Proof}
-use Rattle.certs.specs.Named.{used_set}
-use Rattle.certs.specs.Proof.{IsProof}
 use Rattle.filter_steps.specs.Isolated.{IsPointFor}
 use Rattle.filter_steps.specs.Reductions.{IsReduction}
 use Rattle.filter_steps.proofs.Sets.{is_possible, put_back, rest_is_possible}

@@ -1,5 +1,4 @@
-use Rattle.std.proofs.Common.{◌≡◌, refl, sym, subst, List, Some}
-use Rattle.lp_model.specs.declared.members.Member.{Member}
+use Rattle.std.proofs.Common.{refl, sym, subst}
 use Rattle.lp_model.specs.MemberSets.{SetValue}
 use Rattle.certs.specs.Filter.{IsLateTest}
 use Rattle.certs.specs.Proof.{IsProof}

@@ -1,4 +1,4 @@
-use Rattle.std.proofs.Common.{◌≡◌, sym, ◌∙◌, ap, subst, List, [], ◌∷◌}
+use Rattle.std.proofs.Common.{sym, ◌∙◌, ap, subst, List, [], ◌∷◌}
 use Rattle.lp_model.specs.Program.{Program}
 use Rattle.certs.specs.Tales.{first_core_after}
 use Rattle.table_oracle.specs.declared.answers.TableAnswer.{TableAnswer}
