@@ -1,14 +1,12 @@
 -- How far an early filter has come.
 use Rattle.std.proofs.Common.{◌≡◌, ◌≤◌, ◌+◌, ℕ, arith, sym, ◌∙◌, subst, List, [], ◌∷◌, ◌++◌, append_assoc, append-nil, length, length-append, reverse}
-use Rattle.std.specs.Prelude.{All, Contains}
+use Rattle.std.specs.Prelude.{Contains}
 use Rattle.std.proofs.lemmas.List.{reverse-append}
-use Rattle.std.proofs.lemmas.List.Elements.{All-weaker, All-contains}
 use Rattle.lp_model.specs.declared.members.Member.{Member}
 use Rattle.lp_model.specs.Members.{IsInOrder}
 use Rattle.lp_model.specs.MemberSets.{SetValue, set_without}
 use Rattle.lp_model.specs.Program.{Program}
 use Rattle.lp_model.specs.Satisfaction.{IsIrreducible, IsPart, IsSatisfiable}
-use Rattle.lp_model.proofs.Sets.{part_without}
 use Rattle.certs.specs.declared.evidence.Node.{Node}
 use Rattle.certs.specs.declared.evidence.Point.{Point}
 use Rattle.certs.specs.Filter.{IsEarlyTest, Early, EarlyReaches, start, stays, goes}
@@ -18,7 +16,7 @@ use Rattle.certs.proofs.Refuted.{proof_law}
 use Rattle.filter_steps.specs.Isolated.{IsPointFor, AreWitnesses}
 use Rattle.filter_steps.specs.Reductions.{Tried, stays as it_stays, goes as it_goes}
 use Rattle.filter_steps.proofs.Sets.{in_middle, set_without_middle}
-use Rattle.filter_steps.proofs.Reached.{early_part, early_weaker}
+use Rattle.filter_steps.proofs.Reached.{early_part, early_weaker, part_of_part}
 use Rattle.filter_steps.proofs.Witnessed.{EachSuits, are_witnesses, early_goes, early_stays, satisfiable_by, weaker_point}
 
 -- what stays of the members so far, and with those to come is left; and the witnesses so far, the last one first
@@ -52,10 +50,7 @@ pub asked_is_part : (model : Program) (set front : List Member) (m : Member) (le
     → IsPart (set_without left m).members set
 asked_is_part model set front m left witnesses s order =
     subst (λ l. IsPart l set) (sym (set_without_middle left front m s.kept (around model set front m left.members witnesses s) order))
-    (without_middle front m s.kept (subst (λ l. IsPart l set) (append_assoc front (m ∷ []) s.kept) (early_part (IsSatisfiable model) set s.reached)))
-  where
-    without_middle : (front : List Member) (m : Member) (back : List Member) → All (Contains set) (front ++ m ∷ back) → All (Contains set) (front ++ back)
-    without_middle front m back h = All-weaker (Contains (front ++ m ∷ back)) (Contains set) (λ k d. All-contains (Contains set) (front ++ m ∷ back) k h d) (front ++ back) (part_without front (m ∷ []) back)
+    (part_of_part set front (m ∷ []) s.kept (subst (λ l. IsPart l set) (append_assoc front (m ∷ []) s.kept) (early_part (IsSatisfiable model) set s.reached)))
 
 -- one member more
 pub state_tried : (model : Program) (set front : List Member) (m : Member) (left now : SetValue) (witnesses witnesses_now : List Point) (nodes : List Node)
@@ -99,7 +94,3 @@ whole_is_test model set = record { front = set; between = []; kept = []; reached
 -- with at most one ask more for one member less
 pub few_more : (first now next : ℕ) (front : List Member) (m : Member) (total : ℕ) → now + length (front ++ m ∷ []) ≤ first + total → next ≤ now + 1 → next + length front ≤ first + total
 few_more first now next front m total h f = omega (arith, length-append front (m ∷ []))
-
--- where the last one stops
-pub few_at_stop : (first now next : ℕ) (front : List Member) (m : Member) (total : ℕ) → now + length (front ++ m ∷ []) ≤ first + total → next ≤ now + 1 → next ≤ first + total
-few_at_stop first now next front m total h f = omega (arith, length-append front (m ∷ []))

@@ -1,8 +1,6 @@
 -- How far a late filter has come.
 use Rattle.std.proofs.Common.{◌≡◌, ◌≤◌, ◌+◌, ℕ, suc, arith, refl, sym, ◌∙◌, subst, List, [], ◌∷◌, ◌++◌, append_assoc, append-nil}
-use Rattle.std.specs.Prelude.{All, Contains}
-use Rattle.std.proofs.lemmas.List.Elements.{All-weaker, All-contains}
-use Rattle.lp_model.proofs.Sets.{part_without}
+use Rattle.std.specs.Prelude.{Contains}
 use Rattle.lp_model.specs.declared.members.Member.{Member}
 use Rattle.lp_model.specs.Members.{IsInOrder}
 use Rattle.lp_model.specs.MemberSets.{SetValue, set_without}
@@ -17,7 +15,7 @@ use Rattle.certs.proofs.Refuted.{proof_law}
 use Rattle.filter_steps.specs.Isolated.{IsPointFor, AreWitnesses}
 use Rattle.filter_steps.specs.Reductions.{Tried, stays as it_stays, goes as it_goes}
 use Rattle.filter_steps.proofs.Sets.{in_middle, set_without_middle}
-use Rattle.filter_steps.proofs.Reached.{late_part, late_weaker}
+use Rattle.filter_steps.proofs.Reached.{late_part, late_weaker, part_of_part}
 use Rattle.filter_steps.proofs.Witnessed.{EachSuits, are_witnesses, late_goes, late_stays, satisfiable_by, weaker_point}
 
 -- what stays of the members so far, and with those to come is left; and the witnesses so far
@@ -43,10 +41,7 @@ asked_is_test model set m rest left witnesses s order = record { kept = s.kept; 
 pub asked_is_part : (model : Program) (set : List Member) (m : Member) (rest : List Member) (left : SetValue) (witnesses : List Point) → IsLateState model set (m ∷ rest) left.members witnesses → IsInOrder left.members
     → IsPart (set_without left m).members set
 asked_is_part model set m rest left witnesses s order =
-    subst (λ l. IsPart l set) (sym (set_without_middle left s.kept m rest s.is order)) (without_middle s.kept m rest (late_part (IsSatisfiable model) set s.reached))
-  where
-    without_middle : (kept : List Member) (m : Member) (rest : List Member) → All (Contains set) (kept ++ m ∷ rest) → All (Contains set) (kept ++ rest)
-    without_middle kept m rest h = All-weaker (Contains (kept ++ m ∷ rest)) (Contains set) (λ k d. All-contains (Contains set) (kept ++ m ∷ rest) k h d) (kept ++ rest) (part_without kept (m ∷ []) rest)
+    subst (λ l. IsPart l set) (sym (set_without_middle left s.kept m rest s.is order)) (part_of_part set s.kept (m ∷ []) rest (late_part (IsSatisfiable model) set s.reached))
 
 -- one member more
 pub state_tried : (model : Program) (set : List Member) (m : Member) (rest : List Member) (left now : SetValue) (witnesses witnesses_now : List Point) (nodes : List Node)
