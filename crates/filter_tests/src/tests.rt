@@ -1,10 +1,13 @@
 //! The filters over the rows A: x <= 0, B: x >= 1 and C: x <= 0, with answers from a list.
-ghost use Rattle.std.specs.Prelude.{◌≡◌, None, IfOk};
+ghost use Rattle.std.specs.Prelude.{◌≡◌, true, None, IfOk};
+ghost use Rattle.lp_model.specs.Members.{is_mark};
 ghost use Rattle.certs.specs.Checks.{IsSetOf};
+ghost use Rattle.linear_oracle.specs.Value.{is_linear};
 
-use certs::{Combo, Irreducible, MemberSet, Point, Share, Shares, Source, Stop, Values};
+use certs::{Combo, Irreducible, MemberSet, Oracle, Point, Share, Shares, Source, Stop, Values};
 use filter_steps::listed;
 use frac128::Frac;
+use linear_oracle::LinearOracle;
 use lp_model::{Member, Model, Side};
 use small_forms::read_model;
 use std::alloc::{AllocError, Global};
@@ -81,16 +84,15 @@ fn active(alloc: Global, model: &Model, without_b: bool) -> Result<MemberSet, Al
     Ok(set)
 }
 
-fn isolated(
+fn isolated<O: Oracle>(
     alloc: Global,
     filter: Filter,
-    model: &Model,
+    oracle: &mut O,
     set: &MemberSet,
-    oracle: &mut TableOracle<'_>,
 ) -> Result<Irreducible, Stop>
-    requires same { IsSetOf model.now set.now }
-    requires model { oracle.old.model ≡ model.now }
-    requires fresh { oracle.old.first ≡ None }
+    requires same { IsSetOf (O.model oracle.old) set.now }
+    requires served { O.serves oracle.old set.now.members ≡ true }
+    requires fresh { O.first_core oracle.old ≡ None }
 {
     match filter {
         Filter::Deletion => deletion_filter::isolate(alloc, oracle, set),
@@ -164,14 +166,63 @@ fn said(
     let model = program(alloc)?;
     let set = active(alloc, &model, without_b)?;
     let mut oracle = TableOracle::new(alloc, &model, answers(alloc, plans)?);
-    let result = isolated(alloc, filter, &model, &set, &mut oracle);
+    let result = isolated(alloc, filter, &mut oracle, &set);
+    say(alloc, &result, oracle.asks())
+}
+
+// An answer, and how often it took an ask.
+fn say(alloc: Global, given: &Result<Irreducible, Stop>, asks: u64) -> Result<String, AllocError> {
     let mut text = String::new(alloc);
-    match &result {
+    match given {
         Ok(answer) => say_answer(alloc, answer, &mut text)?,
         Err(stop) => say_stop(alloc, stop, &mut text)?,
     }
-    let asks = oracle.asks();
     format!(in alloc; "{text}, asks {asks}")
+}
+
+// Whether a member is a mark.
+fn is_whole(member: Member) -> bool
+    ensures { result ≡ is_mark member }
+{
+    matches!(member, Member::Whole(_))
+}
+
+// Whether none of the members is a mark.
+fn are_unmarked(members: &[Member]) -> bool
+    ensures { result ≡ is_linear members.now }
+{
+    for member in members {
+        if is_whole(*member) {
+            return false;
+        }
+    }
+    true
+}
+
+// What a filter answers with runs of systems, and how often it asks.
+fn said_by_runs(alloc: Global, filter: Filter, without_b: bool) -> Result<String, AllocError> {
+    let model = program(alloc)?;
+    let set = active(alloc, &model, without_b)?;
+    if !are_unmarked(listed(alloc, &set)?.as_slice()) {
+        return Err(AllocError);
+    }
+    let mut oracle = LinearOracle::new(alloc, &model, 100);
+    let result = isolated(alloc, filter, &mut oracle, &set);
+    say(alloc, &result, oracle.asks())
+}
+
+// The oracle's first proof uses A and B.
+#[test]
+fn with_runs_of_systems(rt: HostRuntime) -> Result<(), Fail> {
+    let text = said_by_runs(rt.alloc(), Filter::Deletion, false)?;
+    assert_eq!(rt; text.as_str(), "set BC by 01, asks 4");
+    let text = said_by_runs(rt.alloc(), Filter::Additive, false)?;
+    assert_eq!(rt; text.as_str(), "set AB by 10, asks 3");
+    let text = said_by_runs(rt.alloc(), Filter::Sensitivity, false)?;
+    assert_eq!(rt; text.as_str(), "set AB by 10, asks 3");
+    let text = said_by_runs(rt.alloc(), Filter::Additive, true)?;
+    assert_eq!(rt; text.as_str(), "point, asks 1");
+    Ok(())
 }
 
 // Row A goes by an ask, and then B and C stay.
