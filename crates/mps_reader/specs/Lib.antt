@@ -1,0 +1,4 @@
+pub mod Tables
+pub mod Sides
+pub mod Faults
+pub mod Declared

