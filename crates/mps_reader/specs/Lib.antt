@@ -1,4 +1,0 @@
-pub mod Tables
-pub mod Sides
-pub mod Faults
-pub mod Declared

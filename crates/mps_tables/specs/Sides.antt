@@ -15,7 +15,7 @@ use Rattle.mps_lines.specs.declared.shapes.RowKind.TheVariants.{Free, AtMost, At
 use Rattle.mps_lines.specs.declared.shapes.BoundKind.{BoundKind}
 use Rattle.mps_lines.specs.declared.shapes.BoundKind.TheVariants.{Binary}
 use Rattle.mps_lines.specs.Shapes.{Bounded}
-use Rattle.mps_reader.specs.Tables.{ColumnRecord, bound_in, bounds_of, sets_lower, sets_upper, makes_whole, setting}
+use Rattle.mps_tables.specs.Tables.{ColumnRecord, bound_in, bounds_of, sets_lower, sets_upper, makes_whole, setting}
 use Rattle.mps_lines.specs.Steps.{Step}
 
 -- ---- rows

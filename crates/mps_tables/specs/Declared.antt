@@ -8,8 +8,8 @@ use Rattle.lp_model.specs.declared.parts.Note.TheVariants.{LowerRemoved}
 use Rattle.lp_model.specs.declared.parts.Weight.TheVariants.{Soft}
 use Rattle.lp_model.specs.Program.{Program, NamedRow, NamedColumn}
 use Rattle.mps_lines.specs.Steps.{Step, all_steps}
-use Rattle.mps_reader.specs.Tables.{RowRecord, ColumnRecord, rows_of, kept_rows, columns_of, column_names, objective_of, factor_in, right_side, range_of, senses_of}
-use Rattle.mps_reader.specs.Sides.{row_sides, lower_in, upper_in, whole_in, is_removed}
+use Rattle.mps_tables.specs.Tables.{RowRecord, ColumnRecord, rows_of, kept_rows, columns_of, column_names, objective_of, factor_in, right_side, range_of, senses_of}
+use Rattle.mps_tables.specs.Sides.{row_sides, lower_in, upper_in, whole_in, is_removed}
 
 -- the term of a column before others, where its factor is not 0
 abbrev pub with_term : ℕ → ℚ → List Term → List Term

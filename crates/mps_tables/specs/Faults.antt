@@ -17,8 +17,8 @@ use Rattle.bound_numbers.specs.Bounds.{is_wide_bound}
 use Rattle.mps_lines.specs.declared.shapes.RowKind.{RowKind}
 use Rattle.mps_lines.specs.Shapes.{Figure, Bounded}
 use Rattle.mps_lines.specs.Steps.{Step, Placed, Refused, ToSense, ToRow, ToColumn, ToEntry, ToSide, ToRange, ToBound, all_steps}
-use Rattle.mps_reader.specs.Tables.{RowRecord, row_names, rows_of, free_rows, kept_rows, is_free, is_free_row, is_dropped, column_names, columns_of, entries_of, is_entry_at, sides_of, ranges_of, figure_of, right_side, bounds_of, sets_same, senses_of}
-use Rattle.mps_reader.specs.Sides.{is_range_wide}
+use Rattle.mps_tables.specs.Tables.{RowRecord, row_names, rows_of, free_rows, kept_rows, is_free, is_free_row, is_dropped, column_names, columns_of, entries_of, is_entry_at, sides_of, ranges_of, figure_of, right_side, bounds_of, sets_same, senses_of}
+use Rattle.mps_tables.specs.Sides.{is_range_wide}
 
 -- ---- tests
 -- tests in order, each with the fault that it finds: the first that is true

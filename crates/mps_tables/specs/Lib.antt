@@ -1,0 +1,5 @@
+pub mod Tables
+pub mod Sides
+pub mod Faults
+pub mod Declared
+pub mod Held
