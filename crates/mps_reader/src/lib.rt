@@ -3,7 +3,7 @@
 
 ghost use Rattle.std.specs.Prelude.{◌≡◌, ◌<◌, ◌^◌, None, length, MatchResult};
 ghost use Rattle.mps_tables.specs.Faults.{mps_fault, IsMpsStop};
-ghost use Rattle.mps_tables.specs.Declared.{mps_program};
+ghost use Rattle.mps_tables.specs.Meaning.{mps_program};
 
 mod reading;
 

@@ -1,5 +1,5 @@
 -- What a reader keeps of the steps so far: by the places of rows and columns what the look-ups find by their names.
-use Rattle.std.specs.Prelude.{◌≡◌, ⊤, ⊥, ℕ, ◌<◌, ◌&&◌, ◌||◌, not, cond, nat_eq, Bool, true, false, is_some, unwrap_or, All, IfSome, List, [], ◌∷◌, ◌++◌, length, map, filter, find, slice_get, slice_index_or, Option, Some, None, Result, Ok, Err, MatchResult}
+use Rattle.std.specs.Prelude.{◌≡◌, ⊤, ℕ, ◌<◌, ◌≤◌, ◌&&◌, ◌||◌, not, cond, nat_eq, Bool, true, false, is_some, unwrap_or, All, IfSome, List, [], ◌∷◌, ◌++◌, length, map, filter, find, slice_get, slice_index_or, Option, Some, None, Result, Ok, Err, MatchResult}
 use Rattle.std.specs.Map.{lookup}
 use Rattle.indexmap.specs.IndexMap.{insert_entry}
 use Rattle.std.specs.List.{list_any}
@@ -14,6 +14,7 @@ use Rattle.text_fields.specs.declared.faults.TextKind.TheVariants.{BadNumber, Nu
 use Rattle.text_fields.specs.declared.faults.ReadKind.{ReadKind}
 use Rattle.text_fields.specs.declared.faults.ReadFault.{ReadFault}
 use Rattle.text_fields.specs.declared.faults.ReadFault.TheVariants.{Stop, Memory}
+use Rattle.lp_model.specs.Shown.{most_rows, most_columns, longest_name}
 use Rattle.name_map.specs.Names.{name_at, names_of}
 use Rattle.mps_lines.specs.declared.shapes.RowKind.{RowKind}
 use Rattle.mps_lines.specs.declared.shapes.RowKind.TheVariants.{Free}
@@ -117,36 +118,54 @@ abbrev pub value_fitting : Literal → Option ℚ
 value_fitting (Fits value) = Some value
 value_fitting (TooWide huge negative) = None
 
--- each place is below a number
-abbrev pub AreBelow : {V : Type 0} → ℕ → List (ℕ × V) → Type 0
-AreBelow count table = All (λ e. e.0 < count) table
+-- ---- what is kept of what is said
+-- the sense is the first that is given
+abbrev pub KeepsSense : Option Bool → List Bool → Type 0
+KeepsSense sense said = slice_get said 0 ≡ sense
 
--- each place is one of a row or a column
-pub record InRange (reader : Reader) : Type 0 where
-  pub objective : IfSome reader.objective (λ row. row < length reader.rows)
-  pub entries : All (λ e. (e.0.0 < length reader.rows) × (e.0.1 < length reader.columns)) reader.entries.entries
-  pub rights : AreBelow (length reader.rows) reader.rights.entries
-  pub ranges : AreBelow (length reader.rows) reader.ranges.entries
-  pub lowers : AreBelow (length reader.columns) reader.lowers.entries
-  pub uppers : AreBelow (length reader.columns) reader.uppers.entries
-  pub wholes : AreBelow (length reader.columns) reader.wholes.entries
+-- the rows, how many are free and how many are not, and the place of the first free one
+pub record KeepsRows (rows : List (List ℕ × RowKind)) (free kept : ℕ) (objective : Option ℕ) (said : List RowRecord) : Type 0 where
+  pub same : said ≡ map row_record rows
+  pub free_is : length (free_among said) ≡ free
+  pub kept_is : length (kept_among said) ≡ kept
+  pub objective_is : objective_among said ≡ option_map (name_at (names_of rows)) objective
+  pub objective_within : IfSome objective (λ row. row < length rows)
+  pub few : kept ≤ most_rows
+  pub short : All (λ name. length name ≤ longest_name) (names_of rows)
+
+-- the columns
+pub record KeepsColumns (columns : List (List ℕ × Bool)) (said : List ColumnRecord) : Type 0 where
+  pub same : said ≡ map column_record columns
+  pub few : length columns ≤ most_columns
+  pub short : All (λ name. length name ≤ longest_name) (names_of columns)
+
+-- how many entries there are, and the value of each in a row that is not dropped
+pub record KeepsEntries (declared : List RowRecord) (rows columns : List (List ℕ)) (entries : List ((ℕ × ℕ) × ℚ)) (count : ℕ) (said : List EntryRecord) : Type 0 where
+  pub count_is : length said ≡ count
+  pub found : (column row : List ℕ) → is_dropped_among declared row ≡ false → option_map entry_value (find (is_entry_at column row) said) ≡ option_map (λ e. e.1) (find (is_entry_kept rows columns column row) entries)
+  pub within : All (λ e. (e.0.0 < length rows) × (e.0.1 < length columns)) entries
+
+-- what the figures of rows that are not free say
+pub record KeepsFigures {V W : Type 0} (value : List ℕ → W) (show : V → W) (declared : List RowRecord) (rows : List (List ℕ)) (table : List (ℕ × V)) (said : List Figure) : Type 0 where
+  pub found : (row : List ℕ) → is_free_among declared row ≡ false → option_map (λ f. value f.number) (figure_of said row) ≡ option_map (λ e. show e.1) (find (is_at rows row) table)
+  pub within : All (λ e. e.0 < length rows) table
+
+-- what the bounds of some kinds set
+pub record KeepsSettings {V : Type 0} (sets : BoundKind → Bool) (value : Bounded → V) (columns : List (List ℕ)) (table : List (ℕ × V)) (said : List Bounded) : Type 0 where
+  pub found : (column : List ℕ) → option_map value (setting_among sets said column) ≡ kept_of columns table column
+  pub within : All (λ e. e.0 < length columns) table
 
 -- a reader keeps what the lists say, but for numbers of dropped rows and of sides of free ones
 pub record Keeps (reader : Reader) (t : Tables) : Type 0 where
-  pub sense : slice_get t.senses 0 ≡ reader.sense
-  pub rows : t.rows ≡ map row_record reader.rows
-  pub free : length (free_among t.rows) ≡ reader.free
-  pub kept : length (kept_among t.rows) ≡ reader.kept
-  pub objective : objective_among t.rows ≡ option_map (name_at (row_names_held reader)) reader.objective
-  pub columns : t.columns ≡ map column_record reader.columns
-  pub count : length t.entries ≡ reader.count
-  pub entries : (column row : List ℕ) → is_dropped_among t.rows row ≡ false → option_map entry_value (find (is_entry_at column row) t.entries) ≡ option_map (λ e. e.1) (find (is_entry_kept (row_names_held reader) (column_names_held reader) column row) reader.entries.entries)
-  pub rights : (row : List ℕ) → is_free_among t.rows row ≡ false → option_map (λ f. bound_in f.number) (figure_of t.sides row) ≡ kept_of (row_names_held reader) reader.rights.entries row
-  pub ranges : (row : List ℕ) → is_free_among t.rows row ≡ false → option_map (λ f. literal_in f.number) (figure_of t.ranges row) ≡ option_map Some (kept_of (row_names_held reader) reader.ranges.entries row)
-  pub lowers : (column : List ℕ) → option_map lower_set (setting_among sets_lower t.bounds column) ≡ kept_of (column_names_held reader) reader.lowers.entries column
-  pub uppers : (column : List ℕ) → option_map upper_set (setting_among sets_upper t.bounds column) ≡ kept_of (column_names_held reader) reader.uppers.entries column
-  pub wholes : (column : List ℕ) → list_any (λ b. bytes_eq column b.column && makes_whole b.kind) t.bounds ≡ list_any (is_at (column_names_held reader) column) reader.wholes.entries
-  pub in_range : InRange reader
+  pub sense : KeepsSense reader.sense t.senses
+  pub rows : KeepsRows reader.rows reader.free reader.kept reader.objective t.rows
+  pub columns : KeepsColumns reader.columns t.columns
+  pub entries : KeepsEntries t.rows (row_names_held reader) (column_names_held reader) reader.entries.entries reader.count t.entries
+  pub rights : KeepsFigures bound_in (λ v. v) t.rows (row_names_held reader) reader.rights.entries t.sides
+  pub ranges : KeepsFigures literal_in Some t.rows (row_names_held reader) reader.ranges.entries t.ranges
+  pub lowers : KeepsSettings sets_lower lower_set (column_names_held reader) reader.lowers.entries t.bounds
+  pub uppers : KeepsSettings sets_upper upper_set (column_names_held reader) reader.uppers.entries t.bounds
+  pub wholes : KeepsSettings makes_whole (λ b. tt) (column_names_held reader) reader.wholes.entries t.bounds
 
 -- a reader keeps what steps say
 abbrev pub Holds : Reader → List Step → Type 0

@@ -1,5 +1,6 @@
 pub mod Tables
 pub mod Sides
 pub mod Faults
-pub mod Declared
+pub mod Meaning
 pub mod Held
+pub mod Gathered

@@ -61,7 +61,7 @@ fn is_whole(kind: BoundKind) -> bool
 /// `UnknownName` comes where no column has the name, then, where the bound has a number, `BadNumber`, and `NumberWide`
 /// unless it is huge, and `DuplicateEntry` where a bound before it sets the same.
 pub fn take_bound(reader: &mut Reader, line: u32, given: Bounded) -> Result<(), ReadFault>
-    ensures { Takes reader.old reader.new line (ToBound (bound_shown given)) result }
+    ensures { Takes reader.old reader.new line (ToBound (bound_shown given.entry)) result }
 {
     let Some(column) = place_of(&reader.columns, given.column) else {
         return Err(refusal(line, ReadKind::UnknownName));
@@ -79,7 +79,7 @@ pub fn take_bound(reader: &mut Reader, line: u32, given: Bounded) -> Result<(), 
 
 // The number of a bound: none where it has none or a huge one.
 fn number_of(text: Option<&[u8]>) -> Result<Option<Frac>, TextKind>
-    ensures { GivesNumber (option_map (λ t. t.now) text) result }
+    ensures { GivesNumber (option_map (λ t. t.now) text.entry) result }
 {
     let Some(number) = text else {
         return Ok(None);

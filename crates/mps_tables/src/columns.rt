@@ -58,9 +58,9 @@ pub fn take_entry(
     column: usize,
     figure: Figure,
 ) -> Result<(), ReadFault>
-    requires { column < length (column_names_held reader.old) }
+    requires { StandsAt (column_names_held reader.old) (name_at (column_names_held reader.old) column) column }
     ensures same { reader.new.columns ≡ reader.old.columns }
-    ensures takes { Takes reader.old reader.new line (ToEntry (name_at (column_names_held reader.old) column) (figure_shown figure)) result }
+    ensures takes { Takes reader.old reader.new line (ToEntry (name_at (column_names_held reader.old) column) (figure_shown figure.entry)) result }
 {
     let Some(row) = place_of(&reader.rows, figure.row) else {
         return Err(refusal(line, ReadKind::UnknownName));

@@ -5,6 +5,7 @@ ghost use Rattle.std.specs.Str.{bytes_eq};
 ghost use Rattle.mps_lines.specs.Steps.{Step, ToSense, ToRow};
 ghost use Rattle.mps_tables.specs.Tables.{is_free};
 ghost use Rattle.mps_tables.specs.Faults.{fault};
+ghost use Rattle.name_map.specs.Names.{names_of};
 ghost use Rattle.mps_tables.specs.Held.{Holds, Takes};
 
 use crate::tables::{Reader, is_free_kind, refusal};
@@ -81,6 +82,7 @@ fn put_row(
     name: &[u8],
 ) -> Result<(), AllocError>
     requires fresh { list_any (bytes_eq name.now) (names_of reader.old.rows) ≡ false }
+    requires short { nat_lt 255 (length name.now) ≡ false }
     requires room { cond (is_free kind) (nat_le 1000 reader.old.free) (nat_le 2000 reader.old.kept) ≡ false }
     ensures { OnOk result ((steps : List Step) → Holds reader.old steps → Holds reader.new (steps ++ ToRow kind name.now ∷ [])) }
 {

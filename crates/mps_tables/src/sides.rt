@@ -22,7 +22,7 @@ use text_fields::{ReadFault, ReadKind, TextKind};
 /// `UnknownName` comes where no row has the name, then `BadNumber`, and where the row is not free `NumberWide`, unless the
 /// number is huge, and `DuplicateEntry`.
 pub fn take_side(reader: &mut Reader, line: u32, figure: Figure) -> Result<(), ReadFault>
-    ensures { Takes reader.old reader.new line (ToSide (figure_shown figure)) result }
+    ensures { Takes reader.old reader.new line (ToSide (figure_shown figure.entry)) result }
 {
     let Some(row) = place_of(&reader.rows, figure.row) else {
         return Err(refusal(line, ReadKind::UnknownName));
@@ -47,7 +47,7 @@ pub fn take_side(reader: &mut Reader, line: u32, figure: Figure) -> Result<(), R
 ///
 /// The faults are those of a right side, and then `SumWide` where the side that the range makes is too wide.
 pub fn take_range(reader: &mut Reader, line: u32, figure: Figure) -> Result<(), ReadFault>
-    ensures { Takes reader.old reader.new line (ToRange (figure_shown figure)) result }
+    ensures { Takes reader.old reader.new line (ToRange (figure_shown figure.entry)) result }
 {
     let Some(row) = place_of(&reader.rows, figure.row) else {
         return Err(refusal(line, ReadKind::UnknownName));

@@ -1,8 +1,7 @@
 //! The terms of rows, from entries in any order.
-ghost use Rattle.std.specs.Prelude.{◌≡◌, ℕ, ◌<◌, ◌≤◌, ◌+◌, ◌^◌, List, [], ◌∷◌, ◌++◌, IfOk, OnOk, length, map, slice_index_or, nat_eq};
+ghost use Rattle.std.specs.Prelude.{◌≡◌, ℕ, ◌<◌, ◌≤◌, ◌^◌, ◌++◌, List, [], IfOk, OnOk, length, map, slice_index_or};
 ghost use Rattle.std.specs.List.{All};
-ghost use Rattle.rational.specs.Rational.{ℚ};
-ghost use Rattle.mps_tables.specs.Gathered.{shown_buckets, shown_terms, bucket_of, factor_kept, terms_to, with_bucket};
+ghost use Rattle.mps_tables.specs.Gathered.{cell_shown, cells_shown, cells_in, terms_shown, terms_at, terms_to, factor_kept};
 
 use frac128::Frac;
 use indexmap::IndexMap;
@@ -17,7 +16,10 @@ pub struct Cell {
 }
 
 // Empty lists, one for each place.
-fn empty_cells(alloc: Global, count: usize) -> Result<Vec<Vec<Cell>>, AllocError> {
+fn empty_cells(alloc: Global, count: usize) -> Result<Vec<Vec<Cell>>, AllocError>
+    ensures len { IfOk result (λ v. length v.items ≡ count) }
+    ensures each { IfOk result (λ v. All (λ cells. cells ≡ []) (cells_shown v.items)) }
+{
     let mut lists = Vec::new(alloc);
     for _ in 0..count {
         lists.push(Vec::new(alloc))?;
@@ -26,7 +28,10 @@ fn empty_cells(alloc: Global, count: usize) -> Result<Vec<Vec<Cell>>, AllocError
 }
 
 // Empty lists of terms, one for each row.
-fn empty_terms(alloc: Global, count: usize) -> Result<Vec<Vec<Term>>, AllocError> {
+fn empty_terms(alloc: Global, count: usize) -> Result<Vec<Vec<Term>>, AllocError>
+    ensures len { IfOk result (λ v. length v.items ≡ count) }
+    ensures each { IfOk result (λ v. All (λ terms. terms ≡ []) (terms_shown v.items)) }
+{
     let mut lists = Vec::new(alloc);
     for _ in 0..count {
         lists.push(Vec::new(alloc))?;
@@ -39,7 +44,11 @@ fn by_column(
     alloc: Global,
     columns: usize,
     entries: &IndexMap<(usize, usize), Frac>,
-) -> Result<Vec<Vec<Cell>>, AllocError> {
+) -> Result<Vec<Vec<Cell>>, AllocError>
+    requires { All (λ e. e.0.1 < columns) entries.now.entries }
+    ensures len { IfOk result (λ v. length v.items ≡ columns) }
+    ensures each { IfOk result (λ v. (j : ℕ) → j < columns → slice_index_or (cells_shown v.items) j [] ≡ cells_in j entries.now.entries) }
+{
     let mut lists = empty_cells(alloc, columns)?;
     for place in 0..entries.len() {
         let Some((key, value)) = entries.get_index(place) else {
@@ -55,7 +64,11 @@ fn by_column(
 }
 
 // Puts the terms of a column last in their rows, but for those with the factor 0.
-fn put_terms(rows: &mut Vec<Vec<Term>>, column: u32, cells: &[Cell]) -> Result<(), AllocError> {
+fn put_terms(rows: &mut Vec<Vec<Term>>, column: u32, cells: &[Cell]) -> Result<(), AllocError>
+    requires { All (λ c. c.0 < length rows.old.items) (map cell_shown cells.now) }
+    ensures len { OnOk result (length rows.new.items ≡ length rows.old.items) }
+    ensures each { OnOk result ((i : ℕ) → i < length rows.old.items → slice_index_or (terms_shown rows.new.items) i [] ≡ slice_index_or (terms_shown rows.old.items) i [] ++ terms_at column i (map cell_shown cells.now)) }
+{
     for cell in cells {
         if cell.value != Frac::whole(0) {
             rows[cell.row].push(Term {
@@ -73,7 +86,12 @@ pub fn terms_by_row(
     rows: usize,
     columns: usize,
     entries: &IndexMap<(usize, usize), Frac>,
-) -> Result<Vec<Vec<Term>>, AllocError> {
+) -> Result<Vec<Vec<Term>>, AllocError>
+    requires few { columns < 2 ^ 32 }
+    requires in_range { All (λ e. (e.0.0 < rows) × (e.0.1 < columns)) entries.now.entries }
+    ensures len { IfOk result (λ v. length v.items ≡ rows) }
+    ensures each { IfOk result (λ v. (i : ℕ) → i < rows → slice_index_or (terms_shown v.items) i [] ≡ terms_to (factor_kept entries.now.entries i) columns) }
+{
     let cells = by_column(alloc, columns, entries)?;
     let mut terms = empty_terms(alloc, rows)?;
     for column in 0..columns {
