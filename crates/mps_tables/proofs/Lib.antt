@@ -5,3 +5,5 @@ pub mod Keeping
 pub mod Started
 pub mod Taken
 pub mod Entered
+pub mod Sided
+pub mod Limited

@@ -184,19 +184,6 @@ is_set_held reader column kind = (sets_lower kind && is_some (lookup (nat_eq col
 abbrev pub put_where : {V : Type 0} → Bool → List (ℕ × V) → ℕ → V → List (ℕ × V)
 put_where is_put table place value = cond is_put (insert_entry nat_eq table place value) table
 
--- nothing but bounds differs
-pub record IsSameButBounds (old new : Reader) : Type 0 where
-  pub sense : new.sense ≡ old.sense
-  pub rows : new.rows ≡ old.rows
-  pub free : new.free ≡ old.free
-  pub kept : new.kept ≡ old.kept
-  pub objective : new.objective ≡ old.objective
-  pub columns : new.columns ≡ old.columns
-  pub entries : new.entries.entries ≡ old.entries.entries
-  pub count : new.count ≡ old.count
-  pub rights : new.rights.entries ≡ old.rights.entries
-  pub ranges : new.ranges.entries ≡ old.ranges.entries
-
 -- the number of a bound, or what is wrong with it
 abbrev pub GivesNumber : Option (List ℕ) → Result (Option ℚ) TextKind → Type 0
 GivesNumber text (Ok number) = (option_map_or is_no_number text false ≡ false) × (option_map_or is_wide_side text false ≡ false) × (number ≡ option_map_or bound_in text None)

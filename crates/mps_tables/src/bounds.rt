@@ -1,15 +1,17 @@
 //! The bounds of columns.
-ghost use Rattle.std.specs.Prelude.{◌≡◌, ◌<◌, ◌&&◌, ◌||◌, cond, OnOk, Some, None};
+ghost use Rattle.std.specs.Prelude.{◌≡◌, ◌&&◌, ◌||◌, ◌++◌, ◌∷◌, [], List, cond, OnOk, Some, None, false};
 ghost use Rattle.std.specs.Option.{option_map};
 ghost use Rattle.rational.specs.Rational.{zero_ℚ, one_ℚ};
-ghost use Rattle.mps_lines.specs.Steps.{ToBound};
+ghost use Rattle.name_map.specs.Names.{StandsAt};
+ghost use Rattle.mps_lines.specs.Shapes.{Bounded as BoundSaid};
+ghost use Rattle.mps_lines.specs.Steps.{Step, ToBound};
 ghost use Rattle.mps_lines.specs.Said.{bound_shown};
 ghost use Rattle.mps_tables.specs.Tables.{sets_lower, sets_upper, makes_whole};
-ghost use Rattle.mps_tables.specs.Sides.{is_binary};
-ghost use Rattle.mps_tables.specs.Held.{Takes, GivesNumber, IsSameButBounds, is_set_held, put_where};
+ghost use Rattle.mps_tables.specs.Sides.{is_binary, number_of as bound_number};
+ghost use Rattle.mps_tables.specs.Held.{Holds, Takes, GivesNumber, is_set_held, put_where, column_names_held};
 
+use crate::numbers::{is_wide, limit_of};
 use crate::tables::{Reader, literal_of, place_of, refusal};
-use bound_numbers::{bound, is_wide_limit};
 use frac128::Frac;
 use indexmap::IndexMap;
 use mps_lines::{BoundKind, Bounded};
@@ -73,7 +75,7 @@ pub fn take_bound(reader: &mut Reader, line: u32, given: Bounded) -> Result<(), 
     if is_set(reader, column, given.kind) {
         return Err(refusal(line, ReadKind::DuplicateEntry));
     }
-    put_bound(reader, column, given.kind, number)?;
+    put_bound(reader, column, given.kind, &number)?;
     Ok(())
 }
 
@@ -87,10 +89,10 @@ fn number_of(text: Option<&[u8]>) -> Result<Option<Frac>, TextKind>
     let Some(literal) = literal_of(number) else {
         return Err(TextKind::BadNumber);
     };
-    if is_wide_limit(literal) {
+    if is_wide(&literal) {
         return Err(TextKind::NumberWide);
     }
-    Ok(bound(literal))
+    Ok(limit_of(&literal))
 }
 
 // Whether a bound of a column sets what this kind sets.
@@ -106,12 +108,9 @@ fn put_bound(
     reader: &mut Reader,
     column: usize,
     kind: BoundKind,
-    number: Option<Frac>,
+    number: &Option<Frac>,
 ) -> Result<(), AllocError>
-    ensures lowers { OnOk result (reader.new.lowers.entries ≡ put_where (sets_lower kind) reader.old.lowers.entries column (cond (is_binary kind) (Some zero_ℚ) number)) }
-    ensures uppers { OnOk result (reader.new.uppers.entries ≡ put_where (sets_upper kind) reader.old.uppers.entries column (cond (is_binary kind) (Some one_ℚ) number)) }
-    ensures wholes { OnOk result (reader.new.wholes.entries ≡ put_where (makes_whole kind) reader.old.wholes.entries column tt) }
-    ensures same { OnOk result (IsSameButBounds reader.old reader.new) }
+    ensures { OnOk result ((steps : List Step) (b : BoundSaid) → Holds reader.old steps → StandsAt (column_names_held reader.old) b.column column → b.kind ≡ kind → bound_number b ≡ number.now → is_set_held reader.old column kind ≡ false → Holds reader.new (steps ++ ToBound b ∷ [])) }
 {
     put_if(
         &mut reader.lowers,
@@ -125,7 +124,8 @@ fn put_bound(
         column,
         greatest(kind, number),
     )?;
-    put_if(&mut reader.wholes, is_whole(kind), column, ())
+    put_if(&mut reader.wholes, is_whole(kind), column, ())?;
+    Ok(())
 }
 
 // Puts a value at a place, if it is to be put.
@@ -144,21 +144,21 @@ fn put_if<V: Drop>(
 }
 
 // The lower bound that a kind sets.
-fn least(kind: BoundKind, number: Option<Frac>) -> Option<Frac>
-    ensures { result ≡ cond (is_binary kind) (Some zero_ℚ) number }
+fn least(kind: BoundKind, number: &Option<Frac>) -> Option<Frac>
+    ensures { result ≡ cond (is_binary kind) (Some zero_ℚ) number.now }
 {
     if matches!(kind, BoundKind::Binary) {
         return Some(Frac::whole(0));
     }
-    number
+    *number
 }
 
 // And the upper one.
-fn greatest(kind: BoundKind, number: Option<Frac>) -> Option<Frac>
-    ensures { result ≡ cond (is_binary kind) (Some one_ℚ) number }
+fn greatest(kind: BoundKind, number: &Option<Frac>) -> Option<Frac>
+    ensures { result ≡ cond (is_binary kind) (Some one_ℚ) number.now }
 {
     if matches!(kind, BoundKind::Binary) {
         return Some(Frac::whole(1));
     }
-    number
+    *number
 }

@@ -3,6 +3,7 @@
 
 mod bounds;
 mod columns;
+mod numbers;
 mod program;
 mod rows;
 mod sides;

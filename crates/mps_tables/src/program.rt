@@ -1,5 +1,6 @@
 //! The program that a reader's tables declare.
 
+use crate::numbers::is_less;
 use crate::sides::{Sides, right_at, sides_of, sides_with};
 use crate::tables::{Reader, is_free_kind, kind_at};
 use crate::terms::terms_by_row;
@@ -25,7 +26,7 @@ fn upper_at(reader: &Reader, column: usize) -> Option<Frac> {
 // Whether a bound is negative.
 fn is_negative(bound: Option<Frac>) -> bool {
     match bound {
-        Some(value) => value < Frac::whole(0),
+        Some(value) => is_less(value, Frac::whole(0)),
         None => false,
     }
 }
@@ -82,7 +83,7 @@ fn sides_at(reader: &Reader, row: usize) -> Option<Sides> {
     let kind = kind_at(reader, row);
     let right = right_at(reader, row);
     match reader.ranges.get(&row) {
-        Some(range) => sides_with(kind, right, *range),
+        Some(range) => sides_with(kind, right, range),
         None => Some(sides_of(kind, right)),
     }
 }

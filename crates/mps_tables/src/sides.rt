@@ -1,20 +1,19 @@
 //! The right sides and the ranges of rows.
-ghost use Rattle.std.specs.Prelude.{◌≡◌, ◌<◌, ◌≤◌, ◌+◌, ◌++◌, ◌∷◌, [], ℕ, List, MatchResult, MatchOption, Some, None, length, true, false, unwrap_or, option_map};
+ghost use Rattle.indexmap.specs.IndexMap.{insert_entry};
+ghost use Rattle.std.specs.Prelude.{◌≡◌, nat_eq, MatchOption, OnOk, Some, None, true, false};
 ghost use Rattle.std.specs.Option.{option_map_or};
-ghost use Rattle.std.specs.Map.{lookup};
-ghost use Rattle.std.specs.Prelude.{nat_eq};
-ghost use Rattle.rational.specs.Rational.{zero_ℚ};
-ghost use Rattle.bound_numbers.specs.Bounds.{bound_of};
 ghost use Rattle.mps_lines.specs.Steps.{ToSide, ToRange};
 ghost use Rattle.mps_lines.specs.Said.{figure_shown};
-ghost use Rattle.mps_tables.specs.Sides.{Move, move_of, magnitude as magnitude_of, moved_sides, is_move_wide, plain_sides, row_sides, is_range_wide, is_negative as is_literal_negative, is_positive as is_literal_positive};
-ghost use Rattle.mps_tables.specs.Sides.Move.{Down, Up, Stays};
+ghost use Rattle.mps_tables.specs.Sides.{move_of, moved_sides, is_move_wide, plain_sides, row_sides, is_range_wide};
+ghost use Rattle.mps_tables.specs.Sides.Move.{Down, Up};
 ghost use Rattle.mps_tables.specs.Held.{Takes, right_held, Moves};
 
+use crate::numbers::{is_negative, is_positive, is_wide, limit_of, magnitude};
 use crate::tables::{Reader, is_free_kind, kind_at, literal_of, place_of, refusal};
-use bound_numbers::{bound, is_wide_limit};
-use frac128::{Frac, Literal, Wide};
+use frac128::{Frac, Literal};
+use indexmap::IndexMap;
 use mps_lines::{Figure, RowKind};
+use std::alloc::AllocError;
 use text_fields::{ReadFault, ReadKind, TextKind};
 
 /// Takes the right side of a row in.
@@ -33,13 +32,13 @@ pub fn take_side(reader: &mut Reader, line: u32, figure: Figure) -> Result<(), R
     if is_free_kind(kind_at(reader, row)) {
         return Ok(());
     }
-    if is_wide_limit(literal) {
+    if is_wide(&literal) {
         return Err(refusal(line, ReadKind::Text(TextKind::NumberWide)));
     }
     if reader.rights.contains_key(&row) {
         return Err(refusal(line, ReadKind::DuplicateEntry));
     }
-    reader.rights.insert(row, bound(literal))?;
+    reader.rights.insert(row, limit_of(&literal))?;
     Ok(())
 }
 
@@ -59,16 +58,35 @@ pub fn take_range(reader: &mut Reader, line: u32, figure: Figure) -> Result<(), 
     if is_free_kind(kind) {
         return Ok(());
     }
-    if is_wide_limit(literal) {
+    if is_wide(&literal) {
         return Err(refusal(line, ReadKind::Text(TextKind::NumberWide)));
     }
     if reader.ranges.contains_key(&row) {
         return Err(refusal(line, ReadKind::DuplicateEntry));
     }
-    if sides_with(kind, right_at(reader, row), literal).is_none() {
+    if is_sum_wide(kind, right_at(reader, row), &literal) {
         return Err(refusal(line, ReadKind::SumWide));
     }
-    reader.ranges.insert(row, literal)?;
+    put_range(&mut reader.ranges, row, &literal)?;
+    Ok(())
+}
+
+// Whether the side that a range makes is too wide.
+fn is_sum_wide(kind: RowKind, right: Option<Frac>, range: &Literal) -> bool
+    ensures { result ≡ is_range_wide kind right range.now }
+{
+    sides_with(kind, right, range).is_none()
+}
+
+// Puts the range of a row.
+fn put_range(
+    ranges: &mut IndexMap<usize, Literal>,
+    row: usize,
+    range: &Literal,
+) -> Result<(), AllocError>
+    ensures { OnOk result (ranges.new.entries ≡ insert_entry nat_eq ranges.old.entries row range.now) }
+{
+    ranges.insert(row, *range)?;
     Ok(())
 }
 
@@ -106,21 +124,39 @@ pub fn sides_of(kind: RowKind, right: Option<Frac>) -> Sides
 fn plain(kind: RowKind, right: Frac) -> Sides
     ensures { (result.lower, result.upper) ≡ plain_sides kind right }
 {
-    let side = Some(right);
-    let (lower, upper) = match kind {
-        RowKind::Free => (None, None),
-        RowKind::AtMost => (None, side),
-        RowKind::AtLeast => (side, None),
-        RowKind::Equal => (side, side),
-    };
-    Sides { lower, upper }
+    match kind {
+        RowKind::Free => Sides {
+            lower: None,
+            upper: None,
+        },
+        RowKind::AtMost => Sides {
+            lower: None,
+            upper: Some(right),
+        },
+        RowKind::AtLeast => Sides {
+            lower: Some(right),
+            upper: None,
+        },
+        RowKind::Equal => pinned(right),
+    }
+}
+
+// The sides of an equation.
+fn pinned(right: Frac) -> Sides
+    ensures { (result.lower, result.upper) ≡ plain_sides RowKind.Equal right }
+{
+    let other = right;
+    Sides {
+        lower: Some(right),
+        upper: Some(other),
+    }
 }
 
 /// The sides of a row with a range. `None` exactly where the side that the range makes is too wide.
-pub fn sides_with(kind: RowKind, right: Option<Frac>, range: Literal) -> Option<Sides>
+pub fn sides_with(kind: RowKind, right: Option<Frac>, range: &Literal) -> Option<Sides>
     ensures { MatchOption result
-        (is_range_wide kind right range ≡ true)
-        (λ sides. (is_range_wide kind right range ≡ false) × ((sides.lower, sides.upper) ≡ row_sides kind right (Some range))) }
+        (is_range_wide kind right range.now ≡ true)
+        (λ sides. (is_range_wide kind right range.now ≡ false) × ((sides.lower, sides.upper) ≡ row_sides kind right (Some range.now))) }
 {
     let Some(value) = right else {
         return Some(Sides {
@@ -128,7 +164,7 @@ pub fn sides_with(kind: RowKind, right: Option<Frac>, range: Literal) -> Option<
             upper: None,
         });
     };
-    let far = bound(range);
+    let far = limit_of(range);
     match side_moved(kind, range) {
         Direction::Stays => Some(plain(kind, value)),
         Direction::Down => below(value, far),
@@ -145,8 +181,8 @@ pub enum Direction {
 }
 
 // Where a range moves the other side.
-fn side_moved(kind: RowKind, range: Literal) -> Direction
-    ensures { Moves result (move_of kind range) }
+fn side_moved(kind: RowKind, range: &Literal) -> Direction
+    ensures { Moves result (move_of kind range.now) }
 {
     match kind {
         RowKind::Free => Direction::Stays,
@@ -157,8 +193,8 @@ fn side_moved(kind: RowKind, range: Literal) -> Direction
 }
 
 // Where the range of an equation moves it.
-fn signed(range: Literal) -> Direction
-    ensures { Moves result (move_of RowKind.Equal range) }
+fn signed(range: &Literal) -> Direction
+    ensures { Moves result (move_of RowKind.Equal range.now) }
 {
     if is_negative(range) {
         return Direction::Down;
@@ -167,36 +203,6 @@ fn signed(range: Literal) -> Direction
         return Direction::Up;
     }
     Direction::Stays
-}
-
-// Whether a literal is below 0.
-fn is_negative(literal: Literal) -> bool
-    ensures { result ≡ is_literal_negative literal }
-{
-    match literal {
-        Literal::Fits(value) => value < Frac::whole(0),
-        Literal::TooWide { negative, .. } => negative,
-    }
-}
-
-// Whether a literal is above 0.
-fn is_positive(literal: Literal) -> bool
-    ensures { result ≡ is_literal_positive literal }
-{
-    match literal {
-        Literal::Fits(value) => Frac::whole(0) < value,
-        Literal::TooWide { negative, .. } => !negative,
-    }
-}
-
-// The magnitude of a value.
-fn magnitude(value: Frac) -> Frac
-    ensures { result ≡ magnitude_of value }
-{
-    if value < Frac::whole(0) {
-        return value.negate();
-    }
-    value
 }
 
 // The sides with the other one below, unless the range is huge.
