@@ -1,5 +1,5 @@
 -- What the lines before a line say about how it is to be read: its section, whether its columns are whole, and which sets are used.
-use Rattle.std.specs.Prelude.{ℕ, Bool, true, false, ◌&&◌, cond, List, [], ◌∷◌, slice_get, Option, Some, None, Result, Ok, Err}
+use Rattle.std.specs.Prelude.{ℕ, Bool, true, false, ◌&&◌, cond, List, slice_get, Option, Some, None, Result, Ok, Err}
 use Rattle.std.specs.List.{filter_map, last_or}
 use Rattle.std.specs.Option.{option_map_or}
 use Rattle.std.specs.Str.{bytes_eq}
@@ -79,3 +79,17 @@ context_of records = record {
   ranges = first_set Ranges records;
   bounds = first_set Bounds records;
 }
+
+-- ---- line by line
+-- the first of two that is there
+abbrev pub first_or : Option (List ℕ) → Option (List ℕ) → Option (List ℕ)
+first_or (Some first) second = Some first
+first_or None second = second
+
+-- how the line after a data line is to be read
+abbrev pub data_context : Section → Context → List (List ℕ) → Context
+data_context Columns context fields = record context { marked = option_map_or (λ b. b) (marker_of (columns_line fields)) context.marked }
+data_context Sides context fields = record context { sides = first_or context.sides (set_of_line (set_line fields)) }
+data_context Ranges context fields = record context { ranges = first_or context.ranges (set_of_line (set_line fields)) }
+data_context Bounds context fields = record context { bounds = first_or context.bounds (set_of_bound (bound_line fields)) }
+data_context _ context fields = context

@@ -1,6 +1,6 @@
 -- The lines of a model up to its end, each with its number and its section.
-use Rattle.std.specs.Prelude.{◌≡◌, ℕ, ◌+◌, ◌==◌, ◌&&◌, ◌||◌, not, nat_lt, Bool, true, false, cond, List, [], ◌∷◌, ◌++◌, length, slice_index, slice_index_or, Option, Some, None}
-use Rattle.std.specs.List.{filter_map, last_or, list_any}
+use Rattle.std.specs.Prelude.{ℕ, ◌+◌, ◌==◌, ◌&&◌, ◌||◌, not, Bool, false, cond, List, [], ◌∷◌, ◌++◌, length, slice_index, slice_index_or, Option, None}
+use Rattle.std.specs.List.{filter_map, last_or}
 use Rattle.std.specs.Option.{option_map_or}
 use Rattle.lane_scan.specs.Bytes.{is_blank}
 use Rattle.text_fields.specs.Fields.{fields_of, is_comment}

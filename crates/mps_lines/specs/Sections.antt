@@ -5,7 +5,7 @@ pub use Rattle.mps_lines.specs.declared.sections.Section.{Section}
 pub use Rattle.mps_lines.specs.declared.sections.Section.TheVariants.{Start, Name, Sense, Rows, Columns, Sides, Ranges, Bounds, End}
 
 -- the section that a header's first word names
-unfoldable pub heading_word : List ℕ → Option Section
+abbrev pub heading_word : List ℕ → Option Section
 heading_word word =
     cond (bytes_eq word (codes "NAME")) (Some Name)
     (cond (bytes_eq word (codes "OBJSENSE")) (Some Sense)

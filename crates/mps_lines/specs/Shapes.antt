@@ -1,5 +1,5 @@
 -- What the fields of a single line say.
-use Rattle.std.specs.Prelude.{ℕ, Bool, true, false, ◌||◌, cond, List, [], ◌∷◌, codes, Option, Some, None, Result, Ok, Err}
+use Rattle.std.specs.Prelude.{ℕ, Bool, true, false, ◌||◌, cond, List, [], ◌∷◌, codes, Option, Some, None, Result, Err}
 use Rattle.std.specs.Option.{option_map, ok_or}
 use Rattle.std.specs.Str.{bytes_eq, str_eq_ignore_ascii_case}
 use Rattle.text_fields.specs.declared.faults.ReadKind.{ReadKind}
@@ -11,13 +11,13 @@ pub use Rattle.mps_lines.specs.declared.shapes.BoundKind.TheVariants.{Upper, Low
 
 -- ---- words
 -- the sense that a word names, in any case of letters: whether the objective is to be made greatest
-unfoldable pub sense_word : List ℕ → Option Bool
+abbrev pub sense_word : List ℕ → Option Bool
 sense_word word =
     cond (str_eq_ignore_ascii_case word (codes "MAX") || str_eq_ignore_ascii_case word (codes "MAXIMIZE")) (Some true)
     (cond (str_eq_ignore_ascii_case word (codes "MIN") || str_eq_ignore_ascii_case word (codes "MINIMIZE")) (Some false) None)
 
 -- the kind of row that a word names
-unfoldable pub row_word : List ℕ → Option RowKind
+abbrev pub row_word : List ℕ → Option RowKind
 row_word word =
     cond (bytes_eq word (codes "N")) (Some Free)
     (cond (bytes_eq word (codes "L")) (Some AtMost)
@@ -25,13 +25,13 @@ row_word word =
     (cond (bytes_eq word (codes "E")) (Some Equal) None)))
 
 -- a marker: whether the columns after it are whole
-unfoldable pub marker_word : List ℕ → Option Bool
+abbrev pub marker_word : List ℕ → Option Bool
 marker_word word =
     cond (bytes_eq word (codes "'INTORG'")) (Some true)
     (cond (bytes_eq word (codes "'INTEND'")) (Some false) None)
 
 -- the kind of bound that a word names
-unfoldable pub bound_word : List ℕ → Option BoundKind
+abbrev pub bound_word : List ℕ → Option BoundKind
 bound_word word =
     cond (bytes_eq word (codes "UP")) (Some Upper)
     (cond (bytes_eq word (codes "LO")) (Some Lower)
@@ -68,7 +68,7 @@ pub data ColumnsLine : Type 0 where
   Entries : List ℕ → List Figure → ColumnsLine
 
 -- three fields with 'MARKER' second are a marker, and no line where the third is none
-unfoldable pub columns_line : List (List ℕ) → Option ColumnsLine
+abbrev pub columns_line : List (List ℕ) → Option ColumnsLine
 columns_line (a ∷ b ∷ c ∷ []) = cond (bytes_eq b (codes "'MARKER'")) (option_map Marker (marker_word c)) (Some (Entries a (figure b c ∷ [])))
 columns_line (a ∷ b ∷ c ∷ d ∷ e ∷ []) = Some (Entries a (figure b c ∷ figure d e ∷ []))
 columns_line _ = None
@@ -79,7 +79,7 @@ pub record SetLine : Type 0 where
   pub figures : List Figure
 
 -- two or four fields have no set, three or five have one, which comes first
-unfoldable pub set_line : List (List ℕ) → Option SetLine
+abbrev pub set_line : List (List ℕ) → Option SetLine
 set_line (a ∷ b ∷ []) = Some (record { set = None; figures = figure a b ∷ [] })
 set_line (s ∷ a ∷ b ∷ []) = Some (record { set = Some s; figures = figure a b ∷ [] })
 set_line (a ∷ b ∷ c ∷ d ∷ []) = Some (record { set = None; figures = figure a b ∷ figure c d ∷ [] })
@@ -128,6 +128,6 @@ bound_after None word fields = Err (no_bound word)
 bound_after (Some kind) word fields = ok_or (bound_fields kind fields) BadField
 
 -- a line of BOUNDS, or what is wrong with it
-unfoldable pub bound_line : List (List ℕ) → Result BoundLine ReadKind
+abbrev pub bound_line : List (List ℕ) → Result BoundLine ReadKind
 bound_line [] = Err BadField
 bound_line (word ∷ fields) = bound_after (bound_word word) word fields

@@ -1,12 +1,12 @@
 -- What a model says step by step: the parts of its lines from the left, each with the number of its line.
-use Rattle.std.specs.Prelude.{ℕ, ◌+◌, max, Bool, true, false, cond, not, List, [], ◌∷◌, ◌++◌, length, map, drop, slice_index_or, Option, Some, None, Result, Ok, Err}
+use Rattle.std.specs.Prelude.{ℕ, max, Bool, cond, List, [], ◌∷◌, ◌++◌, length, map, drop, slice_index_or, Option, Some, None, Result, Ok, Err}
 use Rattle.std.specs.List.{list_any}
 use Rattle.text_fields.specs.Fields.{fields_of, field_fault}
 use Rattle.text_fields.specs.Lines.{lines_of}
 use Rattle.text_fields.specs.declared.faults.TextKind.{TextKind}
 use Rattle.text_fields.specs.declared.faults.ReadKind.{ReadKind}
 use Rattle.text_fields.specs.declared.faults.ReadKind.TheVariants.{Text, Order, Unsupported, BadField, Truncated}
-use Rattle.mps_lines.specs.Sections.{Section, Start, Name, Sense, Rows, Columns, Sides, Ranges, Bounds, End, heading_word, may_follow}
+use Rattle.mps_lines.specs.Sections.{Section, Name, Sense, Rows, Columns, Sides, Ranges, Bounds, heading_word, may_follow}
 use Rattle.mps_lines.specs.Records.{Record, is_passed_over, is_header, is_last, records}
 use Rattle.mps_lines.specs.Shapes.{RowKind, Figure, ColumnsLine, SetLine, Bounded, BoundLine, sense_word, row_word, columns_line, set_line, bound_line}
 use Rattle.mps_lines.specs.Shapes.ColumnsLine.{Marker, Entries}
@@ -33,12 +33,22 @@ abbrev pub sense_steps : Option Bool → List Step
 sense_steps None = refused BadField
 sense_steps (Some greatest) = ToSense greatest ∷ []
 
--- what follows on a header's line: anything after NAME, at most one word after OBJSENSE, nothing after the others
+-- after OBJSENSE at most one word
+abbrev pub sense_further : List (List ℕ) → List Step
+sense_further [] = []
+sense_further (word ∷ []) = sense_steps (sense_word word)
+sense_further _ = refused BadField
+
+-- after others nothing
+abbrev pub bare_further : List (List ℕ) → List Step
+bare_further [] = []
+bare_further _ = refused BadField
+
+-- what follows on a header's line; after NAME it is anything
 abbrev pub further_steps : Section → List (List ℕ) → List Step
 further_steps Name further = []
-further_steps Sense (word ∷ []) = sense_steps (sense_word word)
-further_steps next [] = []
-further_steps next further = refused BadField
+further_steps Sense further = sense_further further
+further_steps _ further = bare_further further
 
 -- a header in its order, or not
 abbrev pub heading_steps : Section → Option Section → List (List ℕ) → List Step
@@ -67,12 +77,20 @@ abbrev pub bound_steps : Option (List ℕ) → Result BoundLine ReadKind → Lis
 bound_steps first (Err kind) = refused kind
 bound_steps first (Ok line) = cond (is_used first line.set) (ToBound line.bound ∷ []) []
 
+-- one word under OBJSENSE
+abbrev pub sense_data : List (List ℕ) → List Step
+sense_data (word ∷ []) = sense_steps (sense_word word)
+sense_data _ = refused BadField
+
+-- a kind and a name under ROWS
+abbrev pub row_data : List (List ℕ) → List Step
+row_data (kind ∷ name ∷ []) = row_steps (row_word kind) name
+row_data _ = refused BadField
+
 -- the fields of a data line; `context` is that of the lines up to it, with it
 abbrev pub data_steps : Section → Context → List (List ℕ) → List Step
-data_steps Sense context (word ∷ []) = sense_steps (sense_word word)
-data_steps Sense context fields = refused BadField
-data_steps Rows context (kind ∷ name ∷ []) = row_steps (row_word kind) name
-data_steps Rows context fields = refused BadField
+data_steps Sense context fields = sense_data fields
+data_steps Rows context fields = row_data fields
 data_steps Columns context fields = columns_steps context.marked (columns_line fields)
 data_steps Sides context fields = set_steps ToSide context.sides (set_line fields)
 data_steps Ranges context fields = set_steps ToRange context.ranges (set_line fields)
@@ -85,8 +103,8 @@ abbrev pub whole_steps : Record → Context → List Step
 whole_steps r context =
     cond (is_passed_over r.text) []
     (cond (is_header r.text)
-      (heading_steps r.section (heading_word (slice_index_or (fields_of r.text) 0 [])) (drop 1 (fields_of r.text)))
-      (data_steps r.section context (fields_of r.text)))
+    (heading_steps r.section (heading_word (slice_index_or (fields_of r.text) 0 [])) (drop 1 (fields_of r.text)))
+    (data_steps r.section context (fields_of r.text)))
 
 -- a line with one has only that
 abbrev pub steps_unless : Option TextKind → List Step → List Step

@@ -2,16 +2,16 @@
 #![tactic(auto)]
 
 mod contexts;
+mod data;
 mod fielding;
 mod lines;
 mod sections;
 mod shapes;
 
 pub use contexts::Context;
-pub use fielding::Fields;
-pub use lines::Said;
+pub use lines::{Said, read_line};
 pub use sections::Section;
-pub use shapes::{Bounded, BoundKind, Figure, RowKind};
+pub use shapes::{BoundKind, Bounded, Figure, RowKind};
 
 #[cfg(test)]
 mod tests;
