@@ -7,3 +7,4 @@ pub mod Taken
 pub mod Entered
 pub mod Sided
 pub mod Limited
+pub mod Spread

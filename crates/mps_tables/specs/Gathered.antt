@@ -1,10 +1,10 @@
 -- The terms of rows, gathered from entries by places.
-use Rattle.std.specs.Prelude.{◌≡◌, ℕ, ◌<◌, ◌&&◌, nat_eq, cond, Bool, List, [], ◌∷◌, ◌++◌, map, unwrap_or, Option, Some, None}
+use Rattle.std.specs.Prelude.{◌≡◌, ℕ, ◌<◌, ◌&&◌, nat_eq, not, cond, Bool, List, [], ◌∷◌, ◌++◌, map, unwrap_or, Option, Some, None}
 use Rattle.std.proofs.Common.{zero, suc}
 use Rattle.std.specs.Global.{Vec}
 use Rattle.std.specs.List.{filter_map}
 use Rattle.std.specs.Map.{lookup}
-use Rattle.rational.specs.Rational.{ℚ, zero_ℚ}
+use Rattle.rational.specs.Rational.{ℚ, zero_ℚ, eq_ℚ}
 use Rattle.rational.specs.Linear.{Term}
 use Rattle.mps_tables.specs.Meaning.{with_term}
 use Rattle.mps_tables.specs.declared.terms.Cell.{Cell}
@@ -28,8 +28,17 @@ cells_in column entries = filter_map (λ e. cond (nat_eq column e.0.1) (Some (e.
 
 -- the terms of a column that cells give a row
 abbrev pub terms_at : ℕ → ℕ → List (ℕ × ℚ) → List Term
-terms_at column row [] = []
-terms_at column row (c ∷ cs) = cond (nat_eq row c.0) (with_term column c.1 (terms_at column row cs)) (terms_at column row cs)
+terms_at column row cells = filter_map (λ c. cond (nat_eq row c.0 && not (eq_ℚ c.1 zero_ℚ)) (Some (record { column = column; factor = c.1 })) None) cells
+
+-- f 0, f 1 up to f (n - 1)
+abbrev pub listed : {X : Type 0} → (ℕ → X) → ℕ → List X
+listed f zero = []
+listed f (suc n) = listed f n ++ f n ∷ []
+
+-- those of them whose number passes a test
+abbrev pub listed_where : {X : Type 0} → (ℕ → Bool) → (ℕ → X) → ℕ → List X
+listed_where test f zero = []
+listed_where test f (suc n) = listed_where test f n ++ cond (test n) (f n ∷ []) []
 
 -- ---- the code's lists
 -- a cell

@@ -4,3 +4,4 @@ pub mod Faults
 pub mod Meaning
 pub mod Held
 pub mod Gathered
+pub mod Built

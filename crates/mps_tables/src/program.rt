@@ -1,4 +1,14 @@
 //! The program that a reader's tables declare.
+ghost use Rattle.std.specs.Prelude.{◌≡◌, ℕ, ◌<◌, ◌≤◌, ◌+◌, ◌∷◌, [], List, IfOk, OnOk, MatchOption, All, IfSome, true, false, cond, is_some, unwrap_or, length, map, slice_index_or};
+ghost use Rattle.std.specs.Option.{option_map_or};
+ghost use Rattle.rational.specs.Linear.{Term as LinearTerm};
+ghost use Rattle.lp_model.specs.Program.{IsForm};
+ghost use Rattle.lp_model.specs.Shown.{most_columns};
+ghost use Rattle.mps_lines.specs.Steps.{Step};
+ghost use Rattle.mps_tables.specs.Meaning.{program_of};
+ghost use Rattle.mps_tables.specs.Held.{Holds};
+ghost use Rattle.mps_tables.specs.Gathered.{terms_shown};
+ghost use Rattle.mps_tables.specs.Built.{IsRead, IsSound, upper_held, is_negative_bound, is_removed_held, lower_held, whole_held, columns_to, terms_held, sides_held, rows_to, is_kept_held, objective_held, program_held};
 
 use crate::numbers::is_less;
 use crate::sides::{Sides, right_at, sides_of, sides_with};
@@ -16,7 +26,9 @@ pub struct Lower {
 }
 
 // The upper bound of a column.
-fn upper_at(reader: &Reader, column: usize) -> Option<Frac> {
+fn upper_at(reader: &Reader, column: usize) -> Option<Frac>
+    ensures { result ≡ upper_held reader.now column }
+{
     match reader.uppers.get(&column) {
         Some(upper) => *upper,
         None => None,
@@ -24,7 +36,9 @@ fn upper_at(reader: &Reader, column: usize) -> Option<Frac> {
 }
 
 // Whether a bound is negative.
-fn is_negative(bound: Option<Frac>) -> bool {
+fn is_negative(bound: Option<Frac>) -> bool
+    ensures { result ≡ is_negative_bound bound }
+{
     match bound {
         Some(value) => is_less(value, Frac::whole(0)),
         None => false,
@@ -32,7 +46,10 @@ fn is_negative(bound: Option<Frac>) -> bool {
 }
 
 // The lower bound of a column.
-fn lower_at(reader: &Reader, column: usize) -> Lower {
+fn lower_at(reader: &Reader, column: usize) -> Lower
+    ensures bound { result.bound ≡ lower_held reader.now column }
+    ensures removed { result.is_removed ≡ is_removed_held reader.now column }
+{
     if let Some(lower) = reader.lowers.get(&column) {
         return Lower {
             bound: *lower,
@@ -57,7 +74,11 @@ fn put_column(
     model: &mut Model,
     reader: &Reader,
     index: usize,
-) -> Result<(), AllocError> {
+) -> Result<(), AllocError>
+    requires within { index < length reader.now.columns }
+    requires before { model.old ≡ columns_to reader.now index }
+    ensures { OnOk result (model.new ≡ columns_to reader.now (index + 1)) }
+{
     let lower = lower_at(reader, index);
     let column = Column {
         lo: lower.bound,
@@ -79,7 +100,10 @@ fn put_column(
 }
 
 // The sides of the row at a place.
-fn sides_at(reader: &Reader, row: usize) -> Option<Sides> {
+fn sides_at(reader: &Reader, row: usize) -> Option<Sides>
+    requires { row < length reader.now.rows }
+    ensures { IfSome result (λ sides. (sides.lower, sides.upper) ≡ sides_held reader.now row) }
+{
     let kind = kind_at(reader, row);
     let right = right_at(reader, row);
     match reader.ranges.get(&row) {
@@ -89,7 +113,9 @@ fn sides_at(reader: &Reader, row: usize) -> Option<Sides> {
 }
 
 // Terms as a form.
-fn form(alloc: Global, terms: &[Term]) -> Result<Terms, AllocError> {
+fn form(alloc: Global, terms: &[Term]) -> Result<Terms, AllocError>
+    ensures { IfOk result (λ form. form ≡ terms.now) }
+{
     Ok(Terms::new(Vec::from_slice(alloc, terms)?))
 }
 
@@ -100,7 +126,12 @@ fn put_row(
     reader: &Reader,
     index: usize,
     terms: &[Term],
-) -> Result<(), AllocError> {
+) -> Result<(), AllocError>
+    requires within { index < length reader.now.rows }
+    requires terms { terms.now ≡ terms_held reader.now index }
+    requires before { model.old ≡ rows_to reader.now index }
+    ensures { OnOk result (model.new ≡ rows_to reader.now (index + 1)) }
+{
     if is_free_kind(kind_at(reader, index)) {
         return Ok(());
     }
@@ -125,7 +156,10 @@ fn objective_terms(
     alloc: Global,
     objective: Option<usize>,
     terms: &[Vec<Term>],
-) -> Result<Terms, AllocError> {
+) -> Result<Terms, AllocError>
+    requires { IfSome objective (λ row. row < length terms.now) }
+    ensures { IfOk result (λ form. form ≡ option_map_or (λ row. slice_index_or (terms_shown terms.now) row []) objective []) }
+{
     match objective {
         Some(row) => form(alloc, terms[row].as_slice()),
         None => Ok(Terms::new(Vec::new(alloc))),
@@ -133,26 +167,68 @@ fn objective_terms(
 }
 
 // The sense: to minimise unless a line has said otherwise.
-fn is_greatest(sense: Option<bool>) -> bool {
+fn is_greatest(sense: Option<bool>) -> bool
+    ensures { result ≡ unwrap_or sense false }
+{
     match sense {
         Some(greatest) => greatest,
         None => false,
     }
 }
 
-/// The program.
-pub fn make_program(alloc: Global, reader: &Reader) -> Result<Model, AllocError> {
-    let rows = reader.rows.len();
-    let columns = reader.columns.len();
-    let terms = terms_by_row(alloc, rows, columns, &reader.entries)?;
-    let mut model = Model::new(alloc, is_greatest(reader.sense));
-    for index in 0..columns {
-        put_column(alloc, &mut model, reader, index)?;
+// Puts all columns.
+fn put_columns(alloc: Global, model: &mut Model, reader: &Reader) -> Result<(), AllocError>
+    requires { model.old ≡ columns_to reader.now 0 }
+    ensures { OnOk result (model.new ≡ columns_to reader.now (length reader.now.columns)) }
+{
+    for index in 0..reader.columns.len() {
+        put_column(alloc, model, reader, index)?;
     }
+    Ok(())
+}
+
+// Puts all rows that are not free.
+fn put_rows(
+    alloc: Global,
+    model: &mut Model,
+    reader: &Reader,
+    terms: &[Vec<Term>],
+) -> Result<(), AllocError>
+    requires len { length terms.now ≡ length reader.now.rows }
+    requires terms { (i : ℕ) → i < length reader.now.rows → slice_index_or (terms_shown terms.now) i [] ≡ terms_held reader.now i }
+    requires before { model.old ≡ rows_to reader.now 0 }
+    ensures { OnOk result (model.new ≡ rows_to reader.now (length reader.now.rows)) }
+{
+    for index in 0..reader.rows.len() {
+        put_row(alloc, model, reader, index, terms[index].as_slice())?;
+    }
+    Ok(())
+}
+
+// The program, by places.
+fn build(alloc: Global, reader: &Reader) -> Result<Model, AllocError>
+    requires { IsSound reader.now }
+    ensures { IfOk result (λ model. model ≡ program_held reader.now) }
+{
+    let greatest = is_greatest(reader.sense);
+    let terms = terms_by_row(
+        alloc,
+        reader.rows.len(),
+        reader.columns.len(),
+        &reader.entries,
+    )?;
+    let mut model = Model::new(alloc, greatest);
+    put_columns(alloc, &mut model, reader)?;
     let objective = objective_terms(alloc, reader.objective, terms.as_slice())?;
-    model.set_objective(objective, is_greatest(reader.sense));
-    for index in 0..rows {
-        put_row(alloc, &mut model, reader, index, terms[index].as_slice())?;
-    }
+    model.set_objective(objective, greatest);
+    put_rows(alloc, &mut model, reader, terms.as_slice())?;
     Ok(model)
+}
+
+/// The program that the steps declare which the tables keep.
+pub fn make_program(alloc: Global, reader: &Reader) -> Result<Model, AllocError>
+    requires { IsRead reader.now }
+    ensures { IfOk result (λ model. (steps : List Step) → Holds reader.now steps → model ≡ program_of steps) }
+{
+    build(alloc, reader)
 }

@@ -1,7 +1,7 @@
 //! The terms of rows, from entries in any order.
-ghost use Rattle.std.specs.Prelude.{◌≡◌, ℕ, ◌<◌, ◌≤◌, ◌^◌, ◌++◌, List, [], IfOk, OnOk, length, map, slice_index_or};
-ghost use Rattle.std.specs.List.{All};
-ghost use Rattle.mps_tables.specs.Gathered.{cell_shown, cells_shown, cells_in, terms_shown, terms_at, terms_to, factor_kept};
+ghost use Rattle.std.specs.Prelude.{◌≡◌, ℕ, ◌<◌, ◌^◌, ◌++◌, ◌∷◌, List, [], IfOk, OnOk, length, map, slice_index_or};
+ghost use Rattle.std.specs.List.{All, IsDistinct};
+ghost use Rattle.mps_tables.specs.Gathered.{is_same_pair, cell_shown, cells_shown, cells_in, terms_shown, terms_at, terms_to, factor_kept};
 
 use frac128::Frac;
 use indexmap::IndexMap;
@@ -63,21 +63,40 @@ fn by_column(
     Ok(lists)
 }
 
-// Puts the terms of a column last in their rows, but for those with the factor 0.
+// Puts a term last in its row, unless its factor is 0.
+fn put_term(rows: &mut Vec<Vec<Term>>, column: u32, cell: &Cell) -> Result<(), AllocError>
+    requires { cell.now.row < length rows.old.items }
+    ensures len { OnOk result (length rows.new.items ≡ length rows.old.items) }
+    ensures each { OnOk result ((i : ℕ) → i < length rows.old.items → slice_index_or (terms_shown rows.new.items) i [] ≡ slice_index_or (terms_shown rows.old.items) i [] ++ terms_at column i (cell_shown cell.now ∷ [])) }
+{
+    if cell.value == Frac::whole(0) {
+        return Ok(());
+    }
+    let term = Term {
+        column,
+        factor: cell.value,
+    };
+    rows[cell.row].push(term)?;
+    Ok(())
+}
+
+// Puts the terms of a column last in their rows.
 fn put_terms(rows: &mut Vec<Vec<Term>>, column: u32, cells: &[Cell]) -> Result<(), AllocError>
     requires { All (λ c. c.0 < length rows.old.items) (map cell_shown cells.now) }
     ensures len { OnOk result (length rows.new.items ≡ length rows.old.items) }
     ensures each { OnOk result ((i : ℕ) → i < length rows.old.items → slice_index_or (terms_shown rows.new.items) i [] ≡ slice_index_or (terms_shown rows.old.items) i [] ++ terms_at column i (map cell_shown cells.now)) }
 {
-    for cell in cells {
-        if cell.value != Frac::whole(0) {
-            rows[cell.row].push(Term {
-                column,
-                factor: cell.value,
-            })?;
-        }
+    for index in 0..cells.len() {
+        put_term(rows, column, &cells[index])?;
     }
     Ok(())
+}
+
+// No places are there twice.
+fn places_differ(entries: &IndexMap<(usize, usize), Frac>)
+    ensures { IsDistinct is_same_pair (map (λ e. e.0) entries.now.entries) }
+{
+    let _ = entries.len();
 }
 
 /// The terms of each row by column. The columns are gone through in order, so that no list is sorted.
@@ -92,6 +111,7 @@ pub fn terms_by_row(
     ensures len { IfOk result (λ v. length v.items ≡ rows) }
     ensures each { IfOk result (λ v. (i : ℕ) → i < rows → slice_index_or (terms_shown v.items) i [] ≡ terms_to (factor_kept entries.now.entries i) columns) }
 {
+    places_differ(entries);
     let cells = by_column(alloc, columns, entries)?;
     let mut terms = empty_terms(alloc, rows)?;
     for column in 0..columns {
