@@ -8,3 +8,4 @@ pub mod Entered
 pub mod Sided
 pub mod Limited
 pub mod Spread
+pub mod Made

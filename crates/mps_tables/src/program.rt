@@ -1,14 +1,13 @@
 //! The program that a reader's tables declare.
-ghost use Rattle.std.specs.Prelude.{◌≡◌, ℕ, ◌<◌, ◌≤◌, ◌+◌, ◌∷◌, [], List, IfOk, OnOk, MatchOption, All, IfSome, true, false, cond, is_some, unwrap_or, length, map, slice_index_or};
+ghost use Rattle.std.specs.Prelude.{◌≡◌, ℕ, ◌<◌, ◌≤◌, ◌+◌, ◌++◌, ◌∷◌, [], List, IfOk, OnOk, MatchOption, All, IfSome, true, false, cond, is_some, unwrap_or, length, map, slice_index_or};
 ghost use Rattle.std.specs.Option.{option_map_or};
-ghost use Rattle.rational.specs.Linear.{Term as LinearTerm};
-ghost use Rattle.lp_model.specs.Program.{IsForm};
-ghost use Rattle.lp_model.specs.Shown.{most_columns};
+ghost use Rattle.lp_model.specs.Shown.{named_column};
+ghost use Rattle.name_map.specs.Names.{name_at};
 ghost use Rattle.mps_lines.specs.Steps.{Step};
 ghost use Rattle.mps_tables.specs.Meaning.{program_of};
-ghost use Rattle.mps_tables.specs.Held.{Holds};
+ghost use Rattle.mps_tables.specs.Held.{Holds, column_names_held};
 ghost use Rattle.mps_tables.specs.Gathered.{terms_shown};
-ghost use Rattle.mps_tables.specs.Built.{IsRead, IsSound, upper_held, is_negative_bound, is_removed_held, lower_held, whole_held, columns_to, terms_held, sides_held, rows_to, is_kept_held, objective_held, program_held};
+ghost use Rattle.mps_tables.specs.Built.{IsRead, IsSound, upper_held, is_negative_bound, is_removed_held, lower_held, whole_held, column_held, columns_to, terms_held, sides_held, rows_to, is_kept_held, objective_held, program_held};
 
 use crate::numbers::is_less;
 use crate::sides::{Sides, right_at, sides_of, sides_with};
@@ -17,13 +16,6 @@ use crate::terms::terms_by_row;
 use frac128::Frac;
 use lp_model::{Column, Model, Note, Row, Term, Terms, Weight};
 use std::alloc::{AllocError, Global};
-
-/// The lower bound of a column, and whether 0 is removed: as a line set it, or else 0, or none below a negative upper one.
-#[derive(Clone, Copy)]
-pub struct Lower {
-    pub bound: Option<Frac>,
-    pub is_removed: bool,
-}
 
 // The upper bound of a column.
 fn upper_at(reader: &Reader, column: usize) -> Option<Frac>
@@ -45,27 +37,60 @@ fn is_negative(bound: Option<Frac>) -> bool
     }
 }
 
-// The lower bound of a column.
-fn lower_at(reader: &Reader, column: usize) -> Lower
-    ensures bound { result.bound ≡ lower_held reader.now column }
-    ensures removed { result.is_removed ≡ is_removed_held reader.now column }
+// Whether the lower bound 0 of a column is removed: no line sets it, and the upper bound is negative.
+fn is_removed_at(reader: &Reader, column: usize) -> bool
+    ensures { result ≡ is_removed_held reader.now column }
+{
+    !reader.lowers.contains_key(&column) && is_negative(upper_at(reader, column))
+}
+
+// The lower bound of a column: as a line sets it, or else 0, or none below a negative upper bound.
+fn lower_at(reader: &Reader, column: usize) -> Option<Frac>
+    ensures { result ≡ lower_held reader.now column }
 {
     if let Some(lower) = reader.lowers.get(&column) {
-        return Lower {
-            bound: *lower,
-            is_removed: false,
-        };
+        return *lower;
     }
     if is_negative(upper_at(reader, column)) {
-        return Lower {
-            bound: None,
-            is_removed: true,
-        };
+        return None;
     }
-    Lower {
-        bound: Some(Frac::whole(0)),
-        is_removed: false,
+    Some(Frac::whole(0))
+}
+
+// Whether a column is whole.
+fn is_whole_at(reader: &Reader, column: usize) -> bool
+    requires { column < length reader.now.columns }
+    ensures { result ≡ whole_held reader.now column }
+{
+    *reader.columns.value(column) || reader.wholes.contains_key(&column)
+}
+
+// A column of the program.
+fn make_column(reader: &Reader, column: usize) -> Column
+    requires { column < length reader.now.columns }
+    ensures { named_column (name_at (column_names_held reader.now) column) result ≡ column_held reader.now column }
+{
+    Column {
+        lo: lower_at(reader, column),
+        up: upper_at(reader, column),
+        whole: is_whole_at(reader, column),
+        lower_active: true,
+        upper_active: true,
+        whole_active: true,
+        lower_weight: Weight::Soft(Frac::whole(1)),
+        upper_weight: Weight::Soft(Frac::whole(1)),
     }
+}
+
+// Puts a note that the lower bound of a column is removed, if it is.
+fn put_note(model: &mut Model, is_removed: bool, column: u32) -> Result<(), AllocError>
+    requires { column < length model.old.columns }
+    ensures { OnOk result (model.new ≡ record model.old { notes = model.old.notes ++ cond is_removed (Note.LowerRemoved column ∷ []) [] }) }
+{
+    if is_removed {
+        model.add_note(Note::LowerRemoved(column))?;
+    }
+    Ok(())
 }
 
 // Puts the next column last, and its note.
@@ -79,23 +104,11 @@ fn put_column(
     requires before { model.old ≡ columns_to reader.now index }
     ensures { OnOk result (model.new ≡ columns_to reader.now (index + 1)) }
 {
-    let lower = lower_at(reader, index);
-    let column = Column {
-        lo: lower.bound,
-        up: upper_at(reader, index),
-        whole: *reader.columns.value(index) || reader.wholes.contains_key(&index),
-        lower_active: true,
-        upper_active: true,
-        whole_active: true,
-        lower_weight: Weight::Soft(Frac::whole(1)),
-        upper_weight: Weight::Soft(Frac::whole(1)),
-    };
+    let column = make_column(reader, index);
     let Ok(place) = model.add_column(alloc, reader.columns.name(index), column) else {
         return Err(AllocError);
     };
-    if lower.is_removed {
-        return model.add_note(Note::LowerRemoved(place));
-    }
+    put_note(model, is_removed_at(reader, index), place)?;
     Ok(())
 }
 
