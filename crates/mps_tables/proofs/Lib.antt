@@ -9,3 +9,4 @@ pub mod Sided
 pub mod Limited
 pub mod Spread
 pub mod Made
+pub mod Meant

@@ -11,7 +11,7 @@ ghost use Rattle.mps_tables.specs.Built.{IsRead, IsSound, upper_held, is_negativ
 
 use crate::numbers::is_less;
 use crate::sides::{Sides, right_at, sides_of, sides_with};
-use crate::tables::{Reader, is_free_kind, kind_at};
+use crate::tables::{Reader, is_free_kind, kind_at, names_differ};
 use crate::terms::terms_by_row;
 use frac128::Frac;
 use lp_model::{Column, Model, Note, Row, Term, Terms, Weight};
@@ -243,5 +243,8 @@ pub fn make_program(alloc: Global, reader: &Reader) -> Result<Model, AllocError>
     requires { IsRead reader.now }
     ensures { IfOk result (λ model. (steps : List Step) → Holds reader.now steps → model ≡ program_of steps) }
 {
-    build(alloc, reader)
+    names_differ(&reader.rows);
+    names_differ(&reader.columns);
+    let model = build(alloc, reader)?;
+    Ok(model)
 }
