@@ -1,4 +1,11 @@
 //! A text, line by line.
+ghost use Rattle.std.specs.Prelude.{◌≡◌, ◌<◌, ◌^◌, ◌-◌, ◌∷◌, max, map, length, None, Some, MatchResult};
+ghost use Rattle.mps_lines.specs.Sections.{is_section};
+ghost use Rattle.mps_lines.specs.Steps.{ToColumn, ToEntry, ToSide, ToRange, all_steps};
+ghost use Rattle.mps_lines.specs.Said.{figures_said, steps_said};
+ghost use Rattle.mps_tables.specs.Faults.{mps_fault, IsMpsStop};
+ghost use Rattle.mps_tables.specs.Held.{Holds};
+ghost use Rattle.mps_reader.specs.Lines.{TakesAll};
 
 use mps_lines::{Context, Figure, Said, Section, read_line};
 use mps_tables::{
@@ -8,7 +15,7 @@ use mps_tables::{
 use std::alloc::Global;
 use text_fields::{ReadFault, ReadKind, after_line, next_line};
 
-// Takes the entries of a column in.
+// Takes a column and its entries in.
 fn take_entries(
     alloc: Global,
     reader: &mut Reader,
@@ -17,13 +24,16 @@ fn take_entries(
     whole: bool,
     first: Figure,
     second: Option<Figure>,
-) -> Result<(), ReadFault> {
+) -> Result<(), ReadFault>
+    ensures { TakesAll reader.old reader.new line (ToColumn name.now whole ∷ map (ToEntry name.now) (figures_said first.entry second.entry)) result }
+{
     let column = take_column(alloc, reader, line, name, whole)?;
     take_entry(reader, line, column, first)?;
-    match second {
-        Some(figure) => take_entry(reader, line, column, figure),
-        None => Ok(()),
-    }
+    let Some(figure) = second else {
+        return Ok(());
+    };
+    take_entry(reader, line, column, figure)?;
+    Ok(())
 }
 
 // Takes right sides in.
@@ -32,12 +42,15 @@ fn take_sides(
     line: u32,
     first: Figure,
     second: Option<Figure>,
-) -> Result<(), ReadFault> {
+) -> Result<(), ReadFault>
+    ensures { TakesAll reader.old reader.new line (map ToSide (figures_said first.entry second.entry)) result }
+{
     take_side(reader, line, first)?;
-    match second {
-        Some(figure) => take_side(reader, line, figure),
-        None => Ok(()),
-    }
+    let Some(figure) = second else {
+        return Ok(());
+    };
+    take_side(reader, line, figure)?;
+    Ok(())
 }
 
 // Takes ranges in.
@@ -46,21 +59,21 @@ fn take_ranges(
     line: u32,
     first: Figure,
     second: Option<Figure>,
-) -> Result<(), ReadFault> {
+) -> Result<(), ReadFault>
+    ensures { TakesAll reader.old reader.new line (map ToRange (figures_said first.entry second.entry)) result }
+{
     take_range(reader, line, first)?;
-    match second {
-        Some(figure) => take_range(reader, line, figure),
-        None => Ok(()),
-    }
+    let Some(figure) = second else {
+        return Ok(());
+    };
+    take_range(reader, line, figure)?;
+    Ok(())
 }
 
 // Takes in what a line says.
-fn take_said(
-    alloc: Global,
-    reader: &mut Reader,
-    line: u32,
-    said: Said,
-) -> Result<(), ReadFault> {
+fn take_said(alloc: Global, reader: &mut Reader, line: u32, said: Said) -> Result<(), ReadFault>
+    ensures { TakesAll reader.old reader.new line (steps_said said.entry) result }
+{
     match said {
         Said::Nothing => Ok(()),
         Said::Sense(greatest) => take_sense(reader, line, greatest),
@@ -74,16 +87,30 @@ fn take_said(
     }
 }
 
-// A text without an end is refused at its last line, or at line 1 where there is none.
-fn truncated(next: u32) -> ReadFault {
+// The number of the last line, or 1 where there is none, by that of the line after it.
+fn last_line(next: u32) -> u32
+    ensures { result ≡ max 1 (next - 1) }
+{
     if next > 1 {
-        return refusal(next - 1, ReadKind::Truncated);
+        return next - 1;
     }
-    refusal(1, ReadKind::Truncated)
+    1
+}
+
+// Whether the model has ended.
+fn is_end(section: Section) -> bool
+    ensures { result ≡ is_section Section.End section }
+{
+    matches!(section, Section::End)
 }
 
 /// Reads the lines of a text up to the end of its model.
-pub fn read_lines(alloc: Global, bytes: &[u8]) -> Result<Reader, ReadFault> {
+pub fn read_lines(alloc: Global, bytes: &[u8]) -> Result<Reader, ReadFault>
+    requires { length bytes.now < 2 ^ 31 }
+    ensures { MatchResult result
+        (λ reader. (mps_fault bytes.now ≡ None) × Holds reader (map (λ p. p.step) (all_steps bytes.now)))
+        (IsMpsStop bytes.now) }
+{
     let mut reader = start(alloc);
     let mut context = Context::start();
     let mut spans = Vec::new(alloc);
@@ -92,11 +119,11 @@ pub fn read_lines(alloc: Global, bytes: &[u8]) -> Result<Reader, ReadFault> {
     while let Some(line) = next_line(bytes, at, number) {
         let said = read_line(bytes, &line, &mut spans, &mut context)?;
         take_said(alloc, &mut reader, number, said)?;
-        if context.section == Section::End {
+        if is_end(context.section) {
             return Ok(reader);
         }
         at = after_line(bytes, &line);
         number += 1;
     }
-    Err(truncated(number))
+    Err(refusal(last_line(number), ReadKind::Truncated))
 }
