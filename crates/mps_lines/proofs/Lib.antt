@@ -1,0 +1,4 @@
+pub mod Shaped
+pub mod Following
+pub mod Reading
+pub mod Ends
