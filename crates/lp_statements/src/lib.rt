@@ -1,0 +1,7 @@
+//! The statements of a text in the LP format, one after another, each with the first fault of its form.
+#![tactic(auto)]
+
+mod parts;
+mod words;
+
+pub use parts::{Constant, Heading, Item, Keyword, Relation, Section, Statement, Term, Text};
