@@ -1,2 +1,5 @@
 pub mod Words
 pub mod Items
+pub mod Statements
+pub mod Grammar
+pub mod Script

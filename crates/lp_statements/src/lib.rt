@@ -1,6 +1,7 @@
 //! The statements of a text in the LP format, one after another, each with the first fault of its form.
 #![tactic(auto)]
 
+mod grammar;
 mod items;
 mod parts;
 mod words;
