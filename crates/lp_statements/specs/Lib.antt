@@ -3,3 +3,4 @@ pub mod Items
 pub mod Statements
 pub mod Grammar
 pub mod Script
+pub mod Shapes

@@ -1,14 +1,15 @@
 -- The statements of a text, up to the first that fails or to `end`.
-use Rattle.std.specs.Prelude.{◌≡◌, ℕ, zero, suc, ◌<◌, ◌≤◌, List, [], ◌∷◌, ◌++◌, length, Option, Some, None}
+use Rattle.std.specs.Prelude.{◌≡◌, ℕ, zero, suc, ◌<◌, ◌≤◌, Bool, List, [], ◌∷◌, ◌++◌, length, Option, Some, None}
 use Rattle.text_fields.specs.declared.tokens.Place.{Place}
 use Rattle.text_fields.specs.declared.faults.ReadStop.{ReadStop}
 use Rattle.text_fields.specs.declared.faults.ReadFault.{ReadFault}
 use Rattle.text_fields.specs.declared.faults.ReadFault.TheVariants.{Stop, Memory}
 use Rattle.lp_statements.specs.declared.parts.Keyword.{Keyword}
 use Rattle.lp_statements.specs.declared.parts.Section.{Section}
-use Rattle.lp_statements.specs.Items.{Piece, pieces_of, pieces_at, IsPlace}
+use Rattle.lp_statements.specs.declared.parts.Item.{Item}
+use Rattle.lp_statements.specs.Items.{Written, Piece, pieces_of, pieces_at, IsPlace, StopsAt}
 use Rattle.lp_statements.specs.Statements.{Statement, Objective, Heading}
-use Rattle.lp_statements.specs.Grammar.{Parsed, Whole, Fails, statement_of}
+use Rattle.lp_statements.specs.Grammar.{Parsed, Whole, Fails, text_first, turned, signs as signs_of, statement_of}
 
 -- statements, and the fault of the form of the one after them, if there is one
 pub record Script : Type 0 where
@@ -73,3 +74,17 @@ pub record Passes {A : Type 0} (bytes : List ℕ) (place : Place) (parsed : Pars
 abbrev pub IsRefusal : {A : Type 0} → Parsed A → ReadFault → Type 0
 IsRefusal parsed (Stop stop) = parsed ≡ Fails stop
 IsRefusal parsed Memory = Unit {0}
+
+-- no item stands first
+abbrev pub MayStop : List ℕ → Place → Type 0
+MayStop bytes place = (stop : ReadStop) × StopsAt bytes place stop
+
+-- an item for which the test holds stands first, with this text
+pub record IsFirst (bytes : List ℕ) (place : Place) (test : Item → Bool) (text : Written) (next : Place) : Type 0 where
+  pub first : text_first test (pieces_at bytes place) ≡ Some (text, pieces_at bytes next)
+  pub after : IsAfter bytes place next
+
+-- a sign stands first
+pub record IsSignAt (bytes : List ℕ) (place : Place) (minus : Bool) (next : Place) : Type 0 where
+  pub signs : (negative : Bool) → signs_of negative (pieces_at bytes place) ≡ signs_of (turned minus negative) (pieces_at bytes next)
+  pub after : IsAfter bytes place next
