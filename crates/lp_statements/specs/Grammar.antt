@@ -1,6 +1,6 @@
 -- The statements of the LP format, parted off the front of a list of pieces: each is whole with the pieces that follow, or fails at the first
 -- piece with which no statement goes on.
-use Rattle.std.specs.Prelude.{◌≡◌, ℕ, zero, suc, ◌<◌, ◌≤◌, Bool, true, false, cond, not, List, [], ◌∷◌, length, Option, Some, None, is_some}
+use Rattle.std.specs.Prelude.{◌≡◌, ℕ, zero, suc, ◌<◌, ◌≤◌, Bool, true, false, cond, not, List, [], ◌∷◌, ◌++◌, length, Option, Some, None, is_some}
 use Rattle.std.specs.Option.{option_map, option_map_or}
 use Rattle.text_fields.specs.declared.faults.ReadKind.TheVariants.{Order, BadField, Truncated}
 use Rattle.text_fields.specs.declared.faults.ReadStop.{ReadStop}
@@ -159,11 +159,19 @@ term pieces = then (element pieces) term_in
 abbrev pub is_sign : Item → Bool
 is_sign item = is_some (minus_of item)
 
--- terms that each begin with a sign, n at most
-unfoldable pub more_terms : ℕ → List Piece → Parsed (List Term)
-more_terms zero pieces = Whole [] pieces
-more_terms (suc n) pieces =
-    cond (is_first is_sign pieces) (then (term pieces) (λ t rest. then (more_terms n rest) (λ terms last. Whole (t ∷ terms) last))) (Whole [] pieces)
+-- parts that each begin with a sign, n at most, and the terms of each
+unfoldable pub repeated : {A : Type 0} → (List Piece → Parsed A) → (A → List Term) → ℕ → List Piece → Parsed (List Term)
+repeated one terms_of zero pieces = Whole [] pieces
+repeated one terms_of (suc n) pieces =
+    cond (is_first is_sign pieces) (then (one pieces) (λ value rest. then (repeated one terms_of n rest) (λ terms last. Whole (terms_of value ++ terms) last))) (Whole [] pieces)
+
+-- the term itself
+abbrev pub only : Term → List Term
+only term = term ∷ []
+
+-- terms that each begin with a sign; each takes a piece at least, so there are no more of them than pieces
+abbrev pub more_terms : List Piece → Parsed (List Term)
+more_terms pieces = repeated term only (length pieces) pieces
 
 -- ---- the objective
 -- a finite constant is not used
@@ -175,20 +183,18 @@ part_in (OfConstant constant) rest = cond constant.infinite (Fails (stop_at cons
 unfoldable pub part : List Piece → Parsed (Option Term)
 part pieces = then (element pieces) part_in
 
--- a term more, if there is one
-abbrev pub with_part : Option Term → List Term → List Term
-with_part (Some term) terms = term ∷ terms
-with_part None terms = terms
+-- the term of a part, if there is one
+abbrev pub terms_in : Option Term → List Term
+terms_in (Some term) = term ∷ []
+terms_in None = []
 
--- parts that each begin with a sign, n at most
-unfoldable pub more_parts : ℕ → List Piece → Parsed (List Term)
-more_parts zero pieces = Whole [] pieces
-more_parts (suc n) pieces =
-    cond (is_first is_sign pieces) (then (part pieces) (λ t rest. then (more_parts n rest) (λ terms last. Whole (with_part t terms) last))) (Whole [] pieces)
+-- terms and constants that each begin with a sign
+abbrev pub more_parts : List Piece → Parsed (List Term)
+more_parts pieces = repeated part terms_in (length pieces) pieces
 
--- one part or more; each takes a piece at least, so there are no more of them than pieces
+-- one part or more
 unfoldable pub parts : List Piece → Parsed (List Term)
-parts pieces = then (part pieces) (λ t rest. then (more_parts (length rest) rest) (λ terms last. Whole (with_part t terms) last))
+parts pieces = then (part pieces) (λ first rest. then (more_parts rest) (λ terms last. Whole (terms_in first ++ terms) last))
 
 -- parts, or without a label nothing
 unfoldable pub form_after : Option Written → List Piece → Parsed (List Term)
@@ -264,11 +270,11 @@ opening pieces = then (element pieces) opening_from
 -- the end of a row: a relation and a constant
 unfoldable pub closing : Option Written → Opening → List Term → List Piece → Parsed Statement
 closing name start terms pieces =
-    then (agreeing start.before pieces) (λ relation rest. then (constant rest) (λ right last. Whole (Row name start.left (start.first ∷ terms) relation right) last))
+    then (agreeing start.before pieces) (λ relation rest. then (constant rest) (λ right last. Whole (Row name start.left terms relation right) last))
 
 -- a row after its label
 unfoldable pub row_after : Option Written → List Piece → Parsed Statement
-row_after name pieces = then (opening pieces) (λ start rest. then (more_terms (length rest) rest) (λ terms last. closing name start terms last))
+row_after name pieces = then (opening pieces) (λ start rest. then (more_terms rest) (λ terms last. closing name start (start.first ∷ terms) last))
 
 -- a row with its label, if there is one
 unfoldable pub row : List Piece → Parsed Statement

@@ -1,11 +1,11 @@
 //! What statements are made of: labels, terms, constants and relations.
-ghost use Rattle.std.specs.Prelude.{◌≡◌, Bool, false, ◌<◌, ◌^◌, ◌++◌, ◌∷◌, [], List, Some, None, length, map, MatchOption, MatchResult, cond};
+ghost use Rattle.std.specs.Prelude.{◌≡◌, Bool, false, ◌<◌, ◌^◌, ◌++◌, ◌∷◌, [], List, Some, None, length, map, OnOk, IfErr, MatchOption, MatchResult};
 ghost use Rattle.std.specs.Option.{option_map};
 ghost use Rattle.lp_statements.specs.Items.{IsPlace, IsSeen, IsStopAt, StopsAt, Seen, pieces_at};
 ghost use Rattle.lp_statements.specs.Statements.{Term as TermOf, shown_text, shown_constant, shown_term};
-ghost use Rattle.lp_statements.specs.Grammar.{Element as ElementOf, OfTerm, OfConstant, Opening as OpeningOf, Parsed, wrong as wrong_at, is_name as is_name_by, is_colon as is_colon_by, minus_of as minus_by, infinite_of as infinite_by, relation_in as relation_by, begins_part as begins_by, is_sign as is_sign_by, is_relation as is_relation_by, is_first, text_first, label as label_by, turned, signs, constant_of as constant_by, constant as constant_at, factor_or_constant, amount as amount_by, term_in, element_of as element_by, element as element_at, term as term_at, more_terms as more_terms_at, part as part_at, more_parts as more_parts_at, relation as relation_at, agreed as agreed_by, agreed_with as agreed_with_by, agreeing as agreeing_at, opening as opening_at, name as name_at, with_part};
+ghost use Rattle.lp_statements.specs.Grammar.{Element as ElementOf, OfTerm, OfConstant, Opening as OpeningOf, Parsed, wrong as wrong_at, is_name as is_name_by, is_colon as is_colon_by, minus_of as minus_by, infinite_of as infinite_by, relation_in as relation_by, begins_part as begins_by, is_sign as is_sign_by, is_relation as is_relation_by, is_first, text_first, label as label_by, turned, signs, constant_of as constant_by, constant as constant_at, factor_or_constant, amount as amount_by, term_in, element_of as element_by, element as element_at, term as term_at, more_terms as more_terms_at, part as part_at, more_parts as more_parts_at, parts as parts_at, terms_in, opening_from, relation as relation_at, agreed as agreed_by, agreed_with as agreed_with_by, agreeing as agreeing_at, opening as opening_at, name as name_at};
 ghost use Rattle.lp_statements.specs.Script.{IsAfter, IsOnward, IsFirst, IsSignAt, MayStop, Takes, Passes, IsRefusal};
-ghost use Rattle.lp_statements.specs.Shapes.{shown_element, shown_opening};
+ghost use Rattle.lp_statements.specs.Shapes.{shown_element, shown_opening, AddsTerms, TakesTerms};
 
 use crate::items::{next_seen, stop_at};
 use crate::parts::{Constant, Item, Relation, Term, Text};
@@ -478,4 +478,145 @@ fn agreeing(bytes: &[u8], place: Place, before: Option<Relation>) -> Result<(Rel
         return Err(stop_at(text.line, ReadKind::BadField));
     };
     Ok((relation, next))
+}
+
+/// Puts terms that each begin with a sign after those that are there, and gives the place after them.
+pub(crate) fn more_terms<'a>(
+    bytes: &'a [u8],
+    place: Place,
+    terms: &mut Vec<Term<'a>>,
+) -> Result<Place, ReadFault>
+    requires place { IsPlace bytes.now place }
+    requires short { length bytes.now < 2 ^ 31 }
+    ensures { MatchResult result
+        (AddsTerms bytes.now place (more_terms_at (pieces_at bytes.now place)) terms.old.items terms.new.items)
+        (IsRefusal (more_terms_at (pieces_at bytes.now place))) }
+{
+    let mut at = place;
+    while is_sign_first(bytes, at) {
+        let (term, next) = match term(bytes, at) {
+            Ok(found) => found,
+            Err(fault) => return Err(fault),
+        };
+        terms.push(term)?;
+        at = next;
+    }
+    Ok(at)
+}
+
+// Puts the term of a part last, if there is one.
+fn put_part<'a>(terms: &mut Vec<Term<'a>>, part: Option<Term<'a>>) -> Result<(), ReadFault>
+    ensures ok { OnOk result (map shown_term terms.new.items ≡ map shown_term terms.old.items ++ terms_in (option_map shown_term part.entry)) }
+    ensures err { IfErr result (λ fault. fault ≡ ReadFault.Memory) }
+{
+    match part {
+        Some(term) => {
+            terms.push(term)?;
+            Ok(())
+        }
+        None => Ok(()),
+    }
+}
+
+// Puts the terms of parts that each begin with a sign after those that are there, and gives the place after them.
+fn more_parts<'a>(
+    bytes: &'a [u8],
+    place: Place,
+    terms: &mut Vec<Term<'a>>,
+) -> Result<Place, ReadFault>
+    requires place { IsPlace bytes.now place }
+    requires short { length bytes.now < 2 ^ 31 }
+    ensures { MatchResult result
+        (AddsTerms bytes.now place (more_parts_at (pieces_at bytes.now place)) terms.old.items terms.new.items)
+        (IsRefusal (more_parts_at (pieces_at bytes.now place))) }
+{
+    let mut at = place;
+    while is_sign_first(bytes, at) {
+        let (part, next) = match part(bytes, at) {
+            Ok(found) => found,
+            Err(fault) => return Err(fault),
+        };
+        put_part(terms, part)?;
+        at = next;
+    }
+    Ok(at)
+}
+
+/// Puts the terms of one part or more last, and gives the place after them.
+pub(crate) fn parts<'a>(
+    bytes: &'a [u8],
+    place: Place,
+    terms: &mut Vec<Term<'a>>,
+) -> Result<Place, ReadFault>
+    requires place { IsPlace bytes.now place }
+    requires short { length bytes.now < 2 ^ 31 }
+    ensures { MatchResult result
+        (TakesTerms bytes.now place (parts_at (pieces_at bytes.now place)) terms.old.items terms.new.items)
+        (IsRefusal (parts_at (pieces_at bytes.now place))) }
+{
+    let (first, next) = match part(bytes, place) {
+        Ok(found) => found,
+        Err(fault) => return Err(fault),
+    };
+    put_part(terms, first)?;
+    match more_parts(bytes, next, terms) {
+        Ok(last) => Ok(last),
+        Err(fault) => Err(fault),
+    }
+}
+
+// The begin of a row after its constant.
+fn opening_after<'a>(
+    bytes: &'a [u8],
+    place: Place,
+    constant: Constant<'a>,
+) -> Result<(Opening<'a>, Place), ReadFault>
+    requires place { IsPlace bytes.now place }
+    requires short { length bytes.now < 2 ^ 31 }
+    ensures { MatchResult result
+        (λ found. Takes bytes.now place (opening_from (OfConstant (shown_constant constant.entry)) (pieces_at bytes.now place)) (shown_opening found.0) found.1)
+        (IsRefusal (opening_from (OfConstant (shown_constant constant.entry)) (pieces_at bytes.now place))) }
+{
+    let (before, more) = match relation(bytes, place) {
+        Ok(found) => found,
+        Err(fault) => return Err(fault),
+    };
+    let (first, last) = match term(bytes, more) {
+        Ok(found) => found,
+        Err(fault) => return Err(fault),
+    };
+    let start = Opening {
+        left: Some(constant),
+        before: Some(before),
+        first,
+    };
+    Ok((start, last))
+}
+
+/// The begin of a row: a term, or a constant, a relation and a term.
+pub(crate) fn take_opening(bytes: &[u8], place: Place) -> Result<(Opening<'_>, Place), ReadFault>
+    requires place { IsPlace bytes.now place }
+    requires short { length bytes.now < 2 ^ 31 }
+    ensures { MatchResult result
+        (λ found. Takes bytes.now place (opening_at (pieces_at bytes.now place)) (shown_opening found.0) found.1)
+        (IsRefusal (opening_at (pieces_at bytes.now place))) }
+{
+    let (element, next) = match take_element(bytes, place) {
+        Ok(found) => found,
+        Err(fault) => return Err(fault),
+    };
+    match element {
+        Element::OfTerm(first) => {
+            let start = Opening {
+                left: None,
+                before: None,
+                first,
+            };
+            Ok((start, next))
+        }
+        Element::OfConstant(constant) => match opening_after(bytes, next, constant) {
+            Ok((start, last)) => Ok((start, last)),
+            Err(fault) => Err(fault),
+        },
+    }
 }
