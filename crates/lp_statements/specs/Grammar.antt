@@ -196,14 +196,14 @@ more_parts pieces = repeated part terms_in (length pieces) pieces
 unfoldable pub parts : List Piece → Parsed (List Term)
 parts pieces = then (part pieces) (λ first rest. then (more_parts rest) (λ terms last. Whole (terms_in first ++ terms) last))
 
--- parts, or without a label nothing
-unfoldable pub form_after : Option Written → List Piece → Parsed (List Term)
-form_after (Some name) pieces = parts pieces
-form_after None pieces = cond (is_first begins_part pieces) (parts pieces) (Whole [] pieces)
+-- parts, or, where no label stands before, nothing
+unfoldable pub form_after : Bool → List Piece → Parsed (List Term)
+form_after true pieces = parts pieces
+form_after false pieces = cond (is_first begins_part pieces) (parts pieces) (Whole [] pieces)
 
 -- a label and a form, or nothing
 unfoldable pub objective : Bool → List Piece → Parsed Statement
-objective maximise pieces = then (form_after (label pieces).0 (label pieces).1) (λ terms rest. Whole (Objective maximise (label pieces).0 terms) rest)
+objective maximise pieces = then (form_after (is_some (label pieces).0) (label pieces).1) (λ terms rest. Whole (Objective maximise (label pieces).0 terms) rest)
 
 -- the keyword of an objective, and whether it is to be made greatest
 abbrev pub sense_of : Item → Option Bool

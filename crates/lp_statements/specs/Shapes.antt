@@ -1,13 +1,15 @@
 -- Terms, constants and begins of rows in the code's types.
-use Rattle.std.specs.Prelude.{◌≡◌, ℕ, List, ◌++◌, map}
+use Rattle.std.specs.Prelude.{◌≡◌, ℕ, List, ◌++◌, Option, Some, map}
 use Rattle.std.specs.Option.{option_map}
 use Rattle.text_fields.specs.declared.tokens.Place.{Place}
 use Rattle.lp_statements.specs.declared.parts.Term.{Term as CodeTerm}
 use Rattle.lp_statements.specs.declared.grammar.Element.{Element as CodeElement}
 use Rattle.lp_statements.specs.declared.grammar.Opening.{Opening as CodeOpening}
 use Rattle.lp_statements.specs.Statements.{Term, shown_constant, shown_term}
-use Rattle.lp_statements.specs.Grammar.{Parsed, Element, OfTerm, OfConstant, Opening}
-use Rattle.lp_statements.specs.Script.{Takes, Passes}
+use Rattle.lp_statements.specs.Grammar.{Parsed, Element, OfTerm, OfConstant, Opening, free_in, text_first, is_name, keyword_first}
+use Rattle.lp_statements.specs.Items.{Written, pieces_at}
+use Rattle.lp_statements.specs.declared.parts.Keyword.{Keyword}
+use Rattle.lp_statements.specs.Script.{IsAfter, Takes, Passes}
 
 -- a term or a constant
 abbrev pub shown_element : CodeElement → Element
@@ -29,3 +31,13 @@ pub record TakesTerms (bytes : List ℕ) (place : Place) (parsed : Parsed (List 
   pub terms : List Term
   pub takes : Takes bytes place parsed terms next
   pub items : map shown_term new ≡ map shown_term old ++ terms
+
+-- the word `free` stands first
+pub record IsFreeAt (bytes : List ℕ) (place next : Place) : Type 0 where
+  pub first : free_in (text_first is_name (pieces_at bytes place)) ≡ Some (pieces_at bytes next)
+  pub after : IsAfter bytes place next
+
+-- a keyword stands first
+pub record IsKeywordAt (bytes : List ℕ) (place : Place) (keyword : Keyword) (text : Written) (next : Place) : Type 0 where
+  pub first : keyword_first (pieces_at bytes place) ≡ Some (keyword, text, pieces_at bytes next)
+  pub after : IsAfter bytes place next

@@ -94,7 +94,7 @@ fn item_at(bytes: &[u8], place: Place) -> Option<(Item, Text<'_>, Place)>
 }
 
 // The name that stands first.
-fn name_first(bytes: &[u8], place: Place) -> Option<(Text<'_>, Place)>
+pub(crate) fn name_first(bytes: &[u8], place: Place) -> Option<(Text<'_>, Place)>
     requires place { IsPlace bytes.now place }
     requires short { length bytes.now < 2 ^ 31 }
     ensures { MatchOption result (text_first is_name_by (pieces_at bytes.now place) ≡ None) (λ found. IsFirst bytes.now place is_name_by (shown_text found.0) found.1) }
@@ -136,7 +136,7 @@ fn is_sign_first(bytes: &[u8], place: Place) -> bool
 }
 
 // Whether a relation stands first.
-fn is_relation_first(bytes: &[u8], place: Place) -> bool
+pub(crate) fn is_relation_first(bytes: &[u8], place: Place) -> bool
     requires place { IsPlace bytes.now place }
     requires short { length bytes.now < 2 ^ 31 }
     ensures { result ≡ is_first is_relation_by (pieces_at bytes.now place) }
@@ -148,7 +148,7 @@ fn is_relation_first(bytes: &[u8], place: Place) -> bool
 }
 
 // Whether a term or a constant begins.
-fn is_part_first(bytes: &[u8], place: Place) -> bool
+pub(crate) fn is_part_first(bytes: &[u8], place: Place) -> bool
     requires place { IsPlace bytes.now place }
     requires short { length bytes.now < 2 ^ 31 }
     ensures { result ≡ is_first begins_by (pieces_at bytes.now place) }
@@ -222,7 +222,11 @@ fn wrong(bytes: &[u8], place: Place) -> ReadFault
 }
 
 // A constant after its signs.
-fn constant_of(bytes: &[u8], place: Place, negative: bool) -> Result<(Constant<'_>, Place), ReadFault>
+fn constant_of(
+    bytes: &[u8],
+    place: Place,
+    negative: bool,
+) -> Result<(Constant<'_>, Place), ReadFault>
     requires place { IsPlace bytes.now place }
     requires short { length bytes.now < 2 ^ 31 }
     ensures { MatchResult result
@@ -406,7 +410,7 @@ fn part(bytes: &[u8], place: Place) -> Result<(Option<Term<'_>>, Place), ReadFau
 }
 
 /// A relation.
-fn relation(bytes: &[u8], place: Place) -> Result<(Relation, Place), ReadFault>
+pub(crate) fn relation(bytes: &[u8], place: Place) -> Result<(Relation, Place), ReadFault>
     requires place { IsPlace bytes.now place }
     requires short { length bytes.now < 2 ^ 31 }
     ensures { MatchResult result
@@ -424,7 +428,7 @@ fn relation(bytes: &[u8], place: Place) -> Result<(Relation, Place), ReadFault>
 }
 
 /// A name.
-fn name(bytes: &[u8], place: Place) -> Result<(Text<'_>, Place), ReadFault>
+pub(crate) fn name(bytes: &[u8], place: Place) -> Result<(Text<'_>, Place), ReadFault>
     requires place { IsPlace bytes.now place }
     requires short { length bytes.now < 2 ^ 31 }
     ensures { MatchResult result
@@ -463,7 +467,11 @@ fn agreed_with(before: Option<Relation>, after: Option<Relation>) -> Option<Rela
 }
 
 /// A relation that agrees with the one before the form, if there is one.
-fn agreeing(bytes: &[u8], place: Place, before: Option<Relation>) -> Result<(Relation, Place), ReadFault>
+pub(crate) fn agreeing(
+    bytes: &[u8],
+    place: Place,
+    before: Option<Relation>,
+) -> Result<(Relation, Place), ReadFault>
     requires place { IsPlace bytes.now place }
     requires short { length bytes.now < 2 ^ 31 }
     ensures { MatchResult result

@@ -6,7 +6,10 @@ ghost use Rattle.lp_statements.specs.Items.{IsPlace, IsSeen, IsStopAt, IsPast, I
 
 use crate::parts::{Heading, Item, Relation, Text};
 use crate::words::{heading_of, is_infinity, pair_of};
-use text_fields::{Place, ReadFault, ReadKind, ReadStop, TextKind, Token, TokenKind, next_line, after_line, next_token};
+use text_fields::{
+    Place, ReadFault, ReadKind, ReadStop, TextKind, Token, TokenKind, after_line, next_line,
+    next_token,
+};
 
 #[tactic(auto, unfolding(crate::specs::Items::relation_of))]
 fn relation_of(text: &[u8]) -> Relation

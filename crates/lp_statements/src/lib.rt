@@ -4,6 +4,8 @@
 mod grammar;
 mod items;
 mod parts;
+mod statements;
 mod words;
 
 pub use parts::{Constant, Heading, Item, Keyword, Relation, Section, Statement, Term, Text};
+pub use statements::{next_statement, start};

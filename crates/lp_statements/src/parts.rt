@@ -108,5 +108,8 @@ pub enum Statement<'a> {
         right: Option<Constant<'a>>,
     },
     /// A name under General, or under Binary.
-    Listed { binary: bool, name: Text<'a> },
+    Listed {
+        binary: bool,
+        name: Text<'a>,
+    },
 }
