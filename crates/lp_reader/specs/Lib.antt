@@ -1,0 +1,6 @@
+pub mod Numbers
+pub mod Names
+pub mod Faults
+pub mod Bounds
+pub mod Program
+pub mod Meaning
