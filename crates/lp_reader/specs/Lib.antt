@@ -4,3 +4,4 @@ pub mod Faults
 pub mod Bounds
 pub mod Program
 pub mod Meaning
+pub mod Told

@@ -1,11 +1,4 @@
-//! The reader of the LP format.
+//! The reader of the LP format: the program that a text declares, or its first fault.
 #![tactic(auto)]
 
-ghost use Rattle.std.specs.Prelude.{◌≡◌};
-ghost use Rattle.lp_reader.specs.Meaning.{lp_fault};
-
-pub fn test() -> u8
-    ensures { lp_fault ≡ lp_fault }
-{
-    0
-}
+mod numbers;
