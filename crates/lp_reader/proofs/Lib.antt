@@ -1,1 +1,4 @@
 pub mod Huge
+pub mod NewColumns
+pub mod Sums
+pub mod Terms

@@ -22,19 +22,20 @@ is_too_long name = nat_lt longest_name (length name)
 abbrev pub column_passes : List (List ℕ) → List ℕ → Bool
 column_passes columns name = cond (is_named columns name) false (nat_le most_columns (length columns) || is_too_long name)
 
--- a limit that one term more passes, after these terms
-unfoldable pub limit_fault : List Term → Term → Option ReadStop
-limit_fault all term =
-    cond (nat_le most_entries (length all) || column_passes (columns_in all) term.name.text) (Some (stop_at term.name.line Limit)) None
+-- a limit that one term more passes, after these columns and so many entries
+unfoldable pub limit_fault : List (List ℕ) → ℕ → Written → Option ReadStop
+limit_fault columns entries name =
+    cond (nat_le most_entries entries || column_passes columns name.text) (Some (stop_at name.line Limit)) None
 
--- what is wrong with a term, where these terms are before it in the text, and these in its form
-abbrev pub term_fault : List Term → List Term → Term → Option ReadStop
-term_fault all before term = option_or (factor_fault term.factor) (option_or (limit_fault all term) (sum_fault before term))
+-- what is wrong with a term, after these columns and so many entries, where these terms stand before it in its form
+abbrev pub term_fault : List (List ℕ) → ℕ → List Term → Term → Option ReadStop
+term_fault columns entries before term = option_or (factor_fault term.factor) (option_or (limit_fault columns entries term.name) (sum_fault before term))
 
--- the first fault of terms
+-- the first fault of terms, after those of the statements before and those before them in their form
 unfoldable pub terms_fault : List Term → List Term → List Term → Option ReadStop
 terms_fault front before [] = None
-terms_fault front before (term ∷ terms) = option_or (term_fault (front ++ before) before term) (terms_fault front (before ++ term ∷ []) terms)
+terms_fault front before (term ∷ terms) =
+    option_or (term_fault (columns_in (front ++ before)) (length (front ++ before)) before term) (terms_fault front (before ++ term ∷ []) terms)
 
 -- ---- names of rows
 -- the label of the objective is not kept

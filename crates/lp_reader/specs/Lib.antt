@@ -4,4 +4,5 @@ pub mod Faults
 pub mod Bounds
 pub mod Program
 pub mod Meaning
+pub mod State
 pub mod Told

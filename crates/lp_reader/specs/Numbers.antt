@@ -58,7 +58,7 @@ term_value term = signed term.negative (factor term.factor)
 
 -- a term of the column with this name
 abbrev pub is_of : List ℕ → Term → Bool
-is_of name term = bytes_eq name term.name.text
+is_of name term = bytes_eq term.name.text name
 
 -- the sum of the factors that terms give a column
 unfoldable pub sum_of : List ℕ → List Term → ℚ
