@@ -2,3 +2,4 @@ pub mod Huge
 pub mod NewColumns
 pub mod Sums
 pub mod Terms
+pub mod Forms

@@ -96,12 +96,14 @@ takes_known old new name j names bounds entries at = record {
   entries = entries;
   stands = subst (λ (ns : List (List ℕ)). StandsAt ns name j) (sym names) at;
   widened = record { more = []; names = names ∙ sym (append-nil (names_of old.names)); bounds = bounds ∙ sym (append-nil old.bounds.items) };
+  few = λ h. subst (λ (ns : List (List ℕ)). length ns ≤ most_columns) (sym names) h;
 }
 
-pub takes_new : (old mid new : Columns) (name : List ℕ) (j : ℕ) → PutsColumn old mid name → names_of new.names ≡ names_of mid.names → new.bounds.items ≡ mid.bounds.items → new.entries ≡ mid.entries + 1 → is_named (names_of old.names) name ≡ false → j ≡ length (names_of old.names) → TakesColumn old new name j
-takes_new old mid new name j puts names bounds entries absent is = record {
+pub takes_new : (old mid new : Columns) (name : List ℕ) (j : ℕ) → PutsColumn old mid name → names_of new.names ≡ names_of mid.names → new.bounds.items ≡ mid.bounds.items → new.entries ≡ mid.entries + 1 → is_named (names_of old.names) name ≡ false → j ≡ length (names_of old.names) → (most_columns ≤ length (names_of old.names) → ⊥) → TakesColumn old new name j
+takes_new old mid new name j puts names bounds entries absent is room = record {
   names = names ∙ (puts.names ∙ sym (ap (λ b. cond b (names_of old.names) (names_of old.names ++ name ∷ [])) absent));
   entries = let a = puts.entries in omega arith;
   stands = subst (λ (ns : List (List ℕ)). StandsAt ns name j) (sym (names ∙ puts.names)) (subst (StandsAt (names_of old.names ++ name ∷ []) name) (sym is) (stands_last (names_of old.names) name absent));
   widened = record { more = name ∷ []; names = names ∙ puts.names; bounds = bounds ∙ puts.bounds };
+  few = λ h. subst (λ (ns : List (List ℕ)). length ns ≤ most_columns) (sym (names ∙ puts.names)) (let long = length-append (names_of old.names) (name ∷ []) in omega (arith, room));
 }

@@ -14,7 +14,7 @@ use Rattle.lp_reader.specs.Numbers.{is_of, sum_of}
 use Rattle.lp_reader.specs.Names.{with_name, with_names}
 use Rattle.lp_reader.specs.Faults.{term_fault}
 use Rattle.rational.specs.Linear.{Term as LinearTerm}
-use Rattle.lp_reader.specs.Program.{form_of}
+use Rattle.lp_reader.specs.Program.{form_of, with_term}
 use Rattle.lp_reader.specs.Bounds.{lower_of, upper_of, whole_of, is_lower_set}
 
 -- a column of which nothing is said
@@ -43,6 +43,7 @@ pub record TakesColumn (old new : Columns) (name : List ℕ) (j : ℕ) : Type 0 
   pub entries : new.entries ≡ old.entries + 1
   pub stands : StandsAt (names_of new.names) name j
   pub widened : Widened old new
+  pub few : length (names_of old.names) ≤ most_columns → length (names_of new.names) ≤ most_columns
 
 -- ---- sums
 -- one column's sum is greater by the value, the others stay
@@ -72,6 +73,7 @@ pub record TakesTerm (old new : Columns) (before : List Term) (term : Term) (fou
   pub names : names_of new.names ≡ with_name (names_of old.names) term.name.text
   pub entries : new.entries ≡ old.entries + 1
   pub widened : Widened old new
+  pub few : length (names_of old.names) ≤ most_columns → length (names_of new.names) ≤ most_columns
   pub sums : HoldsSums (names_of new.names) (before ++ term ∷ []) found
 
 -- the terms of a form are taken in, and give the form
@@ -80,5 +82,10 @@ pub record TakesForm (old new : Columns) (terms : List Term) (form : List Linear
   pub names : names_of new.names ≡ with_names (names_of old.names) terms
   pub entries : new.entries ≡ old.entries + length terms
   pub widened : Widened old new
-  pub few : length new.names ≤ most_columns
+  pub few : length (names_of new.names) ≤ most_columns
   pub form_is : form ≡ form_of (names_of new.names) terms
+
+-- the terms of sums by column, without those that are 0
+unfoldable pub kept : List (ℕ × ℚ) → List LinearTerm
+kept [] = []
+kept (e ∷ es) = with_term e.0 e.1 (kept es)

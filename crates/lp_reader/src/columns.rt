@@ -12,7 +12,7 @@ ghost use Rattle.name_map.specs.Names.{names_of, StandsAt};
 ghost use Rattle.lp_statements.specs.Items.{stop_at as stop_of};
 ghost use Rattle.lp_statements.specs.Statements.{Term as TermOf, shown_text, shown_term};
 ghost use Rattle.lp_reader.specs.Faults.{is_too_long as is_too_long_by, limit_fault, term_fault};
-ghost use Rattle.lp_reader.specs.State.{plain, PutsColumn, TakesColumn, AddsSum, HoldsSums, TakesTerm, TakesForm, terms_fault_in};
+ghost use Rattle.lp_reader.specs.State.{plain, PutsColumn, TakesColumn, AddsSum, HoldsSums, TakesTerm, TakesForm, terms_fault_in, kept};
 ghost use Rattle.lp_model.specs.Shown.{most_columns};
 ghost use Rattle.lp_reader.specs.Program.{form_of, with_term};
 ghost use Rattle.lp_reader.specs.Told.{IsFault};
@@ -169,12 +169,11 @@ fn take_term(
     }
 }
 
-// The terms of sums, in the order of their columns, without those that are 0.
-fn make_terms(alloc: Global, mut sums: Sums) -> Result<Terms, AllocError>
-    requires { All (λ e. e.0 < 2 ^ 32) sums.entries }
-    ensures { IfOk result (λ form. (names : List (List ℕ)) (terms : List TermOf) → HoldsSums names terms sums.entries → form ≡ form_of names terms) }
+// The terms of sums, in their order, without those that are 0.
+fn list_terms(alloc: Global, sums: &Sums) -> Result<Terms, AllocError>
+    requires { All (λ e. e.0 < 2 ^ 32) sums.now.entries }
+    ensures { IfOk result (λ form. form ≡ kept sums.now.entries) }
 {
-    sums.sort_keys()?;
     let mut list = Vec::new(alloc);
     for place in 0..sums.len() {
         let Some((column, sum)) = sums.get_index(place) else {
@@ -183,6 +182,16 @@ fn make_terms(alloc: Global, mut sums: Sums) -> Result<Terms, AllocError>
         put_term(&mut list, *column, *sum)?;
     }
     Ok(Terms::new(list))
+}
+
+// The terms of sums, in the order of their columns, without those that are 0.
+fn make_terms(alloc: Global, mut sums: Sums) -> Result<Terms, AllocError>
+    requires { All (λ e. e.0 < 2 ^ 32) sums.entries }
+    ensures { IfOk result (λ form. (names : List (List ℕ)) (terms : List TermOf) → HoldsSums names terms sums.entries → form ≡ form_of names terms) }
+{
+    sums.sort_keys()?;
+    let _ = sums.len();
+    Ok(list_terms(alloc, &sums)?)
 }
 
 // Puts a term last, unless its factor is 0.
@@ -206,7 +215,7 @@ pub(crate) fn take_terms(
     columns: &mut Columns,
     terms: &[Term<'_>],
 ) -> Result<Terms, ReadFault>
-    requires { length columns.old.names ≤ most_columns }
+    requires { length (names_of columns.old.names) ≤ most_columns }
     ensures { MatchResult result
         (λ form. TakesForm columns.old columns.new (map shown_term terms.now) form)
         (IsFault (terms_fault_in (names_of columns.old.names) columns.old.entries [] (map shown_term terms.now))) }
