@@ -5,4 +5,7 @@ pub mod Bounds
 pub mod Program
 pub mod Meaning
 pub mod State
+pub mod Sides
+pub mod Said
+pub mod Held
 pub mod Told
