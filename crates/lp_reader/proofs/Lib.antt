@@ -3,3 +3,4 @@ pub mod NewColumns
 pub mod Sums
 pub mod Terms
 pub mod Forms
+pub mod EndRows

@@ -1,8 +1,9 @@
 -- Rows from their forms and sides.
-use Rattle.std.specs.Prelude.{◌≡◌, ℕ, true, List, [], ◌∷◌, ◌++◌, Option, None, unwrap_or}
+use Rattle.std.specs.Prelude.{◌≡◌, ℕ, ◌≤◌, true, List, [], ◌∷◌, ◌++◌, length, Option, None, unwrap_or}
 use Rattle.rational.specs.Rational.{ℚ, one_ℚ}
 use Rattle.rational.specs.Linear.{Term as LinearTerm}
 use Rattle.name_map.specs.Names.{names_of}
+use Rattle.lp_model.specs.Shown.{most_rows}
 use Rattle.lp_model.specs.declared.parts.Row.{Row}
 use Rattle.lp_model.specs.declared.parts.Weight.TheVariants.{Soft}
 use Rattle.lp_statements.specs.declared.parts.Relation.{Relation}
@@ -28,3 +29,4 @@ ended_row form relation left right = record { terms = form; lo = lower_side rela
 pub record PutsRow (old new : Rows) (name : List ℕ) (row : Row) : Type 0 where
   pub names : names_of new.names ≡ names_of old.names ++ name ∷ []
   pub items : new.items.items ≡ old.items.items ++ row ∷ []
+  pub few : length (names_of new.names) ≤ most_rows

@@ -15,6 +15,7 @@ use lp_statements::{Relation, Text};
 use text_fields::{ReadFault, ReadKind};
 
 /// The number of a column that has to be there.
+#[tactic(auto, unfolding(crate::specs::Faults::unknown_fault))]
 pub(crate) fn known_column(columns: &Columns, name: Text<'_>) -> Result<usize, ReadFault>
     ensures { MatchResult result
         (λ j. (unknown_fault (names_of columns.now.names) (shown_text name.entry) ≡ None) × StandsAt (names_of columns.now.names) name.entry.bytes.now j)
@@ -28,31 +29,31 @@ pub(crate) fn known_column(columns: &Columns, name: Text<'_>) -> Result<usize, R
 
 /// What a bound statement says of the lower bound: nothing, or the bound, which may be none.
 pub(crate) fn lower_said(
-    left: Option<Option<Frac>>,
+    left: &Option<Option<Frac>>,
     relation: Relation,
-    right: Option<Option<Frac>>,
+    right: &Option<Option<Frac>>,
 ) -> Option<Option<Frac>>
-    ensures { result ≡ lower_by left relation right }
+    ensures { result ≡ lower_by left.now relation right.now }
 {
     match relation {
-        Relation::AtMost => left,
-        Relation::AtLeast => right,
-        Relation::Equal => left.or(right),
+        Relation::AtMost => *left,
+        Relation::AtLeast => *right,
+        Relation::Equal => left.or(*right),
     }
 }
 
 /// And of the upper one.
 pub(crate) fn upper_said(
-    left: Option<Option<Frac>>,
+    left: &Option<Option<Frac>>,
     relation: Relation,
-    right: Option<Option<Frac>>,
+    right: &Option<Option<Frac>>,
 ) -> Option<Option<Frac>>
-    ensures { result ≡ upper_by left relation right }
+    ensures { result ≡ upper_by left.now relation right.now }
 {
     match relation {
-        Relation::AtMost => right,
-        Relation::AtLeast => left,
-        Relation::Equal => left.or(right),
+        Relation::AtMost => *right,
+        Relation::AtLeast => *left,
+        Relation::Equal => left.or(*right),
     }
 }
 

@@ -75,7 +75,7 @@ fn take_row(
     check_label(&reader.rows, label)?;
     let left_side = side_if(left)?;
     let form = take_terms(alloc, &mut reader.columns, terms)?;
-    end_row(alloc, &mut reader.rows, label, form, relation, left_side, right)
+    end_row(alloc, &mut reader.rows, label, form, relation, &left_side, right)
 }
 
 // Takes a bound in.
@@ -89,8 +89,8 @@ fn take_bound(
     let left = side_if(left)?;
     let column = known_column(&reader.columns, name)?;
     let right = side_if(right)?;
-    let lower = lower_said(left, relation, right);
-    let upper = upper_said(left, relation, right);
+    let lower = lower_said(&left, relation, &right);
+    let upper = upper_said(&left, relation, &right);
     set_bounds(&mut reader.columns, column, lower, upper, false);
     Ok(())
 }

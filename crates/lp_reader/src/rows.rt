@@ -1,11 +1,11 @@
 //! Rows: their names, their forms and their sides.
-ghost use Rattle.std.specs.Prelude.{◌≡◌, ◌+◌, ◌<◌, ◌^◌, Bool, true, false, List, [], ◌∷◌, ◌++◌, Some, None, length, MatchResult, IfOk, OnOk, string_bytes};
+ghost use Rattle.std.specs.Prelude.{◌≡◌, ◌+◌, ◌<◌, ◌≤◌, ◌^◌, Bool, true, false, List, [], ◌∷◌, ◌++◌, Some, None, length, unwrap_or, MatchResult, IfOk, OnOk, string_bytes};
 ghost use Rattle.std.specs.List.{list_any};
 ghost use Rattle.std.specs.Option.{option_map};
 ghost use Rattle.std.specs.Str.{bytes_eq};
 ghost use Rattle.name_map.specs.Names.{names_of};
 ghost use Rattle.rational.specs.Rational.{one_ℚ};
-ghost use Rattle.lp_model.specs.Shown.{is_named};
+ghost use Rattle.lp_model.specs.Shown.{most_rows};
 ghost use Rattle.lp_statements.specs.Statements.{shown_text, shown_constant};
 ghost use Rattle.lp_reader.specs.Numbers.{constant_fault_in, side_of};
 ghost use Rattle.lp_reader.specs.Names.{row_name as row_name_by};
@@ -61,6 +61,7 @@ pub(crate) fn check_objective_label(label: Option<Text<'_>>) -> Result<(), ReadF
 }
 
 /// Checks the label of a row, if it has one.
+#[tactic(auto, unfolding(crate::specs::Faults::label_fault))]
 pub(crate) fn check_label(rows: &Rows, label: Option<Text<'_>>) -> Result<(), ReadFault>
     ensures { MatchResult result (λ _. label_fault (names_of rows.now.names) (option_map shown_text label.entry) ≡ None) (IsFault (label_fault (names_of rows.now.names) (option_map shown_text label.entry))) }
 {
@@ -80,24 +81,42 @@ pub(crate) fn check_label(rows: &Rows, label: Option<Text<'_>>) -> Result<(), Re
 }
 
 // The lower side of a row by its relation.
-fn lower_side(relation: Relation, left: Option<Option<Frac>>, right: Option<Frac>) -> Option<Frac>
-    ensures { result ≡ lower_side_by relation left right }
+fn lower_side(
+    relation: Relation,
+    left: &Option<Option<Frac>>,
+    right: &Option<Frac>,
+) -> Option<Frac>
+    ensures { result ≡ lower_side_by relation left.now right.now }
 {
     match relation {
-        Relation::AtMost => left.unwrap_or(None),
-        Relation::AtLeast => right,
-        Relation::Equal => left.unwrap_or(right),
+        Relation::AtMost => side_or(left, &None),
+        Relation::AtLeast => *right,
+        Relation::Equal => side_or(left, right),
     }
 }
 
 // And its upper one.
-fn upper_side(relation: Relation, left: Option<Option<Frac>>, right: Option<Frac>) -> Option<Frac>
-    ensures { result ≡ upper_side_by relation left right }
+fn upper_side(
+    relation: Relation,
+    left: &Option<Option<Frac>>,
+    right: &Option<Frac>,
+) -> Option<Frac>
+    ensures { result ≡ upper_side_by relation left.now right.now }
 {
     match relation {
-        Relation::AtMost => right,
-        Relation::AtLeast => left.unwrap_or(None),
-        Relation::Equal => left.unwrap_or(right),
+        Relation::AtMost => *right,
+        Relation::AtLeast => side_or(left, &None),
+        Relation::Equal => side_or(left, right),
+    }
+}
+
+// The left side, or, where none is there, another.
+fn side_or(left: &Option<Option<Frac>>, other: &Option<Frac>) -> Option<Frac>
+    ensures { result ≡ unwrap_or left.now other.now }
+{
+    match left {
+        Some(side) => *side,
+        None => *other,
     }
 }
 
@@ -105,10 +124,10 @@ fn upper_side(relation: Relation, left: Option<Option<Frac>>, right: Option<Frac
 fn make_row(
     form: Terms,
     relation: Relation,
-    left: Option<Option<Frac>>,
-    right: Option<Frac>,
+    left: &Option<Option<Frac>>,
+    right: &Option<Frac>,
 ) -> Row
-    ensures { result ≡ ended_row form relation left right }
+    ensures { result ≡ ended_row form relation left.now right.now }
 {
     Row {
         terms: form,
@@ -121,7 +140,8 @@ fn make_row(
 
 // Puts a new row last.
 fn put_row(alloc: Global, rows: &mut Rows, name: &[u8], row: Row) -> Result<(), AllocError>
-    requires { list_any (bytes_eq name.now) (names_of rows.old.names) ≡ false }
+    requires fresh { list_any (bytes_eq name.now) (names_of rows.old.names) ≡ false }
+    requires room { length (names_of rows.old.names) < most_rows }
     ensures { OnOk result (PutsRow rows.old rows.new name.now row) }
 {
     // The check wants the type of a side named here.
@@ -146,19 +166,19 @@ fn end_labelled(
     label: Text<'_>,
     form: Terms,
     relation: Relation,
-    left: Option<Option<Frac>>,
+    left: &Option<Option<Frac>>,
     right: Constant<'_>,
 ) -> Result<(), ReadFault>
-    requires { label_fault (names_of rows.old.names) (Some (shown_text label.entry)) ≡ None }
+    requires { label_fault (names_of rows.old.names) (Some (shown_text label)) ≡ None }
     ensures { MatchResult result
-        (λ _. (row_end_fault (names_of rows.old.names) (Some (shown_text label.entry)) (shown_constant right.entry) ≡ None) × PutsRow rows.old rows.new label.entry.bytes.now (ended_row form relation left (side_of (shown_constant right.entry))))
+        (λ _. (row_end_fault (names_of rows.old.names) (Some (shown_text label.entry)) (shown_constant right.entry) ≡ None) × PutsRow rows.old rows.new label.entry.bytes.now (ended_row form relation left.now (side_of (shown_constant right.entry))))
         (IsFault (row_end_fault (names_of rows.old.names) (Some (shown_text label.entry)) (shown_constant right.entry))) }
 {
     let side = match constant_side(right) {
         Ok(side) => side,
         Err(fault) => return Err(fault),
     };
-    put_row(alloc, rows, label.bytes, make_row(form, relation, left, side))?;
+    put_row(alloc, rows, label.bytes, make_row(form, relation, left, &side))?;
     Ok(())
 }
 
@@ -168,11 +188,12 @@ fn end_unnamed(
     rows: &mut Rows,
     form: Terms,
     relation: Relation,
-    left: Option<Option<Frac>>,
+    left: &Option<Option<Frac>>,
     right: Constant<'_>,
 ) -> Result<(), ReadFault>
+    requires { length (names_of rows.old.names) ≤ most_rows }
     ensures { MatchResult result
-        (λ _. (row_end_fault (names_of rows.old.names) None (shown_constant right.entry) ≡ None) × PutsRow rows.old rows.new (row_name_by (length (names_of rows.old.names) + 1) None) (ended_row form relation left (side_of (shown_constant right.entry))))
+        (λ _. (row_end_fault (names_of rows.old.names) None (shown_constant right.entry) ≡ None) × PutsRow rows.old rows.new (row_name_by (length (names_of rows.old.names) + 1) None) (ended_row form relation left.now (side_of (shown_constant right.entry))))
         (IsFault (row_end_fault (names_of rows.old.names) None (shown_constant right.entry))) }
 {
     let name = generated_name(alloc, rows.names.len() + 1)?;
@@ -186,7 +207,7 @@ fn end_unnamed(
     if rows.names.len() >= MOST_ROWS {
         return Err(stop_at(right.text.line, ReadKind::Limit));
     }
-    put_row(alloc, rows, name.as_bytes(), make_row(form, relation, left, side))?;
+    put_row(alloc, rows, name.as_bytes(), make_row(form, relation, left, &side))?;
     Ok(())
 }
 
@@ -197,13 +218,14 @@ pub(crate) fn end_row(
     label: Option<Text<'_>>,
     form: Terms,
     relation: Relation,
-    left: Option<Option<Frac>>,
+    left: &Option<Option<Frac>>,
     right: Constant<'_>,
 ) -> Result<(), ReadFault>
-    requires { label_fault (names_of rows.old.names) (option_map shown_text label.entry) ≡ None }
+    requires few { length (names_of rows.old.names) ≤ most_rows }
+    requires checked { label_fault (names_of rows.old.names) (option_map shown_text label) ≡ None }
     ensures { MatchResult result
         (λ _. (row_end_fault (names_of rows.old.names) (option_map shown_text label.entry) (shown_constant right.entry) ≡ None)
-            × PutsRow rows.old rows.new (row_name_by (length (names_of rows.old.names) + 1) (option_map shown_text label.entry)) (ended_row form relation left (side_of (shown_constant right.entry))))
+            × PutsRow rows.old rows.new (row_name_by (length (names_of rows.old.names) + 1) (option_map shown_text label.entry)) (ended_row form relation left.now (side_of (shown_constant right.entry))))
         (IsFault (row_end_fault (names_of rows.old.names) (option_map shown_text label.entry) (shown_constant right.entry))) }
 {
     match label {
