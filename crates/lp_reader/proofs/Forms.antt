@@ -51,7 +51,7 @@ zero_is : eq_ℚ zero_ℚ zero_ℚ ≡ true
 zero_is = (eq-Decides zero_ℚ zero_ℚ).1 refl
 
 -- a column that is not named has no term
-no_term : (j : ℕ) (name : List ℕ) (terms : List Term) (rest : List LinearTerm) → sum_there name terms ≡ None → with_term j (sum_of name terms) rest ≡ rest
+pub no_term : (j : ℕ) (name : List ℕ) (terms : List Term) (rest : List LinearTerm) → sum_there name terms ≡ None → with_term j (sum_of name terms) rest ≡ rest
 no_term j name terms rest none =
     let is : sum_of name terms ≡ zero_ℚ = sym (sum_looked name terms) ∙ ap (λ o. unwrap_or o zero_ℚ) none in
     ap (λ (v : ℚ). with_term j v rest) is ∙ ap (λ b. cond b rest (record { column = j; factor = zero_ℚ } ∷ rest)) zero_is

@@ -4,3 +4,5 @@ pub mod Sums
 pub mod Terms
 pub mod Forms
 pub mod EndRows
+pub mod Fronts
+pub mod Holding

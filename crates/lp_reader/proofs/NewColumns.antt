@@ -95,7 +95,7 @@ takes_known old new name j names bounds entries at = record {
   names = names ∙ sym (ap (λ b. cond b (names_of old.names) (names_of old.names ++ name ∷ [])) at.among);
   entries = entries;
   stands = subst (λ (ns : List (List ℕ)). StandsAt ns name j) (sym names) at;
-  widened = record { more = []; names = names ∙ sym (append-nil (names_of old.names)); bounds = bounds ∙ sym (append-nil old.bounds.items) };
+  widened = record { more = []; names = names ∙ sym (append-nil (names_of old.names)); bounds = bounds ∙ sym (append-nil old.bounds.items); fresh = All-nil (λ name. is_named (names_of old.names) name ≡ false) };
   few = λ h. subst (λ (ns : List (List ℕ)). length ns ≤ most_columns) (sym names) h;
 }
 
@@ -104,6 +104,6 @@ takes_new old mid new name j puts names bounds entries absent is room = record {
   names = names ∙ (puts.names ∙ sym (ap (λ b. cond b (names_of old.names) (names_of old.names ++ name ∷ [])) absent));
   entries = let a = puts.entries in omega arith;
   stands = subst (λ (ns : List (List ℕ)). StandsAt ns name j) (sym (names ∙ puts.names)) (subst (StandsAt (names_of old.names ++ name ∷ []) name) (sym is) (stands_last (names_of old.names) name absent));
-  widened = record { more = name ∷ []; names = names ∙ puts.names; bounds = bounds ∙ puts.bounds };
+  widened = record { more = name ∷ []; names = names ∙ puts.names; bounds = bounds ∙ puts.bounds; fresh = All-cons (λ name. is_named (names_of old.names) name ≡ false) name [] absent (All-nil (λ name. is_named (names_of old.names) name ≡ false)) };
   few = λ h. subst (λ (ns : List (List ℕ)). length ns ≤ most_columns) (sym (names ∙ puts.names)) (let long = length-append (names_of old.names) (name ∷ []) in omega (arith, room));
 }

@@ -1,5 +1,5 @@
 -- Terms, one after another.
-use Rattle.std.proofs.Common.{◌≡◌, ℕ, zero, suc, ◌+◌, ◌<◌, ◌≤◌, ◌^◌, Bool, true, false, cond, nat_eq, List, [], ◌∷◌, ◌++◌, Option, Some, None, length, map, take, drop, get_or, slice_get, refl, sym, ap, ◌∙◌, subst, arith, append_assoc, append-nil}
+use Rattle.std.proofs.Common.{◌≡◌, ℕ, zero, suc, ◌+◌, ◌<◌, ◌≤◌, ◌^◌, Bool, true, false, cond, nat_eq, ◌||◌, List, [], ◌∷◌, ◌++◌, Option, Some, None, length, map, take, drop, get_or, slice_get, refl, sym, ap, ◌∙◌, subst, arith, append_assoc, append-nil}
 use Rattle.std.proofs.lemmas.List.{map-append, take_all, drop_all, get_or-map}
 use Rattle.name_map.proofs.NameLists.{length_map}
 use Rattle.lp_statements.specs.declared.parts.Term.{Term as CodeTerm}
@@ -10,7 +10,9 @@ use Rattle.lp_model.specs.Shown.{most_columns}
 use Rattle.lp_reader.specs.Program.{form_of}
 use Rattle.std.specs.Prelude.{unwrap_or}
 use Rattle.std.specs.List.{All}
-use Rattle.std.proofs.lemmas.List.Elements.{All-weaker}
+use Rattle.std.proofs.lemmas.List.Elements.{All-weaker, All-nil, All-cons, All-head, All-tail}
+use Rattle.std.proofs.lemmas.List.Folds.{list_any-append}
+use Rattle.std.specs.Str.{bytes_eq}
 use Rattle.std.specs.Map.{lookup}
 use Rattle.std.specs.Option.{option_or}
 use Rattle.rational.specs.Rational.{ℚ, zero_ℚ}
@@ -108,7 +110,7 @@ unfolding with_names
 no_terms old all few = record {
   names = refl;
   entries = omega arith;
-  widened = record { more = []; names = sym (append-nil (names_of old.names)); bounds = sym (append-nil old.bounds.items) };
+  widened = record { more = []; names = sym (append-nil (names_of old.names)); bounds = sym (append-nil old.bounds.items); fresh = All-nil (λ name. is_named (names_of old.names) name ≡ false) };
   few = few;
   sums = no_sums (names_of old.names);
   faults = refl;
@@ -125,7 +127,19 @@ widened_more a b c x y = record {
   names = y.names ∙ (ap (λ ns. ns ++ y.more) x.names ∙ append_assoc (names_of a.names) x.more y.more);
   bounds = y.bounds ∙ (ap (λ bs. bs ++ map (λ (name : List ℕ). plain) y.more) x.bounds ∙ (append_assoc a.bounds.items (map (λ (name : List ℕ). plain) x.more) (map (λ (name : List ℕ). plain) y.more)
       ∙ ap (λ bs. a.bounds.items ++ bs) (sym (map-append (λ (name : List ℕ). plain) x.more y.more))));
+  fresh = All-both (λ name. is_named (names_of a.names) name ≡ false) x.more y.more x.fresh (All-weaker (λ name. is_named (names_of b.names) name ≡ false) (λ name. is_named (names_of a.names) name ≡ false) (λ name h. left name (sym (ap (λ ns. is_named ns name) x.names) ∙ h)) y.more y.fresh);
 }
+  where
+    or_left : (p q : Bool) → (p || q) ≡ false → p ≡ false
+    or_left true q h = h
+    or_left false q h = refl
+
+    left : (name : List ℕ) → is_named (names_of a.names ++ x.more) name ≡ false → is_named (names_of a.names) name ≡ false
+    left name h = or_left (is_named (names_of a.names) name) (is_named x.more name) (sym (list_any-append (bytes_eq name) (names_of a.names) x.more) ∙ h)
+
+    All-both : (P : List ℕ → Type 0) (xs ys : List (List ℕ)) → All P xs → All P ys → All P (xs ++ ys)
+    All-both P [] ys p q = q
+    All-both P (x ∷ xs) ys p q = All-cons P x (xs ++ ys) (All-head P x xs p) (All-both P xs ys (All-tail P x xs p) q)
 
 module _ (old now : Columns) (all : List Term) (i : ℕ) (found : List (ℕ × ℚ)) (so_far : TermsSoFar old now all i found) (term : Term) (at : slice_get all i ≡ Some term) where
   rest_is : terms_fault_in (names_of now.names) now.entries (take i all) (drop i all)

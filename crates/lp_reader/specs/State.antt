@@ -30,6 +30,7 @@ pub record Widened (old new : Columns) : Type 0 where
   pub more : List (List ℕ)
   pub names : names_of new.names ≡ names_of old.names ++ more
   pub bounds : new.bounds.items ≡ old.bounds.items ++ map (λ (name : List ℕ). plain) more
+  pub fresh : All (λ name. is_named (names_of old.names) name ≡ false) more
 
 -- a new column stands last, and nothing is said of it
 pub record PutsColumn (old new : Columns) (name : List ℕ) : Type 0 where
