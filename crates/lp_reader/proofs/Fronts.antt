@@ -62,7 +62,7 @@ or_right : (a b : Bool) → (a || b) ≡ false → b ≡ false
 or_right true b h = absurd (true≢false h)
 or_right false b h = h
 
-named_stays : (names : List (List ℕ)) (terms : List Term) (name : List ℕ) → is_named (with_names names terms) name ≡ false → is_named names name ≡ false
+pub named_stays : (names : List (List ℕ)) (terms : List Term) (name : List ℕ) → is_named (with_names names terms) name ≡ false → is_named names name ≡ false
 unfolding with_names
 named_stays names [] name h = h
 named_stays names (t ∷ terms) name h = by (is_named names t.name.text) (named_stays (with_name names t.name.text) terms name h)

@@ -14,7 +14,7 @@ use Rattle.lp_reader.specs.Meaning.{lp_fault}
 
 -- each table is a look-up of the statements
 pub record Holds (reader : Reader) (front : List Statement) : Type 0 where
-  pub row_names : names_of reader.rows.names ≡ row_names front
+  pub named : names_of reader.rows.names ≡ row_names front
   pub rows : reader.rows.items.items ≡ map (row_of (columns_of front)) (rows_of front)
   pub columns : names_of reader.columns.names ≡ columns_of front
   pub entries : reader.columns.entries ≡ length (terms_of front)
@@ -24,6 +24,7 @@ pub record Holds (reader : Reader) (front : List Statement) : Type 0 where
   -- nothing is said of other columns
   pub quiet : (name : List ℕ) → is_named (columns_of front) name ≡ false → bounds_of front name ≡ plain
   pub few_columns : length (columns_of front) ≤ most_columns
+  pub few_rows : length (row_names front) ≤ most_rows
 
 -- the statements of the text have no fault, and the tables say what they say
 pub record HasRead (bytes : List ℕ) (reader : Reader) : Type 0 where
