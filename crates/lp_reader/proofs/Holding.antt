@@ -1,17 +1,20 @@
 -- The tables after one statement more.
-use Rattle.std.proofs.Common.{◌≡◌, ℕ, zero, suc, ◌+◌, ◌<◌, ◌≤◌, Bool, true, false, cond, ◌||◌, List, [], ◌∷◌, ◌++◌, Option, Some, None, length, map, get_or, refl, sym, ap, ◌∙◌, subst, arith, append_assoc, append-nil, length-append}
-use Rattle.std.specs.Prelude.{unwrap_or}
+use Rattle.std.proofs.Common.{ltb, nat_eq, true≢false, ◌≡◌, ℕ, zero, suc, ◌+◌, ◌<◌, ◌≤◌, Bool, true, false, cond, ◌||◌, List, [], ◌∷◌, ◌++◌, Option, Some, None, length, map, get_or, refl, sym, ap, ◌∙◌, subst, arith, append_assoc, append-nil, length-append}
+use Rattle.std.specs.Prelude.{unwrap_or, slice_index_or, slice_set}
 use Rattle.std.specs.List.{All, list_any, filter_map, cons_option}
 use Rattle.std.specs.Str.{bytes_eq}
 use Rattle.std.specs.Option.{option_map}
 use Rattle.rational.specs.Rational.{ℚ, one_ℚ}
 use Rattle.lp_model.specs.declared.parts.Weight.TheVariants.{Soft}
-use Rattle.std.proofs.lemmas.List.{map-append}
+use Rattle.std.proofs.lemmas.List.{map-append, length-set, get_or-set_same, get_or-set_other, get_or-map}
+use Rattle.std.proofs.lemmas.Bool.{eqb-true, eqb-false}
+use Rattle.lp_reader.proofs.Huge.{same_test}
+use Rattle.std.proofs.lemmas.Slice.Eq.{bytes_eq-Decides}
 use Rattle.std.proofs.lemmas.List.Elements.{All-nil, filter_map-append}
 use Rattle.std.proofs.lemmas.List.Folds.{list_any-append}
 use Rattle.rational.specs.Linear.{Term as LinearTerm}
 use Rattle.name_map.specs.Names.{names_of, name_at, StandsAt}
-use Rattle.name_map.proofs.NameLists.{map_agree, map_push}
+use Rattle.name_map.proofs.NameLists.{map_agree, map_push, length_map}
 use Rattle.lp_model.specs.Shown.{is_named, most_columns, most_rows}
 use Rattle.lp_model.specs.declared.parts.Row.{Row as CodeRow}
 use Rattle.lp_statements.specs.declared.parts.Keyword.{Keyword}
@@ -25,7 +28,7 @@ use Rattle.lp_reader.specs.Numbers.{is_of, side_of}
 use Rattle.lp_reader.specs.Names.{terms_in, terms_of, with_names, columns_of, RowPart, row_in, rows_of, row_name, names_from, row_names}
 use Rattle.lp_reader.specs.Bounds.{last_or, lower_said, upper_said, whole_said, lower_constant, upper_constant}
 use Rattle.lp_reader.specs.Program.{form_from, form_of, row_of, side_by, objective_in, sense_in}
-use Rattle.lp_reader.specs.Said.{changed}
+use Rattle.lp_reader.specs.Said.{changed, SetsBounds, lower_by, upper_by}
 use Rattle.lp_reader.specs.Sides.{lower_side, upper_side, ended_row, PutsRow}
 use Rattle.lp_reader.specs.State.{plain, bounds_of, Widened, TakesForm}
 use Rattle.lp_reader.specs.Held.{Holds}
@@ -193,3 +196,94 @@ hold_row old new front label left terms relation right form holds takes puts obj
       few_columns = subst (λ ns. length ns ≤ most_columns) columns takes.few;
       few_rows = subst (λ ns. length ns ≤ most_rows) names puts.few;
     }
+
+-- ---- statements of bounds and marks
+bytes_sym : (a b : List ℕ) → bytes_eq a b ≡ bytes_eq b a
+bytes_sym a b = same_test (bytes_eq a b) (bytes_eq b a) (λ e. (bytes_eq-Decides b a).1 (sym ((bytes_eq-Decides a b).0 e))) (λ e. (bytes_eq-Decides a b).1 (sym ((bytes_eq-Decides b a).0 e)))
+
+same_list : {X : Type 0} (d : X) (xs ys : List X) → length xs ≡ length ys → ((i : ℕ) → i < length xs → get_or xs i d ≡ get_or ys i d) → xs ≡ ys
+same_list d [] [] e h = refl
+same_list d [] (y ∷ ys) e h = absurd (omega arith)
+same_list d (x ∷ xs) [] e h = absurd (omega arith)
+same_list d (x ∷ xs) (y ∷ ys) e h =
+    let tails = same_list d xs ys (omega arith) (λ i l. h (suc i) (omega arith)) in
+    λ k. h 0 (omega arith) k ∷ tails k
+
+set_map : (columns : List (List ℕ)) (j : ℕ) (f g : List ℕ → Bounds) (v : Bounds) → j < length columns
+    → ((k : ℕ) → k < length columns → g (name_at columns k) ≡ cond (nat_eq j k) v (f (name_at columns k))) → slice_set (map f columns) j v ≡ map g columns
+set_map columns j f g v within each =
+    let long : length (map f columns) ≡ length columns = length_map f columns in
+    let longer : length (map g columns) ≡ length columns = length_map g columns in
+    let kept : length (slice_set (map f columns) j v) ≡ length (map f columns) = length-set (map f columns) j v in
+    same_list v (slice_set (map f columns) j v) (map g columns) (omega arith) (λ k h. at k (nat_eq j k) refl (omega arith))
+  where
+    at : (k : ℕ) (b : Bool) → nat_eq j k ≡ b → k < length columns → get_or (slice_set (map f columns) j v) k v ≡ get_or (map g columns) k v
+    at k true e h =
+        let is : j ≡ k = eqb-true j k e in
+        let long : length (map f columns) ≡ length columns = length_map f columns in
+        ap (λ (n : ℕ). get_or (slice_set (map f columns) n v) k v) is ∙ get_or-set_same (map f columns) k v v (omega arith)
+        ∙ sym (get_or-map g columns k [] v h ∙ (each k h ∙ ap (λ b. cond b v (f (name_at columns k))) e))
+    at k false e h =
+        get_or-set_other (map f columns) j k v v (λ q. eqb-false j k e (sym q)) ∙ get_or-map f columns k [] v h
+        ∙ sym (get_or-map g columns k [] v h ∙ (each k h ∙ ap (λ b. cond b v (f (name_at columns k))) e))
+
+module _ (old new : Reader) (front : List Statement) (s : Statement) (name : List ℕ) (j : ℕ) (l u : Option (Option ℚ)) (w : Bool) (holds : Holds old front)
+    (at : StandsAt (names_of old.columns.names) name j) (sets : SetsBounds old.columns new.columns j l u w)
+    (no_terms : terms_in s ≡ []) (no_row : row_in s ≡ None) (no_objective : objective_in s ≡ None) (no_sense : sense_in s ≡ None)
+    (lower : (n : List ℕ) → lower_said n s ≡ cond (bytes_eq n name) l None) (upper : (n : List ℕ) → upper_said n s ≡ cond (bytes_eq n name) u None) (whole : (n : List ℕ) → whole_said n s ≡ cond (bytes_eq n name) w false) where
+  after : (n : List ℕ) → bounds_of (front ++ s ∷ []) n ≡ cond (bytes_eq n name) (changed (bounds_of front n) l u w) (bounds_of front n)
+  after n =
+      bounds_push front s n
+      ∙ (ap (λ (b : Option (Option ℚ) × Option (Option ℚ) × Bool). changed (bounds_of front n) b.0 b.1 b.2) (λ i. (lower n i, upper n i, whole n i))
+      ∙ by (bytes_eq n name))
+    where
+      by : (b : Bool) → changed (bounds_of front n) (cond b l None) (cond b u None) (cond b w false) ≡ cond b (changed (bounds_of front n) l u w) (bounds_of front n)
+      by true = refl
+      by false = unchanged (bounds_of front n)
+
+  same_columns : columns_of (front ++ s ∷ []) ≡ columns_of front
+  unfolding with_names
+  same_columns = columns_push front s ∙ ap (with_names (columns_of front)) no_terms
+
+  placed : StandsAt (columns_of front) name j
+  placed = subst (λ ns. StandsAt ns name j) holds.columns at
+
+  here : changed (bounds_of front (name_at (columns_of front) j)) l u w ≡ changed (slice_index_or old.columns.bounds.items j plain) l u w
+  here = ap (λ (b : Bounds). changed b l u w) (sym (ap (λ bs. slice_index_or bs j plain) holds.bounds ∙ get_or-map (bounds_of front) (columns_of front) j [] plain placed.within))
+
+  each : (k : ℕ) → k < length (columns_of front) → bounds_of (front ++ s ∷ []) (name_at (columns_of front) k) ≡ cond (nat_eq j k) (changed (slice_index_or old.columns.bounds.items j plain) l u w) (bounds_of front (name_at (columns_of front) k))
+  each k h =
+      after (name_at (columns_of front) k)
+      ∙ (ap (λ b. cond b (changed (bounds_of front (name_at (columns_of front) k)) l u w) (bounds_of front (name_at (columns_of front) k))) (bytes_sym (name_at (columns_of front) k) name ∙ placed.alone k h)
+      ∙ by (nat_eq j k) refl)
+    where
+      by : (b : Bool) → nat_eq j k ≡ b → cond b (changed (bounds_of front (name_at (columns_of front) k)) l u w) (bounds_of front (name_at (columns_of front) k)) ≡ cond b (changed (slice_index_or old.columns.bounds.items j plain) l u w) (bounds_of front (name_at (columns_of front) k))
+      by true e = ap (λ (n : ℕ). changed (bounds_of front (name_at (columns_of front) n)) l u w) (sym (eqb-true j k e)) ∙ here
+      by false e = refl
+
+  other : (n : List ℕ) → is_named (columns_of front) n ≡ false → bytes_eq n name ≡ false
+  other n h = by (bytes_eq n name) refl
+    where
+      by : (b : Bool) → bytes_eq n name ≡ b → b ≡ false
+      by false e = refl
+      by true e =
+          let is : n ≡ name = (bytes_eq-Decides n name).0 e in
+          absurd (true≢false (sym placed.among ∙ ap (is_named (columns_of front)) (sym is) ∙ h))
+
+  pub hold_said : names_of new.rows.names ≡ names_of old.rows.names → new.rows.items.items ≡ old.rows.items.items → new.objective ≡ old.objective → new.maximise ≡ old.maximise → Holds new (front ++ s ∷ [])
+  hold_said same_names same_rows objective sense =
+      let rows : rows_of (front ++ s ∷ []) ≡ rows_of front = rows_push front s ∙ ap (λ o. rows_of front ++ cons_option o []) no_row ∙ append-nil (rows_of front) in
+      record {
+        named = same_names ∙ (holds.named ∙ ap (names_from 1) (sym rows));
+        rows = same_rows ∙ (holds.rows ∙ (λ i. map (row_of (sym same_columns i)) (sym rows i)));
+        columns = sets.names ∙ (holds.columns ∙ sym same_columns);
+        entries = sets.entries ∙ (holds.entries ∙ ap length (sym (terms_push front s ∙ ap (λ ts. terms_of front ++ ts) no_terms ∙ append-nil (terms_of front))));
+        bounds = sets.bounds ∙ (ap (λ bs. slice_set bs j (changed (slice_index_or old.columns.bounds.items j plain) l u w)) holds.bounds
+            ∙ (set_map (columns_of front) j (bounds_of front) (bounds_of (front ++ s ∷ [])) (changed (slice_index_or old.columns.bounds.items j plain) l u w) placed.within each
+            ∙ ap (map (bounds_of (front ++ s ∷ []))) (sym same_columns)));
+        objective = objective ∙ (holds.objective ∙ (λ i. form_of (sym same_columns i) (sym (last_said objective_in [] front s ∙ ap (λ o. unwrap_or o (last_or [] (filter_map objective_in front))) no_objective) i)));
+        maximise = sense ∙ (holds.maximise ∙ sym (last_said sense_in false front s ∙ ap (λ o. unwrap_or o (last_or false (filter_map sense_in front))) no_sense));
+        quiet = λ n h. let absent = sym (ap (λ ns. is_named ns n) same_columns) ∙ h in after n ∙ (ap (λ b. cond b (changed (bounds_of front n) l u w) (bounds_of front n)) (other n absent) ∙ holds.quiet n absent);
+        few_columns = subst (λ ns. length ns ≤ most_columns) (sym same_columns) holds.few_columns;
+        few_rows = subst (λ ns. length ns ≤ most_rows) (ap (names_from 1) (sym rows)) holds.few_rows;
+      }

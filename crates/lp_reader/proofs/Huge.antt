@@ -8,7 +8,7 @@ use Rattle.frac128.specs.declared.literal.Literal.TheVariants.{Fits, TooWide}
 use Rattle.text_fields.specs.Numbers.{IsHuge}
 use Rattle.lp_reader.specs.Numbers.{is_huge, far}
 
-same_test : (r b : Bool) → (r ≡ true → b ≡ true) → (b ≡ true → r ≡ true) → r ≡ b
+pub same_test : (r b : Bool) → (r ≡ true → b ≡ true) → (b ≡ true → r ≡ true) → r ≡ b
 same_test true b f g = sym (f refl)
 same_test false true f g = g refl
 same_test false false f g = refl
