@@ -6,3 +6,4 @@ pub mod Forms
 pub mod EndRows
 pub mod Fronts
 pub mod Holding
+pub mod Taking

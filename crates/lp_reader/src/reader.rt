@@ -1,9 +1,10 @@
 //! Statements, taken in one after another.
-ghost use Rattle.std.specs.Prelude.{◌≡◌, ◌<◌, ◌^◌, List, [], ◌∷◌, ◌++◌, Some, None, length, MatchResult, IfOk};
-ghost use Rattle.lp_statements.specs.Statements.{Statement as StatementOf, Heading as HeadingOf, shown};
+ghost use Rattle.std.specs.Prelude.{◌≡◌, ◌<◌, ◌^◌, true, false, List, [], ◌∷◌, ◌++◌, map, Some, None, length, MatchResult, IfOk};
+ghost use Rattle.std.specs.Option.{option_map};
+ghost use Rattle.lp_statements.specs.Statements.{Statement as StatementOf, Objective as ObjectiveOf, Heading as HeadingOf, Row as RowOf, Free as FreeOf, Bound as BoundOf, Listed as ListedOf, shown, shown_text, shown_constant, shown_term};
 ghost use Rattle.lp_statements.specs.Script.{section_after as section_after_by, script_of};
 ghost use Rattle.lp_reader.specs.Faults.{statement_fault, first_fault};
-ghost use Rattle.lp_reader.specs.Held.{Holds, HasRead};
+ghost use Rattle.lp_reader.specs.Held.{Holds, HasRoom, IsEven, TakesStatement, HasRead};
 ghost use Rattle.lp_reader.specs.Meaning.{IsLpStop};
 ghost use Rattle.lp_reader.specs.Told.{IsFault};
 
@@ -54,9 +55,18 @@ fn take_objective(
     maximise: bool,
     label: Option<Text<'_>>,
     terms: &[Term<'_>],
-) -> Result<(), ReadFault> {
-    check_objective_label(label)?;
-    let form = take_terms(alloc, &mut reader.columns, terms)?;
+) -> Result<(), ReadFault>
+    requires { HasRoom reader.old }
+    ensures { TakesStatement reader.old reader.new (ObjectiveOf maximise (option_map shown_text label.entry) (map shown_term terms.now)) result }
+{
+    match check_objective_label(label) {
+        Ok(()) => {}
+        Err(fault) => return Err(fault),
+    }
+    let form = match take_terms(alloc, &mut reader.columns, terms) {
+        Ok(form) => form,
+        Err(fault) => return Err(fault),
+    };
     reader.objective = form;
     reader.maximise = maximise;
     Ok(())
@@ -71,11 +81,26 @@ fn take_row(
     terms: &[Term<'_>],
     relation: Relation,
     right: Constant<'_>,
-) -> Result<(), ReadFault> {
-    check_label(&reader.rows, label)?;
-    let left_side = side_if(left)?;
-    let form = take_terms(alloc, &mut reader.columns, terms)?;
-    end_row(alloc, &mut reader.rows, label, form, relation, &left_side, right)
+) -> Result<(), ReadFault>
+    requires { HasRoom reader.old }
+    ensures { TakesStatement reader.old reader.new (RowOf (option_map shown_text label.entry) (option_map shown_constant left.entry) (map shown_term terms.now) relation (shown_constant right.entry)) result }
+{
+    match check_label(&reader.rows, label) {
+        Ok(()) => {}
+        Err(fault) => return Err(fault),
+    }
+    let left_side = match side_if(left) {
+        Ok(side) => side,
+        Err(fault) => return Err(fault),
+    };
+    let form = match take_terms(alloc, &mut reader.columns, terms) {
+        Ok(form) => form,
+        Err(fault) => return Err(fault),
+    };
+    match end_row(alloc, &mut reader.rows, label, form, relation, &left_side, right) {
+        Ok(()) => Ok(()),
+        Err(fault) => Err(fault),
+    }
 }
 
 // Takes a bound in.
@@ -85,33 +110,86 @@ fn take_bound(
     name: Text<'_>,
     relation: Relation,
     right: Option<Constant<'_>>,
-) -> Result<(), ReadFault> {
-    let left = side_if(left)?;
-    let column = known_column(&reader.columns, name)?;
-    let right = side_if(right)?;
-    let lower = lower_said(&left, relation, &right);
-    let upper = upper_said(&left, relation, &right);
+) -> Result<(), ReadFault>
+    requires { IsEven reader.old }
+    ensures { TakesStatement reader.old reader.new (BoundOf (option_map shown_constant left.entry) (shown_text name.entry) relation (option_map shown_constant right.entry)) result }
+{
+    let left_side = match side_if(left) {
+        Ok(side) => side,
+        Err(fault) => return Err(fault),
+    };
+    let column = match known_column(&reader.columns, name) {
+        Ok(column) => column,
+        Err(fault) => return Err(fault),
+    };
+    let right_side = match side_if(right) {
+        Ok(side) => side,
+        Err(fault) => return Err(fault),
+    };
+    let lower = lower_said(&left_side, relation, &right_side);
+    let upper = upper_said(&left_side, relation, &right_side);
     set_bounds(&mut reader.columns, column, lower, upper, false);
     Ok(())
 }
 
 // Takes the bounds of a column away.
-fn take_free(reader: &mut Reader, name: Text<'_>) -> Result<(), ReadFault> {
-    let column = known_column(&reader.columns, name)?;
+fn take_free(reader: &mut Reader, name: Text<'_>) -> Result<(), ReadFault>
+    requires { IsEven reader.old }
+    ensures { TakesStatement reader.old reader.new (FreeOf (shown_text name.entry)) result }
+{
+    let column = match known_column(&reader.columns, name) {
+        Ok(column) => column,
+        Err(fault) => return Err(fault),
+    };
     set_bounds(&mut reader.columns, column, Some(None), Some(None), false);
     Ok(())
 }
 
-// Makes a column whole, under Binary with the bounds 0 and 1.
-fn take_listed(reader: &mut Reader, binary: bool, name: Text<'_>) -> Result<(), ReadFault> {
-    let column = known_column(&reader.columns, name)?;
-    if binary {
-        let lower = Some(Some(Frac::whole(0)));
-        let upper = Some(Some(Frac::whole(1)));
-        set_bounds(&mut reader.columns, column, lower, upper, true);
-        return Ok(());
-    }
+// Makes a column whole, with the bounds 0 and 1.
+fn take_binary(reader: &mut Reader, name: Text<'_>) -> Result<(), ReadFault>
+    requires { IsEven reader.old }
+    ensures { TakesStatement reader.old reader.new (ListedOf true (shown_text name.entry)) result }
+{
+    let column = match known_column(&reader.columns, name) {
+        Ok(column) => column,
+        Err(fault) => return Err(fault),
+    };
+    let lower = Some(Some(Frac::whole(0)));
+    let upper = Some(Some(Frac::whole(1)));
+    set_bounds(&mut reader.columns, column, lower, upper, true);
+    Ok(())
+}
+
+// Makes a column whole.
+fn take_general(reader: &mut Reader, name: Text<'_>) -> Result<(), ReadFault>
+    requires { IsEven reader.old }
+    ensures { TakesStatement reader.old reader.new (ListedOf false (shown_text name.entry)) result }
+{
+    let column = match known_column(&reader.columns, name) {
+        Ok(column) => column,
+        Err(fault) => return Err(fault),
+    };
     set_bounds(&mut reader.columns, column, None, None, true);
+    Ok(())
+}
+
+// Takes a listed name in.
+fn take_listed(reader: &mut Reader, binary: bool, name: Text<'_>) -> Result<(), ReadFault>
+    requires { IsEven reader.old }
+    ensures { TakesStatement reader.old reader.new (ListedOf binary (shown_text name.entry)) result }
+{
+    if binary {
+        return take_binary(reader, name);
+    }
+    take_general(reader, name)
+}
+
+// Takes a keyword in: it changes nothing.
+fn take_heading(reader: &Reader, keyword: Keyword) -> Result<(), ReadFault>
+    ensures { TakesStatement reader.now reader.now (HeadingOf keyword) result }
+{
+    let _ = reader.maximise;
+    let _ = keyword;
     Ok(())
 }
 
@@ -121,9 +199,9 @@ fn take_statement(
     reader: &mut Reader,
     statement: &Statement<'_>,
 ) -> Result<(), ReadFault>
-    ensures { (front : List StatementOf) → Holds reader.old front → MatchResult result
-        (λ _. (statement_fault front (shown statement.now) ≡ None) × Holds reader.new (front ++ shown statement.now ∷ []))
-        (IsFault (statement_fault front (shown statement.now))) }
+    requires room { HasRoom reader.old }
+    requires even { IsEven reader.old }
+    ensures { TakesStatement reader.old reader.new (shown statement.now) result }
 {
     match statement {
         Statement::Objective {
@@ -131,7 +209,7 @@ fn take_statement(
             label,
             terms,
         } => take_objective(alloc, reader, *maximise, *label, terms.as_slice()),
-        Statement::Heading(_) => Ok(()),
+        Statement::Heading(keyword) => take_heading(reader, *keyword),
         Statement::Row {
             label,
             left,
