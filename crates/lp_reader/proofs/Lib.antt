@@ -7,3 +7,5 @@ pub mod EndRows
 pub mod Fronts
 pub mod Holding
 pub mod Taking
+pub mod Scripted
+pub mod Columned

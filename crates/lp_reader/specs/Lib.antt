@@ -8,4 +8,5 @@ pub mod State
 pub mod Sides
 pub mod Said
 pub mod Held
+pub mod Building
 pub mod Told
