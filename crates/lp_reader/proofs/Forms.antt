@@ -78,8 +78,8 @@ form_of_sorted (name ∷ names) j terms (e ∷ es) up low high each =
         let lt : j < e.0 = ltb-true j e.0 q in
         let beyond : lookup (nat_eq (j + 0)) (e ∷ es) ≡ None = ap (λ b. cond b (Some e.1) (lookup (nat_eq (j + 0)) es)) (ne_eqb (j + 0) e.0 (λ d. omega arith)) ∙ absent (j + 0) e.0 es up.0 (omega arith) in
         rest (e ∷ es) up (All-cons (λ (e : ℕ × ℚ). j + 1 ≤ e.0) e es (omega arith) (All-weaker (λ (u : ℕ × ℚ). e.0 < u.0) (λ (u : ℕ × ℚ). j + 1 ≤ u.0) (λ u h. omega arith) es (later e.0 es up.0)))
-            (subst (λ (n : ℕ). All (λ (e : ℕ × ℚ). e.0 < n) (e ∷ es)) longer high)
-            (λ k h. ap (λ (n : ℕ). lookup (nat_eq n) (e ∷ es)) (let s : j + 1 + k ≡ j + suc k = omega arith in s) ∙ each (suc k) (omega arith))
+        (subst (λ (n : ℕ). All (λ (e : ℕ × ℚ). e.0 < n) (e ∷ es)) longer high)
+        (λ k h. ap (λ (n : ℕ). lookup (nat_eq n) (e ∷ es)) (let s : j + 1 + k ≡ j + suc k = omega arith in s) ∙ each (suc k) (omega arith))
         ∙ sym (no_term j name terms (form_from (j + 1) names terms) (sym (each 0 (omega arith)) ∙ beyond))
     by false q rest =
         let ge : e.0 ≤ j = ltb-false j e.0 q in
@@ -89,10 +89,10 @@ form_of_sorted (name ∷ names) j terms (e ∷ es) up low high each =
         let value : e.1 ≡ sum_of name terms = ap (λ o. unwrap_or o zero_ℚ) (sym found ∙ each 0 (omega arith)) ∙ sum_looked name terms in
         ap (λ (t : ℕ × ℚ). with_term t.0 t.1 (kept es)) (λ i. (is i, value i))
         ∙ ap (with_term j (sum_of name terms)) (rest es up.1
-            (All-weaker (λ (u : ℕ × ℚ). e.0 < u.0) (λ (u : ℕ × ℚ). j + 1 ≤ u.0) (λ u h. omega arith) es (later e.0 es up.0))
-            (subst (λ (n : ℕ). All (λ (e : ℕ × ℚ). e.0 < n) es) longer (All-tail (λ (e : ℕ × ℚ). e.0 < j + length (name ∷ names)) e es high))
-            (λ k h. sym (ap (λ b. cond b (Some e.1) (lookup (nat_eq (j + 1 + k)) es)) (ne_eqb (j + 1 + k) e.0 (λ d. omega arith)))
-                ∙ (ap (λ (n : ℕ). lookup (nat_eq n) (e ∷ es)) (let s : j + 1 + k ≡ j + suc k = omega arith in s) ∙ each (suc k) (omega arith))))
+        (All-weaker (λ (u : ℕ × ℚ). e.0 < u.0) (λ (u : ℕ × ℚ). j + 1 ≤ u.0) (λ u h. omega arith) es (later e.0 es up.0))
+        (subst (λ (n : ℕ). All (λ (e : ℕ × ℚ). e.0 < n) es) longer (All-tail (λ (e : ℕ × ℚ). e.0 < j + length (name ∷ names)) e es high))
+        (λ k h. sym (ap (λ b. cond b (Some e.1) (lookup (nat_eq (j + 1 + k)) es)) (ne_eqb (j + 1 + k) e.0 (λ d. omega arith)))
+        ∙ (ap (λ (n : ℕ). lookup (nat_eq n) (e ∷ es)) (let s : j + 1 + k ≡ j + suc k = omega arith in s) ∙ each (suc k) (omega arith))))
 
 -- sums in the order of their columns
 pub form_is : (names : List (List ℕ)) (terms : List Term) (es sorted : List (ℕ × ℚ)) → HoldsSums names terms es → IsStrictlySortedBy nat_cmp (map (λ e. e.0) sorted) → All (λ e. e.0 < length names) sorted → ((q : ℕ) → lookup (nat_eq q) sorted ≡ lookup (nat_eq q) es) → kept sorted ≡ form_of names terms

@@ -97,7 +97,15 @@ fn take_row(
         Ok(form) => form,
         Err(fault) => return Err(fault),
     };
-    match end_row(alloc, &mut reader.rows, label, form, relation, &left_side, right) {
+    match end_row(
+        alloc,
+        &mut reader.rows,
+        label,
+        form,
+        relation,
+        &left_side,
+        right,
+    ) {
         Ok(()) => Ok(()),
         Err(fault) => Err(fault),
     }
@@ -216,7 +224,15 @@ fn take_statement(
             terms,
             relation,
             right,
-        } => take_row(alloc, reader, *label, *left, terms.as_slice(), *relation, *right),
+        } => take_row(
+            alloc,
+            reader,
+            *label,
+            *left,
+            terms.as_slice(),
+            *relation,
+            *right,
+        ),
         Statement::Free(name) => take_free(reader, *name),
         Statement::Bound {
             left,

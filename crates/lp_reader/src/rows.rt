@@ -81,11 +81,7 @@ pub(crate) fn check_label(rows: &Rows, label: Option<Text<'_>>) -> Result<(), Re
 }
 
 // The lower side of a row by its relation.
-fn lower_side(
-    relation: Relation,
-    left: &Option<Option<Frac>>,
-    right: &Option<Frac>,
-) -> Option<Frac>
+fn lower_side(relation: Relation, left: &Option<Option<Frac>>, right: &Option<Frac>) -> Option<Frac>
     ensures { result ≡ lower_side_by relation left.now right.now }
 {
     match relation {
@@ -96,11 +92,7 @@ fn lower_side(
 }
 
 // And its upper one.
-fn upper_side(
-    relation: Relation,
-    left: &Option<Option<Frac>>,
-    right: &Option<Frac>,
-) -> Option<Frac>
+fn upper_side(relation: Relation, left: &Option<Option<Frac>>, right: &Option<Frac>) -> Option<Frac>
     ensures { result ≡ upper_side_by relation left.now right.now }
 {
     match relation {
@@ -178,7 +170,12 @@ fn end_labelled(
         Ok(side) => side,
         Err(fault) => return Err(fault),
     };
-    put_row(alloc, rows, label.bytes, make_row(form, relation, left, &side))?;
+    put_row(
+        alloc,
+        rows,
+        label.bytes,
+        make_row(form, relation, left, &side),
+    )?;
     Ok(())
 }
 
@@ -207,7 +204,12 @@ fn end_unnamed(
     if rows.names.len() >= MOST_ROWS {
         return Err(stop_at(right.text.line, ReadKind::Limit));
     }
-    put_row(alloc, rows, name.as_bytes(), make_row(form, relation, left, &side))?;
+    put_row(
+        alloc,
+        rows,
+        name.as_bytes(),
+        make_row(form, relation, left, &side),
+    )?;
     Ok(())
 }
 
@@ -225,7 +227,7 @@ pub(crate) fn end_row(
     requires checked { label_fault (names_of rows.old.names) (option_map shown_text label) ≡ None }
     ensures { MatchResult result
         (λ _. (row_end_fault (names_of rows.old.names) (option_map shown_text label.entry) (shown_constant right.entry) ≡ None)
-            × PutsRow rows.old rows.new (row_name_by (length (names_of rows.old.names) + 1) (option_map shown_text label.entry)) (ended_row form relation left.now (side_of (shown_constant right.entry))))
+        × PutsRow rows.old rows.new (row_name_by (length (names_of rows.old.names) + 1) (option_map shown_text label.entry)) (ended_row form relation left.now (side_of (shown_constant right.entry))))
         (IsFault (row_end_fault (names_of rows.old.names) (option_map shown_text label.entry) (shown_constant right.entry))) }
 {
     match label {

@@ -16,6 +16,12 @@ fn told(alloc: Global, text: &str) -> Result<(u32, u32), ReadStop> {
 #[test]
 fn models(rt: HostRuntime) -> Result<(), Fail> {
     let alloc = rt.alloc();
-    assert_eq!(rt; told(alloc, "Minimize\nSubject To\nA: x <= 0\nB: x >= 1\nC: x <= 0\nEnd\n"), Ok((3, 1)));
+    assert_eq!(rt;
+        told(
+            alloc,
+            "Minimize\nSubject To\nA: x <= 0\nB: x >= 1\nC: x <= 0\nEnd\n"
+        ),
+        Ok((3, 1))
+    );
     Ok(())
 }

@@ -1,5 +1,5 @@
 -- Pieces, one after another.
-use Rattle.std.proofs.Common.{◌≡◌, ℕ, zero, suc, ◌+◌, ◌<◌, ◌≤◌, Bool, true, false, cond, not, nat_eq, ◌&&◌, List, [], ◌∷◌, length, drop, max, Option, Some, None, is_some, refl, sym, ap, ◌∙◌, subst, arith, true≢false, ne_eqb, eq-eqb}
+use Rattle.std.proofs.Common.{◌≡◌, ℕ, ◌+◌, Bool, true, false, cond, not, nat_eq, ◌&&◌, List, [], ◌∷◌, length, drop, max, Option, Some, None, is_some, refl, sym, ap, ◌∙◌, subst, arith, ne_eqb, eq-eqb}
 use Rattle.text_fields.specs.declared.tokens.Place.{Place}
 use Rattle.text_fields.specs.declared.tokens.Token.{Token}
 use Rattle.std.proofs.Math.Seq.{drop-length}
@@ -9,10 +9,10 @@ use Rattle.text_fields.specs.Tokens.{Lexeme, Scan, scan_at, lexeme_of, IsTokenAt
 use Rattle.text_fields.specs.declared.faults.ReadKind.{ReadKind}
 use Rattle.text_fields.specs.declared.faults.ReadFault.{ReadFault}
 use Rattle.text_fields.specs.declared.faults.ReadFault.TheVariants.{Stop}
-use Rattle.lp_statements.specs.Words.{pair_of, heading_of}
+use Rattle.lp_statements.specs.Words.{pair_of}
 use Rattle.lp_statements.specs.declared.parts.Heading.{Heading}
 use Rattle.lp_statements.specs.declared.parts.Item.{Item}
-use Rattle.lp_statements.specs.Items.{Written, Piece, Seen, Stops, written, tokens_at, is_word_kind, is_colon_first, may_head, pair_heading, word_heading, pair_at, word_at, item_at, item_of, item_before, pieces, pieces_in, pieces_at, pieces_after, ending_of, piece_of, heading_item, last_line, IsPlace, IsPast, IsItem, IsSeen, IsStopAt, stop_at}
+use Rattle.lp_statements.specs.Items.{Written, Piece, Seen, written, tokens_at, is_word_kind, is_colon_first, may_head, pair_heading, word_heading, pair_at, word_at, item_of, item_before, pieces, pieces_in, pieces_at, ending_of, piece_of, heading_item, last_line, IsPlace, IsPast, IsItem, IsSeen, IsStopAt, stop_at}
 
 -- the tokens from a place on, where one is next
 pub tokens_next : (bytes : List ℕ) (place : Place) (token : Token) (next : Place) → IsTokenAt bytes (scan_at bytes place.at place.line) place token next → tokens_at bytes place ≡ lexeme_of bytes token ∷ tokens_at bytes next

@@ -1,5 +1,5 @@
 -- Parts that each begin with a sign, one after another.
-use Rattle.std.proofs.Common.{◌≡◌, ℕ, zero, suc, ◌+◌, ◌<◌, ◌≤◌, Bool, true, false, cond, List, [], ◌∷◌, ◌++◌, length, map, Option, refl, sym, ap, ◌∙◌, subst, arith, append_assoc, append-nil, true≢false}
+use Rattle.std.proofs.Common.{◌≡◌, ℕ, zero, suc, ◌<◌, ◌≤◌, Bool, true, false, cond, List, [], ◌∷◌, ◌++◌, length, map, Option, refl, sym, ap, ◌∙◌, subst, arith, append_assoc, append-nil, true≢false}
 use Rattle.text_fields.specs.declared.tokens.Place.{Place}
 use Rattle.text_fields.specs.declared.faults.ReadFault.{ReadFault}
 use Rattle.text_fields.specs.declared.faults.ReadFault.TheVariants.{Stop, Memory}
@@ -8,7 +8,7 @@ use Rattle.lp_statements.specs.declared.parts.Item.{Item}
 use Rattle.lp_statements.specs.declared.parts.Term.{Term as CodeTerm}
 use Rattle.lp_statements.specs.Statements.{Term, shown_term}
 use Rattle.lp_statements.specs.Grammar.{Parsed, Whole, Fails, then, is_first, is_sign, repeated, terms_in, more_parts}
-use Rattle.lp_statements.specs.Script.{IsAfter, IsOnward, Takes, Passes, IsRefusal}
+use Rattle.lp_statements.specs.Script.{IsOnward, Takes, IsRefusal}
 use Rattle.lp_statements.specs.Shapes.{AddsTerms, TakesTerms}
 use Rattle.lp_statements.proofs.Steps.{then_refused}
 

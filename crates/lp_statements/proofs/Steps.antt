@@ -1,14 +1,13 @@
 -- Steps of a parse: what stands first, and one part after another.
-use Rattle.std.proofs.Common.{◌≡◌, ℕ, zero, suc, ◌+◌, ◌<◌, ◌≤◌, Bool, true, false, cond, List, [], ◌∷◌, length, Option, Some, None, refl, sym, ap, ◌∙◌, subst, arith}
-use Rattle.std.specs.Option.{option_map, option_map_or}
+use Rattle.std.proofs.Common.{◌≡◌, ℕ, Bool, List, ◌∷◌, length, Some, None, refl, sym, ap, ◌∙◌, subst, arith}
+use Rattle.std.specs.Option.{option_map_or}
 use Rattle.text_fields.specs.declared.tokens.Place.{Place}
-use Rattle.text_fields.specs.declared.faults.ReadKind.TheVariants.{BadField}
 use Rattle.text_fields.specs.declared.faults.ReadStop.{ReadStop}
 use Rattle.text_fields.specs.declared.faults.ReadFault.{ReadFault}
 use Rattle.text_fields.specs.declared.faults.ReadFault.TheVariants.{Stop, Memory}
 use Rattle.lp_statements.specs.declared.parts.Item.{Item}
-use Rattle.lp_statements.specs.Items.{Written, Piece, Seen, Stops, stop_at, pieces_at, IsPlace, IsSeen, IsStopAt, StopsAt}
-use Rattle.lp_statements.specs.Grammar.{Parsed, Whole, Fails, then, with_first, or_bad, signs, minus_of, turned}
+use Rattle.lp_statements.specs.Items.{Written, Piece, Seen, pieces_at, IsSeen, IsStopAt, StopsAt}
+use Rattle.lp_statements.specs.Grammar.{Parsed, Whole, Fails, then, with_first, signs, minus_of, turned}
 use Rattle.lp_statements.specs.Script.{IsAfter, IsOnward, IsSignAt, MayStop, Takes, Passes, IsRefusal}
 
 module _ (bytes : List ℕ) (place : Place) where

@@ -1,6 +1,6 @@
 -- The statements of the LP format, parted off the front of a list of pieces: each is whole with the pieces that follow, or fails at the first
 -- piece with which no statement goes on.
-use Rattle.std.specs.Prelude.{◌≡◌, ℕ, zero, suc, ◌<◌, ◌≤◌, Bool, true, false, cond, not, List, [], ◌∷◌, ◌++◌, length, Option, Some, None, is_some}
+use Rattle.std.specs.Prelude.{ℕ, zero, suc, Bool, true, false, cond, not, List, [], ◌∷◌, ◌++◌, length, Option, Some, None, is_some}
 use Rattle.std.specs.Option.{option_map, option_map_or}
 use Rattle.text_fields.specs.declared.faults.ReadKind.TheVariants.{Order, BadField, Truncated}
 use Rattle.text_fields.specs.declared.faults.ReadStop.{ReadStop}

@@ -1,7 +1,6 @@
 -- The tokens of a text as statements see them: pieces, the last of which tells how the text ends.
-use Rattle.std.specs.Prelude.{◌≡◌, ℕ, zero, suc, ◌+◌, ◌<◌, ◌≤◌, ◌==◌, ◌&&◌, Bool, true, false, cond, not, List, [], ◌∷◌, length, max, is_some, Option, Some, None}
+use Rattle.std.specs.Prelude.{◌≡◌, ℕ, ◌+◌, ◌<◌, ◌≤◌, ◌==◌, ◌&&◌, Bool, true, false, cond, not, List, [], ◌∷◌, length, max, is_some, Option, Some, None}
 use Rattle.std.specs.List.{list_any}
-use Rattle.std.specs.Option.{option_or}
 use Rattle.text_fields.specs.declared.pieces.TokenKind.{TokenKind}
 use Rattle.text_fields.specs.declared.tokens.Place.{Place}
 use Rattle.text_fields.specs.declared.faults.TextFault.{TextFault}

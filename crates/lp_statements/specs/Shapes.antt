@@ -1,5 +1,5 @@
 -- Terms, constants and begins of rows in the code's types.
-use Rattle.std.specs.Prelude.{◌≡◌, ℕ, List, ◌++◌, Option, Some, map}
+use Rattle.std.specs.Prelude.{◌≡◌, ℕ, List, ◌++◌, Some, map}
 use Rattle.std.specs.Option.{option_map}
 use Rattle.text_fields.specs.declared.tokens.Place.{Place}
 use Rattle.lp_statements.specs.declared.parts.Term.{Term as CodeTerm}

@@ -1,5 +1,5 @@
 -- What a statement says, as it is written.
-use Rattle.std.specs.Prelude.{ℕ, Bool, List, Option, Some, None, map}
+use Rattle.std.specs.Prelude.{Bool, List, Option, map}
 use Rattle.std.specs.Option.{option_map}
 use Rattle.lp_statements.specs.Items.{Written}
 use Rattle.lp_statements.specs.declared.parts.Relation.{Relation}
@@ -8,7 +8,6 @@ use Rattle.lp_statements.specs.declared.parts.Text.{Text}
 use Rattle.lp_statements.specs.declared.parts.Constant.{Constant as CodeConstant}
 use Rattle.lp_statements.specs.declared.parts.Term.{Term as CodeTerm}
 use Rattle.lp_statements.specs.declared.parts.Statement.{Statement as CodeStatement}
-use Rattle.lp_statements.specs.declared.parts.Statement.TheVariants as code
 
 -- a number with its sign, or the infinite constant
 pub record Constant : Type 0 where

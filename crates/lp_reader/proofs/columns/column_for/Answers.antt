@@ -35,6 +35,7 @@ pub returns : goal.returns
 returns c =
     let n = names_of c.args.columns.now.names in let e = c.args.columns.now.entries in let name = shown_text c.args.name in
     let long : length n ≡ length c.args.columns.now.names = length_map (λ e. e.0) c.args.columns.now.names in
-    let is = c.len.ensures.len in let place = c.len-column.ensures.len in
-    (limit_new n e name (λ h. omega arith) c.in_default.ensures (λ h. omega arith) (sym c.if-is_too_long.ensures),
-        takes_new c.args.columns.now c.put_column.new.columns _ c.args.name.bytes.now c.len-column.result c.in_ok-put_column.ensures refl refl refl c.in_default.ensures (omega arith) (λ h. omega arith))
+    let is = c.len.ensures.len in let place = c.len-column.ensures.len in (
+      limit_new n e name (λ h. omega arith) c.in_default.ensures (λ h. omega arith) (sym c.if-is_too_long.ensures),
+      takes_new c.args.columns.now c.put_column.new.columns _ c.args.name.bytes.now c.len-column.result c.in_ok-put_column.ensures refl refl refl c.in_default.ensures (omega arith) (λ h. omega arith),
+    )

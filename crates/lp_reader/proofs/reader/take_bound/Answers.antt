@@ -20,7 +20,8 @@ pub returns : goal.returns
 returns c = λ front holds.
     let left = option_map shown_constant c.args.left in let name = shown_text c.args.name in let right = option_map shown_constant c.args.right in
     let lower : c.lower_said-lower.result ≡ lower_by (option_map side_of left) c.args.relation (option_map side_of right) = c.lower_said-lower.ensures ∙ (λ i. lower_by (c.in-Ok.ensures.1 i) c.args.relation (c.in-Ok-side_if.ensures.1 i)) in
-    let upper : c.upper_said-upper.result ≡ upper_by (option_map side_of left) c.args.relation (option_map side_of right) = c.upper_said-upper.ensures ∙ (λ i. upper_by (c.in-Ok.ensures.1 i) c.args.relation (c.in-Ok-side_if.ensures.1 i)) in
-    (bound_none c.args.reader.now front holds left name c.args.relation right c.in-Ok.ensures.0 c.in-Ok-known_column.ensures.0 c.in-Ok-side_if.ensures.0,
-        bound_taken c.args.reader.now front holds _ left name c.args.relation right c.in-Ok-known_column.column c.in-Ok-known_column.ensures.1
-        (subst (λ (b : Option (Option ℚ) × Option (Option ℚ)). SetsBounds c.args.reader.now.columns c.set_bounds.new.columns c.in-Ok-known_column.column b.0 b.1 false) (λ i. (lower i, upper i)) c.set_bounds.ensures) refl refl refl refl)
+    let upper : c.upper_said-upper.result ≡ upper_by (option_map side_of left) c.args.relation (option_map side_of right) = c.upper_said-upper.ensures ∙ (λ i. upper_by (c.in-Ok.ensures.1 i) c.args.relation (c.in-Ok-side_if.ensures.1 i)) in (
+      bound_none c.args.reader.now front holds left name c.args.relation right c.in-Ok.ensures.0 c.in-Ok-known_column.ensures.0 c.in-Ok-side_if.ensures.0,
+      bound_taken c.args.reader.now front holds _ left name c.args.relation right c.in-Ok-known_column.column c.in-Ok-known_column.ensures.1
+          (subst (λ (b : Option (Option ℚ) × Option (Option ℚ)). SetsBounds c.args.reader.now.columns c.set_bounds.new.columns c.in-Ok-known_column.column b.0 b.1 false) (λ i. (lower i, upper i)) c.set_bounds.ensures) refl refl refl refl,
+    )

@@ -24,8 +24,9 @@ returns-in-Err-end_row c = λ front holds. row_end_fails c.args.reader.now front
 
 pub returns-in-Ok-end_row : goal.returns-in-Ok-end_row
 returns-in-Ok-end_row c = λ front holds.
-    let label = option_map shown_text c.args.label in let left = option_map shown_constant c.args.left in let terms = map shown_term c.args.terms.now in let right = shown_constant c.args.right in
-    (row_none c.args.reader.now front holds label left terms c.args.relation right c.in-Ok.ensures c.in-Ok-side_if.ensures.0 c.in-Ok-take_terms.ensures.no_fault c.in-Ok-end_row.ensures.0,
-        hold_row c.args.reader.now _ front label left terms c.args.relation right c.in-Ok-take_terms.form holds c.in-Ok-take_terms.ensures
-        (subst (λ (l : Option (Option ℚ)). PutsRow c.args.reader.now.rows c.end_row.new.rows (row_name (length (names_of c.args.reader.now.rows.names) + 1) label) (ended_row c.in-Ok-take_terms.form c.args.relation l (side_of right)))
-            c.in-Ok-side_if.ensures.1 c.in-Ok-end_row.ensures.1) refl refl)
+    let label = option_map shown_text c.args.label in let left = option_map shown_constant c.args.left in let terms = map shown_term c.args.terms.now in let right = shown_constant c.args.right in (
+      row_none c.args.reader.now front holds label left terms c.args.relation right c.in-Ok.ensures c.in-Ok-side_if.ensures.0 c.in-Ok-take_terms.ensures.no_fault c.in-Ok-end_row.ensures.0,
+      hold_row c.args.reader.now _ front label left terms c.args.relation right c.in-Ok-take_terms.form holds c.in-Ok-take_terms.ensures
+          (subst (λ (l : Option (Option ℚ)). PutsRow c.args.reader.now.rows c.end_row.new.rows (row_name (length (names_of c.args.reader.now.rows.names) + 1) label) (ended_row c.in-Ok-take_terms.form c.args.relation l (side_of right)))
+          c.in-Ok-side_if.ensures.1 c.in-Ok-end_row.ensures.1) refl refl,
+    )

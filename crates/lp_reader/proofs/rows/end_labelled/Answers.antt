@@ -17,6 +17,7 @@ pub put_row-requires-clause-room : goal.put_row-requires-clause-room
 put_row-requires-clause-room c = label_room (names_of c.args.rows.now.names) (shown_text c.args.label) c.requires
 
 pub returns : goal.returns
-returns c =
-    (labelled_none (names_of c.args.rows.now.names) (shown_text c.args.label) (shown_constant c.args.right) c.in-Ok.ensures.0,
-        subst (λ (row : Row). PutsRow c.args.rows.now c.put_row.new.rows c.args.label.bytes.now row) (c.make_row.ensures ∙ ap (ended_row c.args.form c.args.relation c.args.left.now) c.in-Ok.ensures.1) c.in_ok-put_row.ensures)
+returns c = (
+  labelled_none (names_of c.args.rows.now.names) (shown_text c.args.label) (shown_constant c.args.right) c.in-Ok.ensures.0,
+  subst (λ (row : Row). PutsRow c.args.rows.now c.put_row.new.rows c.args.label.bytes.now row) (c.make_row.ensures ∙ ap (ended_row c.args.form c.args.relation c.args.left.now) c.in-Ok.ensures.1) c.in_ok-put_row.ensures,
+)

@@ -55,7 +55,8 @@ returns c =
     let n = names_of c.args.rows.now.names in
     let long : length n ≡ length c.args.rows.now.names = length_map (λ e. e.0) c.args.rows.now.names in
     let is : c.as_bytes.result.now ≡ row_name (length n + 1) None = c.as_bytes.ensures.value ∙ c.in_ok-name.ensures ∙ ap (λ (k : ℕ). row_name (k + 1) None) (c.len.ensures.len ∙ sym long) in
-    let room : length n < most_rows = omega (arith, c.len-2.ensures.len) in
-    (unnamed_none n (shown_constant c.args.right) c.as_bytes.result.now is (sym c.if-contains.ensures) c.in-Ok.ensures.0 room,
-        subst (λ (name : List ℕ). PutsRow c.args.rows.now c.put_row.new.rows name (ended_row c.args.form c.args.relation c.args.left.now (side_of (shown_constant c.args.right)))) (c.as_bytes-2.ensures.value ∙ sym c.as_bytes.ensures.value ∙ is)
-        (subst (λ (row : Row). PutsRow c.args.rows.now c.put_row.new.rows c.as_bytes-2.result.now row) (c.make_row.ensures ∙ ap (ended_row c.args.form c.args.relation c.args.left.now) c.in-Ok.ensures.1) c.in_ok-put_row.ensures))
+    let room : length n < most_rows = omega (arith, c.len-2.ensures.len) in (
+      unnamed_none n (shown_constant c.args.right) c.as_bytes.result.now is (sym c.if-contains.ensures) c.in-Ok.ensures.0 room,
+      subst (λ (name : List ℕ). PutsRow c.args.rows.now c.put_row.new.rows name (ended_row c.args.form c.args.relation c.args.left.now (side_of (shown_constant c.args.right)))) (c.as_bytes-2.ensures.value ∙ sym c.as_bytes.ensures.value ∙ is)
+          (subst (λ (row : Row). PutsRow c.args.rows.now c.put_row.new.rows c.as_bytes-2.result.now row) (c.make_row.ensures ∙ ap (ended_row c.args.form c.args.relation c.args.left.now) c.in-Ok.ensures.1) c.in_ok-put_row.ensures),
+    )

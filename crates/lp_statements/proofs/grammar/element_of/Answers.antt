@@ -1,4 +1,4 @@
-use Rattle.std.proofs.Common.{refl, sym, ap}
+use Rattle.std.proofs.Common.{refl, sym}
 use Rattle.lp_statements.specs.Grammar.{element_of}
 use Rattle.lp_statements.proofs.Steps.{first_refused, takes_first, passes_first, fails_first}
 use Rattle.lp_statements.proofs.grammar.element_of.Goals as goal

@@ -1,8 +1,6 @@
-use Rattle.std.proofs.Common.{sym, ap, ◌∙◌, map, [], ◌∷◌}
+use Rattle.std.proofs.Common.{sym}
 use Rattle.lp_statements.specs.Items.{pieces_at}
-use Rattle.lp_statements.specs.Statements.{shown_term}
 use Rattle.lp_statements.specs.Grammar.{is_sign, part, terms_in}
-use Rattle.lp_statements.proofs.Lists.{map_push}
 use Rattle.lp_statements.proofs.Repeats.{repeating-all, repeating-more, repeating-fails, first_there}
 use Rattle.lp_statements.proofs.grammar.more_parts.Goals as goal
 

@@ -1,4 +1,4 @@
-use Rattle.std.proofs.Common.{sym, ap, ◌∙◌, map, [], ◌∷◌}
+use Rattle.std.proofs.Common.{sym, ap, ◌∙◌, map}
 use Rattle.lp_statements.specs.Items.{pieces_at}
 use Rattle.lp_statements.specs.Statements.{shown_term}
 use Rattle.lp_statements.specs.Grammar.{is_sign, term, only}

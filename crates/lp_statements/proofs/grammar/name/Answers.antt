@@ -1,4 +1,4 @@
-use Rattle.std.proofs.Common.{refl, sym, ap}
+use Rattle.std.proofs.Common.{refl, sym}
 use Rattle.lp_statements.specs.Grammar.{name}
 use Rattle.lp_statements.proofs.Steps.{first_refused, takes_first, fails_first}
 use Rattle.lp_statements.proofs.grammar.name.Goals as goal

@@ -1,7 +1,5 @@
-use Rattle.std.proofs.Common.{refl, sym, ap, ◌∙◌, cond, subst, None}
-use Rattle.lp_statements.specs.Grammar.{Fails, Whole, part, part_in}
-use Rattle.lp_statements.specs.Items.{pieces_at}
-use Rattle.lp_statements.specs.Shapes.{shown_element}
+use Rattle.std.proofs.Common.{refl}
+use Rattle.lp_statements.specs.Grammar.{part, part_in}
 use Rattle.lp_statements.proofs.Steps.{then_refused, then_whole, then_fails}
 use Rattle.lp_statements.proofs.grammar.part.Goals as goal
 

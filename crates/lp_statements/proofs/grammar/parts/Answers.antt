@@ -1,4 +1,4 @@
-use Rattle.std.proofs.Common.{[], ◌++◌}
+use Rattle.std.proofs.Common.{◌++◌}
 use Rattle.lp_statements.specs.Grammar.{Whole, then, parts, more_parts, terms_in}
 use Rattle.lp_statements.proofs.Steps.{then_refused, then_fails}
 use Rattle.lp_statements.proofs.Repeats.{parts_take}

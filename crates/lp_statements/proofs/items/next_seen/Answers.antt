@@ -1,8 +1,6 @@
-use Rattle.std.proofs.Common.{◌≡◌, [], Option, Some, None, refl, sym, ap, ◌∙◌, subst}
+use Rattle.std.proofs.Common.{[], None, refl, sym, ap, ◌∙◌, subst}
 use Rattle.text_fields.specs.declared.faults.ReadFault.TheVariants.{Stop}
 use Rattle.text_fields.specs.declared.faults.ReadKind.TheVariants.{Truncated}
-use Rattle.text_fields.specs.declared.tokens.Place.{Place}
-use Rattle.text_fields.specs.declared.tokens.Token.{Token}
 use Rattle.text_fields.specs.Tokens.{scan_at, IsNext}
 use Rattle.lp_statements.specs.Items.{IsStopAt, stop_at}
 use Rattle.lp_statements.proofs.Pieces.{seen_next, refused_next, ends_at}

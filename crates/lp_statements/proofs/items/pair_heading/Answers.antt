@@ -1,7 +1,5 @@
-use Rattle.std.proofs.Common.{◌≡◌, Option, None, Some, ap, sym, ◌∙◌}
+use Rattle.std.proofs.Common.{ap, sym}
 use Rattle.text_fields.specs.Tokens.{lexeme_of}
-use Rattle.lp_statements.specs.declared.parts.Heading.{Heading}
-use Rattle.lp_statements.specs.Words.{pair_of}
 use Rattle.lp_statements.specs.Items.{tokens_at, pair_heading}
 use Rattle.lp_statements.proofs.Pieces.{tokens_next, past_next, pair_not_word, pair_other_line, pair_colon, pair_words}
 use Rattle.lp_statements.proofs.items.pair_heading.Goals as goal

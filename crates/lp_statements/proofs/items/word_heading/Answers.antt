@@ -1,8 +1,5 @@
-use Rattle.std.proofs.Common.{◌≡◌, Bool, cond, Option, None, Some, ap, sym, refl, ◌∙◌}
-use Rattle.text_fields.specs.Tokens.{lexeme_of}
-use Rattle.lp_statements.specs.declared.parts.Heading.{Heading}
-use Rattle.lp_statements.specs.Words.{heading_of}
-use Rattle.lp_statements.specs.Items.{tokens_at, word_heading}
+use Rattle.std.proofs.Common.{sym, refl}
+use Rattle.lp_statements.specs.Items.{word_heading}
 use Rattle.lp_statements.proofs.items.word_heading.Goals as goal
 
 pub returns-then-is_colon_at : goal.returns-then-is_colon_at
