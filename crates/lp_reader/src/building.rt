@@ -1,19 +1,20 @@
 //! The model that a reader's tables declare.
-ghost use Rattle.std.specs.Prelude.{◌≡◌, ◌<◌, ◌≤◌, List, length, IfOk, OnOk, slice_index_or};
+ghost use Rattle.std.specs.Prelude.{◌≡◌, ℕ, ◌<◌, ◌≤◌, ◌^◌, List, [], ◌++◌, length, IfOk, OnOk, slice_index_or};
 ghost use Rattle.rational.specs.Rational.{lt_q, zero_ℚ};
 ghost use Rattle.name_map.specs.Names.{names_of, name_at};
 ghost use Rattle.lp_model.specs.Program.{IsForm, IsPositiveWeight};
-ghost use Rattle.lp_model.specs.Shown.{named_row, with_more_row, with_more_column};
+ghost use Rattle.lp_model.specs.Shown.{named_row, with_more_row, with_more_column, most_columns};
 ghost use Rattle.lp_statements.specs.Statements.{Statement as StatementOf};
 ghost use Rattle.lp_reader.specs.Program.{program_of, is_negative};
 ghost use Rattle.lp_reader.specs.State.{plain};
 ghost use Rattle.lp_reader.specs.Held.{Holds};
-ghost use Rattle.lp_reader.specs.Building.{column_shown, keeps_lower_in};
+ghost use Rattle.lp_reader.specs.Building.{column_shown, keeps_lower_in, no_row, columns_listed, rows_listed, note_of, notes_listed};
 
 use crate::columns::{Bounds, Columns};
 use crate::reader::Reader;
+use crate::rows::Rows;
 use frac128::Frac;
-use lp_model::{Column, Model, Note, Row, Weight};
+use lp_model::{Column, Model, Note, Row, Terms, Weight};
 use std::alloc::{AllocError, Global};
 
 // Puts the next column last.
@@ -92,6 +93,90 @@ fn keeps_lower(columns: &Columns, index: usize) -> bool
     is_negative_bound(bounds.up) && !bounds.lower_set
 }
 
+// Puts the columns.
+fn put_columns(alloc: Global, model: &mut Model, columns: &Columns) -> Result<(), AllocError>
+    requires even { length columns.now.bounds.items ≡ length columns.now.names }
+    requires none { model.old.columns ≡ [] }
+    ensures { OnOk result (model.new ≡ record model.old { columns = columns_listed (names_of columns.now.names) columns.now.bounds.items (length columns.now.names) }) }
+{
+    for index in 0..columns.names.len() {
+        put_column(alloc, model, columns, index)?;
+    }
+    Ok(())
+}
+
+// A row with its own terms.
+fn copy_row(alloc: Global, row: &Row) -> Result<Row, AllocError>
+    ensures { IfOk result (λ copy. copy ≡ row.now) }
+{
+    let terms = Vec::from_slice(alloc, row.terms.as_slice())?;
+    let weight = row.weight;
+    Ok(Row {
+        terms: Terms::new(terms),
+        lo: row.lo,
+        up: row.up,
+        active: row.active,
+        weight,
+    })
+}
+
+// Puts the next row last.
+fn put_next_row(
+    alloc: Global,
+    model: &mut Model,
+    rows: &Rows,
+    index: usize,
+) -> Result<(), AllocError>
+    requires named { index < length rows.now.names }
+    requires within { index < length rows.now.items.items }
+    requires form { IsForm (length model.old.columns) (slice_index_or rows.now.items.items index no_row).terms }
+    requires weight { IsPositiveWeight (slice_index_or rows.now.items.items index no_row).weight }
+    ensures { OnOk result (model.new ≡ with_more_row model.old (named_row (name_at (names_of rows.now.names) index) (slice_index_or rows.now.items.items index no_row))) }
+{
+    let row = copy_row(alloc, &rows.items[index])?;
+    put_row(alloc, model, rows.names.name(index), row)
+}
+
+// Puts the rows.
+fn put_rows(alloc: Global, model: &mut Model, rows: &Rows) -> Result<(), AllocError>
+    requires even { length rows.now.items.items ≡ length rows.now.names }
+    requires none { model.old.rows ≡ [] }
+    requires forms { (i : ℕ) → i < length rows.now.items.items → IsForm (length model.old.columns) (slice_index_or rows.now.items.items i no_row).terms }
+    requires weights { (i : ℕ) → i < length rows.now.items.items → IsPositiveWeight (slice_index_or rows.now.items.items i no_row).weight }
+    ensures { OnOk result (model.new ≡ record model.old { rows = rows_listed (names_of rows.now.names) rows.now.items.items (length rows.now.items.items) }) }
+{
+    for index in 0..rows.items.len() {
+        put_next_row(alloc, model, rows, index)?;
+    }
+    Ok(())
+}
+
+// Puts the note of a column, if it has one.
+fn put_note(model: &mut Model, columns: &Columns, index: usize) -> Result<(), AllocError>
+    requires within { index < length columns.now.bounds.items }
+    requires small { index < 2 ^ 32 }
+    requires known { index < length model.old.columns }
+    ensures { OnOk result (model.new ≡ record model.old { notes = model.old.notes ++ note_of index (slice_index_or columns.now.bounds.items index plain) }) }
+{
+    if !keeps_lower(columns, index) {
+        return Ok(());
+    }
+    model.add_note(Note::LowerKept(index as u32))
+}
+
+// Puts the notes.
+fn put_notes(model: &mut Model, columns: &Columns) -> Result<(), AllocError>
+    requires few { length columns.now.bounds.items ≤ most_columns }
+    requires known { length columns.now.bounds.items ≤ length model.old.columns }
+    requires none { model.old.notes ≡ [] }
+    ensures { OnOk result (model.new ≡ record model.old { notes = notes_listed columns.now.bounds.items (length columns.now.bounds.items) }) }
+{
+    for index in 0..columns.bounds.len() {
+        put_note(model, columns, index)?;
+    }
+    Ok(())
+}
+
 /// The model that the tables declare.
 pub(crate) fn make_model(alloc: Global, reader: Reader) -> Result<Model, AllocError>
     ensures { IfOk result (λ model. (statements : List StatementOf) → Holds reader statements → model ≡ program_of statements) }
@@ -103,18 +188,9 @@ pub(crate) fn make_model(alloc: Global, reader: Reader) -> Result<Model, AllocEr
         maximise,
     } = reader;
     let mut model = Model::new(alloc, maximise);
-    for index in 0..columns.names.len() {
-        put_column(alloc, &mut model, &columns, index)?;
-    }
-    let names = rows.names;
-    for (index, row) in rows.items.into_iter().enumerate() {
-        put_row(alloc, &mut model, names.name(index), row)?;
-    }
+    put_columns(alloc, &mut model, &columns)?;
+    put_rows(alloc, &mut model, &rows)?;
     model.set_objective(objective, maximise);
-    for index in 0..columns.names.len() {
-        if keeps_lower(&columns, index) {
-            model.add_note(Note::LowerKept(index as u32))?;
-        }
-    }
+    put_notes(&mut model, &columns)?;
     Ok(model)
 }
