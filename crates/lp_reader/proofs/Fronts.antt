@@ -136,7 +136,7 @@ names_push n [] row = ap (λ (k : ℕ). row_name k row.label ∷ []) (let e : n 
 names_push n (r ∷ rows) row =
     ap (λ ns. row_name n r.label ∷ ns) (names_push (n + 1) rows row ∙ ap (λ (k : ℕ). names_from (n + 1) rows ++ row_name k row.label ∷ []) (let e : n + 1 + length rows ≡ n + suc (length rows) = omega arith in e))
 
-names_long : (n : ℕ) (rows : List RowPart) → length (names_from n rows) ≡ length rows
+pub names_long : (n : ℕ) (rows : List RowPart) → length (names_from n rows) ≡ length rows
 unfolding names_from
 names_long n [] = refl
 names_long n (r ∷ rows) = let e = names_long (n + 1) rows in omega arith

@@ -9,3 +9,4 @@ pub mod Holding
 pub mod Taking
 pub mod Scripted
 pub mod Columned
+pub mod Built

@@ -179,6 +179,7 @@ fn put_notes(model: &mut Model, columns: &Columns) -> Result<(), AllocError>
 
 /// The model that the tables declare.
 pub(crate) fn make_model(alloc: Global, reader: Reader) -> Result<Model, AllocError>
+    requires { (statements : List StatementOf) × Holds reader statements }
     ensures { IfOk result (λ model. (statements : List StatementOf) → Holds reader statements → model ≡ program_of statements) }
 {
     let Reader {

@@ -7,6 +7,7 @@ use Rattle.lp_model.specs.Shown.{with_more_column}
 use Rattle.lp_reader.specs.declared.columns.Bounds.{Bounds}
 use Rattle.lp_reader.specs.Building.{column_shown}
 use Rattle.lp_reader.proofs.Columned.{column_formed, name_is}
+use Rattle.lp_reader.proofs.Built.{built}
 use Rattle.lp_reader.proofs.building.put_column.Goals as goal
 
 pub add_column-requires : goal.add_column-requires
