@@ -1,0 +1,12 @@
+pub mod Huge
+pub mod NewColumns
+pub mod Sums
+pub mod Terms
+pub mod Forms
+pub mod EndRows
+pub mod Fronts
+pub mod Holding
+pub mod Taking
+pub mod Scripted
+pub mod Columned
+pub mod Built

@@ -1,0 +1,23 @@
+use Rattle.std.proofs.Common.{◌≡◌, Option, sym, ap, ◌∙◌, subst}
+use Rattle.rational.specs.Rational.{ℚ}
+use Rattle.name_map.specs.Names.{names_of}
+use Rattle.lp_model.specs.declared.parts.Row.{Row}
+use Rattle.lp_statements.specs.Statements.{shown_text, shown_constant}
+use Rattle.lp_reader.specs.Sides.{PutsRow, ended_row}
+use Rattle.lp_reader.proofs.EndRows.{label_fresh, label_room, labelled_fault, labelled_none}
+use Rattle.lp_reader.proofs.rows.end_labelled.Goals as goal
+
+pub returns-in-Err : goal.returns-in-Err
+returns-in-Err c = labelled_fault (names_of c.args.rows.now.names) (shown_text c.args.label) (shown_constant c.args.right) c.in-Err.fault c.in-Err.ensures
+
+pub put_row-requires-clause-fresh : goal.put_row-requires-clause-fresh
+put_row-requires-clause-fresh c = label_fresh (names_of c.args.rows.now.names) (shown_text c.args.label) c.requires
+
+pub put_row-requires-clause-room : goal.put_row-requires-clause-room
+put_row-requires-clause-room c = label_room (names_of c.args.rows.now.names) (shown_text c.args.label) c.requires
+
+pub returns : goal.returns
+returns c = (
+  labelled_none (names_of c.args.rows.now.names) (shown_text c.args.label) (shown_constant c.args.right) c.in-Ok.ensures.0,
+  subst (λ (row : Row). PutsRow c.args.rows.now c.put_row.new.rows c.args.label.bytes.now row) (c.make_row.ensures ∙ ap (ended_row c.args.form c.args.relation c.args.left.now) c.in-Ok.ensures.1) c.in_ok-put_row.ensures,
+)

@@ -1,0 +1,12 @@
+pub mod Numbers
+pub mod Names
+pub mod Faults
+pub mod Bounds
+pub mod Program
+pub mod Meaning
+pub mod State
+pub mod Sides
+pub mod Said
+pub mod Held
+pub mod Building
+pub mod Told

@@ -1,0 +1,197 @@
+//! The model that a reader's tables declare.
+ghost use Rattle.std.specs.Prelude.{◌≡◌, ℕ, ◌<◌, ◌≤◌, ◌^◌, List, [], ◌++◌, length, IfOk, OnOk, slice_index_or};
+ghost use Rattle.rational.specs.Rational.{lt_q, zero_ℚ};
+ghost use Rattle.name_map.specs.Names.{names_of, name_at};
+ghost use Rattle.lp_model.specs.Program.{IsForm, IsPositiveWeight};
+ghost use Rattle.lp_model.specs.Shown.{named_row, with_more_row, with_more_column, most_columns};
+ghost use Rattle.lp_statements.specs.Statements.{Statement as StatementOf};
+ghost use Rattle.lp_reader.specs.Program.{program_of, is_negative};
+ghost use Rattle.lp_reader.specs.State.{plain};
+ghost use Rattle.lp_reader.specs.Held.{Holds};
+ghost use Rattle.lp_reader.specs.Building.{column_shown, keeps_lower_in, no_row, columns_listed, rows_listed, note_of, notes_listed};
+
+use crate::columns::{Bounds, Columns};
+use crate::reader::Reader;
+use crate::rows::Rows;
+use frac128::Frac;
+use lp_model::{Column, Model, Note, Row, Terms, Weight};
+use std::alloc::{AllocError, Global};
+
+// Puts the next column last.
+fn put_column(
+    alloc: Global,
+    model: &mut Model,
+    columns: &Columns,
+    index: usize,
+) -> Result<(), AllocError>
+    requires named { index < length columns.now.names }
+    requires bounded { index < length columns.now.bounds.items }
+    ensures { OnOk result (model.new ≡ with_more_column model.old (column_shown (name_at (names_of columns.now.names) index) (slice_index_or columns.now.bounds.items index plain))) }
+{
+    let bounds = bounds_at(columns, index);
+    let lower_weight = Weight::Soft(Frac::whole(1));
+    let upper_weight = lower_weight;
+    let column = Column {
+        lo: bounds.lo,
+        up: bounds.up,
+        whole: bounds.whole,
+        lower_active: true,
+        upper_active: true,
+        whole_active: true,
+        lower_weight,
+        upper_weight,
+    };
+    match model.add_column(alloc, columns.names.name(index), column) {
+        Ok(_) => Ok(()),
+        Err(_) => Err(AllocError),
+    }
+}
+
+// Puts a row last.
+fn put_row(alloc: Global, model: &mut Model, name: &[u8], row: Row) -> Result<(), AllocError>
+    requires form { IsForm (length model.old.columns) row.terms }
+    requires weight { IsPositiveWeight row.weight }
+    ensures { OnOk result (model.new ≡ with_more_row model.old (named_row name.now row)) }
+{
+    match model.add_row(alloc, name, row) {
+        Ok(_) => Ok(()),
+        Err(_) => Err(AllocError),
+    }
+}
+
+// Whether a value is below 0.
+fn is_below(value: Frac) -> bool
+    ensures { result ≡ lt_q value zero_ℚ }
+{
+    value < Frac::whole(0)
+}
+
+// Whether an upper bound is negative.
+fn is_negative_bound(bound: Option<Frac>) -> bool
+    ensures { result ≡ is_negative bound }
+{
+    match bound {
+        Some(value) => is_below(value),
+        None => false,
+    }
+}
+
+// The bounds of a column.
+fn bounds_at(columns: &Columns, index: usize) -> Bounds
+    requires { index < length columns.now.bounds.items }
+    ensures { result ≡ slice_index_or columns.now.bounds.items index plain }
+{
+    columns.bounds[index]
+}
+
+// Whether a column has a negative upper bound and nothing sets its lower one.
+fn keeps_lower(columns: &Columns, index: usize) -> bool
+    requires { index < length columns.now.bounds.items }
+    ensures { result ≡ keeps_lower_in (slice_index_or columns.now.bounds.items index plain) }
+{
+    let bounds = bounds_at(columns, index);
+    is_negative_bound(bounds.up) && !bounds.lower_set
+}
+
+// Puts the columns.
+fn put_columns(alloc: Global, model: &mut Model, columns: &Columns) -> Result<(), AllocError>
+    requires even { length columns.now.bounds.items ≡ length columns.now.names }
+    requires none { model.old.columns ≡ [] }
+    ensures { OnOk result (model.new ≡ record model.old { columns = columns_listed (names_of columns.now.names) columns.now.bounds.items (length columns.now.names) }) }
+{
+    for index in 0..columns.names.len() {
+        put_column(alloc, model, columns, index)?;
+    }
+    Ok(())
+}
+
+// A row with its own terms.
+fn copy_row(alloc: Global, row: &Row) -> Result<Row, AllocError>
+    ensures { IfOk result (λ copy. copy ≡ row.now) }
+{
+    let terms = Vec::from_slice(alloc, row.terms.as_slice())?;
+    let weight = row.weight;
+    Ok(Row {
+        terms: Terms::new(terms),
+        lo: row.lo,
+        up: row.up,
+        active: row.active,
+        weight,
+    })
+}
+
+// Puts the next row last.
+fn put_next_row(
+    alloc: Global,
+    model: &mut Model,
+    rows: &Rows,
+    index: usize,
+) -> Result<(), AllocError>
+    requires named { index < length rows.now.names }
+    requires within { index < length rows.now.items.items }
+    requires form { IsForm (length model.old.columns) (slice_index_or rows.now.items.items index no_row).terms }
+    requires weight { IsPositiveWeight (slice_index_or rows.now.items.items index no_row).weight }
+    ensures { OnOk result (model.new ≡ with_more_row model.old (named_row (name_at (names_of rows.now.names) index) (slice_index_or rows.now.items.items index no_row))) }
+{
+    let row = copy_row(alloc, &rows.items[index])?;
+    put_row(alloc, model, rows.names.name(index), row)
+}
+
+// Puts the rows.
+fn put_rows(alloc: Global, model: &mut Model, rows: &Rows) -> Result<(), AllocError>
+    requires even { length rows.now.items.items ≡ length rows.now.names }
+    requires none { model.old.rows ≡ [] }
+    requires forms { (i : ℕ) → i < length rows.now.items.items → IsForm (length model.old.columns) (slice_index_or rows.now.items.items i no_row).terms }
+    requires weights { (i : ℕ) → i < length rows.now.items.items → IsPositiveWeight (slice_index_or rows.now.items.items i no_row).weight }
+    ensures { OnOk result (model.new ≡ record model.old { rows = rows_listed (names_of rows.now.names) rows.now.items.items (length rows.now.items.items) }) }
+{
+    for index in 0..rows.items.len() {
+        put_next_row(alloc, model, rows, index)?;
+    }
+    Ok(())
+}
+
+// Puts the note of a column, if it has one.
+fn put_note(model: &mut Model, columns: &Columns, index: usize) -> Result<(), AllocError>
+    requires within { index < length columns.now.bounds.items }
+    requires small { index < 2 ^ 32 }
+    requires known { index < length model.old.columns }
+    ensures { OnOk result (model.new ≡ record model.old { notes = model.old.notes ++ note_of index (slice_index_or columns.now.bounds.items index plain) }) }
+{
+    if !keeps_lower(columns, index) {
+        return Ok(());
+    }
+    model.add_note(Note::LowerKept(index as u32))
+}
+
+// Puts the notes.
+fn put_notes(model: &mut Model, columns: &Columns) -> Result<(), AllocError>
+    requires few { length columns.now.bounds.items ≤ most_columns }
+    requires known { length columns.now.bounds.items ≤ length model.old.columns }
+    requires none { model.old.notes ≡ [] }
+    ensures { OnOk result (model.new ≡ record model.old { notes = notes_listed columns.now.bounds.items (length columns.now.bounds.items) }) }
+{
+    for index in 0..columns.bounds.len() {
+        put_note(model, columns, index)?;
+    }
+    Ok(())
+}
+
+/// The model that the tables declare.
+pub(crate) fn make_model(alloc: Global, reader: Reader) -> Result<Model, AllocError>
+    requires { (statements : List StatementOf) × Holds reader statements }
+    ensures { IfOk result (λ model. (statements : List StatementOf) → Holds reader statements → model ≡ program_of statements) }
+{
+    let Reader {
+        rows,
+        columns,
+        objective,
+        maximise,
+    } = reader;
+    let mut model = Model::new(alloc, maximise);
+    put_columns(alloc, &mut model, &columns)?;
+    put_rows(alloc, &mut model, &rows)?;
+    model.set_objective(objective, maximise);
+    put_notes(&mut model, &columns)?;
+    Ok(model)
+}

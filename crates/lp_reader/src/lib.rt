@@ -1,0 +1,33 @@
+//! The reader of the LP format: the program that a text declares, or its first fault.
+#![tactic(auto)]
+
+ghost use Rattle.std.specs.Prelude.{◌≡◌, ◌<◌, ◌^◌, length, MatchResult};
+ghost use Rattle.lp_reader.specs.Meaning.{DeclaresLp, IsLpStop};
+
+mod bounds;
+mod building;
+mod columns;
+mod numbers;
+mod reader;
+mod rows;
+#[cfg(test)]
+mod tests;
+
+use crate::building::make_model;
+use crate::reader::read_statements;
+use lp_model::Model;
+use std::alloc::Global;
+use text_fields::ReadFault;
+
+/// Reads a text in the LP format: the model that it declares, or its first fault with its line.
+///
+/// The model has the rows in order, the columns in the order in which terms first name them, sums of the factors that a form
+/// gives a column, the bounds and marks that the last statement sets, and a note for each column with a negative upper bound
+/// whose lower bound no statement sets. `Memory` comes only for want of memory.
+pub fn read_lp(alloc: Global, bytes: &[u8]) -> Result<Model, ReadFault>
+    requires { length bytes.now < 2 ^ 31 }
+    ensures { MatchResult result (DeclaresLp bytes.now) (IsLpStop bytes.now) }
+{
+    let reader = read_statements(alloc, bytes)?;
+    Ok(make_model(alloc, reader)?)
+}

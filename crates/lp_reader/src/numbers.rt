@@ -1,0 +1,117 @@
+//! The numbers of terms, bounds and sides.
+ghost use Rattle.std.specs.Prelude.{◌≡◌, Some, None, MatchResult};
+ghost use Rattle.std.specs.Option.{option_map};
+ghost use Rattle.text_fields.specs.Numbers.{literal_in};
+ghost use Rattle.lp_statements.specs.Items.{stop_at as stop_of};
+ghost use Rattle.lp_statements.specs.Statements.{shown_text, shown_constant, shown_term};
+ghost use Rattle.lp_reader.specs.Numbers.{is_huge as is_huge_by, signed as signed_by, number_fault, value_in, factor_fault, factor as factor_by, term_value as term_value_by, side_fault, constant_fault, side_in as side_by, side_of};
+ghost use Rattle.lp_reader.specs.Told.{IsFault};
+
+use frac128::{Frac, Literal, read_decimal};
+use lp_statements::{Constant, Term, Text};
+use text_fields::{ReadFault, ReadKind, ReadStop, TextKind};
+
+/// The fault of a kind at a line.
+pub(crate) fn stop_at(line: u32, kind: ReadKind) -> ReadFault
+    ensures { result ≡ ReadFault.Stop (stop_of line kind) }
+{
+    ReadFault::Stop(ReadStop { line, kind })
+}
+
+// A number with its sign.
+fn signed(negative: bool, value: Frac) -> Frac
+    ensures { result ≡ signed_by negative value }
+{
+    if negative {
+        return value.negate();
+    }
+    value
+}
+
+// What a number is read as.
+fn literal(text: Text<'_>) -> Option<Literal>
+    ensures { result ≡ literal_in text.entry.bytes.now }
+{
+    let Ok(literal) = read_decimal(text.bytes) else {
+        return None;
+    };
+    Some(literal)
+}
+
+// Whether the magnitude of a literal is 10^20 or more.
+fn is_huge(literal: Literal) -> bool
+    ensures { result ≡ is_huge_by literal }
+{
+    text_fields::is_huge(literal)
+}
+
+// The value of a number that has to fit.
+fn number(line: u32, literal: Option<Literal>) -> Result<Frac, ReadFault>
+    ensures { MatchResult result
+        (λ value. (number_fault line literal ≡ None) × (value ≡ value_in literal))
+        (IsFault (number_fault line literal)) }
+{
+    let Some(literal) = literal else {
+        return Err(stop_at(line, ReadKind::Text(TextKind::BadNumber)));
+    };
+    match literal {
+        Literal::Fits(value) => Ok(value),
+        Literal::TooWide { .. } => Err(stop_at(line, ReadKind::Text(TextKind::NumberWide))),
+    }
+}
+
+// A factor, which is 1 where none is written.
+fn factor(factor: Option<Text<'_>>) -> Result<Frac, ReadFault>
+    ensures { MatchResult result
+        (λ value. (factor_fault (option_map shown_text factor.entry) ≡ None) × (value ≡ factor_by (option_map shown_text factor.entry)))
+        (IsFault (factor_fault (option_map shown_text factor.entry))) }
+{
+    let Some(text) = factor else {
+        return Ok(Frac::whole(1));
+    };
+    number(text.line, literal(text))
+}
+
+/// The factor of a term, with its sign.
+#[tactic(auto, unfolding(crate::specs::Numbers::term_value))]
+pub(crate) fn term_value(term: Term<'_>) -> Result<Frac, ReadFault>
+    ensures { MatchResult result
+        (λ value. (factor_fault (shown_term term.entry).factor ≡ None) × (value ≡ term_value_by (shown_term term.entry)))
+        (IsFault (factor_fault (shown_term term.entry).factor)) }
+{
+    match factor(term.factor) {
+        Ok(value) => Ok(signed(term.negative, value)),
+        Err(fault) => Err(fault),
+    }
+}
+
+// The side that a number is; a huge one is none, and need not fit.
+fn number_side(negative: bool, text: Text<'_>) -> Result<Option<Frac>, ReadFault>
+    ensures { MatchResult result
+        (λ side. (side_fault text.entry.line (literal_in text.entry.bytes.now) ≡ None) × (side ≡ side_by negative (literal_in text.entry.bytes.now)))
+        (IsFault (side_fault text.entry.line (literal_in text.entry.bytes.now))) }
+{
+    let Some(found) = literal(text) else {
+        return Err(stop_at(text.line, ReadKind::Text(TextKind::BadNumber)));
+    };
+    if is_huge(found) {
+        return Ok(None);
+    }
+    match number(text.line, literal(text)) {
+        Ok(value) => Ok(Some(signed(negative, value))),
+        Err(fault) => Err(fault),
+    }
+}
+
+/// The side or bound that a constant is; infinity is none.
+#[tactic(auto, unfolding(crate::specs::Numbers::constant_fault, crate::specs::Numbers::side_of))]
+pub(crate) fn constant_side(constant: Constant<'_>) -> Result<Option<Frac>, ReadFault>
+    ensures { MatchResult result
+        (λ side. (constant_fault (shown_constant constant.entry) ≡ None) × (side ≡ side_of (shown_constant constant.entry)))
+        (IsFault (constant_fault (shown_constant constant.entry))) }
+{
+    if constant.infinite {
+        return Ok(None);
+    }
+    number_side(constant.negative, constant.text)
+}

@@ -1,0 +1,293 @@
+//! Statements, taken in one after another.
+ghost use Rattle.std.specs.Prelude.{◌≡◌, ◌<◌, ◌^◌, true, false, List, [], ◌∷◌, ◌++◌, map, Some, None, length, MatchResult, IfOk};
+ghost use Rattle.std.specs.Option.{option_map};
+ghost use Rattle.lp_statements.specs.Statements.{Statement as StatementOf, Objective as ObjectiveOf, Heading as HeadingOf, Row as RowOf, Free as FreeOf, Bound as BoundOf, Listed as ListedOf, shown, shown_text, shown_constant, shown_term};
+ghost use Rattle.lp_statements.specs.Script.{section_after as section_after_by, script_of};
+ghost use Rattle.lp_reader.specs.Faults.{statement_fault, first_fault};
+ghost use Rattle.lp_reader.specs.Held.{Holds, HasRoom, IsEven, TakesStatement, HasRead};
+ghost use Rattle.lp_reader.specs.Meaning.{IsLpStop};
+ghost use Rattle.lp_reader.specs.Told.{IsFault};
+
+use crate::bounds::{known_column, lower_said, set_bounds, upper_said};
+use crate::columns::{Columns, take_terms};
+use crate::rows::{Rows, check_label, check_objective_label, end_row, side_if};
+use frac128::Frac;
+use lp_model::Terms;
+use lp_statements::{
+    Constant, Keyword, Relation, Section, Statement, Term, Text, next_statement, start,
+};
+use name_map::NameMap;
+use std::alloc::Global;
+use text_fields::ReadFault;
+
+/// What the statements so far say.
+#[derive(Drop)]
+pub(crate) struct Reader {
+    pub rows: Rows,
+    pub columns: Columns,
+    pub objective: Terms,
+    pub maximise: bool,
+}
+
+// A reader that has read nothing.
+fn new_reader(alloc: Global) -> Reader
+    ensures { Holds result [] }
+{
+    Reader {
+        rows: Rows {
+            names: NameMap::new(alloc),
+            items: Vec::new(alloc),
+        },
+        columns: Columns {
+            names: NameMap::new(alloc),
+            bounds: Vec::new(alloc),
+            entries: 0,
+        },
+        objective: Terms::new(Vec::new(alloc)),
+        maximise: false,
+    }
+}
+
+// Takes the objective in.
+fn take_objective(
+    alloc: Global,
+    reader: &mut Reader,
+    maximise: bool,
+    label: Option<Text<'_>>,
+    terms: &[Term<'_>],
+) -> Result<(), ReadFault>
+    requires { HasRoom reader.old }
+    ensures { TakesStatement reader.old reader.new (ObjectiveOf maximise (option_map shown_text label.entry) (map shown_term terms.now)) result }
+{
+    match check_objective_label(label) {
+        Ok(()) => {}
+        Err(fault) => return Err(fault),
+    }
+    let form = match take_terms(alloc, &mut reader.columns, terms) {
+        Ok(form) => form,
+        Err(fault) => return Err(fault),
+    };
+    reader.objective = form;
+    reader.maximise = maximise;
+    Ok(())
+}
+
+// Takes a row in.
+fn take_row(
+    alloc: Global,
+    reader: &mut Reader,
+    label: Option<Text<'_>>,
+    left: Option<Constant<'_>>,
+    terms: &[Term<'_>],
+    relation: Relation,
+    right: Constant<'_>,
+) -> Result<(), ReadFault>
+    requires { HasRoom reader.old }
+    ensures { TakesStatement reader.old reader.new (RowOf (option_map shown_text label.entry) (option_map shown_constant left.entry) (map shown_term terms.now) relation (shown_constant right.entry)) result }
+{
+    match check_label(&reader.rows, label) {
+        Ok(()) => {}
+        Err(fault) => return Err(fault),
+    }
+    let left_side = match side_if(left) {
+        Ok(side) => side,
+        Err(fault) => return Err(fault),
+    };
+    let form = match take_terms(alloc, &mut reader.columns, terms) {
+        Ok(form) => form,
+        Err(fault) => return Err(fault),
+    };
+    match end_row(
+        alloc,
+        &mut reader.rows,
+        label,
+        form,
+        relation,
+        &left_side,
+        right,
+    ) {
+        Ok(()) => Ok(()),
+        Err(fault) => Err(fault),
+    }
+}
+
+// Takes a bound in.
+fn take_bound(
+    reader: &mut Reader,
+    left: Option<Constant<'_>>,
+    name: Text<'_>,
+    relation: Relation,
+    right: Option<Constant<'_>>,
+) -> Result<(), ReadFault>
+    requires { IsEven reader.old }
+    ensures { TakesStatement reader.old reader.new (BoundOf (option_map shown_constant left.entry) (shown_text name.entry) relation (option_map shown_constant right.entry)) result }
+{
+    let left_side = match side_if(left) {
+        Ok(side) => side,
+        Err(fault) => return Err(fault),
+    };
+    let column = match known_column(&reader.columns, name) {
+        Ok(column) => column,
+        Err(fault) => return Err(fault),
+    };
+    let right_side = match side_if(right) {
+        Ok(side) => side,
+        Err(fault) => return Err(fault),
+    };
+    let lower = lower_said(&left_side, relation, &right_side);
+    let upper = upper_said(&left_side, relation, &right_side);
+    set_bounds(&mut reader.columns, column, lower, upper, false);
+    Ok(())
+}
+
+// Takes the bounds of a column away.
+fn take_free(reader: &mut Reader, name: Text<'_>) -> Result<(), ReadFault>
+    requires { IsEven reader.old }
+    ensures { TakesStatement reader.old reader.new (FreeOf (shown_text name.entry)) result }
+{
+    let column = match known_column(&reader.columns, name) {
+        Ok(column) => column,
+        Err(fault) => return Err(fault),
+    };
+    set_bounds(&mut reader.columns, column, Some(None), Some(None), false);
+    Ok(())
+}
+
+// Makes a column whole, with the bounds 0 and 1.
+fn take_binary(reader: &mut Reader, name: Text<'_>) -> Result<(), ReadFault>
+    requires { IsEven reader.old }
+    ensures { TakesStatement reader.old reader.new (ListedOf true (shown_text name.entry)) result }
+{
+    let column = match known_column(&reader.columns, name) {
+        Ok(column) => column,
+        Err(fault) => return Err(fault),
+    };
+    let lower = Some(Some(Frac::whole(0)));
+    let upper = Some(Some(Frac::whole(1)));
+    set_bounds(&mut reader.columns, column, lower, upper, true);
+    Ok(())
+}
+
+// Makes a column whole.
+fn take_general(reader: &mut Reader, name: Text<'_>) -> Result<(), ReadFault>
+    requires { IsEven reader.old }
+    ensures { TakesStatement reader.old reader.new (ListedOf false (shown_text name.entry)) result }
+{
+    let column = match known_column(&reader.columns, name) {
+        Ok(column) => column,
+        Err(fault) => return Err(fault),
+    };
+    set_bounds(&mut reader.columns, column, None, None, true);
+    Ok(())
+}
+
+// Takes a listed name in.
+fn take_listed(reader: &mut Reader, binary: bool, name: Text<'_>) -> Result<(), ReadFault>
+    requires { IsEven reader.old }
+    ensures { TakesStatement reader.old reader.new (ListedOf binary (shown_text name.entry)) result }
+{
+    if binary {
+        return take_binary(reader, name);
+    }
+    take_general(reader, name)
+}
+
+// Takes a keyword in: it changes nothing.
+fn take_heading(reader: &Reader, keyword: Keyword) -> Result<(), ReadFault>
+    ensures { TakesStatement reader.now reader.now (HeadingOf keyword) result }
+{
+    let _ = reader.maximise;
+    let _ = keyword;
+    Ok(())
+}
+
+// Takes a statement in.
+fn take_statement(
+    alloc: Global,
+    reader: &mut Reader,
+    statement: &Statement<'_>,
+) -> Result<(), ReadFault>
+    requires room { HasRoom reader.old }
+    requires even { IsEven reader.old }
+    ensures { TakesStatement reader.old reader.new (shown statement.now) result }
+{
+    match statement {
+        Statement::Objective {
+            maximise,
+            label,
+            terms,
+        } => take_objective(alloc, reader, *maximise, *label, terms.as_slice()),
+        Statement::Heading(keyword) => take_heading(reader, *keyword),
+        Statement::Row {
+            label,
+            left,
+            terms,
+            relation,
+            right,
+        } => take_row(
+            alloc,
+            reader,
+            *label,
+            *left,
+            terms.as_slice(),
+            *relation,
+            *right,
+        ),
+        Statement::Free(name) => take_free(reader, *name),
+        Statement::Bound {
+            left,
+            name,
+            relation,
+            right,
+        } => take_bound(reader, *left, *name, *relation, *right),
+        Statement::Listed { binary, name } => take_listed(reader, *binary, *name),
+    }
+}
+
+// The section that a statement of a section leads to; `end` leads nowhere.
+fn section_after(section: Section, statement: &Statement<'_>) -> Option<Section>
+    ensures { result ≡ section_after_by section (shown statement.now) }
+{
+    match statement {
+        Statement::Objective { .. } => Some(Section::Objective),
+        Statement::Heading(keyword) => heading_section(section, *keyword),
+        _ => Some(section),
+    }
+}
+
+// The section that a keyword begins.
+fn heading_section(section: Section, keyword: Keyword) -> Option<Section>
+    ensures { result ≡ section_after_by section (HeadingOf keyword) }
+{
+    match keyword {
+        Keyword::SubjectTo => Some(Section::Rows),
+        Keyword::Bounds => Some(Section::Bounds),
+        Keyword::General => Some(Section::General),
+        Keyword::Binary => Some(Section::Binary),
+        Keyword::End => None,
+        Keyword::Minimise | Keyword::Maximise => Some(section),
+    }
+}
+
+/// Reads the statements of a text.
+pub(crate) fn read_statements(alloc: Global, bytes: &[u8]) -> Result<Reader, ReadFault>
+    requires { length bytes.now < 2 ^ 31 }
+    ensures { MatchResult result (HasRead bytes.now) (IsLpStop bytes.now) }
+{
+    let mut reader = new_reader(alloc);
+    let mut place = start(bytes);
+    let mut section = Some(Section::Begin);
+    while let Some(here) = section {
+        let (statement, next) = match next_statement(alloc, bytes, here, place) {
+            Ok(found) => found,
+            Err(fault) => return Err(fault),
+        };
+        match take_statement(alloc, &mut reader, &statement) {
+            Ok(()) => {}
+            Err(fault) => return Err(fault),
+        }
+        section = section_after(here, &statement);
+        place = next;
+    }
+    Ok(reader)
+}

@@ -1,0 +1,237 @@
+//! Rows: their names, their forms and their sides.
+ghost use Rattle.std.specs.Prelude.{◌≡◌, ◌+◌, ◌<◌, ◌≤◌, ◌^◌, Bool, true, false, List, [], ◌∷◌, ◌++◌, Some, None, length, unwrap_or, MatchResult, IfOk, OnOk, string_bytes};
+ghost use Rattle.std.specs.List.{list_any};
+ghost use Rattle.std.specs.Option.{option_map};
+ghost use Rattle.std.specs.Str.{bytes_eq};
+ghost use Rattle.name_map.specs.Names.{names_of};
+ghost use Rattle.rational.specs.Rational.{one_ℚ};
+ghost use Rattle.lp_model.specs.Shown.{most_rows};
+ghost use Rattle.lp_statements.specs.Statements.{shown_text, shown_constant};
+ghost use Rattle.lp_reader.specs.Numbers.{constant_fault_in, side_of};
+ghost use Rattle.lp_reader.specs.Names.{row_name as row_name_by};
+ghost use Rattle.lp_reader.specs.Faults.{objective_label_fault, label_fault, row_end_fault};
+ghost use Rattle.lp_reader.specs.Sides.{lower_side as lower_side_by, upper_side as upper_side_by, ended_row, PutsRow};
+ghost use Rattle.lp_reader.specs.Told.{IsFault};
+
+use crate::columns::is_too_long;
+use crate::numbers::{constant_side, stop_at};
+use frac128::Frac;
+use lp_model::{Row, Terms, Weight};
+use lp_statements::{Constant, Relation, Text};
+use name_map::NameMap;
+use std::alloc::{AllocError, Global};
+use text_fields::{ReadFault, ReadKind};
+
+const MOST_ROWS: usize = 2_000;
+
+/// The rows so far.
+#[derive(Drop)]
+pub(crate) struct Rows {
+    pub names: NameMap<()>,
+    pub items: Vec<Row>,
+}
+
+/// The side that a constant left of a form is, if one is there.
+pub(crate) fn side_if(constant: Option<Constant<'_>>) -> Result<Option<Option<Frac>>, ReadFault>
+    ensures { MatchResult result
+        (λ side. (constant_fault_in (option_map shown_constant constant.entry) ≡ None) × (side ≡ option_map side_of (option_map shown_constant constant.entry)))
+        (IsFault (constant_fault_in (option_map shown_constant constant.entry))) }
+{
+    let Some(constant) = constant else {
+        return Ok(None);
+    };
+    match constant_side(constant) {
+        Ok(side) => Ok(Some(side)),
+        Err(fault) => Err(fault),
+    }
+}
+
+/// Checks the label of the objective, which is not kept.
+#[tactic(auto, unfolding(crate::specs::Faults::objective_label_fault))]
+pub(crate) fn check_objective_label(label: Option<Text<'_>>) -> Result<(), ReadFault>
+    ensures { MatchResult result (λ _. objective_label_fault (option_map shown_text label.entry) ≡ None) (IsFault (objective_label_fault (option_map shown_text label.entry))) }
+{
+    let Some(label) = label else {
+        return Ok(());
+    };
+    if is_too_long(label.bytes) {
+        return Err(stop_at(label.line, ReadKind::Limit));
+    }
+    Ok(())
+}
+
+/// Checks the label of a row, if it has one.
+#[tactic(auto, unfolding(crate::specs::Faults::label_fault))]
+pub(crate) fn check_label(rows: &Rows, label: Option<Text<'_>>) -> Result<(), ReadFault>
+    ensures { MatchResult result (λ _. label_fault (names_of rows.now.names) (option_map shown_text label.entry) ≡ None) (IsFault (label_fault (names_of rows.now.names) (option_map shown_text label.entry))) }
+{
+    let Some(label) = label else {
+        return Ok(());
+    };
+    if rows.names.contains(label.bytes) {
+        return Err(stop_at(label.line, ReadKind::DuplicateName));
+    }
+    if rows.names.len() >= MOST_ROWS {
+        return Err(stop_at(label.line, ReadKind::Limit));
+    }
+    if is_too_long(label.bytes) {
+        return Err(stop_at(label.line, ReadKind::Limit));
+    }
+    Ok(())
+}
+
+// The lower side of a row by its relation.
+fn lower_side(relation: Relation, left: &Option<Option<Frac>>, right: &Option<Frac>) -> Option<Frac>
+    ensures { result ≡ lower_side_by relation left.now right.now }
+{
+    match relation {
+        Relation::AtMost => side_or(left, &None),
+        Relation::AtLeast => *right,
+        Relation::Equal => side_or(left, right),
+    }
+}
+
+// And its upper one.
+fn upper_side(relation: Relation, left: &Option<Option<Frac>>, right: &Option<Frac>) -> Option<Frac>
+    ensures { result ≡ upper_side_by relation left.now right.now }
+{
+    match relation {
+        Relation::AtMost => *right,
+        Relation::AtLeast => side_or(left, &None),
+        Relation::Equal => side_or(left, right),
+    }
+}
+
+// The left side, or, where none is there, another.
+fn side_or(left: &Option<Option<Frac>>, other: &Option<Frac>) -> Option<Frac>
+    ensures { result ≡ unwrap_or left.now other.now }
+{
+    match left {
+        Some(side) => *side,
+        None => *other,
+    }
+}
+
+// A row that is active, and weighs 1.
+fn make_row(
+    form: Terms,
+    relation: Relation,
+    left: &Option<Option<Frac>>,
+    right: &Option<Frac>,
+) -> Row
+    ensures { result ≡ ended_row form relation left.now right.now }
+{
+    Row {
+        terms: form,
+        lo: lower_side(relation, left, right),
+        up: upper_side(relation, left, right),
+        active: true,
+        weight: Weight::Soft(Frac::whole(1)),
+    }
+}
+
+// Puts a new row last.
+fn put_row(alloc: Global, rows: &mut Rows, name: &[u8], row: Row) -> Result<(), AllocError>
+    requires fresh { list_any (bytes_eq name.now) (names_of rows.old.names) ≡ false }
+    requires room { length (names_of rows.old.names) < most_rows }
+    ensures { OnOk result (PutsRow rows.old rows.new name.now row) }
+{
+    // The check wants the type of a side named here.
+    let _side = row.lo;
+    rows.names.push(alloc, name, ())?;
+    rows.items.push(row)?;
+    Ok(())
+}
+
+// The name of the n-th row, where it has no label.
+fn generated_name(alloc: Global, n: usize) -> Result<String, AllocError>
+    ensures { IfOk result (λ name. string_bytes name ≡ row_name_by n None) }
+{
+    let name = format!(in alloc; "c{n}")?;
+    Ok(name)
+}
+
+// Ends a row with a label.
+fn end_labelled(
+    alloc: Global,
+    rows: &mut Rows,
+    label: Text<'_>,
+    form: Terms,
+    relation: Relation,
+    left: &Option<Option<Frac>>,
+    right: Constant<'_>,
+) -> Result<(), ReadFault>
+    requires { label_fault (names_of rows.old.names) (Some (shown_text label)) ≡ None }
+    ensures { MatchResult result
+        (λ _. (row_end_fault (names_of rows.old.names) (Some (shown_text label.entry)) (shown_constant right.entry) ≡ None) × PutsRow rows.old rows.new label.entry.bytes.now (ended_row form relation left.now (side_of (shown_constant right.entry))))
+        (IsFault (row_end_fault (names_of rows.old.names) (Some (shown_text label.entry)) (shown_constant right.entry))) }
+{
+    let side = match constant_side(right) {
+        Ok(side) => side,
+        Err(fault) => return Err(fault),
+    };
+    put_row(
+        alloc,
+        rows,
+        label.bytes,
+        make_row(form, relation, left, &side),
+    )?;
+    Ok(())
+}
+
+// Ends a row without a label: its name is generated at its last token.
+fn end_unnamed(
+    alloc: Global,
+    rows: &mut Rows,
+    form: Terms,
+    relation: Relation,
+    left: &Option<Option<Frac>>,
+    right: Constant<'_>,
+) -> Result<(), ReadFault>
+    requires { length (names_of rows.old.names) ≤ most_rows }
+    ensures { MatchResult result
+        (λ _. (row_end_fault (names_of rows.old.names) None (shown_constant right.entry) ≡ None) × PutsRow rows.old rows.new (row_name_by (length (names_of rows.old.names) + 1) None) (ended_row form relation left.now (side_of (shown_constant right.entry))))
+        (IsFault (row_end_fault (names_of rows.old.names) None (shown_constant right.entry))) }
+{
+    let name = generated_name(alloc, rows.names.len() + 1)?;
+    if rows.names.contains(name.as_bytes()) {
+        return Err(stop_at(right.text.line, ReadKind::DuplicateName));
+    }
+    let side = match constant_side(right) {
+        Ok(side) => side,
+        Err(fault) => return Err(fault),
+    };
+    if rows.names.len() >= MOST_ROWS {
+        return Err(stop_at(right.text.line, ReadKind::Limit));
+    }
+    put_row(
+        alloc,
+        rows,
+        name.as_bytes(),
+        make_row(form, relation, left, &side),
+    )?;
+    Ok(())
+}
+
+/// Ends a row, whose label was checked, if it has one.
+pub(crate) fn end_row(
+    alloc: Global,
+    rows: &mut Rows,
+    label: Option<Text<'_>>,
+    form: Terms,
+    relation: Relation,
+    left: &Option<Option<Frac>>,
+    right: Constant<'_>,
+) -> Result<(), ReadFault>
+    requires few { length (names_of rows.old.names) ≤ most_rows }
+    requires checked { label_fault (names_of rows.old.names) (option_map shown_text label) ≡ None }
+    ensures { MatchResult result
+        (λ _. (row_end_fault (names_of rows.old.names) (option_map shown_text label.entry) (shown_constant right.entry) ≡ None)
+        × PutsRow rows.old rows.new (row_name_by (length (names_of rows.old.names) + 1) (option_map shown_text label.entry)) (ended_row form relation left.now (side_of (shown_constant right.entry))))
+        (IsFault (row_end_fault (names_of rows.old.names) (option_map shown_text label.entry) (shown_constant right.entry))) }
+{
+    match label {
+        Some(label) => end_labelled(alloc, rows, label, form, relation, left, right),
+        None => end_unnamed(alloc, rows, form, relation, left, right),
+    }
+}

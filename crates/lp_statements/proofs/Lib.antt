@@ -1,0 +1,5 @@
+pub mod Tests
+pub mod Pieces
+pub mod Lists
+pub mod Steps
+pub mod Repeats

@@ -1,0 +1,14 @@
+use Rattle.std.proofs.Common.{sym}
+use Rattle.lp_statements.specs.Items.{pieces_at}
+use Rattle.lp_statements.specs.Grammar.{is_sign, part, terms_in}
+use Rattle.lp_statements.proofs.Repeats.{repeating-all, repeating-more, repeating-fails, first_there}
+use Rattle.lp_statements.proofs.grammar.more_parts.Goals as goal
+
+pub returns-in-Err : goal.returns-in-Err
+returns-in-Err c = repeating-fails part terms_in c.args.bytes.now c.args.place c.loop-at.at c.args.terms.now.items c.loop-at.terms.items c.loop-at.invariant (sym c.loop-at-test.ensures) c.in-Err.fault (first_there is_sign (pieces_at c.args.bytes.now c.loop-at.at) (sym c.loop-at-test.ensures)) c.in-Err.ensures
+
+pub loop-at-preserved : goal.loop-at-preserved
+loop-at-preserved c = repeating-more part terms_in c.args.bytes.now c.args.place c.loop-at.at c.args.terms.now.items c.loop-at.terms.items c.loop-at.invariant (sym c.loop-at-test.ensures) _ c.in-Ok.found.1 c.put_part.new.terms.items c.in-Ok.ensures c.in_ok-put_part.ensures.ok
+
+pub returns : goal.returns
+returns c = repeating-all part terms_in c.args.bytes.now c.args.place c.loop-at.at c.args.terms.now.items c.loop-at.terms.items c.loop-at.invariant (sym c.loop-at-test.ensures)

@@ -1,0 +1,6 @@
+pub mod Words
+pub mod Items
+pub mod Statements
+pub mod Grammar
+pub mod Script
+pub mod Shapes

@@ -1,0 +1,11 @@
+//! The statements of a text in the LP format, one after another, each with the first fault of its form.
+#![tactic(auto)]
+
+mod grammar;
+mod items;
+mod parts;
+mod statements;
+mod words;
+
+pub use parts::{Constant, Heading, Item, Keyword, Relation, Section, Statement, Term, Text};
+pub use statements::{next_statement, start};

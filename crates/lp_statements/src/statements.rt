@@ -1,0 +1,486 @@
+//! Statements, by the sections that they stand in.
+ghost use Rattle.std.specs.Prelude.{◌≡◌, List, Bool, false, ◌<◌, ◌^◌, ◌∷◌, [], Some, None, length, map, MatchOption, MatchResult};
+ghost use Rattle.std.specs.Option.{option_map};
+ghost use Rattle.lp_statements.specs.Items.{Piece, IsPlace, pieces_at, pieces_of};
+ghost use Rattle.lp_statements.specs.Statements.{Objective as ObjectiveOf, shown, shown_text, shown_constant, shown_term};
+ghost use Rattle.lp_statements.specs.Grammar.{sense_of as sense_by, keyword_in as keyword_by, form_after as form_after_by, objective as objective_at, objective_after as objective_after_by, begin as begin_at, subject_to_by, subject_to as subject_to_at, closing as closing_at, row_after as row_after_at, row as row_at, free_in, text_first, is_name as is_name_by, bound_after as bound_after_at, bound_end as bound_end_at, bound_from_constant as bound_from_constant_at, bound as bound_at, listed as listed_at, later_heading as later_heading_by, keyword_first as keyword_first_of, body as body_at, heading_or_body as heading_or_body_at, Whole, statement_of};
+ghost use Rattle.lp_statements.specs.Script.{IsAfter, IsOnward, Takes, Passes, IsRefusal};
+ghost use Rattle.lp_statements.specs.Shapes.{shown_opening, AddsTerms, IsFreeAt, IsKeywordAt};
+
+use crate::grammar::{
+    Opening, agreeing, constant, is_part_first, is_relation_first, label, more_terms, name,
+    name_first, parts, relation, take_opening,
+};
+use crate::items::{next_seen, stop_at};
+use crate::parts::{Constant, Item, Keyword, Relation, Section, Statement, Term, Text};
+use crate::words::is_free;
+use std::alloc::Global;
+use text_fields::{Place, ReadFault, ReadKind, token_laws};
+
+// The sense that a keyword gives the objective: whether it is to be made greatest.
+fn sense_of(item: Item) -> Option<bool>
+    ensures { result ≡ sense_by item }
+{
+    match item {
+        Item::Keyword(Keyword::Minimise) => Some(false),
+        Item::Keyword(Keyword::Maximise) => Some(true),
+        _ => None,
+    }
+}
+
+fn keyword_in(item: Item) -> Option<Keyword>
+    ensures { result ≡ keyword_by item }
+{
+    match item {
+        Item::Keyword(keyword) => Some(keyword),
+        _ => None,
+    }
+}
+
+// The form after a label, or, without one, nothing.
+#[tactic(auto, unfolding(crate::specs::Grammar::form_after))]
+fn form_after<'a>(
+    bytes: &'a [u8],
+    place: Place,
+    has_label: bool,
+    terms: &mut Vec<Term<'a>>,
+) -> Result<Place, ReadFault>
+    requires place { IsPlace bytes.now place }
+    requires short { length bytes.now < 2 ^ 31 }
+    ensures { MatchResult result
+        (AddsTerms bytes.now place (form_after_by has_label (pieces_at bytes.now place)) terms.old.items terms.new.items)
+        (IsRefusal (form_after_by has_label (pieces_at bytes.now place))) }
+{
+    if !has_label && !is_part_first(bytes, place) {
+        return Ok(place);
+    }
+    match parts(bytes, place, terms) {
+        Ok(next) => Ok(next),
+        Err(fault) => Err(fault),
+    }
+}
+
+// The objective after its keyword.
+#[tactic(auto, unfolding(crate::specs::Grammar::objective))]
+fn objective(
+    alloc: Global,
+    bytes: &[u8],
+    place: Place,
+    maximise: bool,
+) -> Result<(Statement<'_>, Place), ReadFault>
+    requires place { IsPlace bytes.now place }
+    requires short { length bytes.now < 2 ^ 31 }
+    ensures { MatchResult result
+        (λ found. Passes bytes.now place (objective_at maximise (pieces_at bytes.now place)) (shown found.0) found.1)
+        (IsRefusal (objective_at maximise (pieces_at bytes.now place))) }
+{
+    let (label, at) = label(bytes, place);
+    let mut terms = Vec::new(alloc);
+    let next = match form_after(bytes, at, label.is_some(), &mut terms) {
+        Ok(next) => next,
+        Err(fault) => return Err(fault),
+    };
+    let statement = Statement::Objective {
+        maximise,
+        label,
+        terms,
+    };
+    Ok((statement, next))
+}
+
+// The keyword of the objective, and the objective.
+#[tactic(auto, unfolding(crate::specs::Grammar::begin))]
+fn begin(alloc: Global, bytes: &[u8], place: Place) -> Result<(Statement<'_>, Place), ReadFault>
+    requires place { IsPlace bytes.now place }
+    requires short { length bytes.now < 2 ^ 31 }
+    ensures { MatchResult result
+        (λ found. Takes bytes.now place (begin_at (pieces_at bytes.now place)) (shown found.0) found.1)
+        (IsRefusal (begin_at (pieces_at bytes.now place))) }
+{
+    let (item, text, next) = match next_seen(bytes, place) {
+        Ok(seen) => seen,
+        Err(fault) => return Err(fault),
+    };
+    let Some(maximise) = sense_of(item) else {
+        return Err(stop_at(text.line, ReadKind::Order));
+    };
+    match objective(alloc, bytes, next, maximise) {
+        Ok((statement, last)) => Ok((statement, last)),
+        Err(fault) => Err(fault),
+    }
+}
+
+// The keyword of the rows.
+#[tactic(auto, unfolding(crate::specs::Grammar::subject_to))]
+fn subject_to(bytes: &[u8], place: Place) -> Result<(Statement<'_>, Place), ReadFault>
+    requires place { IsPlace bytes.now place }
+    requires short { length bytes.now < 2 ^ 31 }
+    ensures { MatchResult result
+        (λ found. Takes bytes.now place (subject_to_at (pieces_at bytes.now place)) (shown found.0) found.1)
+        (IsRefusal (subject_to_at (pieces_at bytes.now place))) }
+{
+    let (item, text, next) = match next_seen(bytes, place) {
+        Ok(seen) => seen,
+        Err(fault) => return Err(fault),
+    };
+    let Some(keyword) = keyword_in(item) else {
+        return Err(stop_at(text.line, ReadKind::BadField));
+    };
+    match keyword {
+        Keyword::SubjectTo => Ok((Statement::Heading(Keyword::SubjectTo), next)),
+        _ => Err(stop_at(text.line, ReadKind::Order)),
+    }
+}
+
+// The end of a row: a relation and a constant.
+#[tactic(auto, unfolding(crate::specs::Grammar::closing))]
+fn closing<'a>(
+    bytes: &'a [u8],
+    place: Place,
+    label: Option<Text<'a>>,
+    start: Opening<'a>,
+    terms: Vec<Term<'a>>,
+) -> Result<(Statement<'a>, Place), ReadFault>
+    requires place { IsPlace bytes.now place }
+    requires short { length bytes.now < 2 ^ 31 }
+    ensures { MatchResult result
+        (λ found. Takes bytes.now place (closing_at (option_map shown_text label.entry) (shown_opening start.entry) (map shown_term terms.entry.items) (pieces_at bytes.now place)) (shown found.0) found.1)
+        (IsRefusal (closing_at (option_map shown_text label.entry) (shown_opening start.entry) (map shown_term terms.entry.items) (pieces_at bytes.now place))) }
+{
+    let (relation, next) = match agreeing(bytes, place, start.before) {
+        Ok(found) => found,
+        Err(fault) => return Err(fault),
+    };
+    let (right, last) = match constant(bytes, next) {
+        Ok(found) => found,
+        Err(fault) => return Err(fault),
+    };
+    let left = start.left;
+    let statement = Statement::Row {
+        label,
+        left,
+        terms,
+        relation,
+        right,
+    };
+    Ok((statement, last))
+}
+
+// A row after its label.
+#[tactic(auto, unfolding(crate::specs::Grammar::row_after))]
+fn row_after<'a>(
+    alloc: Global,
+    bytes: &'a [u8],
+    place: Place,
+    label: Option<Text<'a>>,
+) -> Result<(Statement<'a>, Place), ReadFault>
+    requires place { IsPlace bytes.now place }
+    requires short { length bytes.now < 2 ^ 31 }
+    ensures { MatchResult result
+        (λ found. Takes bytes.now place (row_after_at (option_map shown_text label.entry) (pieces_at bytes.now place)) (shown found.0) found.1)
+        (IsRefusal (row_after_at (option_map shown_text label.entry) (pieces_at bytes.now place))) }
+{
+    let (start, next) = match take_opening(bytes, place) {
+        Ok(found) => found,
+        Err(fault) => return Err(fault),
+    };
+    let mut terms = Vec::new(alloc);
+    terms.push(start.first)?;
+    let last = match more_terms(bytes, next, &mut terms) {
+        Ok(last) => last,
+        Err(fault) => return Err(fault),
+    };
+    match closing(bytes, last, label, start, terms) {
+        Ok((statement, end)) => Ok((statement, end)),
+        Err(fault) => Err(fault),
+    }
+}
+
+// A row.
+#[tactic(auto, unfolding(crate::specs::Grammar::row))]
+fn row(alloc: Global, bytes: &[u8], place: Place) -> Result<(Statement<'_>, Place), ReadFault>
+    requires place { IsPlace bytes.now place }
+    requires short { length bytes.now < 2 ^ 31 }
+    ensures { MatchResult result
+        (λ found. Takes bytes.now place (row_at (pieces_at bytes.now place)) (shown found.0) found.1)
+        (IsRefusal (row_at (pieces_at bytes.now place))) }
+{
+    let (label, at) = label(bytes, place);
+    match row_after(alloc, bytes, at, label) {
+        Ok((statement, next)) => Ok((statement, next)),
+        Err(fault) => Err(fault),
+    }
+}
+
+// The place after the word `free`, where it stands first.
+fn free_first(bytes: &[u8], place: Place) -> Option<Place>
+    requires place { IsPlace bytes.now place }
+    requires short { length bytes.now < 2 ^ 31 }
+    ensures { MatchOption result (free_in (text_first is_name_by (pieces_at bytes.now place)) ≡ None) (IsFreeAt bytes.now place) }
+{
+    let Some((text, next)) = name_first(bytes, place) else {
+        return None;
+    };
+    if !is_free(text.bytes) {
+        return None;
+    }
+    Some(next)
+}
+
+// A bound after its name.
+fn bound_after<'a>(
+    bytes: &'a [u8],
+    place: Place,
+    column: Text<'a>,
+) -> Result<(Statement<'a>, Place), ReadFault>
+    requires place { IsPlace bytes.now place }
+    requires short { length bytes.now < 2 ^ 31 }
+    ensures { MatchResult result
+        (λ found. Takes bytes.now place (bound_after_at (shown_text column.entry) (free_in (text_first is_name_by (pieces_at bytes.now place))) (pieces_at bytes.now place)) (shown found.0) found.1)
+        (IsRefusal (bound_after_at (shown_text column.entry) (free_in (text_first is_name_by (pieces_at bytes.now place))) (pieces_at bytes.now place))) }
+{
+    if let Some(next) = free_first(bytes, place) {
+        return Ok((Statement::Free(column), next));
+    }
+    let (relation, next) = match relation(bytes, place) {
+        Ok(found) => found,
+        Err(fault) => return Err(fault),
+    };
+    let (right, last) = match constant(bytes, next) {
+        Ok(found) => found,
+        Err(fault) => return Err(fault),
+    };
+    let statement = Statement::Bound {
+        left: None,
+        name: column,
+        relation,
+        right: Some(right),
+    };
+    Ok((statement, last))
+}
+
+// A bound after a constant, a relation and a name.
+#[tactic(auto, unfolding(crate::specs::Grammar::bound_end))]
+fn bound_end<'a>(
+    bytes: &'a [u8],
+    place: Place,
+    left: Constant<'a>,
+    before: Relation,
+    column: Text<'a>,
+) -> Result<(Statement<'a>, Place), ReadFault>
+    requires place { IsPlace bytes.now place }
+    requires short { length bytes.now < 2 ^ 31 }
+    ensures { MatchResult result
+        (λ found. Passes bytes.now place (bound_end_at (shown_constant left.entry) before (shown_text column.entry) (pieces_at bytes.now place)) (shown found.0) found.1)
+        (IsRefusal (bound_end_at (shown_constant left.entry) before (shown_text column.entry) (pieces_at bytes.now place))) }
+{
+    if !is_relation_first(bytes, place) {
+        let statement = Statement::Bound {
+            left: Some(left),
+            name: column,
+            relation: before,
+            right: None,
+        };
+        return Ok((statement, place));
+    }
+    let (relation, next) = match agreeing(bytes, place, Some(before)) {
+        Ok(found) => found,
+        Err(fault) => return Err(fault),
+    };
+    let (right, last) = match constant(bytes, next) {
+        Ok(found) => found,
+        Err(fault) => return Err(fault),
+    };
+    let statement = Statement::Bound {
+        left: Some(left),
+        name: column,
+        relation,
+        right: Some(right),
+    };
+    Ok((statement, last))
+}
+
+// A bound that begins with a constant.
+#[tactic(auto, unfolding(crate::specs::Grammar::bound_from_constant))]
+fn bound_from_constant(bytes: &[u8], place: Place) -> Result<(Statement<'_>, Place), ReadFault>
+    requires place { IsPlace bytes.now place }
+    requires short { length bytes.now < 2 ^ 31 }
+    ensures { MatchResult result
+        (λ found. Takes bytes.now place (bound_from_constant_at (pieces_at bytes.now place)) (shown found.0) found.1)
+        (IsRefusal (bound_from_constant_at (pieces_at bytes.now place))) }
+{
+    let (left, next) = match constant(bytes, place) {
+        Ok(found) => found,
+        Err(fault) => return Err(fault),
+    };
+    let (before, more) = match relation(bytes, next) {
+        Ok(found) => found,
+        Err(fault) => return Err(fault),
+    };
+    let (column, last) = match name(bytes, more) {
+        Ok(found) => found,
+        Err(fault) => return Err(fault),
+    };
+    match bound_end(bytes, last, left, before, column) {
+        Ok((statement, end)) => Ok((statement, end)),
+        Err(fault) => Err(fault),
+    }
+}
+
+// A bound.
+#[tactic(auto, unfolding(crate::specs::Grammar::bound))]
+fn bound(bytes: &[u8], place: Place) -> Result<(Statement<'_>, Place), ReadFault>
+    requires place { IsPlace bytes.now place }
+    requires short { length bytes.now < 2 ^ 31 }
+    ensures { MatchResult result
+        (λ found. Takes bytes.now place (bound_at (pieces_at bytes.now place)) (shown found.0) found.1)
+        (IsRefusal (bound_at (pieces_at bytes.now place))) }
+{
+    let Some((column, next)) = name_first(bytes, place) else {
+        return match bound_from_constant(bytes, place) {
+            Ok((statement, last)) => Ok((statement, last)),
+            Err(fault) => Err(fault),
+        };
+    };
+    match bound_after(bytes, next, column) {
+        Ok((statement, last)) => Ok((statement, last)),
+        Err(fault) => Err(fault),
+    }
+}
+
+// A listed name.
+#[tactic(auto, unfolding(crate::specs::Grammar::listed))]
+fn listed(bytes: &[u8], place: Place, binary: bool) -> Result<(Statement<'_>, Place), ReadFault>
+    requires place { IsPlace bytes.now place }
+    requires short { length bytes.now < 2 ^ 31 }
+    ensures { MatchResult result
+        (λ found. Takes bytes.now place (listed_at binary (pieces_at bytes.now place)) (shown found.0) found.1)
+        (IsRefusal (listed_at binary (pieces_at bytes.now place))) }
+{
+    let (column, next) = match name(bytes, place) {
+        Ok(found) => found,
+        Err(fault) => return Err(fault),
+    };
+    let statement = Statement::Listed {
+        binary,
+        name: column,
+    };
+    Ok((statement, next))
+}
+
+// The keyword that stands first, its line, and the place after it.
+fn keyword_first(bytes: &[u8], place: Place) -> Option<(Keyword, Text<'_>, Place)>
+    requires place { IsPlace bytes.now place }
+    requires short { length bytes.now < 2 ^ 31 }
+    ensures { MatchOption result (keyword_first_of (pieces_at bytes.now place) ≡ None) (λ found. IsKeywordAt bytes.now place found.0 (shown_text found.1) found.2) }
+{
+    let Ok((item, text, next)) = next_seen(bytes, place) else {
+        return None;
+    };
+    let Some(keyword) = keyword_in(item) else {
+        return None;
+    };
+    Some((keyword, text, next))
+}
+
+// A keyword that comes after the rows, before a place.
+fn later_heading<'a>(
+    place: Place,
+    keyword: Keyword,
+    text: Text<'_>,
+) -> Result<(Statement<'a>, Place), ReadFault>
+    ensures { MatchResult result
+        (λ found. (found.1 ≡ place) × ((rest : List Piece) → later_heading_by (shown_text text.entry) keyword rest ≡ Whole (shown found.0) rest))
+        (λ fault. (rest : List Piece) → IsRefusal (later_heading_by (shown_text text.entry) keyword rest) fault) }
+{
+    match keyword {
+        Keyword::Bounds | Keyword::General | Keyword::Binary | Keyword::End => {
+            Ok((Statement::Heading(keyword), place))
+        }
+        _ => Err(stop_at(text.line, ReadKind::Order)),
+    }
+}
+
+// What a section is made of.
+fn body(
+    alloc: Global,
+    bytes: &[u8],
+    section: Section,
+    place: Place,
+) -> Result<(Statement<'_>, Place), ReadFault>
+    requires place { IsPlace bytes.now place }
+    requires short { length bytes.now < 2 ^ 31 }
+    ensures { MatchResult result
+        (λ found. Takes bytes.now place (body_at section (pieces_at bytes.now place)) (shown found.0) found.1)
+        (IsRefusal (body_at section (pieces_at bytes.now place))) }
+{
+    match section {
+        Section::Begin => begin(alloc, bytes, place),
+        Section::Objective => subject_to(bytes, place),
+        Section::Rows => row(alloc, bytes, place),
+        Section::Bounds => bound(bytes, place),
+        Section::General => listed(bytes, place, false),
+        Section::Binary => listed(bytes, place, true),
+    }
+}
+
+// A keyword, or what the section is made of.
+fn heading_or_body(
+    alloc: Global,
+    bytes: &[u8],
+    section: Section,
+    place: Place,
+) -> Result<(Statement<'_>, Place), ReadFault>
+    requires place { IsPlace bytes.now place }
+    requires short { length bytes.now < 2 ^ 31 }
+    ensures { MatchResult result
+        (λ found. Takes bytes.now place (heading_or_body_at section (keyword_first_of (pieces_at bytes.now place)) (pieces_at bytes.now place)) (shown found.0) found.1)
+        (IsRefusal (heading_or_body_at section (keyword_first_of (pieces_at bytes.now place)) (pieces_at bytes.now place))) }
+{
+    if let Some((keyword, text, next)) = keyword_first(bytes, place) {
+        return match later_heading(next, keyword, text) {
+            Ok((statement, after)) => Ok((statement, after)),
+            Err(fault) => Err(fault),
+        };
+    }
+    match body(alloc, bytes, section, place) {
+        Ok((statement, next)) => Ok((statement, next)),
+        Err(fault) => Err(fault),
+    }
+}
+
+/// The next statement of a section from a place on, and the place after it.
+///
+/// A fault is the first with which no statement of the section goes on: `Unsupported`, `BadNumber`, `LongLine`, `ForeignByte`
+/// and `Truncated` where what stands there is one, `Order` at a keyword where another has to come, before the objective at any
+/// token, and `BadField` elsewhere. What comes after a whole statement is not looked at, but for a relation after a bound that
+/// begins with a constant, and a sign or a name where a term may go on.
+#[tactic(auto, unfolding(crate::specs::Grammar::statement_of))]
+pub fn next_statement(
+    alloc: Global,
+    bytes: &[u8],
+    section: Section,
+    place: Place,
+) -> Result<(Statement<'_>, Place), ReadFault>
+    requires place { IsPlace bytes.now place }
+    requires short { length bytes.now < 2 ^ 31 }
+    ensures { MatchResult result
+        (λ found. Takes bytes.now place (statement_of section (pieces_at bytes.now place)) (shown found.0) found.1)
+        (IsRefusal (statement_of section (pieces_at bytes.now place))) }
+{
+    match section {
+        Section::Begin => begin(alloc, bytes, place),
+        Section::Objective => subject_to(bytes, place),
+        _ => heading_or_body(alloc, bytes, section, place),
+    }
+}
+
+/// The place from which on the statements of a text stand.
+pub fn start(bytes: &[u8]) -> Place
+    ensures place { IsPlace bytes.now result }
+    ensures pieces { pieces_at bytes.now result ≡ pieces_of bytes.now }
+{
+    token_laws();
+    let _ = bytes.len();
+    Place { at: 0, line: 1 }
+}
