@@ -9,7 +9,7 @@ use filter_steps::listed;
 use frac128::Frac;
 use linear_oracle::LinearOracle;
 use lp_model::{Member, Model, Side};
-use small_forms::read_model;
+use mps_reader::read_mps;
 use std::alloc::{AllocError, Global};
 use std::test::Fail;
 use table_oracle::{TableAnswer, TableOracle};
@@ -67,9 +67,9 @@ fn answers(alloc: Global, plans: &[Plan]) -> Result<Vec<TableAnswer>, AllocError
 }
 
 fn program(alloc: Global) -> Result<Model, AllocError> {
-    match read_model(alloc, ROWS.as_bytes())? {
-        Some(model) => Ok(model),
-        None => Err(AllocError),
+    match read_mps(alloc, ROWS.as_bytes()) {
+        Ok(model) => Ok(model),
+        Err(_) => Err(AllocError),
     }
 }
 

@@ -31,7 +31,8 @@ module _ {K : Type 0} (faults : K → ℕ) (taken : K → Option (List ℕ)) (ol
   put_kept (ReadFault which) status h = said_kept (ReadFault which) status h
   put_kept (TooLong which) status h = said_kept (TooLong which) status h
   put_kept Memory status h = want_kept status h
-  put_kept ModelRefused status h = said_kept ModelRefused status h
+  put_kept (ModelRefused stop) status (inl said) = said_kept (ModelRefused stop) status said
+  put_kept (ModelRefused stop) status (inr want) = want_kept status want
   put_kept CutReport status h = said_kept CutReport status h
   put_kept (BadReport n) status (inl said) = said_kept (BadReport n) status said
   put_kept (BadReport n) status (inr want) = want_kept status want

@@ -12,7 +12,9 @@ use Rattle.cert_check.specs.declared.outcome.Outcome.TheVariants.{Accepted, Reje
 use Rattle.cert_check.specs.Trials.{Trial, trials, outcome_of, unless_failed, IsAccepted}
 use Rattle.cert_check.specs.Truth.{IsTrueOf}
 use Rattle.lp_model.specs.Program.{Program}
-use Rattle.small_forms.specs.Meaning.{DeclaresModel}
+use Rattle.text_fields.specs.declared.faults.ReadFault.{ReadFault as ModelFault}
+use Rattle.text_fields.specs.declared.faults.ReadFault.TheVariants.{Stop, Memory as NoModelMemory}
+use Rattle.model_files.specs.Formats.{Declares, IsRefusal}
 use Rattle.iis_run.specs.Words.{Request}
 use Rattle.iis_run.specs.declared.endings.Which.{Which}
 use Rattle.iis_run.specs.declared.endings.Which.TheVariants.{Model, Report, Script}
@@ -35,7 +37,7 @@ use Rattle.iis_run.specs.Fetches.{IsFetchStop}
 use Rattle.iis_run.specs.Causes.{IsModel, IsNoModel, IsModelOf, AreReported, IsReportEnding, IsDecided, IsChecked, ComesTo, checked_ending, refused_ending}
 use Rattle.iis_run.specs.Scripts.{IsCommands, IsBadScript, script_ending}
 use Rattle.iis_run.specs.Run.{IsCaused}
-use Rattle.iis_run.specs.Steps.{IsModelStop, IsReportOf, IsCheckEnd, IsScriptEnd, IsSecondPlan, IsPlanned}
+use Rattle.iis_run.specs.Steps.{IsModelStop, model_ending, IsReportOf, IsCheckEnd, IsScriptEnd, IsSecondPlan, IsPlanned}
 
 -- these bytes were fetched of a file, where it is told
 abbrev pub IsFetched : Option (List ℕ) → List ℕ → Which → Type 0
@@ -47,29 +49,30 @@ fetched None bytes which P is h = tt
 fetched (Some b) bytes which P is h = subst P is.0 (h (subst (λ (bs : List ℕ). length bs ≤ limit_of which) (sym is.0) is.1))
 
 -- ---- the model
--- bytes that declare no program
-pub model_refused : (file : Option (List ℕ)) (bytes : List ℕ) → IsFetched file bytes Model → ((p : Program) → ¬ (DeclaresModel bytes p)) → IfSome file IsNoModel
-model_refused file bytes is none = fetched file bytes Model IsNoModel is (λ short. record { short = short; none = none })
+-- bytes that were refused
+pub model_refused : (name : List ℕ) (file : Option (List ℕ)) (before now : ℕ) (bytes : List ℕ) (fault : ModelFault) → IsFetched file bytes Model → IsRefusal name bytes fault → IsModelStop name file before now (model_ending fault)
+model_refused name file before now bytes (Stop stop) is h = fetched file bytes Model (λ (b : List ℕ). IsNoModel name b stop) is (λ short. record { short = short; fault = h })
+model_refused name file before now bytes NoModelMemory is h = tt
 
--- bytes that declare one
-pub model_read : (file : Option (List ℕ)) (bytes : List ℕ) (p : Program) → IsFetched file bytes Model → DeclaresModel bytes p → IfSome file (λ b. IsModelOf b p)
-model_read file bytes p is h = fetched file bytes Model (λ (b : List ℕ). IsModelOf b p) is (λ short. record { short = short; declares = h })
+-- bytes that declare a program
+pub model_read : (name : List ℕ) (file : Option (List ℕ)) (bytes : List ℕ) (p : Program) → IsFetched file bytes Model → Declares name bytes p → IfSome file (λ b. IsModelOf name b p)
+model_read name file bytes p is h = fetched file bytes Model (λ (b : List ℕ). IsModelOf name b p) is (λ short. record { short = short; declares = h })
 
 -- the model was not fetched
-pub model_stopped : (file : Option (List ℕ)) (before now : ℕ) (e : Ending) → IsFetchStop file before now Model e → IsModelStop file before now e
-model_stopped file before now (ReadFault Model) h = h.1
-model_stopped file before now (ReadFault Report) h = let wrong = h.0 in absurd (cc)
-model_stopped file before now (ReadFault Script) h = let wrong = h.0 in absurd (cc)
-model_stopped file before now (TooLong Model) h = h.1
-model_stopped file before now (TooLong Report) h = let wrong = h.0 in absurd (cc)
-model_stopped file before now (TooLong Script) h = let wrong = h.0 in absurd (cc)
-model_stopped file before now Memory h = tt
-model_stopped file before now Usage h = absurd h
-model_stopped file before now ModelRefused h = absurd h
-model_stopped file before now (BadReport n) h = absurd h
-model_stopped file before now CutReport h = absurd h
-model_stopped file before now (BadScript n) h = absurd h
-model_stopped file before now (Checked v) h = absurd h
+pub model_stopped : (name : List ℕ) (file : Option (List ℕ)) (before now : ℕ) (e : Ending) → IsFetchStop file before now Model e → IsModelStop name file before now e
+model_stopped name file before now (ReadFault Model) h = h.1
+model_stopped name file before now (ReadFault Report) h = let wrong = h.0 in absurd (cc)
+model_stopped name file before now (ReadFault Script) h = let wrong = h.0 in absurd (cc)
+model_stopped name file before now (TooLong Model) h = h.1
+model_stopped name file before now (TooLong Report) h = let wrong = h.0 in absurd (cc)
+model_stopped name file before now (TooLong Script) h = let wrong = h.0 in absurd (cc)
+model_stopped name file before now Memory h = tt
+model_stopped name file before now Usage h = absurd h
+model_stopped name file before now (ModelRefused stop) h = absurd h
+model_stopped name file before now (BadReport n) h = absurd h
+model_stopped name file before now CutReport h = absurd h
+model_stopped name file before now (BadScript n) h = absurd h
+model_stopped name file before now (Checked v) h = absurd h
 
 -- ---- the report
 -- the report was not fetched
@@ -82,7 +85,7 @@ report_stopped p file before now (TooLong Model) h = let wrong = h.0 in absurd (
 report_stopped p file before now (TooLong Script) h = let wrong = h.0 in absurd (cc)
 report_stopped p file before now Memory h = tt
 report_stopped p file before now Usage h = absurd h
-report_stopped p file before now ModelRefused h = absurd h
+report_stopped p file before now (ModelRefused stop) h = absurd h
 report_stopped p file before now (BadReport n) h = absurd h
 report_stopped p file before now CutReport h = absurd h
 report_stopped p file before now (BadScript n) h = absurd h
@@ -100,7 +103,7 @@ report_ended p file before now bytes Memory is h = tt
 report_ended p file before now bytes Usage is h = absurd h
 report_ended p file before now bytes (ReadFault which) is h = absurd h
 report_ended p file before now bytes (TooLong which) is h = absurd h
-report_ended p file before now bytes ModelRefused is h = absurd h
+report_ended p file before now bytes (ModelRefused stop) is h = absurd h
 report_ended p file before now bytes (BadScript n) is h = absurd h
 
 -- ---- the script
@@ -114,7 +117,7 @@ script_stopped file before now (TooLong Model) h = let wrong = h.0 in absurd (cc
 script_stopped file before now (TooLong Report) h = let wrong = h.0 in absurd (cc)
 script_stopped file before now Memory h = tt
 script_stopped file before now Usage h = absurd h
-script_stopped file before now ModelRefused h = absurd h
+script_stopped file before now (ModelRefused stop) h = absurd h
 script_stopped file before now (BadReport n) h = absurd h
 script_stopped file before now CutReport h = absurd h
 script_stopped file before now (BadScript n) h = absurd h
@@ -134,66 +137,66 @@ script_unread file before now bytes NoScriptMemory is h = tt
 rose_since : (before mid now : ℕ) → before ≤ mid → Rose mid now → Rose before now
 rose_since before mid now h rose = omega arith
 
-is_model : (file : Option (List ℕ)) (p : Program) → IfSome file (λ b. IsModelOf b p) → IfSome file IsModel
-is_model None p h = tt
-is_model (Some b) p h = record { short = h.short; program = p; declares = h.declares }
+is_model : (name : List ℕ) (file : Option (List ℕ)) (p : Program) → IfSome file (λ b. IsModelOf name b p) → IfSome file (IsModel name)
+is_model name None p h = tt
+is_model name (Some b) p h = record { short = h.short; program = p; declares = h.declares }
 
 -- both files are told to come to an ending, where they are told
-reported : (model report : Option (List ℕ)) (p : Program) (e : Ending) → IfSome model (λ b. IsModelOf b p) → IfSome report (λ r. IsReportOf p r e) → AreReported model report e
-reported None report p e m r = (tt, tt)
-reported (Some b) None p e m r = (is_model (Some b) p m, tt)
-reported (Some b) (Some c) p e m r = (is_model (Some b) p m, record { short = r.short; program = p; declares = m.declares; comes = r.comes })
+reported : (name : List ℕ) (model report : Option (List ℕ)) (p : Program) (e : Ending) → IfSome model (λ b. IsModelOf name b p) → IfSome report (λ r. IsReportOf p r e) → AreReported name model report e
+reported name None report p e m r = (tt, tt)
+reported name (Some b) None p e m r = (is_model name (Some b) p m, tt)
+reported name (Some b) (Some c) p e m r = (is_model name (Some b) p m, record { short = r.short; program = p; declares = m.declares; comes = r.comes })
 
 module _ (file : List ℕ → Option (List ℕ)) (before mid now : List ℕ → ℕ) (model second : List ℕ) (p : Program) where
-  check_caused : (e : Ending) → IfSome (file model) (λ b. IsModelOf b p) → before second ≤ mid second → IsCheckEnd p (file second) (mid second) (now second) e → IsCaused file before now (Some (Request.Verify model second)) e
-  check_caused (ReadFault Report) m later h = (rose_since _ _ _ later h, is_model (file model) p m)
+  check_caused : (e : Ending) → IfSome (file model) (λ b. IsModelOf model b p) → before second ≤ mid second → IsCheckEnd p (file second) (mid second) (now second) e → IsCaused file before now (Some (Request.Verify model second)) e
+  check_caused (ReadFault Report) m later h = (rose_since _ _ _ later h, is_model model (file model) p m)
   check_caused (ReadFault Model) m later h = absurd h
   check_caused (ReadFault Script) m later h = absurd h
-  check_caused (TooLong Report) m later h = (is_model (file model) p m, h)
+  check_caused (TooLong Report) m later h = (is_model model (file model) p m, h)
   check_caused (TooLong Model) m later h = absurd h
   check_caused (TooLong Script) m later h = absurd h
   check_caused Memory m later h = tt
-  check_caused (BadReport n) m later h = reported (file model) (file second) p (BadReport n) m h
-  check_caused CutReport m later h = reported (file model) (file second) p CutReport m h
-  check_caused (Checked v) m later h = (h.0, reported (file model) (file second) p (Checked v) m h.1)
+  check_caused (BadReport n) m later h = reported model (file model) (file second) p (BadReport n) m h
+  check_caused CutReport m later h = reported model (file model) (file second) p CutReport m h
+  check_caused (Checked v) m later h = (h.0, reported model (file model) (file second) p (Checked v) m h.1)
   check_caused Usage m later h = absurd h
-  check_caused ModelRefused m later h = absurd h
+  check_caused (ModelRefused stop) m later h = absurd h
   check_caused (BadScript n) m later h = absurd h
 
-  script_caused : (e : Ending) → IfSome (file model) (λ b. IsModelOf b p) → before second ≤ mid second → IsScriptEnd (file second) (mid second) (now second) e → IsCaused file before now (Some (Request.Analyse model second)) e
-  script_caused (ReadFault Script) m later h = (rose_since _ _ _ later h, is_model (file model) p m)
+  script_caused : (e : Ending) → IfSome (file model) (λ b. IsModelOf model b p) → before second ≤ mid second → IsScriptEnd (file second) (mid second) (now second) e → IsCaused file before now (Some (Request.Analyse model second)) e
+  script_caused (ReadFault Script) m later h = (rose_since _ _ _ later h, is_model model (file model) p m)
   script_caused (ReadFault Model) m later h = absurd h
   script_caused (ReadFault Report) m later h = absurd h
-  script_caused (TooLong Script) m later h = (is_model (file model) p m, h)
+  script_caused (TooLong Script) m later h = (is_model model (file model) p m, h)
   script_caused (TooLong Model) m later h = absurd h
   script_caused (TooLong Report) m later h = absurd h
   script_caused Memory m later h = tt
-  script_caused (BadScript n) m later h = (is_model (file model) p m, h)
+  script_caused (BadScript n) m later h = (is_model model (file model) p m, h)
   script_caused (BadReport n) m later h = absurd h
   script_caused CutReport m later h = absurd h
   script_caused (Checked v) m later h = absurd h
   script_caused Usage m later h = absurd h
-  script_caused ModelRefused m later h = absurd h
+  script_caused (ModelRefused stop) m later h = absurd h
 
   -- what the second file comes to has its cause
-  pub second_planned : (verb : Verb) (plan : Plan) → IfSome (file model) (λ b. IsModelOf b p) → before second ≤ mid second → IsSecondPlan verb p (file second) (mid second) (now second) plan → IsPlanned file before now (Some (request_for verb model second)) plan
+  pub second_planned : (verb : Verb) (plan : Plan) → IfSome (file model) (λ b. IsModelOf model b p) → before second ≤ mid second → IsSecondPlan verb p (file second) (mid second) (now second) plan → IsPlanned file before now (Some (request_for verb model second)) plan
   second_planned Verify (Say e) m later h = check_caused e m later h
   second_planned Verify (Answer q commands) m later h = absurd h
   second_planned Analyse (Say e) m later h = script_caused e m later h
-  second_planned Analyse (Answer q commands) m later h = record { declares = subst (λ (r : Program). IfSome (file model) (λ b. IsModelOf b r)) (sym h.0) m; says = h.1 }
+  second_planned Analyse (Answer q commands) m later h = record { declares = subst (λ (r : Program). IfSome (file model) (λ b. IsModelOf model b r)) (sym h.0) m; says = h.1 }
 
 -- there is no model
-pub model_planned : (file : List ℕ → Option (List ℕ)) (before now : List ℕ → ℕ) (verb : Verb) (model second : List ℕ) (e : Ending) → IsModelStop (file model) (before model) (now model) e → IsCaused file before now (Some (request_for verb model second)) e
+pub model_planned : (file : List ℕ → Option (List ℕ)) (before now : List ℕ → ℕ) (verb : Verb) (model second : List ℕ) (e : Ending) → IsModelStop model (file model) (before model) (now model) e → IsCaused file before now (Some (request_for verb model second)) e
 model_planned file before now Verify model second e h = by e h
   where
-    by : (f : Ending) → IsModelStop (file model) (before model) (now model) f → IsCaused file before now (Some (Request.Verify model second)) f
+    by : (f : Ending) → IsModelStop model (file model) (before model) (now model) f → IsCaused file before now (Some (Request.Verify model second)) f
     by (ReadFault Model) g = g
     by (ReadFault Report) g = absurd g
     by (ReadFault Script) g = absurd g
     by (TooLong Model) g = g
     by (TooLong Report) g = absurd g
     by (TooLong Script) g = absurd g
-    by ModelRefused g = g
+    by (ModelRefused stop) g = g
     by Memory g = tt
     by Usage g = absurd g
     by (BadReport n) g = absurd g
@@ -202,14 +205,14 @@ model_planned file before now Verify model second e h = by e h
     by (Checked v) g = absurd g
 model_planned file before now Analyse model second e h = by e h
   where
-    by : (f : Ending) → IsModelStop (file model) (before model) (now model) f → IsCaused file before now (Some (Request.Analyse model second)) f
+    by : (f : Ending) → IsModelStop model (file model) (before model) (now model) f → IsCaused file before now (Some (Request.Analyse model second)) f
     by (ReadFault Model) g = g
     by (ReadFault Report) g = absurd g
     by (ReadFault Script) g = absurd g
     by (TooLong Model) g = g
     by (TooLong Report) g = absurd g
     by (TooLong Script) g = absurd g
-    by ModelRefused g = g
+    by (ModelRefused stop) g = g
     by Memory g = tt
     by Usage g = absurd g
     by (BadReport n) g = absurd g

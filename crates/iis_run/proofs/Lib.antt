@@ -1,6 +1,5 @@
 pub mod Said
 pub mod Unambiguous
-pub mod Markless
 pub mod Statuses
 pub mod Decided
 pub mod Counts

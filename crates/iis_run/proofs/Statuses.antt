@@ -9,7 +9,8 @@ use Rattle.frac128.specs.declared.Wide.{Wide as Operation}
 use Rattle.cert_check.specs.declared.outcome.Outcome.{Outcome}
 use Rattle.cert_check.specs.declared.outcome.Outcome.TheVariants.{Accepted, Rejected, Wide, Memory as Want}
 use Rattle.lp_model.specs.Program.{Program}
-use Rattle.small_forms.specs.Meaning.{DeclaresModel}
+use Rattle.text_fields.specs.declared.faults.ReadStop.{ReadStop}
+use Rattle.model_files.specs.Formats.{Declares}
 use Rattle.report_text.specs.declared.report.Report.{Report as Entries}
 use Rattle.report_text.specs.Reading.{Reads}
 use Rattle.iis_run.specs.declared.endings.Which.{Which}
@@ -22,7 +23,7 @@ use Rattle.analysis.specs.Written.{IsAnalysis, IsWhole, IsCut, IsWant, is_stop}
 use Rattle.iis_run.specs.Causes.{IsModelOf, AreReported, IsTrueReport}
 use Rattle.iis_run.specs.Scripts.{IsCommands, CallsForScript}
 use Rattle.iis_run.specs.Said.{IsSaid, EndsInWant, Ends, line_of, status_of, status_after_fault}
-use Rattle.iis_run.specs.Run.{name_of, HasFailed, IsTooLong, AreTold, Calls, AskedFor, IsAskedSession, IsCaused, IsEnded, IsAnalysed, IsRun, HasFetchStop, IsTextRefused, IsAnswered, IsDone, IsAccepted, IsUnsettled, IsRefuted, IsBorneOut, IsCalm, IsToldAs, IsToldSession, Settles}
+use Rattle.iis_run.specs.Run.{name_of, HasFailed, IsTooLong, AreTold, Calls, AskedFor, IsAskedSession, IsCaused, IsEnded, IsAnalysed, IsRun, HasFetchStop, IsModelRefused, IsTextRefused, IsAnswered, IsDone, IsAccepted, IsUnsettled, IsRefuted, IsBorneOut, IsCalm, IsToldAs, IsToldSession, Settles}
 use Rattle.iis_run.specs.declared.plans.Plan.{Plan}
 use Rattle.iis_run.specs.declared.plans.Plan.TheVariants.{Say, Answer}
 use Rattle.iis_run.specs.Steps.{IsPlanned, Follows}
@@ -39,7 +40,7 @@ usage_only Usage h = refl
 usage_only (ReadFault which) h = absurd (omega arith)
 usage_only (TooLong which) h = absurd (omega arith)
 usage_only Memory h = absurd (omega arith)
-usage_only ModelRefused h = absurd (omega arith)
+usage_only (ModelRefused stop) h = absurd (omega arith)
 usage_only (BadReport n) h = absurd (omega arith)
 usage_only (BadScript n) h = absurd (omega arith)
 usage_only CutReport h = absurd (omega arith)
@@ -48,8 +49,8 @@ usage_only (Checked (Rejected n)) h = absurd (omega arith)
 usage_only (Checked (Wide n w)) h = absurd (omega arith)
 usage_only (Checked Want) h = absurd (omega arith)
 
-model_refused_only : (e : Ending) → status_of e ≡ 5 → e ≡ ModelRefused
-model_refused_only ModelRefused h = refl
+model_refused_only : (e : Ending) → status_of e ≡ 5 → (stop : ReadStop) × (e ≡ ModelRefused stop)
+model_refused_only (ModelRefused stop) h = (stop, refl)
 model_refused_only Usage h = absurd (omega arith)
 model_refused_only (ReadFault which) h = absurd (omega arith)
 model_refused_only (TooLong which) h = absurd (omega arith)
@@ -70,7 +71,7 @@ text_refused_only Usage h = absurd (omega arith)
 text_refused_only (ReadFault which) h = absurd (omega arith)
 text_refused_only (TooLong which) h = absurd (omega arith)
 text_refused_only Memory h = absurd (omega arith)
-text_refused_only ModelRefused h = absurd (omega arith)
+text_refused_only (ModelRefused stop) h = absurd (omega arith)
 text_refused_only (Checked (Accepted settled unsettled)) h = absurd (zero_or_one (unsettled == 0) 6 (λ k. omega arith) (λ k. omega arith) h)
 text_refused_only (Checked (Rejected n)) h = absurd (omega arith)
 text_refused_only (Checked (Wide n w)) h = absurd (omega arith)
@@ -86,7 +87,7 @@ unsettled_only Usage h = absurd (omega arith)
 unsettled_only (ReadFault which) h = absurd (omega arith)
 unsettled_only (TooLong which) h = absurd (omega arith)
 unsettled_only Memory h = absurd (omega arith)
-unsettled_only ModelRefused h = absurd (omega arith)
+unsettled_only (ModelRefused stop) h = absurd (omega arith)
 unsettled_only (BadReport n) h = absurd (omega arith)
 unsettled_only CutReport h = absurd (omega arith)
 unsettled_only (BadScript n) h = absurd (omega arith)
@@ -104,7 +105,7 @@ accepted_only Usage h = absurd (omega arith)
 accepted_only (ReadFault which) h = absurd (omega arith)
 accepted_only (TooLong which) h = absurd (omega arith)
 accepted_only Memory h = absurd (omega arith)
-accepted_only ModelRefused h = absurd (omega arith)
+accepted_only (ModelRefused stop) h = absurd (omega arith)
 accepted_only (BadReport n) h = absurd (omega arith)
 accepted_only (BadScript n) h = absurd (omega arith)
 accepted_only CutReport h = absurd (omega arith)
@@ -120,7 +121,7 @@ refuted_only Usage h = absurd (omega arith)
 refuted_only (ReadFault which) h = absurd (omega arith)
 refuted_only (TooLong which) h = absurd (omega arith)
 refuted_only Memory h = absurd (omega arith)
-refuted_only ModelRefused h = absurd (omega arith)
+refuted_only (ModelRefused stop) h = absurd (omega arith)
 refuted_only (BadReport n) h = absurd (omega arith)
 refuted_only (BadScript n) h = absurd (omega arith)
 refuted_only CutReport h = absurd (omega arith)
@@ -133,7 +134,7 @@ stopped_only (ReadFault which) h = (which, inl refl)
 stopped_only (TooLong which) h = (which, inr refl)
 stopped_only Usage h = absurd (omega arith)
 stopped_only Memory h = absurd (omega arith)
-stopped_only ModelRefused h = absurd (omega arith)
+stopped_only (ModelRefused stop) h = absurd (omega arith)
 stopped_only (BadReport n) h = absurd (omega arith)
 stopped_only (BadScript n) h = absurd (omega arith)
 stopped_only CutReport h = absurd (omega arith)
@@ -153,7 +154,7 @@ status_bounds Usage = (omega arith, λ h. omega arith)
 status_bounds (ReadFault which) = (omega arith, λ h. omega arith)
 status_bounds (TooLong which) = (omega arith, λ h. omega arith)
 status_bounds Memory = (omega arith, λ h. omega arith)
-status_bounds ModelRefused = (omega arith, λ h. omega arith)
+status_bounds (ModelRefused stop) = (omega arith, λ h. omega arith)
 status_bounds (BadReport n) = (omega arith, λ h. omega arith)
 status_bounds (BadScript n) = (omega arith, λ h. omega arith)
 status_bounds CutReport = (omega arith, λ h. omega arith)
@@ -176,7 +177,7 @@ after_fault Usage = inl refl
 after_fault (ReadFault which) = inl refl
 after_fault (TooLong which) = inl refl
 after_fault Memory = inl refl
-after_fault ModelRefused = inl refl
+after_fault (ModelRefused stop) = inl refl
 after_fault (BadReport n) = inl refl
 after_fault (BadScript n) = inl refl
 after_fault CutReport = inl refl
@@ -191,7 +192,7 @@ said_or_want faults taken old new Usage status h = inl h
 said_or_want faults taken old new (ReadFault which) status h = inl h
 said_or_want faults taken old new (TooLong which) status h = inl h
 said_or_want faults taken old new Memory status h = inr h
-said_or_want faults taken old new ModelRefused status h = inl h
+said_or_want faults taken old new (ModelRefused stop) status h = h
 said_or_want faults taken old new (BadReport n) status h = h
 said_or_want faults taken old new (BadScript n) status h = h
 said_or_want faults taken old new CutReport status h = inl h
@@ -256,8 +257,8 @@ calm_written faults taken old new e status calm (inr want) = inr want
 
 -- the files of a request call for one ending
 one_call : (file : List ℕ → Option (List ℕ)) (q : Request) (e f : Ending) → AreTold file q f → Calls file q f → Calls file q e → e ≡ f
-one_call file (Request.Verify model report) e f told calls cause = sym (one_ending.checked (file model) (file report) f e told calls cause)
-one_call file (Request.Analyse model script) e f told calls cause = sym (one_ending.analysed (file model) (file script) f e told calls cause)
+one_call file (Request.Verify model report) e f told calls cause = sym (one_ending.checked model (file model) (file report) f e told calls cause)
+one_call file (Request.Analyse model script) e f told calls cause = sym (one_ending.analysed model (file model) (file script) f e told calls cause)
 
 -- where no fetch failed, an ending comes for want of memory, or told files call for it
 called_or_memory : (file : List ℕ → Option (List ℕ)) (before now : List ℕ → ℕ) (q : Request) (e : Ending) → ((which : Which) → ¬ (HasFailed before now q which)) → IsCaused file before now (Some q) e → (e ≡ Memory) ⊎ Calls file q e
@@ -267,7 +268,7 @@ called_or_memory file before now q (ReadFault Model) calm cause = absurd (calm M
 called_or_memory file before now q (ReadFault Report) calm cause = absurd (calm Report cause.0)
 called_or_memory file before now q (ReadFault Script) calm cause = absurd (calm Script cause.0)
 called_or_memory file before now q (TooLong which) calm cause = inr cause
-called_or_memory file before now q ModelRefused calm cause = inr cause
+called_or_memory file before now q (ModelRefused stop) calm cause = inr cause
 called_or_memory file before now q (BadReport n) calm cause = inr cause
 called_or_memory file before now q CutReport calm cause = inr cause
 called_or_memory file before now q (BadScript n) calm cause = inr cause
@@ -277,14 +278,14 @@ called_or_memory file before now q (Checked v) calm cause = inr cause
 -- files of an analysis call for no ending
 session_uncalled : (file : List ℕ → Option (List ℕ)) (q : Request) (p : Program) (commands : List Command) (e : Ending) → IsAskedSession file (Some q) p commands → AreTold file q e → Calls file q e → ⊥
 session_uncalled file (Request.Verify model report) p commands e session told calls = absurd session
-session_uncalled file (Request.Analyse model script) p commands e session told calls = none_called_as_told (file model) (file script) p commands e session.declares session.says told calls
+session_uncalled file (Request.Analyse model script) p commands e session told calls = none_called_as_told model (file model) (file script) p commands e session.declares session.says told calls
 
 told_uncalled : (file : List ℕ → Option (List ℕ)) (q : Request) (p : Program) (commands : List Command) (e : Ending) → IsToldSession file q p commands → Calls file q e → ⊥
 told_uncalled file (Request.Verify model report) p commands e session calls = absurd session
 told_uncalled file (Request.Analyse model script) p commands e session calls = by (file model) (file script) session calls
   where
-    by : (m s : Option (List ℕ)) → IsToldAs (λ b. IsModelOf b p) m × IsToldAs (λ b. IsCommands b commands) s → CallsForScript m s e → ⊥
-    by (Some m) (Some s) told c = none_called m s p commands e told.0 told.1 c
+    by : (m s : Option (List ℕ)) → IsToldAs (λ b. IsModelOf model b p) m × IsToldAs (λ b. IsCommands b commands) s → CallsForScript model m s e → ⊥
+    by (Some m) (Some s) told c = none_called model m s p commands e told.0 told.1 c
     by (Some m) None told c = absurd told.1
     by None s told c = absurd told.0
 
@@ -292,8 +293,8 @@ told_same : (file : List ℕ → Option (List ℕ)) (q : Request) (p r : Program
 told_same file (Request.Verify model report) p r a b session told = absurd session
 told_same file (Request.Analyse model script) p r a b session told = by (file model) (file script) session.declares session.says told
   where
-    by : (m s : Option (List ℕ)) → IfSome m (λ x. IsModelOf x p) → IfSome s (λ x. IsCommands x a) → IsToldAs (λ x. IsModelOf x r) m × IsToldAs (λ x. IsCommands x b) s → (p ≡ r) × (a ≡ b)
-    by (Some m) (Some s) declares says t = one_session m s p r a b declares t.0 says t.1
+    by : (m s : Option (List ℕ)) → IfSome m (λ x. IsModelOf model x p) → IfSome s (λ x. IsCommands x a) → IsToldAs (λ x. IsModelOf model x r) m × IsToldAs (λ x. IsCommands x b) s → (p ≡ r) × (a ≡ b)
+    by (Some m) (Some s) declares says t = one_session model m s p r a b declares t.0 says t.1
     by (Some m) None declares says t = absurd t.1
     by None s declares says t = absurd t.0
 
@@ -399,9 +400,10 @@ module _ {S K : Type 0} (file : S → List ℕ → Option (List ℕ)) (fetch_fau
   called : (request : Option Request) (status : ℕ) (f : Ending) → (run : Ended request status) → run.ending ≡ f → ((q : Request) → IsCaused (file shelf_old) (fetch_faults shelf_old) (fetch_faults shelf_new) (Some q) f → Calls (file shelf_old) q f) → f ≢ Usage → AskedFor (file shelf_old) request f
   called request status f run same calls other = asked (file shelf_old) (fetch_faults shelf_old) (fetch_faults shelf_new) request run.ending f same calls other run.cause
 
-  pub model_clause : (request : Option Request) (status : ℕ) → Run request status → status ≡ 5 → AskedFor (file shelf_old) request ModelRefused
+  pub model_clause : (request : Option Request) (status : ℕ) → Run request status → status ≡ 5 → IsModelRefused (file shelf_old) request
   model_clause request status (inl run) h =
-      called request status ModelRefused run (model_refused_only run.ending (its_own request status 5 run (λ e. omega arith) (λ e. omega arith) h)) (λ q c. c) (λ e. absurd (cc))
+      let r = model_refused_only run.ending (its_own request status 5 run (λ e. omega arith) (λ e. omega arith) h) in
+      (r.0, called request status (ModelRefused r.0) run r.1 (λ q c. c) (λ e. absurd (cc)))
   model_clause request status (inr run) h = absurd (unanswered request status 5 run (λ e. omega arith) (λ e. omega arith) (λ e. omega arith) (λ e. omega arith) h)
 
   pub text_clause : (request : Option Request) (status : ℕ) → Run request status → status ≡ 6 → IsTextRefused (file shelf_old) request
@@ -465,17 +467,17 @@ module _ {S K : Type 0} (file : S → List ℕ → Option (List ℕ)) (fetch_fau
   accepted_so : (request : Option Request) (settled unsettled : ℕ) → AskedFor (file shelf_old) request (Checked (Accepted settled unsettled)) → IsBorneOut (file shelf_old) request
   accepted_so request settled unsettled h = by request h
     where
-      so : (m r : Option (List ℕ)) → AreReported m r (Checked (Accepted settled unsettled)) → IfSome m (λ mb. IfSome r (λ rb. (program : Program) (report : Entries) → DeclaresModel mb program → Reads program rb report → IsTrueReport program report))
-      so None r a = tt
-      so (Some mb) None a = tt
-      so (Some mb) (Some rb) a = λ program report declares reads.
+      so : (name : List ℕ) (m r : Option (List ℕ)) → AreReported name m r (Checked (Accepted settled unsettled)) → IfSome m (λ mb. IfSome r (λ rb. (program : Program) (report : Entries) → Declares name mb program → Reads program rb report → IsTrueReport program report))
+      so name None r a = tt
+      so name (Some mb) None a = tt
+      so name (Some mb) (Some rb) a = λ program report declares reads.
           let at = a.1 in
-          let same = the_report mb rb at.program program at.comes.1.report report at.declares declares at.comes.1.reads reads in
+          let same = the_report name mb rb at.program program at.comes.1.report report at.declares declares at.comes.1.reads reads in
           subst (λ (x : Entries). IsTrueReport program x) same.1 (subst (λ (p : Program). IsTrueReport p at.comes.1.report) same.0 (at.comes.1.so tt))
 
       by : (r : Option Request) → AskedFor (file shelf_old) r (Checked (Accepted settled unsettled)) → IsBorneOut (file shelf_old) r
       by None a = absurd a
-      by (Some (Request.Verify model report)) a = so (file shelf_old model) (file shelf_old report) a.1
+      by (Some (Request.Verify model report)) a = so model (file shelf_old model) (file shelf_old report) a.1
       by (Some (Request.Analyse model script)) a = absurd a
 
   pub borne_out_clause : (request : Option Request) (status : ℕ) → Run request status → (status ≡ 0) ⊎ (status ≡ 1) → IsBorneOut (file shelf_old) request

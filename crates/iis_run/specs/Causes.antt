@@ -1,7 +1,8 @@
 -- What the told files call for.
-use Rattle.std.specs.Prelude.{◌≡◌, ⊤, ℕ, ◌<◌, ◌≤◌, List, length, Option, IfSome, IsSome, All}
+use Rattle.std.specs.Prelude.{◌≡◌, ⊤, ℕ, ◌<◌, ◌≤◌, List, length, Option, Some, IfSome, IsSome, All}
 use Rattle.lp_model.specs.Program.{Program}
-use Rattle.small_forms.specs.Meaning.{DeclaresModel}
+use Rattle.text_fields.specs.declared.faults.ReadStop.{ReadStop}
+use Rattle.model_files.specs.Formats.{Declares, format_of, model_fault}
 use Rattle.report_text.specs.declared.report.Report.{Report as Entries}
 use Rattle.report_text.specs.Reading.{Reads, IsBadLine, IsTruncated}
 use Rattle.cert_check.specs.declared.outcome.Outcome.{Outcome}
@@ -15,21 +16,21 @@ use Rattle.iis_run.specs.declared.endings.Which.TheVariants.{Model, Report}
 use Rattle.iis_run.specs.declared.endings.Ending.{Ending}
 use Rattle.iis_run.specs.declared.endings.Ending.TheVariants.{TooLong, Memory, ModelRefused, BadReport, CutReport, Checked}
 
--- the bytes of a model are within the limit and declare this program
-pub record IsModelOf (bytes : List ℕ) (program : Program) : Type 0 where
+-- the bytes of a model's file of this name are within the limit and declare this program
+pub record IsModelOf (name bytes : List ℕ) (program : Program) : Type 0 where
   pub short : length bytes ≤ limit_of Model
-  pub declares : DeclaresModel bytes program
+  pub declares : Declares name bytes program
 
--- the bytes of a model are within the limit and declare a program
-pub record IsModel (bytes : List ℕ) : Type 0 where
+-- they are within the limit and declare a program
+pub record IsModel (name bytes : List ℕ) : Type 0 where
   pub short : length bytes ≤ limit_of Model
   pub program : Program
-  pub declares : DeclaresModel bytes program
+  pub declares : Declares name bytes program
 
--- within the limit, and they declare none
-pub record IsNoModel (bytes : List ℕ) : Type 0 where
+-- within the limit, and they declare none: this is the fault
+pub record IsNoModel (name bytes : List ℕ) (stop : ReadStop) : Type 0 where
   pub short : length bytes ≤ limit_of Model
-  pub none : (program : Program) → ¬ (DeclaresModel bytes program)
+  pub fault : model_fault (format_of name) bytes ≡ Some stop
 
 -- what a check that was not stopped by want of memory may come to
 abbrev pub IsDecided : Outcome → Type 0
@@ -58,30 +59,30 @@ IsReportEnding program bytes (Checked outcome) = IsDecided outcome × IsChecked 
 IsReportEnding program bytes _ = ⊥
 
 -- the bytes of a report are within the limit, and come to this ending for the program that the model declares
-pub record IsReported (model report : List ℕ) (ending : Ending) : Type 0 where
+pub record IsReported (name model report : List ℕ) (ending : Ending) : Type 0 where
   pub short : length report ≤ limit_of Report
   pub program : Program
-  pub declares : DeclaresModel model program
+  pub declares : Declares name model program
   pub comes : IsReportEnding program report ending
 
--- both files are told to be a model and a report that comes to this ending, where they are told
-abbrev pub AreReported : Option (List ℕ) → Option (List ℕ) → Ending → Type 0
-AreReported model report ending = IfSome model IsModel × IfSome model (λ m. IfSome report (λ r. IsReported m r ending))
+-- both files are told to be a model, whose name decides its format, and a report that comes to this ending, where they are told
+abbrev pub AreReported : List ℕ → Option (List ℕ) → Option (List ℕ) → Ending → Type 0
+AreReported name model report ending = IfSome model (IsModel name) × IfSome model (λ m. IfSome report (λ r. IsReported name m r ending))
 
--- the model and the report, as far as they are told, call for this ending
-abbrev pub CallsFor : Option (List ℕ) → Option (List ℕ) → Ending → Type 0
-CallsFor model report (TooLong Model) = IfSome model (λ m. limit_of Model < length m)
-CallsFor model report (TooLong Report) = IfSome model IsModel × IfSome report (λ r. limit_of Report < length r)
-CallsFor model report ModelRefused = IfSome model IsNoModel
-CallsFor model report (BadReport n) = AreReported model report (BadReport n)
-CallsFor model report CutReport = AreReported model report CutReport
-CallsFor model report (Checked outcome) = IsDecided outcome × AreReported model report (Checked outcome)
-CallsFor model report _ = ⊥
+-- the model of this name and the report, as far as they are told, call for this ending
+abbrev pub CallsFor : List ℕ → Option (List ℕ) → Option (List ℕ) → Ending → Type 0
+CallsFor name model report (TooLong Model) = IfSome model (λ m. limit_of Model < length m)
+CallsFor name model report (TooLong Report) = IfSome model (IsModel name) × IfSome report (λ r. limit_of Report < length r)
+CallsFor name model report (ModelRefused stop) = IfSome model (λ m. IsNoModel name m stop)
+CallsFor name model report (BadReport n) = AreReported name model report (BadReport n)
+CallsFor name model report CutReport = AreReported name model report CutReport
+CallsFor name model report (Checked outcome) = IsDecided outcome × AreReported name model report (Checked outcome)
+CallsFor name model report _ = ⊥
 
 -- the files that the ending speaks of are told
 abbrev pub IsToldFor : Option (List ℕ) → Option (List ℕ) → Ending → Type 0
 IsToldFor model report (TooLong Model) = IsSome model
-IsToldFor model report ModelRefused = IsSome model
+IsToldFor model report (ModelRefused stop) = IsSome model
 IsToldFor model report _ = IsSome model × IsSome report
 
 -- the outcome of a check as an ending, and a refused report as one

@@ -3,7 +3,8 @@ use Rattle.std.specs.Prelude.{◌≡◌, ◌≢◌, ◌<◌, ◌+◌, ◌⊎◌,
 use Rattle.std.specs.List.{list_any}
 use Rattle.frac128.specs.declared.Wide.{Wide as Operation}
 use Rattle.lp_model.specs.Program.{Program}
-use Rattle.small_forms.specs.Meaning.{DeclaresModel}
+use Rattle.text_fields.specs.declared.faults.ReadStop.{ReadStop}
+use Rattle.model_files.specs.Formats.{Declares}
 use Rattle.report_text.specs.declared.report.Command.{Command}
 use Rattle.report_text.specs.declared.report.Entry.{Entry}
 use Rattle.report_text.specs.declared.report.Report.{Report as Entries}
@@ -23,7 +24,7 @@ use Rattle.iis_run.specs.Said.{line_of, status_of, EndsInWant, Ends}
 use Rattle.iis_run.specs.declared.endings.Which.{Which}
 use Rattle.iis_run.specs.declared.endings.Which.TheVariants.{Model, Report, Script}
 use Rattle.iis_run.specs.declared.endings.Ending.{Ending}
-use Rattle.iis_run.specs.declared.endings.Ending.TheVariants.{Usage, ReadFault, Memory, BadReport, CutReport, BadScript, Checked}
+use Rattle.iis_run.specs.declared.endings.Ending.TheVariants.{Usage, ReadFault, Memory, ModelRefused, BadReport, CutReport, BadScript, Checked}
 
 -- ---- files
 -- the word that names a file, where the request asks for it
@@ -62,8 +63,8 @@ AreTold file (Request.Analyse model script) ending = IsToldFor (file model) (fil
 
 -- the files of a request, as far as they are told, call for the ending
 abbrev pub Calls : (List ℕ → Option (List ℕ)) → Request → Ending → Type 0
-Calls file (Request.Verify model report) ending = CallsFor (file model) (file report) ending
-Calls file (Request.Analyse model script) ending = CallsForScript (file model) (file script) ending
+Calls file (Request.Verify model report) ending = CallsFor model (file model) (file report) ending
+Calls file (Request.Analyse model script) ending = CallsForScript model (file model) (file script) ending
 
 -- the same, where the words are one of the forms
 abbrev pub AskedFor : (List ℕ → Option (List ℕ)) → Option Request → Ending → Type 0
@@ -72,7 +73,7 @@ AskedFor file (Some request) ending = Calls file request ending
 
 -- the model and the script, as far as they are told, are this program and these commands
 pub record IsSession (file : List ℕ → Option (List ℕ)) (model script : List ℕ) (program : Program) (commands : List Command) : Type 0 where
-  pub declares : IfSome (file model) (λ m. IsModelOf m program)
+  pub declares : IfSome (file model) (λ m. IsModelOf model m program)
   pub says : IfSome (file script) (λ s. IsCommands s commands)
 
 -- an analysis is asked for, of this program by these commands
@@ -88,8 +89,8 @@ IsCaused file before now None ending = ending ≡ Usage
 IsCaused file before now (Some request) Usage = ⊥
 IsCaused file before now (Some request) Memory = ⊤
 IsCaused file before now (Some request) (ReadFault Model) = HasFailed before now request Model
-IsCaused file before now (Some request) (ReadFault Report) = HasFailed before now request Report × IfSome (file (model_name request)) IsModel
-IsCaused file before now (Some request) (ReadFault Script) = HasFailed before now request Script × IfSome (file (model_name request)) IsModel
+IsCaused file before now (Some request) (ReadFault Report) = HasFailed before now request Report × IfSome (file (model_name request)) (IsModel (model_name request))
+IsCaused file before now (Some request) (ReadFault Script) = HasFailed before now request Script × IfSome (file (model_name request)) (IsModel (model_name request))
 IsCaused file before now (Some request) ending = Calls file request ending
 
 -- an ending with its cause, what it writes and its status
@@ -117,6 +118,10 @@ abbrev pub HasFetchStop : (List ℕ → Option (List ℕ)) → (List ℕ → ℕ
 HasFetchStop file before now None = ⊥
 HasFetchStop file before now (Some request) = (which : Which) × (HasFailed before now request which ⊎ IsTooLong file which (name_of request which))
 
+-- the told model calls for its refusal, with its first fault
+abbrev pub IsModelRefused : (List ℕ → Option (List ℕ)) → Option Request → Type 0
+IsModelRefused file request = (stop : ReadStop) × AskedFor file request (ModelRefused stop)
+
 -- the told files call for a refusal of the report, or of the script
 pub record IsTextRefused (file : List ℕ → Option (List ℕ)) (request : Option Request) : Type 0 where
   pub ending : Ending
@@ -142,14 +147,14 @@ pub record IsDone {K : Type 0} (file : List ℕ → Option (List ℕ)) (put_faul
 -- Under `verify` the check of told files accepts all the entries of the report, each of them settled. Under `analyse` all commands are answered, and no answer is a stop.
 abbrev pub IsAccepted : {K : Type 0} → (List ℕ → Option (List ℕ)) → (K → ℕ) → (K → Option (List ℕ)) → K → K → Option Request → Type 0
 IsAccepted file put_faults taken out_old out_new None = ⊥
-IsAccepted file put_faults taken out_old out_new (Some (Request.Verify model report)) = (settled : ℕ) × CallsFor (file model) (file report) (Checked (Accepted settled 0))
+IsAccepted file put_faults taken out_old out_new (Some (Request.Verify model report)) = (settled : ℕ) × CallsFor model (file model) (file report) (Checked (Accepted settled 0))
 IsAccepted file put_faults taken out_old out_new (Some (Request.Analyse model script)) = IsDone file put_faults taken out_old out_new model script false
 
 -- Under `verify` the check of told files accepts the report, of which some entries are unsettled. Under `analyse` all commands are answered, and some answer is a stop.
 abbrev pub IsUnsettled : {K : Type 0} → (List ℕ → Option (List ℕ)) → (K → ℕ) → (K → Option (List ℕ)) → K → K → Option Request → Type 0
 IsUnsettled file put_faults taken out_old out_new None = ⊥
 IsUnsettled file put_faults taken out_old out_new (Some (Request.Verify model report)) =
-    (settled : ℕ) × ((unsettled : ℕ) × ((unsettled ≢ 0) × CallsFor (file model) (file report) (Checked (Accepted settled unsettled))))
+    (settled : ℕ) × ((unsettled : ℕ) × ((unsettled ≢ 0) × CallsFor model (file model) (file report) (Checked (Accepted settled unsettled))))
 IsUnsettled file put_faults taken out_old out_new (Some (Request.Analyse model script)) = IsDone file put_faults taken out_old out_new model script true
 
 -- what the told report says of the told model is true: its notes, and what each entry claims
@@ -157,7 +162,7 @@ abbrev pub IsBorneOut : (List ℕ → Option (List ℕ)) → Option Request → 
 IsBorneOut file None = ⊥
 IsBorneOut file (Some (Request.Verify model report)) =
     IfSome (file model) (λ m. IfSome (file report) (λ r.
-    (program : Program) (entries : Entries) → DeclaresModel m program → Reads program r entries → IsTrueReport program entries))
+    (program : Program) (entries : Entries) → Declares model m program → Reads program r entries → IsTrueReport program entries))
 IsBorneOut file (Some (Request.Analyse model script)) = ⊤
 
 -- the check of told files came out as a refusal, on a line of the report
@@ -181,7 +186,7 @@ IsToldAs P (Some a) = P a
 -- an analysis is asked for, and both files are told: they are this program and these commands
 abbrev pub IsToldSession : (List ℕ → Option (List ℕ)) → Request → Program → List Command → Type 0
 IsToldSession file (Request.Verify model report) program commands = ⊥
-IsToldSession file (Request.Analyse model script) program commands = IsToldAs (λ m. IsModelOf m program) (file model) × IsToldAs (λ s. IsCommands s commands) (file script)
+IsToldSession file (Request.Analyse model script) program commands = IsToldAs (λ m. IsModelOf model m program) (file model) × IsToldAs (λ s. IsCommands s commands) (file script)
 
 -- Where nothing fails and the told files call for an ending, its line is written and its status given, or there is want of memory.
 -- Where nothing fails and they are a model and a script that reads, all commands are answered, with status 0 or 1; or there is want of memory, with status 7.

@@ -16,7 +16,7 @@ line_of Usage = usage_line
 line_of (ReadFault which) = read_fault_line which
 line_of (TooLong which) = too_long_line which
 line_of Memory = []
-line_of ModelRefused = model_refused_line
+line_of (ModelRefused stop) = model_refused_line stop
 line_of (BadReport n) = bad_report_line n
 line_of CutReport = cut_report_line
 line_of (BadScript n) = bad_script_line n
@@ -30,7 +30,7 @@ status_of Usage = 2
 status_of (ReadFault which) = 3
 status_of (TooLong which) = 3
 status_of Memory = 7
-status_of ModelRefused = 5
+status_of (ModelRefused stop) = 5
 status_of (BadReport n) = 6
 status_of CutReport = 6
 status_of (BadScript n) = 6
@@ -57,6 +57,7 @@ EndsInWant faults taken old new status = (status ≡ 7) × PutsNothing faults ta
 -- what an ending writes, and its status; a line with numbers takes memory
 abbrev pub Ends : {K : Type 0} → (K → ℕ) → (K → Option (List ℕ)) → K → K → Ending → ℕ → Type 0
 Ends faults taken old new Memory status = EndsInWant faults taken old new status
+Ends faults taken old new (ModelRefused stop) status = IsSaid faults taken old new (ModelRefused stop) status ⊎ EndsInWant faults taken old new status
 Ends faults taken old new (BadReport n) status = IsSaid faults taken old new (BadReport n) status ⊎ EndsInWant faults taken old new status
 Ends faults taken old new (BadScript n) status = IsSaid faults taken old new (BadScript n) status ⊎ EndsInWant faults taken old new status
 Ends faults taken old new (Checked outcome) status = IsSaid faults taken old new (Checked outcome) status ⊎ EndsInWant faults taken old new status

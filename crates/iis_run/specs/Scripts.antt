@@ -22,13 +22,13 @@ pub record IsBadScript (bytes : List ℕ) (n : ℕ) : Type 0 where
   pub short : length bytes ≤ limit_of Script
   pub bad : first_bad (lines_of bytes) ≡ Some n
 
--- the model and the script, as far as they are told, call for this ending
-abbrev pub CallsForScript : Option (List ℕ) → Option (List ℕ) → Ending → Type 0
-CallsForScript model script (TooLong Model) = IfSome model (λ m. limit_of Model < length m)
-CallsForScript model script (TooLong Script) = IfSome model IsModel × IfSome script (λ s. limit_of Script < length s)
-CallsForScript model script ModelRefused = IfSome model IsNoModel
-CallsForScript model script (BadScript n) = IfSome model IsModel × IfSome script (λ s. IsBadScript s n)
-CallsForScript model script _ = ⊥
+-- the model of this name and the script, as far as they are told, call for this ending
+abbrev pub CallsForScript : List ℕ → Option (List ℕ) → Option (List ℕ) → Ending → Type 0
+CallsForScript name model script (TooLong Model) = IfSome model (λ m. limit_of Model < length m)
+CallsForScript name model script (TooLong Script) = IfSome model (IsModel name) × IfSome script (λ s. limit_of Script < length s)
+CallsForScript name model script (ModelRefused stop) = IfSome model (λ m. IsNoModel name m stop)
+CallsForScript name model script (BadScript n) = IfSome model (IsModel name) × IfSome script (λ s. IsBadScript s n)
+CallsForScript name model script _ = ⊥
 
 -- a script that was not read
 abbrev pub script_ending : ScriptStop → Ending
@@ -37,6 +37,6 @@ script_ending NoMemory = Memory
 
 -- Told files call for one ending only; and a model and a script that reads call for none.
 pub record OneEndingLaw : Type 0 where
-  pub checked : (model report : Option (List ℕ)) (e f : Ending) → IsToldFor model report e → CallsFor model report e → CallsFor model report f → e ≡ f
-  pub analysed : (model script : Option (List ℕ)) (e f : Ending) → IsToldFor model script e → CallsForScript model script e → CallsForScript model script f → e ≡ f
-  pub readable : (model script : List ℕ) (commands : List Command) (e : Ending) → IsModel model → IsCommands script commands → ¬ (CallsForScript (Some model) (Some script) e)
+  pub checked : (name : List ℕ) (model report : Option (List ℕ)) (e f : Ending) → IsToldFor model report e → CallsFor name model report e → CallsFor name model report f → e ≡ f
+  pub analysed : (name : List ℕ) (model script : Option (List ℕ)) (e f : Ending) → IsToldFor model script e → CallsForScript name model script e → CallsForScript name model script f → e ≡ f
+  pub readable : (name model script : List ℕ) (commands : List Command) (e : Ending) → IsModel name model → IsCommands script commands → ¬ (CallsForScript name (Some model) (Some script) e)

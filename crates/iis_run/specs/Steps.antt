@@ -2,9 +2,11 @@
 use Rattle.std.specs.Prelude.{◌≡◌, ◌<◌, ◌≤◌, ⊤, ℕ, false, List, length, Option, IfSome, All}
 use Rattle.iis_edge.specs.Causes.{Rose}
 use Rattle.lp_model.specs.Program.{Program}
-use Rattle.lp_model.specs.Members.{active_members, is_mark}
+use Rattle.model_files.specs.Reading.{IsMarkless}
 use Rattle.report_text.specs.Commands.{IsBuilt}
 use Rattle.analysis.specs.Written.{IsAnalysis}
+use Rattle.text_fields.specs.declared.faults.ReadFault.{ReadFault as ModelFault}
+use Rattle.text_fields.specs.declared.faults.ReadFault.TheVariants.{Stop, Memory as NoMemory}
 use Rattle.iis_run.specs.Words.{Request}
 use Rattle.iis_run.specs.Limits.{limit_of}
 use Rattle.iis_run.specs.Causes.{IsNoModel, IsDecided, IsReportEnding}
@@ -20,16 +22,12 @@ use Rattle.iis_run.specs.declared.plans.Plan.{Plan}
 use Rattle.iis_run.specs.declared.plans.Plan.TheVariants.{Say, Answer}
 
 -- why there is no model: the count of faults of its name has risen; or the file calls for it, where it is told; or there is want of memory
-abbrev pub IsModelStop : Option (List ℕ) → ℕ → ℕ → Ending → Type 0
-IsModelStop file before now (ReadFault Model) = Rose before now
-IsModelStop file before now (TooLong Model) = IfSome file (λ m. limit_of Model < length m)
-IsModelStop file before now ModelRefused = IfSome file IsNoModel
-IsModelStop file before now Memory = ⊤
-IsModelStop file before now _ = ⊥
-
--- no active member is a mark
-abbrev pub IsMarkless : Program → Type 0
-IsMarkless program = All (λ m. is_mark m ≡ false) (active_members program)
+abbrev pub IsModelStop : List ℕ → Option (List ℕ) → ℕ → ℕ → Ending → Type 0
+IsModelStop name file before now (ReadFault Model) = Rose before now
+IsModelStop name file before now (TooLong Model) = IfSome file (λ m. limit_of Model < length m)
+IsModelStop name file before now (ModelRefused stop) = IfSome file (λ m. IsNoModel name m stop)
+IsModelStop name file before now Memory = ⊤
+IsModelStop name file before now _ = ⊥
 
 -- within the limit, and they come to this ending for the program
 pub record IsReportOf (program : Program) (bytes : List ℕ) (ending : Ending) : Type 0 where
@@ -83,3 +81,8 @@ IsReady (Answer program commands) = IsMarkless program × All IsBuilt commands
 abbrev pub Follows : {K : Type 0} → (K → ℕ) → (K → Option (List ℕ)) → K → K → Plan → ℕ → Type 0
 Follows faults taken old new (Say ending) status = Ends faults taken old new ending status
 Follows faults taken old new (Answer program commands) status = IsAnalysis faults taken old new program commands status
+
+-- a model that was not read
+abbrev pub model_ending : ModelFault → Ending
+model_ending (Stop stop) = ModelRefused stop
+model_ending NoMemory = Memory

@@ -1,6 +1,7 @@
 //! How a run ends.
 
 use cert_check::Outcome;
+use text_fields::ReadStop;
 
 /// The file that a refusal names.
 #[derive(Clone, Copy, Debug, PartialEq, Eq)]
@@ -17,7 +18,8 @@ pub enum Ending {
     ReadFault(Which),
     TooLong(Which),
     Memory,
-    ModelRefused,
+    /// The first fault of the model, by its line and kind.
+    ModelRefused(ReadStop),
     /// A whole line of the report, by its number, with which no report goes on.
     BadReport(u64),
     /// The report ends too soon.

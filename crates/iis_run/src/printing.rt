@@ -1,12 +1,13 @@
 //! The lines that are printed.
 ghost use Rattle.std.specs.Prelude.{◌≡◌, ◌++◌, IfOk, OnOk, decimal};
-ghost use Rattle.iis_run.specs.Lines.{read_fault_line, too_long_line, bad_report_line, bad_script_line, accepted_line, rejected_line, wide_line};
+ghost use Rattle.iis_run.specs.Lines.{read_fault_line, too_long_line, bad_report_line, bad_script_line, kind_word, model_refused_line, text_word, accepted_line, rejected_line, wide_line};
 ghost use Rattle.report_text.specs.Grammar.{op_word};
 
 use crate::endings::Which;
 use frac128::{Op, Wide};
 use itoa::Buffer;
 use std::alloc::{AllocError, Global};
+use text_fields::{ReadKind, ReadStop, TextKind};
 
 pub(crate) const USAGE: &str = "usage: iisan analyse MODEL SCRIPT | verify MODEL REPORT | make N\n";
 
@@ -48,6 +49,48 @@ fn print_part(words: &[u8], number: u64, into: &mut Vec<u8>) -> Result<(), Alloc
     let mut buffer = Buffer::new();
     into.extend_from_slice(words)?;
     into.extend_from_slice(buffer.format(number).as_bytes())
+}
+
+// The word of a fault of a text.
+fn text_kind_word(kind: TextKind) -> &'static str
+    ensures { result.now ≡ text_word kind }
+{
+    match kind {
+        TextKind::ForeignByte => "foreign byte",
+        TextKind::LongLine => "long line",
+        TextKind::BadNumber => "bad number",
+        TextKind::NumberWide => "number wide",
+    }
+}
+
+// The word of a fault of a model.
+fn read_kind_word(kind: ReadKind) -> &'static str
+    ensures { result.now ≡ kind_word kind }
+{
+    match kind {
+        ReadKind::Text(kind) => text_kind_word(kind),
+        ReadKind::Order => "order",
+        ReadKind::UnknownName => "unknown name",
+        ReadKind::DuplicateName => "duplicate name",
+        ReadKind::DuplicateEntry => "duplicate entry",
+        ReadKind::Unsupported => "unsupported",
+        ReadKind::BadField => "bad field",
+        ReadKind::Truncated => "truncated",
+        ReadKind::Limit => "limit",
+        ReadKind::SumWide => "sum wide",
+    }
+}
+
+/// The line of a refused model: the line and the kind of its first fault.
+pub(crate) fn print_model_refused(alloc: Global, stop: ReadStop) -> Result<Vec<u8>, AllocError>
+    ensures { IfOk result (λ text. text.items ≡ model_refused_line stop) }
+{
+    let mut text = Vec::new(alloc);
+    print_part(b"model refused line ", u64::from(stop.line), &mut text)?;
+    text.push(b' ')?;
+    text.extend_from_slice(read_kind_word(stop.kind).as_bytes())?;
+    text.push(b'\n')?;
+    Ok(text)
 }
 
 /// The line that names a line of the report with which no report goes on.

@@ -1,9 +1,10 @@
 //! Files that are fetched and read.
 ghost use Rattle.std.specs.Prelude.{◌≡◌, ◌≤◌, ℕ, List, length, All, IfOk, IfErr, IfSome};
 ghost use Rattle.report_text.specs.Commands.{IsBuilt};
+ghost use Rattle.model_files.specs.Reading.{IsMarkless};
 ghost use Rattle.iis_run.specs.Causes.{ComesTo, IsModelOf, checked_ending, refused_ending};
 ghost use Rattle.iis_run.specs.Scripts.{IsCommands, script_ending};
-ghost use Rattle.iis_run.specs.Steps.{IsModelStop, IsMarkless, IsCheckEnd, IsScriptEnd};
+ghost use Rattle.iis_run.specs.Steps.{IsModelStop, IsCheckEnd, IsScriptEnd, model_ending};
 
 use crate::endings::{Ending, Which};
 use crate::fetching::fetch_file;
@@ -11,9 +12,10 @@ use cert_check::{Outcome, verify};
 use iis_edge::Shelf;
 use iis_session::{Script, ScriptStop, read_script};
 use lp_model::Model;
+use model_files::read_model;
 use report_text::{ReportStop, read_report};
-use small_forms::read_model;
 use std::alloc::Global;
+use text_fields::ReadFault;
 
 /// Fetches the model and reads it.
 pub(crate) fn fetch_model<S: Shelf>(
@@ -21,9 +23,9 @@ pub(crate) fn fetch_model<S: Shelf>(
     shelf: &mut S,
     name: &str,
 ) -> Result<Model, Ending>
-    ensures read { IfOk result (λ model. IfSome (S.file shelf.old name.now) (λ b. IsModelOf b model)) }
+    ensures read { IfOk result (λ model. IfSome (S.file shelf.old name.now) (λ b. IsModelOf name.now b model)) }
     ensures markless { IfOk result IsMarkless }
-    ensures stop { IfErr result (IsModelStop (S.file shelf.old name.now) (S.faults shelf.old name.now) (S.faults shelf.new name.now)) }
+    ensures stop { IfErr result (IsModelStop name.now (S.file shelf.old name.now) (S.faults shelf.old name.now) (S.faults shelf.new name.now)) }
     ensures counts { (n : List ℕ) → S.faults shelf.old n ≤ S.faults shelf.new n }
     ensures files { (n : List ℕ) → S.file shelf.new n ≡ S.file shelf.old n }
 {
@@ -31,13 +33,20 @@ pub(crate) fn fetch_model<S: Shelf>(
         Ok(bytes) => bytes,
         Err(ending) => return Err(ending),
     };
-    let Ok(found) = read_model(alloc, bytes.as_slice()) else {
-        return Err(Ending::Memory);
-    };
-    let Some(model) = found else {
-        return Err(Ending::ModelRefused);
-    };
-    Ok(model)
+    match read_model(alloc, name.as_bytes(), bytes.as_slice()) {
+        Ok(model) => Ok(model),
+        Err(fault) => Err(unread_model(fault)),
+    }
+}
+
+// Why a model was not read.
+fn unread_model(fault: ReadFault) -> Ending
+    ensures { result ≡ model_ending fault }
+{
+    match fault {
+        ReadFault::Stop(stop) => Ending::ModelRefused(stop),
+        ReadFault::Memory => Ending::Memory,
+    }
 }
 
 // What the check of a report comes to.

@@ -2,8 +2,9 @@
 ghost use Rattle.std.specs.Prelude.{◌≡◌, ◌⊎◌, ◌≤◌, ◌↔◌, ℕ, List, None};
 ghost use Rattle.iis_edge.specs.Causes.{Rose};
 ghost use Rattle.iis_run.specs.Words.{request_of};
-ghost use Rattle.iis_run.specs.Run.{IsRun, HasFetchStop, AskedFor, IsTextRefused, IsAccepted, IsUnsettled, IsRefuted, IsBorneOut, Settles};
-ghost use Rattle.iis_run.specs.Steps.{IsMarkless, IsPlanned, IsReady, IsScriptPlan, IsSecondPlan, Follows};
+ghost use Rattle.iis_run.specs.Run.{IsRun, HasFetchStop, IsModelRefused, IsTextRefused, IsAccepted, IsUnsettled, IsRefuted, IsBorneOut, Settles};
+ghost use Rattle.model_files.specs.Reading.{IsMarkless};
+ghost use Rattle.iis_run.specs.Steps.{IsPlanned, IsReady, IsScriptPlan, IsSecondPlan, Follows};
 
 use crate::endings::Ending;
 use crate::plans::Plan;
@@ -86,7 +87,9 @@ fn follow<W: Sink>(alloc: Global, plan: Plan, out: &mut W) -> u8
 /// - 3: `read fault WHICH`, only where the shelf's count of faults of that file's own name rose; or `too long WHICH`,
 ///   exactly where a told file is longer than its limit.
 /// - 4: the put of the `accepted` line failed, or the put of a piece of the report.
-/// - 5: `model refused line 1 unsupported`, exactly where the bytes are not in the small form.
+/// - 5: `model refused line N KIND`, exactly where the told bytes declare no model: line N has the first fault, which is
+///   of this kind. A name that ends with `.lp`, in any case of letters, is that of a model in the LP format, any other that of one in
+///   the MPS format. A model with whole columns is `model refused line 1 unsupported`.
 /// - 6: `report refused line N`, where no report on that model goes on with whole line N, the first such one; or
 ///   `report refused truncated`, where every whole line is right and the report ends too soon; or `script refused line
 ///   N`, where line N is the first of the script that is no command, or one too many.
@@ -101,7 +104,7 @@ pub fn run<S: Shelf, W: Sink>(alloc: Global, words: &[String], shelf: &mut S, ou
     // Status 4 comes only where the sink failed in this call.
     ensures write_fault { result ≡ 4 → Rose (W.faults out.old) (W.faults out.new) }
     // Statuses 5, 6 and 8 come only where the told files call for them.
-    ensures model_refused { result ≡ 5 → AskedFor (S.file shelf.old) (request_of words.now) Ending.ModelRefused }
+    ensures model_refused { result ≡ 5 → IsModelRefused (S.file shelf.old) (request_of words.now) }
     ensures text_refused { result ≡ 6 → IsTextRefused (S.file shelf.old) (request_of words.now) }
     ensures refuted { result ≡ 8 → IsRefuted (S.file shelf.old) (request_of words.now) }
     // Statuses 0 and 1 come only where a report is accepted, or where all commands are answered: 1 where some entry is a stop.

@@ -6,13 +6,14 @@ ghost use Rattle.iis_run.specs.Said.{Puts, IsSaid, EndsInWant, Ends};
 
 use crate::endings::Ending;
 use crate::printing::{
-    USAGE, print_accepted, print_bad_report, print_bad_script, print_rejected, print_wide,
-    read_fault_text, too_long_text,
+    USAGE, print_accepted, print_bad_report, print_bad_script, print_model_refused, print_rejected,
+    print_wide, read_fault_text, too_long_text,
 };
 use cert_check::Outcome;
 use frac128::Wide;
 use iis_edge::{PutFault, Sink};
 use std::alloc::Global;
+use text_fields::ReadStop;
 
 // Puts a line.
 fn put_line<W: Sink>(out: &mut W, line: &[u8]) -> Result<(), PutFault>
@@ -70,6 +71,17 @@ fn say_wide<W: Sink>(alloc: Global, line: u64, wide: Wide, out: &mut W) -> u8
     8
 }
 
+// Puts the line that names the first fault of the model, and gives the status.
+fn say_model_refused<W: Sink>(alloc: Global, stop: ReadStop, out: &mut W) -> u8
+    ensures { Ends W.faults W.taken out.old out.new (Ending.ModelRefused stop) result }
+{
+    let Ok(text) = print_model_refused(alloc, stop) else {
+        return 7;
+    };
+    put_any(out, text.as_slice());
+    5
+}
+
 // Puts the line that names a bad line of the report, and gives the status.
 fn say_bad_report<W: Sink>(alloc: Global, line: u64, out: &mut W) -> u8
     ensures { Ends W.faults W.taken out.old out.new (Ending.BadReport line) result }
@@ -110,10 +122,7 @@ pub(crate) fn say<W: Sink>(alloc: Global, ending: Ending, out: &mut W) -> u8
             3
         }
         Ending::Memory => 7,
-        Ending::ModelRefused => {
-            put_any(out, b"model refused line 1 unsupported\n");
-            5
-        }
+        Ending::ModelRefused(stop) => say_model_refused(alloc, stop, out),
         Ending::BadReport(line) => say_bad_report(alloc, line, out),
         Ending::CutReport => {
             put_any(out, b"report refused truncated\n");

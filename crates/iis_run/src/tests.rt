@@ -138,12 +138,17 @@ fn points(rt: HostRuntime) -> Result<(), Fail> {
 fn refusals(rt: HostRuntime) -> Result<(), Fail> {
     let alloc = rt.alloc();
     let models = [
-        "",
-        "NAME T\nROWS\n G r\nCOLUMNS\n x r 2\nENDATA\n",
-        "ROWS\n G r\n L r\nCOLUMNS\nENDATA\n",
+        ("", "model refused line 1 truncated\n"),
+        (
+            "NAME T\nROWS\n G r\nCOLUMNS\n x r\nENDATA\n",
+            "model refused line 5 bad field\n",
+        ),
+        (
+            "ROWS\n G r\n L r\nCOLUMNS\nENDATA\n",
+            "model refused line 3 duplicate name\n",
+        ),
     ];
-    for model in models {
-        let line = "model refused line 1 unsupported\n";
+    for (model, line) in models {
         expect(&rt, &run_values(alloc, model, "value x 2\n")?, 5, line);
     }
     for values in ["value y 2\n", "value x 0\n", "value x 2/4\n"] {
@@ -502,7 +507,7 @@ fn script_fetches(rt: HostRuntime) -> Result<(), Fail> {
     let unread = run_script(alloc, MODEL, "check\n", &[2], &[])?;
     expect(&rt, &unread, 3, "read fault script\n");
     let unasked = run_script(alloc, "", "check\n", &[2], &[])?;
-    expect(&rt, &unasked, 5, "model refused line 1 unsupported\n");
+    expect(&rt, &unasked, 5, "model refused line 1 truncated\n");
     let mut files = Vec::new(alloc);
     files.push(file(alloc, "m.mps", MODEL)?)?;
     files.push(File {

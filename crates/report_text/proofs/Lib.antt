@@ -14,3 +14,4 @@ pub mod OneReport
 pub mod Printed
 pub mod Scripted
 pub mod Kept
+pub mod WholeLines

@@ -1,5 +1,6 @@
 //! The reader of reports.
-ghost use Rattle.std.specs.Prelude.{◌≡◌, ◌+◌, ◌<◌, length, IfOk, IfErr, MatchResult};
+ghost use Rattle.std.specs.Prelude.{◌≡◌, ◌+◌, ◌<◌, ◌∷◌, [], length, IfOk, IfErr, IfSome, MatchOption, MatchResult};
+ghost use Rattle.lines.specs.Parts.{parts};
 ghost use Rattle.report_text.specs.declared.report.Report.{Report};
 ghost use Rattle.report_text.specs.Reading.{Reads, IsReportStop};
 ghost use Rattle.report_text.specs.Drafts.{Takes, IsLineStop, ended, IsDraftFor};
@@ -8,9 +9,9 @@ use crate::advancing::{advance, nothing};
 use crate::drafts::{Draft, Stage};
 use crate::lexing::read_phrase;
 use crate::report::{Report, ReportStop};
-use lines::cut;
 use lp_model::Model;
 use std::alloc::Global;
+use text_fields::next_line;
 
 // Takes one line more.
 fn take_line(
@@ -57,6 +58,22 @@ fn end(draft: Draft, number: u64, rest: &[u8]) -> Result<Report, ReportStop>
     }
 }
 
+// The first line of a text, where its byte 10 ends it, and the bytes after that.
+fn whole_line(bytes: &[u8]) -> Option<(&[u8], &[u8])>
+    ensures parts { MatchOption result
+        (parts 10 bytes.now ≡ bytes.now ∷ [])
+        (λ r. parts 10 bytes.now ≡ r.0.now ∷ parts 10 r.1.now) }
+    ensures shorter { IfSome result (λ r. length r.1.now < length bytes.now) }
+{
+    let Some(line) = next_line(bytes, 0, 1) else {
+        return None;
+    };
+    if line.to == bytes.len() {
+        return None;
+    }
+    Some((&bytes[..line.to], &bytes[line.to + 1..]))
+}
+
 // How many bytes there are, which is a number that can be counted to.
 fn count_bytes(bytes: &[u8]) -> usize
     ensures { result ≡ length bytes.now }
@@ -85,7 +102,7 @@ pub fn read_report(alloc: Global, bytes: &[u8], model: &Model) -> Result<Report,
     let mut draft = nothing(alloc);
     let mut rest = bytes;
     let mut number: u64 = 0;
-    while let Some((line, after)) = cut(rest, b'\n') {
+    while let Some((line, after)) = whole_line(rest) {
         number += 1;
         draft = take_line(alloc, model, draft, number, line)?;
         rest = after;

@@ -1,0 +1,7 @@
+//! Runs over models in both formats, byte by byte.
+#![tactic(auto)]
+
+#[cfg(test)]
+mod examples;
+#[cfg(test)]
+mod tests;
