@@ -18,5 +18,5 @@ by_tests false false false f g = refl
 pub far-test : (b : Bool) (value : ℚ) → (IsTrue b ↔ ((whole (pos (10 ^ 20)) ≤ℚ value) ⊎ (whole (pos (10 ^ 20)) ≤ℚ neg_ℚ value))) → b ≡ is_far value
 unfolding is_far
 far-test b value h = by_tests b (le_q far value) (le_q far (neg_ℚ value))
-  (λ e. elim (h.0 e) [ inl l ↦ inl ((le_q-Decides far value).1 l) | inr l ↦ inr ((le_q-Decides far (neg_ℚ value)).1 l) ])
-  (λ e. h.1 (elim e [ inl t ↦ inl ((le_q-Decides far value).0 t) | inr t ↦ inr ((le_q-Decides far (neg_ℚ value)).0 t) ]))
+    (λ e. elim (h.0 e) [ inl l ↦ inl ((le_q-Decides far value).1 l) | inr l ↦ inr ((le_q-Decides far (neg_ℚ value)).1 l) ])
+    (λ e. h.1 (elim e [ inl t ↦ inl ((le_q-Decides far value).0 t) | inr t ↦ inr ((le_q-Decides far (neg_ℚ value)).0 t) ]))

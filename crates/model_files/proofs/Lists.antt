@@ -5,7 +5,6 @@ use Rattle.std.proofs.lemmas.List.Elements.{All-cons, All-nil}
 use Rattle.rational.specs.Rational.{ℚ, zero_ℚ, one_ℚ, eq_ℚ, ◌<ℚ◌}
 use Rattle.rational.proofs.Compare.{eq-Decides}
 use Rattle.rational.specs.Linear.{Term}
-
 use Rattle.model_files.proofs.Formed.{Ascends, from-lower}
 
 -- names of things that are made of others

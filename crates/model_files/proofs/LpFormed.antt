@@ -109,7 +109,7 @@ row-apart front (Row label left terms relation right) e a =
     let k : length (row_names front) + 1 ≡ 1 + length (rows_of front) = (let m = names-length 1 (rows_of front) in omega (arith, m)) in
     subst Apart (sym (names-more 1 (rows_of front) (record { label = label; left = left; terms = terms; relation = relation; right = right })))
     (apart-more (row_names front) (row_name (1 + length (rows_of front)) label) a
-      (subst (λ (i : ℕ). is_named (row_names front) (row_name i label) ≡ false) k (new-label (row_names front) right.text.line label labelled unnamed)))
+    (subst (λ (i : ℕ). is_named (row_names front) (row_name i label) ≡ false) k (new-label (row_names front) right.text.line label labelled unnamed)))
 row-apart front (Objective maximise label terms) e a = subst (λ (xs : List RowPart). Apart (names_from 1 xs)) (sym (append-nil (rows_of front))) a
 row-apart front (Heading keyword) e a = subst (λ (xs : List RowPart). Apart (names_from 1 xs)) (sym (append-nil (rows_of front))) a
 row-apart front (Free name) e a = subst (λ (xs : List RowPart). Apart (names_from 1 xs)) (sym (append-nil (rows_of front))) a
@@ -126,8 +126,8 @@ rows-apart front [] a e = subst (λ (xs : List Statement). Apart (row_names xs))
 rows-apart front (s ∷ statements) a e =
     subst (λ (xs : List Statement). Apart (row_names xs)) (append-to front s statements)
     (rows-apart (front ++ s ∷ []) statements
-      (subst (λ (xs : List RowPart). Apart (names_from 1 xs)) (sym (rows-more front s)) (row-apart front s (first-none (statement_fault front s) (first_fault (front ++ s ∷ []) statements) e) a))
-      (second-none (statement_fault front s) (first_fault (front ++ s ∷ []) statements) e))
+    (subst (λ (xs : List RowPart). Apart (names_from 1 xs)) (sym (rows-more front s)) (row-apart front s (first-none (statement_fault front s) (first_fault (front ++ s ∷ []) statements) e) a))
+    (second-none (statement_fault front s) (first_fault (front ++ s ∷ []) statements) e))
 
 none-yet : Apart (row_names [])
 unfolding names_from

@@ -1,7 +1,8 @@
 //! The files of the folder `examples`, word for word.
 
 /// `year.lp`.
-pub(crate) const YEAR_LP: &str = "\\ A bakery's year: bread and cake for each month, by what is wanted, the oven's room and the hours.
+pub(crate) const YEAR_LP: &str =
+    "\\ A bakery's year: bread and cake for each month, by what is wanted, the oven's room and the hours.
 \\ The oven has no room for what is wanted in December.
 Minimize
  cost: 2 bread_jan + 3 cake_jan + 2 bread_feb + 3 cake_feb
@@ -72,7 +73,8 @@ End
 ";
 
 /// `year.mps`.
-pub(crate) const YEAR_MPS: &str = "* A bakery's year: bread and cake for each month, by what is wanted, the oven's room and the hours.
+pub(crate) const YEAR_MPS: &str =
+    "* A bakery's year: bread and cake for each month, by what is wanted, the oven's room and the hours.
 * The oven has no room for what is wanted in December.
 NAME YEAR
 ROWS

@@ -15,9 +15,13 @@ struct Row {
 }
 
 const MPS: [&str; 3] = ["analyse", "m.mps", "s.txt"];
+
 const LP: [&str; 3] = ["analyse", "m.lp", "s.txt"];
+
 const VERIFY: [&str; 3] = ["verify", "m.mps", "r.txt"];
+
 const VERIFY_LP: [&str; 3] = ["verify", "m.lp", "r.txt"];
+
 const CHECK: &str = "check\n";
 
 fn file(alloc: Global, name: &str, text: &str) -> Result<File, AllocError> {
@@ -50,16 +54,24 @@ fn expect(rt: &impl Abort, alloc: Global, rows: &[Row]) -> Result<(), AllocError
 }
 
 const EMPTY: &str = "ROWS\nCOLUMNS\nENDATA\n";
+
 const EMPTY_REPORT: &str = "iisan report 1\ncommand check\nfeasible\npoint\nend\nreport end\n";
 
-const WIDEST: &str = "NAME T\nROWS\n N COST\n L R1\nCOLUMNS\n X R1 170141183460469231731687303715884105727\nRHS\n RHS R1 1\nBOUNDS\n UP BND X 1e30\nENDATA\n";
-const WIDER: &str = "NAME T\nROWS\n N COST\n L R1\nCOLUMNS\n X R1 170141183460469231731687303715884105728\nRHS\n RHS R1 1\nBOUNDS\n UP BND X 1e30\nENDATA\n";
-const CUT: &str = "NAME T\nROWS\n N COST\n L R1\nCOLUMNS\n X R1 170141183460469231731687303715884105727\nRHS\n RHS R1 1\nBOUNDS\n";
+const WIDEST: &str =
+    "NAME T\nROWS\n N COST\n L R1\nCOLUMNS\n X R1 170141183460469231731687303715884105727\nRHS\n RHS R1 1\nBOUNDS\n UP BND X 1e30\nENDATA\n";
+
+const WIDER: &str =
+    "NAME T\nROWS\n N COST\n L R1\nCOLUMNS\n X R1 170141183460469231731687303715884105728\nRHS\n RHS R1 1\nBOUNDS\n UP BND X 1e30\nENDATA\n";
+
+const CUT: &str =
+    "NAME T\nROWS\n N COST\n L R1\nCOLUMNS\n X R1 170141183460469231731687303715884105727\nRHS\n RHS R1 1\nBOUNDS\n";
 
 const RANGED: &str = "ROWS\n E R\nCOLUMNS\n X R 1\nRHS\n R 4\nRANGES\n R -3\nENDATA\n";
 
 const NOTED: &str = "ROWS\n N C\nCOLUMNS\n X C 1\nBOUNDS\n UP BND X -2\nENDATA\n";
-const NOTE_REPORT: &str = "iisan report 1\nnote X lower removed\ncommand check\nfeasible\npoint\nvalue X -2\nend\nreport end\n";
+
+const NOTE_REPORT: &str =
+    "iisan report 1\nnote X lower removed\ncommand check\nfeasible\npoint\nvalue X -2\nend\nreport end\n";
 
 const MARKED: &str = "ROWS\n G R\nCOLUMNS\n M 'MARKER' 'INTORG'\n X R 1\nENDATA\n";
 
@@ -172,21 +184,30 @@ fn mps_reports(rt: HostRuntime) -> Result<(), Fail> {
 }
 
 const CROSSING: &str = "Minimize\nobj: x\nSubject To\nBounds\nx >= 3\nx <= 2\nEnd\n";
-const CROSSING_REPORT: &str = "iisan report 1\ncommand check\ninfeasible\nmember lower x\nmember upper x\nproof\nleaf\nuse lower x lo 1\nuse upper x up 1\nend\nreport end\n";
 
-const COMBINED: &str =
-    "Minimize\nSubject To\nc1: 3 x + 3 y <= 1\nc2: x + y >= 0.5\nEnd\n";
-const COMBINED_REPORT: &str = "iisan report 1\ncommand check\ninfeasible\nmember row c1\nmember row c2\nproof\nleaf\nuse row c1 up 1\nuse row c2 lo 3\nend\nreport end\n";
+const CROSSING_REPORT: &str =
+    "iisan report 1\ncommand check\ninfeasible\nmember lower x\nmember upper x\nproof\nleaf\nuse lower x lo 1\nuse upper x up 1\nend\nreport end\n";
 
-const WIDE_TURN: &str =
-    "Minimize\nSubject To\nc1: 1e30 x + y = 1\nc2: x + 1e30 y = 1\nEnd\n";
-const WIDE_REPORT: &str = "iisan report 1\ncommand check\ntoo wide\nsite settle\nstep 1\noperation minus 1000000000000000000000000000000 1/1000000000000000000000000000000\nend\nreport end\n";
-const SPENT_REPORT: &str = "iisan report 1\ncommand budget pivots 0\ndone\ncommand check\npivots spent\nsite settle\nend\nreport end\n";
+const COMBINED: &str = "Minimize\nSubject To\nc1: 3 x + 3 y <= 1\nc2: x + y >= 0.5\nEnd\n";
+
+const COMBINED_REPORT: &str =
+    "iisan report 1\ncommand check\ninfeasible\nmember row c1\nmember row c2\nproof\nleaf\nuse row c1 up 1\nuse row c2 lo 3\nend\nreport end\n";
+
+const WIDE_TURN: &str = "Minimize\nSubject To\nc1: 1e30 x + y = 1\nc2: x + 1e30 y = 1\nEnd\n";
+
+const WIDE_REPORT: &str =
+    "iisan report 1\ncommand check\ntoo wide\nsite settle\nstep 1\noperation minus 1000000000000000000000000000000 1/1000000000000000000000000000000\nend\nreport end\n";
+
+const SPENT_REPORT: &str =
+    "iisan report 1\ncommand budget pivots 0\ndone\ncommand check\npivots spent\nsite settle\nend\nreport end\n";
 
 const BUDGETS: &str = "budget pivots 0\ncheck\nbudget pivots 1\ncheck\n";
-const BUDGETS_REPORT: &str = "iisan report 1\ncommand budget pivots 0\ndone\ncommand check\npivots spent\nsite settle\nend\ncommand budget pivots 1\ndone\ncommand check\ninfeasible\nmember row c1\nmember row c2\nproof\nleaf\nuse row c1 up 1\nuse row c2 lo 3\nend\nreport end\n";
+
+const BUDGETS_REPORT: &str =
+    "iisan report 1\ncommand budget pivots 0\ndone\ncommand check\npivots spent\nsite settle\nend\ncommand budget pivots 1\ndone\ncommand check\ninfeasible\nmember row c1\nmember row c2\nproof\nleaf\nuse row c1 up 1\nuse row c2 lo 3\nend\nreport end\n";
 
 const SQUARED: &str = "Minimize\nobj: x\nSubject To\nc1: x + [ y ^ 2 ] <= 1\nEnd\n";
+
 const SUMMED: &str =
     "Minimize\nSubject To\nc1: 170141183460469231731687303715884105727 x + x <= 1\nEnd\n";
 
@@ -216,12 +237,18 @@ fn lp_models(rt: HostRuntime) -> Result<(), Fail> {
     Ok(())
 }
 
-const FALSE_WEIGHT: &str = "iisan report 1\ncommand check\ninfeasible\nmember row c1\nmember row c2\nproof\nleaf\nuse row c1 up 1\nuse row c2 lo 2\nend\nreport end\n";
-const UNENDED: &str = "iisan report 1\ncommand check\ninfeasible\nmember row c1\nmember row c2\nproof\nleaf\nuse row c1 up 1\nuse row c2 lo 3\nend\n";
-const MISSPELT: &str = "iisan report 1\ncommand check\ninfeasable\nmember row c1\nmember row c2\nproof\nleaf\nuse row c1 up 1\nuse row c2 lo 3\nend\nreport end\n";
+const FALSE_WEIGHT: &str =
+    "iisan report 1\ncommand check\ninfeasible\nmember row c1\nmember row c2\nproof\nleaf\nuse row c1 up 1\nuse row c2 lo 2\nend\nreport end\n";
+
+const UNENDED: &str =
+    "iisan report 1\ncommand check\ninfeasible\nmember row c1\nmember row c2\nproof\nleaf\nuse row c1 up 1\nuse row c2 lo 3\nend\n";
+
+const MISSPELT: &str =
+    "iisan report 1\ncommand check\ninfeasable\nmember row c1\nmember row c2\nproof\nleaf\nuse row c1 up 1\nuse row c2 lo 3\nend\nreport end\n";
 
 const WIDE_ROW: &str =
     "Minimize\nSubject To\nc1: 170141183460469231731687303715884105727 x >= 0\nEnd\n";
+
 const POINT_TWO: &str =
     "iisan report 1\ncommand check\nfeasible\npoint\nvalue x 2\nend\nreport end\n";
 
@@ -264,7 +291,12 @@ fn lp_reports(rt: HostRuntime) -> Result<(), Fail> {
 fn names(rt: HostRuntime) -> Result<(), Fail> {
     let runs = [
         (["analyse", "m.LP", "s.txt"], COMBINED, 0, COMBINED_REPORT),
-        (["analyse", "dir.x/m.Lp", "s.mps"], COMBINED, 0, COMBINED_REPORT),
+        (
+            ["analyse", "dir.x/m.Lp", "s.mps"],
+            COMBINED,
+            0,
+            COMBINED_REPORT,
+        ),
         (["analyse", "m", "s.lp"], EMPTY, 0, EMPTY_REPORT),
         (["analyse", "m.lp.mps", "s.lp"], EMPTY, 0, EMPTY_REPORT),
         (["analyse", "lp", "s.lp"], EMPTY, 0, EMPTY_REPORT),
