@@ -160,9 +160,10 @@ module _ (reader : Reader) (statements : List Statement) (holds : Holds reader s
   row_formed i h =
       let long : length reader.rows.items.items ≡ length (rows_of statements) = ap length holds.rows ∙ length_map (row_of (columns_of statements)) (rows_of statements) in
       let part : RowPart = get_or (rows_of statements) i (record { label = None; left = None; terms = []; relation = AtMost; right = record { negative = false; infinite = false; text = record { text = []; line = 0 } } }) in
-      let is : slice_index_or reader.rows.items.items i no_row ≡ row_of (columns_of statements) part = ap (λ rs. slice_index_or rs i no_row) holds.rows ∙ get_or-map (row_of (columns_of statements)) (rows_of statements) i (record { label = None; left = None; terms = []; relation = AtMost; right = record { negative = false; infinite = false; text = record { text = []; line = 0 } } }) no_row (omega arith) in
-      (subst (λ (r : Row). IsForm (length (names_of reader.columns.names)) r.terms) (sym is) (subst (λ ns. IsForm (length ns) (form_of (columns_of statements) part.terms)) (sym holds.columns) (form_formed (columns_of statements) part.terms)),
-          subst (λ (r : Row). IsPositiveWeight r.weight) (sym is) positive_weight)
+      let is : slice_index_or reader.rows.items.items i no_row ≡ row_of (columns_of statements) part = ap (λ rs. slice_index_or rs i no_row) holds.rows ∙ get_or-map (row_of (columns_of statements)) (rows_of statements) i (record { label = None; left = None; terms = []; relation = AtMost; right = record { negative = false; infinite = false; text = record { text = []; line = 0 } } }) no_row (omega arith) in (
+        subst (λ (r : Row). IsForm (length (names_of reader.columns.names)) r.terms) (sym is) (subst (λ ns. IsForm (length ns) (form_of (columns_of statements) part.terms)) (sym holds.columns) (form_formed (columns_of statements) part.terms)),
+        subst (λ (r : Row). IsPositiveWeight r.weight) (sym is) positive_weight,
+      )
 
   pub objective_formed : IsForm (length (names_of reader.columns.names)) reader.objective
   objective_formed = subst (λ ts. IsForm (length (names_of reader.columns.names)) ts) (sym holds.objective) (subst (λ ns. IsForm (length ns) (form_of (columns_of statements) (last_or [] (filter_map objective_in statements)))) (sym holds.columns) (form_formed (columns_of statements) (last_or [] (filter_map objective_in statements))))
