@@ -197,3 +197,12 @@ module _ (reader : Reader) (statements : List Statement) (holds : Holds reader s
   } → model ≡ program_of statements
   unfolding program_of
   built model is = is ∙ (λ k. record { rows = rows_are k; columns = columns_are k; objective = holds.objective k; maximise = holds.maximise k; notes = notes_all k })
+
+  pub columns_counted : length (columns_listed (names_of reader.columns.names) reader.columns.bounds.items (length reader.columns.names)) ≡ length (names_of reader.columns.names)
+  columns_counted = length-listed (λ i. column_shown (name_at (names_of reader.columns.names) i) (slice_index_or reader.columns.bounds.items i plain)) (length reader.columns.names) ∙ sym (length_map (λ e. e.0) reader.columns.names)
+
+  pub bounds_few : length reader.columns.bounds.items ≤ 4000
+  bounds_few = let a = holds.few_columns in let b : length reader.columns.bounds.items ≡ length (columns_of statements) = ap length holds.bounds ∙ length_map (bounds_of statements) (columns_of statements) in omega arith
+
+  pub bounds_named : length reader.columns.bounds.items ≡ length (names_of reader.columns.names)
+  bounds_named = even ∙ sym (length_map (λ e. e.0) reader.columns.names)
