@@ -162,9 +162,10 @@ module _ (bytes : List ℕ) (at number : ℕ) (reader : Reader) (context : Conte
         ended e =
             let l : is_last r.text ≡ true = sym last_is ∙ e in
             let none_left : steps_after more rest ++ ending (lines_of bytes) ≡ [] =
-            (λ i. steps_after more (cond (l i) [] (records_after more (number + 1) (lines_of (drop (after bytes line) bytes)))) ++ cond ((any_here ∙ ap (λ b. b || list_any is_last (lines_of (drop (after bytes line) bytes))) l) i) [] (placed (max 1 (length (lines_of bytes))) (Refused Truncated) ∷ [])) in
-            (fault_after ∙ ap (first_fault (so_far.steps ++ ss)) none_left ∙ no_more (so_far.steps ++ ss),
-            subst (Holds new) (sym (steps_then ∙ ap (λ l. (so_far.steps ++ ss) ++ map (λ (p : Placed). p.step) l) none_left ∙ append-nil (so_far.steps ++ ss))) holds)
+            (λ i. steps_after more (cond (l i) [] (records_after more (number + 1) (lines_of (drop (after bytes line) bytes)))) ++ cond ((any_here ∙ ap (λ b. b || list_any is_last (lines_of (drop (after bytes line) bytes))) l) i) [] (placed (max 1 (length (lines_of bytes))) (Refused Truncated) ∷ [])) in (
+              fault_after ∙ ap (first_fault (so_far.steps ++ ss)) none_left ∙ no_more (so_far.steps ++ ss),
+              subst (Holds new) (sym (steps_then ∙ ap (λ l. (so_far.steps ++ ss) ++ map (λ (p : Placed). p.step) l) none_left ∙ append-nil (so_far.steps ++ ss))) holds,
+            )
 
         -- a line that is not the last
         pub goes_on : (at' : ℕ) → is_section End next.section ≡ false → at' ≡ after bytes line → Reading bytes at' (number + 1) new next
@@ -202,8 +203,8 @@ cut_off bytes at number reader context line found so_far done last is =
     (λ i. steps_after so_far.front (records_after so_far.front number (nothing i)) ++ cond (unended i) [] (placed (max 1 (length (lines_of bytes))) (Refused Truncated) ∷ [])) in
     let same : max 1 (length (lines_of bytes)) ≡ line = ap (max 1) (omega arith) ∙ sym last in
     subst (IsMpsStop bytes) (sym is) (
-      so_far.fault_is ∙ ap (first_fault so_far.steps) left_over ∙ step_stops so_far.steps (max 1 (length (lines_of bytes))) (Refused Truncated) [] Truncated (refused_is so_far.steps Truncated)
-      ∙ ap (λ (n : ℕ). Some (let t : ReadStop = record { line = n; kind = Truncated } in t)) same)
+    so_far.fault_is ∙ ap (first_fault so_far.steps) left_over ∙ step_stops so_far.steps (max 1 (length (lines_of bytes))) (Refused Truncated) [] Truncated (refused_is so_far.steps Truncated)
+    ∙ ap (λ (n : ℕ). Some (let t : ReadStop = record { line = n; kind = Truncated } in t)) same)
   where
     none_left : {X : Type 0} (xs : List X) → length xs ≡ 0 → xs ≡ []
     none_left [] h = refl

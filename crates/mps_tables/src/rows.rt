@@ -75,12 +75,7 @@ pub fn take_row(
 }
 
 // Puts a new row last.
-fn put_row(
-    alloc: Global,
-    reader: &mut Reader,
-    kind: RowKind,
-    name: &[u8],
-) -> Result<(), AllocError>
+fn put_row(alloc: Global, reader: &mut Reader, kind: RowKind, name: &[u8]) -> Result<(), AllocError>
     requires fresh { list_any (bytes_eq name.now) (names_of reader.old.rows) ≡ false }
     requires short { nat_lt 255 (length name.now) ≡ false }
     requires room { cond (is_free kind) (nat_le 1000 reader.old.free) (nat_le 2000 reader.old.kept) ≡ false }

@@ -20,6 +20,7 @@ returns-then-is_set c = λ steps h.
 
 pub returns : goal.returns
 returns c = λ steps h.
-    let absent = sym c.is_set.ensures ∙ c.if-is_set.false in
-    (bound_fits c.args.reader.now steps (bound_shown c.args.given) h c.in-Some.column c.in-Some.ensures c.in-Ok.ensures.0 c.in-Ok.ensures.1 absent,
-    c.in_ok-put_bound.ensures steps (bound_shown c.args.given) h c.in-Some.ensures refl (sym c.in-Ok.ensures.2) absent)
+    let absent = sym c.is_set.ensures ∙ c.if-is_set.false in (
+      bound_fits c.args.reader.now steps (bound_shown c.args.given) h c.in-Some.column c.in-Some.ensures c.in-Ok.ensures.0 c.in-Ok.ensures.1 absent,
+      c.in_ok-put_bound.ensures steps (bound_shown c.args.given) h c.in-Some.ensures refl (sym c.in-Ok.ensures.2) absent,
+    )

@@ -30,6 +30,7 @@ returns-clause-stands c =
 pub returns-clause-takes : goal.returns-clause-takes
 returns-clause-takes c = λ steps h.
     let short = sym c.is_long.ensures ∙ c.if-is_long.false in
-    let room : length c.args.reader.now.columns < 4000 = omega (arith, c.len-column.ensures.len, c.if-column-ge-MOST_COLUMNS.false) in
-    (column_fits c.args.reader.now steps c.args.name.now c.args.whole h c.in_default.ensures short room,
-    column_taken c.args.reader.now steps c.args.name.now c.args.whole h c.push.new.self c.in_ok-push.ensures.ok c.in_default.ensures short room)
+    let room : length c.args.reader.now.columns < 4000 = omega (arith, c.len-column.ensures.len, c.if-column-ge-MOST_COLUMNS.false) in (
+      column_fits c.args.reader.now steps c.args.name.now c.args.whole h c.in_default.ensures short room,
+      column_taken c.args.reader.now steps c.args.name.now c.args.whole h c.push.new.self c.in_ok-push.ensures.ok c.in_default.ensures short room,
+    )

@@ -26,9 +26,10 @@ returns-then-reader-ge-MOST_ENTRIES-clause-takes c = λ steps h.
 pub returns-then-is_dropped_at-clause-takes : goal.returns-then-is_dropped_at-clause-takes
 returns-then-is_dropped_at-clause-takes c = λ steps h.
     let column = name_at (column_names_held c.args.reader.now) c.args.column in
-    let drops = sym c.is_dropped_at.ensures ∙ c.if-is_dropped_at.true in
-    (entry_dropped_fits c.args.reader.now steps column (figure_shown c.args.figure) h c.in-Some.row c.in-Some.ensures c.in-Some-literal_of.literal (sym c.in-Some-literal_of.ensures) drops c.if-reader-ge-MOST_ENTRIES.false,
-    entry_counts c.args.reader.now steps column (figure_shown c.args.figure) h c.in-Some.row c.in-Some.ensures c.in-Some-literal_of.literal (sym c.in-Some-literal_of.ensures) drops)
+    let drops = sym c.is_dropped_at.ensures ∙ c.if-is_dropped_at.true in (
+      entry_dropped_fits c.args.reader.now steps column (figure_shown c.args.figure) h c.in-Some.row c.in-Some.ensures c.in-Some-literal_of.literal (sym c.in-Some-literal_of.ensures) drops c.if-reader-ge-MOST_ENTRIES.false,
+      entry_counts c.args.reader.now steps column (figure_shown c.args.figure) h c.in-Some.row c.in-Some.ensures c.in-Some-literal_of.literal (sym c.in-Some-literal_of.ensures) drops,
+    )
 
 pub returns-in_default-fitting-clause-takes : goal.returns-in_default-fitting-clause-takes
 returns-in_default-fitting-clause-takes c = λ steps h.
@@ -52,7 +53,8 @@ pub returns-clause-takes : goal.returns-clause-takes
 returns-clause-takes c = λ steps h.
     let column = name_at (column_names_held c.args.reader.now) c.args.column in
     let drops = sym c.is_dropped_at.ensures ∙ c.if-is_dropped_at.false in
-    let absent = sym c.contains_key.ensures ∙ c.if-contains_key.false in
-    (entry_fits c.args.reader.now steps column (figure_shown c.args.figure) h c.in-Some.row c.in-Some.ensures c.in-Some-literal_of.literal (sym c.in-Some-literal_of.ensures) c.in-Some-fitting.value (sym c.in-Some-fitting.ensures) c.args.column c.requires drops absent c.if-reader-ge-MOST_ENTRIES-2.false,
-    entry_taken c.args.reader.now steps column (figure_shown c.args.figure) h c.in-Some.row c.in-Some.ensures c.in-Some-literal_of.literal (sym c.in-Some-literal_of.ensures) c.in-Some-fitting.value (sym c.in-Some-fitting.ensures) c.args.column c.requires
-    (record c.args.reader.now { entries = c.insert.new.self }) c.in_ok-insert.ensures.entries absent)
+    let absent = sym c.contains_key.ensures ∙ c.if-contains_key.false in (
+      entry_fits c.args.reader.now steps column (figure_shown c.args.figure) h c.in-Some.row c.in-Some.ensures c.in-Some-literal_of.literal (sym c.in-Some-literal_of.ensures) c.in-Some-fitting.value (sym c.in-Some-fitting.ensures) c.args.column c.requires drops absent c.if-reader-ge-MOST_ENTRIES-2.false,
+      entry_taken c.args.reader.now steps column (figure_shown c.args.figure) h c.in-Some.row c.in-Some.ensures c.in-Some-literal_of.literal (sym c.in-Some-literal_of.ensures) c.in-Some-fitting.value (sym c.in-Some-fitting.ensures) c.args.column c.requires
+          (record c.args.reader.now { entries = c.insert.new.self }) c.in_ok-insert.ensures.entries absent,
+    )

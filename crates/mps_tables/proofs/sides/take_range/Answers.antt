@@ -28,9 +28,10 @@ returns-in_default-literal_of c = λ steps h.
 pub returns-then-is_free_kind : goal.returns-then-is_free_kind
 returns-then-is_free_kind c = λ steps h.
     let figure = figure_shown c.args.figure in
-    let free = ap is_free (sym c.kind_at-kind.ensures) ∙ sym c.is_free_kind.ensures ∙ c.if-is_free_kind.true in
-    (fault_range steps figure ∙ figure_free c.args.reader.now steps (ranges_of steps) figure ((not (is_free_row steps figure.row) && is_sum_wide steps figure, SumWide) ∷ []) h c.in-Some.row c.in-Some.ensures c.in-Some-literal_of.literal (sym c.in-Some-literal_of.ensures) free (sum_free c.args.reader.now steps figure h c.in-Some.row c.in-Some.ensures c.in-Some-literal_of.literal (sym c.in-Some-literal_of.ensures) free),
-    range_passed c.args.reader.now steps figure h c.in-Some.row c.in-Some.ensures c.in-Some-literal_of.literal (sym c.in-Some-literal_of.ensures) free)
+    let free = ap is_free (sym c.kind_at-kind.ensures) ∙ sym c.is_free_kind.ensures ∙ c.if-is_free_kind.true in (
+      fault_range steps figure ∙ figure_free c.args.reader.now steps (ranges_of steps) figure ((not (is_free_row steps figure.row) && is_sum_wide steps figure, SumWide) ∷ []) h c.in-Some.row c.in-Some.ensures c.in-Some-literal_of.literal (sym c.in-Some-literal_of.ensures) free (sum_free c.args.reader.now steps figure h c.in-Some.row c.in-Some.ensures c.in-Some-literal_of.literal (sym c.in-Some-literal_of.ensures) free),
+      range_passed c.args.reader.now steps figure h c.in-Some.row c.in-Some.ensures c.in-Some-literal_of.literal (sym c.in-Some-literal_of.ensures) free,
+    )
 
 pub returns-then-is_wide : goal.returns-then-is_wide
 returns-then-is_wide c = λ steps h.
@@ -62,8 +63,9 @@ returns c = λ steps h.
     let figure = figure_shown c.args.figure in
     let free = ap is_free (sym c.kind_at-kind.ensures) ∙ sym c.is_free_kind.ensures ∙ c.if-is_free_kind.false in
     let absent = sym c.contains_key.ensures ∙ c.if-contains_key.false in
-    let fits = (λ i. is_range_wide (sym c.kind_at-kind.ensures i) (sym c.right_at.ensures i) c.in-Some-literal_of.literal) ∙ sym c.is_sum_wide.ensures ∙ c.if-is_sum_wide.false in
-    (fault_range steps figure ∙ figure_once c.args.reader.now steps (ranges_of steps) figure ((not (is_free_row steps figure.row) && is_sum_wide steps figure, SumWide) ∷ []) h c.in-Some.row c.in-Some.ensures c.in-Some-literal_of.literal (sym c.in-Some-literal_of.ensures)
-    literal_in Some c.args.reader.now.ranges.entries h.ranges free (sym c.is_wide.ensures ∙ c.if-is_wide.false) absent
-    (sum_fits c.args.reader.now steps figure h c.in-Some.row c.in-Some.ensures c.in-Some-literal_of.literal (sym c.in-Some-literal_of.ensures) free fits),
-    range_taken c.args.reader.now steps figure h c.in-Some.row c.in-Some.ensures c.in-Some-literal_of.literal (sym c.in-Some-literal_of.ensures) (record c.args.reader.now { ranges = c.put_range.new.ranges }) c.in_ok-put_range.ensures absent)
+    let fits = (λ i. is_range_wide (sym c.kind_at-kind.ensures i) (sym c.right_at.ensures i) c.in-Some-literal_of.literal) ∙ sym c.is_sum_wide.ensures ∙ c.if-is_sum_wide.false in (
+      fault_range steps figure ∙ figure_once c.args.reader.now steps (ranges_of steps) figure ((not (is_free_row steps figure.row) && is_sum_wide steps figure, SumWide) ∷ []) h c.in-Some.row c.in-Some.ensures c.in-Some-literal_of.literal (sym c.in-Some-literal_of.ensures)
+          literal_in Some c.args.reader.now.ranges.entries h.ranges free (sym c.is_wide.ensures ∙ c.if-is_wide.false) absent
+          (sum_fits c.args.reader.now steps figure h c.in-Some.row c.in-Some.ensures c.in-Some-literal_of.literal (sym c.in-Some-literal_of.ensures) free fits),
+      range_taken c.args.reader.now steps figure h c.in-Some.row c.in-Some.ensures c.in-Some-literal_of.literal (sym c.in-Some-literal_of.ensures) (record c.args.reader.now { ranges = c.put_range.new.ranges }) c.in_ok-put_range.ensures absent,
+    )

@@ -24,9 +24,10 @@ returns-in_default-literal_of c = λ steps h.
 pub returns-then-is_free_kind : goal.returns-then-is_free_kind
 returns-then-is_free_kind c = λ steps h.
     let figure = figure_shown c.args.figure in
-    let free = ap is_free (sym c.kind_at.ensures) ∙ sym c.is_free_kind.ensures ∙ c.if-is_free_kind.true in
-    (fault_side steps figure ∙ figure_free c.args.reader.now steps (sides_of steps) figure [] h c.in-Some.row c.in-Some.ensures c.in-Some-literal_of.literal (sym c.in-Some-literal_of.ensures) free ends,
-    side_passed c.args.reader.now steps figure h c.in-Some.row c.in-Some.ensures c.in-Some-literal_of.literal (sym c.in-Some-literal_of.ensures) free)
+    let free = ap is_free (sym c.kind_at.ensures) ∙ sym c.is_free_kind.ensures ∙ c.if-is_free_kind.true in (
+      fault_side steps figure ∙ figure_free c.args.reader.now steps (sides_of steps) figure [] h c.in-Some.row c.in-Some.ensures c.in-Some-literal_of.literal (sym c.in-Some-literal_of.ensures) free ends,
+      side_passed c.args.reader.now steps figure h c.in-Some.row c.in-Some.ensures c.in-Some-literal_of.literal (sym c.in-Some-literal_of.ensures) free,
+    )
 
 pub returns-then-is_wide : goal.returns-then-is_wide
 returns-then-is_wide c = λ steps h.
@@ -47,8 +48,9 @@ pub returns : goal.returns
 returns c = λ steps h.
     let figure = figure_shown c.args.figure in
     let free = ap is_free (sym c.kind_at.ensures) ∙ sym c.is_free_kind.ensures ∙ c.if-is_free_kind.false in
-    let absent = sym c.contains_key.ensures ∙ c.if-contains_key.false in
-    (fault_side steps figure ∙ figure_once c.args.reader.now steps (sides_of steps) figure [] h c.in-Some.row c.in-Some.ensures c.in-Some-literal_of.literal (sym c.in-Some-literal_of.ensures)
-    bound_in (λ v. v) c.args.reader.now.rights.entries h.rights free (sym c.is_wide.ensures ∙ c.if-is_wide.false) absent ends,
-    side_taken c.args.reader.now steps figure h c.in-Some.row c.in-Some.ensures c.in-Some-literal_of.literal (sym c.in-Some-literal_of.ensures) (record c.args.reader.now { rights = c.insert.new.self })
-    (c.in_ok-insert.ensures.entries ∙ ap (insert_entry nat_eq c.args.reader.now.rights.entries c.in-Some.row) c.limit_of.ensures) absent)
+    let absent = sym c.contains_key.ensures ∙ c.if-contains_key.false in (
+      fault_side steps figure ∙ figure_once c.args.reader.now steps (sides_of steps) figure [] h c.in-Some.row c.in-Some.ensures c.in-Some-literal_of.literal (sym c.in-Some-literal_of.ensures)
+          bound_in (λ v. v) c.args.reader.now.rights.entries h.rights free (sym c.is_wide.ensures ∙ c.if-is_wide.false) absent ends,
+      side_taken c.args.reader.now steps figure h c.in-Some.row c.in-Some.ensures c.in-Some-literal_of.literal (sym c.in-Some-literal_of.ensures) (record c.args.reader.now { rights = c.insert.new.self })
+          (c.in_ok-insert.ensures.entries ∙ ap (insert_entry nat_eq c.args.reader.now.rights.entries c.in-Some.row) c.limit_of.ensures) absent,
+    )
