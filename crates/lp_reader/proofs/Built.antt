@@ -1,5 +1,5 @@
 -- The model that the tables make is the program that the statements declare.
-use Rattle.std.proofs.Common.{◌≡◌, ◌≢◌, ℕ, zero, suc, ◌+◌, ◌<◌, ◌≤◌, Bool, true, false, cond, ltb, List, [], ◌∷◌, ◌++◌, Option, Some, None, length, map, take, get_or, slice_get, refl, sym, ap, ◌∙◌, subst, arith, append-nil, append_assoc, true≢false}
+use Rattle.std.proofs.Common.{◌≡◌, ◌≢◌, ℕ, zero, suc, ◌+◌, ◌<◌, ◌≤◌, Bool, true, false, cond, ltb, List, [], ◌∷◌, ◌++◌, None, length, map, take, get_or, refl, sym, ap, ◌∙◌, subst, arith, true≢false}
 use Rattle.std.specs.List.{All, AllPairs, filter_map}
 use Rattle.std.specs.Prelude.{slice_index_or}
 use Rattle.std.proofs.lemmas.List.{length_push, get_or_push, get_or_append_left, get_or-map, take_all, length-take-le}
@@ -7,24 +7,23 @@ use Rattle.std.proofs.lemmas.List.Elements.{All-cons, All-nil, All-weaker}
 use Rattle.std.proofs.lemmas.List.Kept.{AllPairs-cons}
 use Rattle.std.proofs.lemmas.Bool.{ltb-true, ltb-false}
 use Rattle.std.proofs.Math.Seq.{take-suc}
-use Rattle.rational.specs.Rational.{ℚ, zero_ℚ, eq_ℚ}
+use Rattle.rational.specs.Rational.{zero_ℚ, eq_ℚ}
 use Rattle.rational.specs.Linear.{Term as LinearTerm}
 use Rattle.rational.proofs.Compare.{eq-Decides}
 use Rattle.name_map.specs.Names.{names_of, name_at}
 use Rattle.name_map.proofs.NameLists.{length_map}
 use Rattle.lp_model.specs.declared.parts.Row.{Row}
-use Rattle.lp_model.specs.declared.parts.Note.{Note}
 use Rattle.lp_model.specs.declared.parts.Note.TheVariants.{LowerKept}
-use Rattle.lp_model.specs.Program.{Program, NamedRow, NamedColumn, IsForm, IsPositiveWeight, empty_row}
+use Rattle.lp_model.specs.Program.{Program, IsForm, IsPositiveWeight, empty_row}
 use Rattle.lp_model.specs.Shown.{named_row}
 use Rattle.lp_statements.specs.declared.parts.Relation.TheVariants.{AtMost}
 use Rattle.lp_statements.specs.Statements.{Term, Statement}
 use Rattle.lp_reader.specs.declared.reader.Reader.{Reader}
 use Rattle.lp_reader.specs.declared.columns.Bounds.{Bounds}
 use Rattle.lp_reader.specs.Numbers.{sum_of}
-use Rattle.lp_reader.specs.Names.{columns_of, RowPart, rows_of, row_name, names_from}
+use Rattle.lp_reader.specs.Names.{columns_of, RowPart, rows_of, names_from}
 use Rattle.lp_reader.specs.Bounds.{last_or}
-use Rattle.lp_reader.specs.Program.{with_term, form_from, form_of, row_of, rows_from, column_of, objective_in, sense_in, keeps_lower, notes_from, program_of}
+use Rattle.lp_reader.specs.Program.{form_from, form_of, row_of, rows_from, column_of, objective_in, keeps_lower, notes_from, program_of}
 use Rattle.lp_reader.specs.State.{plain, bounds_of}
 use Rattle.lp_reader.specs.Held.{Holds}
 use Rattle.lp_reader.specs.Building.{column_shown, keeps_lower_in, listed, columns_listed, no_row, rows_listed, note_of, notes_listed}

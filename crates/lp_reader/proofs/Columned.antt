@@ -1,11 +1,11 @@
 -- Columns of a model.
-use Rattle.std.proofs.Common.{◌≡◌, ℕ, ◌<◌, true, List, [], Option, Some, None, get_or, slice_get, refl, sym, ap, ◌∙◌, subst}
+use Rattle.std.proofs.Common.{◌≡◌, ℕ, List, [], Some, slice_get, refl, sym, ap, ◌∙◌}
 use Rattle.std.specs.Prelude.{unwrap_or}
 use Rattle.std.proofs.lemmas.Option.{unwrap_or-slice_get}
-use Rattle.rational.specs.Rational.{ℚ, one_ℚ, zero_ℚ, ◌<ℚ◌}
+use Rattle.rational.specs.Rational.{one_ℚ, zero_ℚ, ◌<ℚ◌}
 use Rattle.rational.proofs.Order.{positive_is, positive-one}
 use Rattle.name_map.specs.Names.{name_at}
-use Rattle.lp_model.specs.Program.{NamedColumn, IsWellFormedColumn}
+use Rattle.lp_model.specs.Program.{IsWellFormedColumn}
 use Rattle.lp_reader.specs.declared.columns.Bounds.{Bounds}
 use Rattle.lp_reader.specs.Building.{column_shown}
 

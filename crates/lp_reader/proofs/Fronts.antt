@@ -1,5 +1,5 @@
 -- What one statement more changes.
-use Rattle.std.proofs.Common.{◌≡◌, ℕ, zero, suc, ◌+◌, ◌<◌, ◌≤◌, Bool, true, false, cond, ◌||◌, List, [], ◌∷◌, ◌++◌, Option, Some, None, is_some, length, map, refl, sym, ap, ◌∙◌, subst, arith, append_assoc, append-nil, length-append, true≢false}
+use Rattle.std.proofs.Common.{◌≡◌, ℕ, suc, ◌+◌, Bool, true, false, cond, ◌||◌, List, [], ◌∷◌, ◌++◌, Option, Some, None, is_some, length, refl, sym, ap, ◌∙◌, arith, append_assoc, append-nil, length-append, true≢false}
 use Rattle.std.specs.Prelude.{unwrap_or}
 use Rattle.std.specs.List.{All, list_any, filter_map, cons_option}
 use Rattle.std.specs.Option.{option_or}
@@ -7,19 +7,17 @@ use Rattle.std.specs.Str.{bytes_eq}
 use Rattle.std.proofs.lemmas.List.Elements.{filter_map-append, All-nil, All-cons, All-head, All-tail}
 use Rattle.std.proofs.lemmas.List.Folds.{list_any-append}
 use Rattle.std.proofs.lemmas.Slice.Eq.{bytes_eq-Decides}
-use Rattle.text_fields.specs.declared.faults.ReadStop.{ReadStop}
 use Rattle.rational.specs.Rational.{ℚ, zero_ℚ}
-use Rattle.rational.specs.Linear.{Term as LinearTerm}
 use Rattle.lp_model.specs.Shown.{is_named}
 use Rattle.lp_statements.specs.Statements.{Term, Statement, Objective, Heading, Row, Free, Bound, Listed}
 use Rattle.lp_reader.specs.declared.columns.Bounds.{Bounds}
 use Rattle.lp_reader.specs.Numbers.{is_of, sum_of}
-use Rattle.lp_reader.specs.Names.{terms_in, terms_of, with_name, with_names, columns_in, columns_of, RowPart, row_in, rows_of, row_name, names_from, row_names}
-use Rattle.lp_reader.specs.Faults.{term_fault, terms_fault, statement_fault, first_fault}
+use Rattle.lp_reader.specs.Names.{terms_in, terms_of, with_name, with_names, columns_in, columns_of, RowPart, row_in, rows_of, row_name, names_from}
+use Rattle.lp_reader.specs.Faults.{term_fault, terms_fault}
 use Rattle.lp_reader.specs.Bounds.{last_or, lower_said, upper_said, whole_said, lower_of, upper_of, whole_of, is_lower_set}
-use Rattle.lp_reader.specs.Program.{with_term, form_from, form_of}
+use Rattle.lp_reader.specs.Program.{with_term, form_from}
 use Rattle.lp_reader.specs.Said.{changed}
-use Rattle.lp_reader.specs.State.{bounds_of, plain, sum_there, terms_fault_in}
+use Rattle.lp_reader.specs.State.{bounds_of, terms_fault_in}
 use Rattle.lp_reader.proofs.Forms.{no_term}
 
 -- ---- terms and columns

@@ -1,5 +1,5 @@
 -- The tables after one statement more.
-use Rattle.std.proofs.Common.{ltb, nat_eq, true≢false, ◌≡◌, ℕ, zero, suc, ◌+◌, ◌<◌, ◌≤◌, Bool, true, false, cond, ◌||◌, List, [], ◌∷◌, ◌++◌, Option, Some, None, length, map, get_or, refl, sym, ap, ◌∙◌, subst, arith, append_assoc, append-nil, length-append}
+use Rattle.std.proofs.Common.{nat_eq, true≢false, ◌≡◌, ℕ, suc, ◌+◌, ◌<◌, ◌≤◌, Bool, true, false, cond, ◌||◌, List, [], ◌∷◌, ◌++◌, Option, Some, None, length, map, get_or, refl, sym, ap, ◌∙◌, subst, arith, append-nil, length-append}
 use Rattle.std.specs.Prelude.{unwrap_or, slice_index_or, slice_set}
 use Rattle.std.specs.List.{All, list_any, filter_map, cons_option}
 use Rattle.std.specs.Str.{bytes_eq}
@@ -10,7 +10,7 @@ use Rattle.std.proofs.lemmas.List.{map-append, length-set, get_or-set_same, get_
 use Rattle.std.proofs.lemmas.Bool.{eqb-true, eqb-false}
 use Rattle.lp_reader.proofs.Huge.{same_test}
 use Rattle.std.proofs.lemmas.Slice.Eq.{bytes_eq-Decides}
-use Rattle.std.proofs.lemmas.List.Elements.{All-nil, filter_map-append}
+use Rattle.std.proofs.lemmas.List.Elements.{All-nil}
 use Rattle.std.proofs.lemmas.List.Folds.{list_any-append}
 use Rattle.rational.specs.Linear.{Term as LinearTerm}
 use Rattle.name_map.specs.Names.{names_of, name_at, StandsAt}
@@ -25,10 +25,10 @@ use Rattle.lp_reader.specs.declared.reader.Reader.{Reader}
 use Rattle.lp_reader.specs.declared.columns.Columns.{Columns}
 use Rattle.lp_reader.specs.declared.columns.Bounds.{Bounds}
 use Rattle.lp_reader.specs.Numbers.{is_of, side_of}
-use Rattle.lp_reader.specs.Names.{terms_in, terms_of, with_names, columns_of, RowPart, row_in, rows_of, row_name, names_from, row_names}
+use Rattle.lp_reader.specs.Names.{terms_in, terms_of, with_names, columns_of, RowPart, row_in, rows_of, row_name, names_from}
 use Rattle.lp_reader.specs.Bounds.{last_or, lower_said, upper_said, whole_said, lower_constant, upper_constant}
-use Rattle.lp_reader.specs.Program.{form_from, form_of, row_of, side_by, objective_in, sense_in}
-use Rattle.lp_reader.specs.Said.{changed, SetsBounds, lower_by, upper_by}
+use Rattle.lp_reader.specs.Program.{form_of, row_of, side_by, objective_in, sense_in}
+use Rattle.lp_reader.specs.Said.{changed, SetsBounds}
 use Rattle.lp_reader.specs.Sides.{lower_side, upper_side, ended_row, PutsRow}
 use Rattle.lp_reader.specs.State.{plain, bounds_of, Widened, TakesForm}
 use Rattle.lp_reader.specs.Held.{Holds}

@@ -1,7 +1,7 @@
 -- A test of magnitude decides what it says.
-use Rattle.std.proofs.Common.{◌≡◌, Bool, true, false, ◌||◌, refl, sym, ap, ◌∙◌, true≢false, inl, inr}
-use Rattle.std.specs.Prelude.{IsTrue, ◌↔◌, ◌⊎◌}
-use Rattle.rational.specs.Rational.{ℚ, le_q, neg_ℚ, ◌≤ℚ◌}
+use Rattle.std.proofs.Common.{◌≡◌, Bool, true, false, ◌||◌, refl, sym, ap, inl, inr}
+use Rattle.std.specs.Prelude.{IsTrue, ◌⊎◌}
+use Rattle.rational.specs.Rational.{le_q, neg_ℚ, ◌≤ℚ◌}
 use Rattle.rational.proofs.Compare.{le_q-Decides}
 use Rattle.frac128.specs.declared.literal.Literal.{Literal}
 use Rattle.frac128.specs.declared.literal.Literal.TheVariants.{Fits, TooWide}

@@ -1,5 +1,5 @@
 -- Columns that come one after another.
-use Rattle.std.proofs.Common.{le-ltb, eq-eqb, ◌≡◌, ℕ, ◌+◌, ◌<◌, ◌≤◌, Bool, true, false, cond, ltb, nat_eq, ◌||◌, List, [], ◌∷◌, ◌++◌, Option, Some, None, length, map, refl, sym, ap, ◌∙◌, subst, arith, true≢false, length-append, append-nil}
+use Rattle.std.proofs.Common.{eq-eqb, ◌≡◌, ℕ, ◌+◌, ◌<◌, ◌≤◌, Bool, true, false, cond, ltb, nat_eq, ◌||◌, List, [], ◌∷◌, ◌++◌, Some, None, length, refl, sym, ap, ◌∙◌, subst, arith, true≢false, length-append, append-nil}
 use Rattle.std.specs.Prelude.{nat_le}
 use Rattle.std.specs.List.{list_any, All}
 use Rattle.std.specs.Str.{bytes_eq}
@@ -11,15 +11,12 @@ use Rattle.std.proofs.lemmas.Slice.Eq.{bytes_eq-Decides}
 use Rattle.std.proofs.lemmas.Bool.{ltb-true, ltb-false, ne_eqb}
 use Rattle.std.proofs.lemmas.Bool.Decides.{nat_tests}
 use Rattle.text_fields.specs.declared.faults.ReadKind.TheVariants.{Limit}
-use Rattle.text_fields.specs.declared.faults.ReadStop.{ReadStop}
 use Rattle.name_map.specs.Names.{names_of, name_at, StandsAt}
-use Rattle.name_map.proofs.NameLists.{length_map}
 use Rattle.lp_model.specs.Shown.{is_named, most_columns}
 use Rattle.lp_statements.specs.Items.{Written, stop_at}
 use Rattle.lp_reader.specs.declared.columns.Columns.{Columns}
-use Rattle.lp_reader.specs.Names.{with_name}
 use Rattle.lp_reader.specs.Faults.{most_entries, is_too_long, limit_fault}
-use Rattle.lp_reader.specs.State.{plain, Widened, PutsColumn, TakesColumn}
+use Rattle.lp_reader.specs.State.{PutsColumn, TakesColumn}
 
 -- the limits, by their tests
 limit_is : (columns : List (List ℕ)) (entries : ℕ) (name : Written) (m n f l : Bool) → nat_le most_entries entries ≡ m → is_named columns name.text ≡ n → nat_le most_columns (length columns) ≡ f → is_too_long name.text ≡ l

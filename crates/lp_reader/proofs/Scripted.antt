@@ -1,11 +1,10 @@
 -- The statements of a text, one after another.
-use Rattle.std.proofs.Common.{◌≡◌, ℕ, zero, suc, ◌+◌, ◌<◌, ◌≤◌, Bool, true, false, List, [], ◌∷◌, ◌++◌, Option, Some, None, length, map, refl, sym, ap, ◌∙◌, subst, arith, append_assoc, append-nil}
+use Rattle.std.proofs.Common.{◌≡◌, ℕ, zero, suc, ◌<◌, ◌≤◌, Bool, true, false, List, [], ◌∷◌, ◌++◌, Option, Some, None, length, refl, sym, ap, ◌∙◌, subst, arith, append_assoc}
 use Rattle.std.specs.Option.{option_or}
 use Rattle.text_fields.specs.declared.tokens.Place.{Place}
-use Rattle.text_fields.specs.declared.faults.ReadStop.{ReadStop}
 use Rattle.text_fields.specs.declared.faults.ReadFault.{ReadFault}
 use Rattle.text_fields.specs.declared.faults.ReadFault.TheVariants.{Stop, Memory}
-use Rattle.text_fields.specs.Tokens.{Lexeme, Scan, scan_at}
+use Rattle.text_fields.specs.Tokens.{Lexeme, scan_at}
 use Rattle.name_map.specs.Names.{names_of}
 use Rattle.lp_statements.specs.declared.parts.Section.{Section}
 use Rattle.lp_statements.specs.Items.{Piece, pieces, pieces_in, pieces_at, pieces_of, ending_of, IsPlace}
@@ -18,7 +17,7 @@ use Rattle.lp_reader.specs.Bounds.{lower_of, upper_of, whole_of, is_lower_set}
 use Rattle.lp_reader.specs.Program.{form_from}
 use Rattle.lp_reader.specs.Faults.{statement_fault, first_fault}
 use Rattle.lp_reader.specs.Meaning.{lp_fault, IsLpStop}
-use Rattle.lp_reader.specs.Held.{Holds, HasRead, TakesStatement}
+use Rattle.lp_reader.specs.Held.{Holds, HasRead}
 use Rattle.lp_reader.specs.Told.{IsFault}
 
 -- ---- nothing is read

@@ -1,9 +1,8 @@
 -- Statements that are taken in.
-use Rattle.std.proofs.Common.{◌≡◌, ℕ, ◌+◌, ◌<◌, ◌≤◌, Bool, true, false, cond, List, [], ◌∷◌, ◌++◌, Option, Some, None, length, map, refl, sym, ap, ◌∙◌, subst, arith}
+use Rattle.std.proofs.Common.{◌≡◌, ℕ, ◌≤◌, Bool, true, false, cond, List, [], ◌∷◌, ◌++◌, Option, Some, None, length, refl, sym, ap, ◌∙◌, subst}
 use Rattle.std.specs.Option.{option_or, option_map}
 use Rattle.std.specs.Str.{bytes_eq}
-use Rattle.rational.specs.Rational.{ℚ, zero_ℚ, one_ℚ}
-use Rattle.rational.specs.Linear.{Term as LinearTerm}
+use Rattle.rational.specs.Rational.{zero_ℚ, one_ℚ}
 use Rattle.text_fields.specs.declared.faults.ReadStop.{ReadStop}
 use Rattle.text_fields.specs.declared.faults.ReadFault.{ReadFault}
 use Rattle.text_fields.specs.declared.faults.ReadFault.TheVariants.{Stop, Memory}
@@ -11,10 +10,10 @@ use Rattle.name_map.specs.Names.{names_of, StandsAt}
 use Rattle.name_map.proofs.NameLists.{length_map}
 use Rattle.lp_statements.specs.declared.parts.Relation.{Relation}
 use Rattle.lp_statements.specs.Items.{Written}
-use Rattle.lp_statements.specs.Statements.{Constant, Term, Statement, Objective, Heading, Row, Free, Bound, Listed}
+use Rattle.lp_statements.specs.Statements.{Constant, Term, Statement, Objective, Row, Free, Bound, Listed}
 use Rattle.lp_reader.specs.declared.reader.Reader.{Reader}
 use Rattle.lp_reader.specs.Numbers.{constant_fault_in, side_of}
-use Rattle.lp_reader.specs.Names.{terms_of, columns_of, row_names, row_name}
+use Rattle.lp_reader.specs.Names.{terms_of, columns_of, row_names}
 use Rattle.lp_reader.specs.Faults.{terms_fault, objective_label_fault, label_fault, unknown_fault, row_end_fault, statement_fault}
 use Rattle.lp_reader.specs.Bounds.{lower_said, upper_said, whole_said, lower_constant, upper_constant}
 use Rattle.lp_reader.specs.Said.{lower_by, upper_by, SetsBounds}

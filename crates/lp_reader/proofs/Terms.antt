@@ -23,7 +23,7 @@ use Rattle.text_fields.specs.declared.faults.ReadKind.TheVariants.{SumWide}
 use Rattle.text_fields.specs.declared.faults.ReadStop.{ReadStop}
 use Rattle.text_fields.specs.declared.faults.ReadFault.{ReadFault}
 use Rattle.text_fields.specs.declared.faults.ReadFault.TheVariants.{Stop, Memory}
-use Rattle.name_map.specs.Names.{names_of, StandsAt}
+use Rattle.name_map.specs.Names.{names_of}
 use Rattle.lp_model.specs.Shown.{is_named}
 use Rattle.lp_statements.specs.Items.{stop_at}
 use Rattle.lp_statements.specs.Statements.{Term, shown_term}

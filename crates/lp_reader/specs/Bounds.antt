@@ -1,11 +1,10 @@
 -- What statements say of the bounds and marks of columns.
-use Rattle.std.specs.Prelude.{ℕ, ◌||◌, Bool, true, false, cond, List, [], ◌∷◌, Option, Some, None, is_some}
+use Rattle.std.specs.Prelude.{ℕ, Bool, true, false, cond, List, [], ◌∷◌, Option, Some, None, is_some}
 use Rattle.std.specs.List.{filter_map, list_any}
 use Rattle.std.specs.Option.{option_map, option_or}
 use Rattle.std.specs.Str.{bytes_eq}
 use Rattle.rational.specs.Rational.{ℚ, zero_ℚ, one_ℚ}
 use Rattle.lp_statements.specs.declared.parts.Relation.{Relation}
-use Rattle.lp_statements.specs.Items.{Written}
 use Rattle.lp_statements.specs.Statements.{Constant, Statement, Free, Bound, Listed}
 use Rattle.lp_reader.specs.Numbers.{side_of}
 

@@ -1,6 +1,6 @@
 -- What a reader's tables say of the statements so far.
-use Rattle.std.specs.Prelude.{◌≡◌, ℕ, ◌≤◌, Bool, false, List, [], ◌∷◌, ◌++◌, length, map, None, Result, MatchResult}
-use Rattle.std.specs.List.{filter_map, list_any}
+use Rattle.std.specs.Prelude.{◌≡◌, ℕ, ◌≤◌, false, List, [], ◌∷◌, ◌++◌, length, map, None, Result, MatchResult}
+use Rattle.std.specs.List.{filter_map}
 use Rattle.name_map.specs.Names.{names_of}
 use Rattle.lp_model.specs.Shown.{is_named, most_rows, most_columns}
 use Rattle.lp_statements.specs.Statements.{Statement}

@@ -1,10 +1,10 @@
 -- The names of rows and columns.
-use Rattle.std.specs.Prelude.{ℕ, suc, ◌+◌, Bool, cond, List, [], ◌∷◌, ◌++◌, map, length, Option, Some, None, decimal}
+use Rattle.std.specs.Prelude.{ℕ, ◌+◌, cond, List, [], ◌∷◌, ◌++◌, Option, Some, None, decimal}
 use Rattle.std.specs.List.{filter_map}
 use Rattle.lp_model.specs.Shown.{is_named}
 use Rattle.lp_statements.specs.declared.parts.Relation.{Relation}
 use Rattle.lp_statements.specs.Items.{Written}
-use Rattle.lp_statements.specs.Statements.{Constant, Term, Statement, Objective, Heading, Row, Free, Bound, Listed}
+use Rattle.lp_statements.specs.Statements.{Constant, Term, Statement, Objective, Row}
 
 -- the terms of a statement
 abbrev pub terms_in : Statement → List Term

@@ -1,6 +1,5 @@
 -- The numbers of terms, bounds and sides, and what is wrong with them.
 use Rattle.std.specs.Prelude.{ℕ, pos, ◌^◌, ◌||◌, Bool, true, false, cond, List, filter, Option, Some, None}
-use Rattle.std.specs.Option.{option_or}
 use Rattle.std.specs.Str.{bytes_eq}
 use Rattle.rational.specs.Rational.{ℚ, whole, zero_ℚ, one_ℚ, neg_ℚ, le_q}
 use Rattle.rational.specs.Sum.{sum_over}

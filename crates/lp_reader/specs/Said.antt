@@ -1,5 +1,5 @@
 -- What statements of bounds and marks change.
-use Rattle.std.specs.Prelude.{◌≡◌, ℕ, ◌||◌, Bool, List, Option, is_some, unwrap_or, slice_index_or, slice_set}
+use Rattle.std.specs.Prelude.{◌≡◌, ℕ, ◌||◌, Bool, Option, is_some, unwrap_or, slice_index_or, slice_set}
 use Rattle.std.specs.Option.{option_or}
 use Rattle.rational.specs.Rational.{ℚ}
 use Rattle.name_map.specs.Names.{names_of}

@@ -1,5 +1,5 @@
 -- What the reader's tables say.
-use Rattle.std.specs.Prelude.{◌≡◌, ℕ, ◌+◌, ◌<◌, ◌≤◌, nat_eq, Bool, true, false, cond, List, [], ◌∷◌, ◌++◌, length, map, unwrap_or, Option, Some, None}
+use Rattle.std.specs.Prelude.{◌≡◌, ℕ, ◌+◌, ◌<◌, ◌≤◌, nat_eq, false, cond, List, [], ◌∷◌, ◌++◌, length, map, unwrap_or, Option, Some, None}
 use Rattle.std.specs.List.{All, list_any}
 use Rattle.std.specs.Map.{lookup}
 use Rattle.std.specs.Option.{option_or}

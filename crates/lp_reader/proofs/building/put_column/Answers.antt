@@ -1,13 +1,11 @@
-use Rattle.std.proofs.Common.{ℕ, List, sym, ap, ◌∙◌, subst}
+use Rattle.std.proofs.Common.{sym, ◌∙◌, subst}
 use Rattle.rational.specs.Rational.{ℚ}
 use Rattle.name_map.specs.Names.{names_of}
 use Rattle.lp_model.specs.declared.parts.Weight.TheVariants.{Soft}
-use Rattle.lp_model.specs.Program.{NamedColumn, IsWellFormedColumn}
+use Rattle.lp_model.specs.Program.{IsWellFormedColumn}
 use Rattle.lp_model.specs.Shown.{with_more_column}
-use Rattle.lp_reader.specs.declared.columns.Bounds.{Bounds}
 use Rattle.lp_reader.specs.Building.{column_shown}
 use Rattle.lp_reader.proofs.Columned.{column_formed, name_is}
-use Rattle.lp_reader.proofs.Built.{built}
 use Rattle.lp_reader.proofs.building.put_column.Goals as goal
 
 pub add_column-requires : goal.add_column-requires

@@ -1,4 +1,4 @@
-use Rattle.std.proofs.Common.{◌≡◌, ℕ, ◌<◌, List, sym, ap, ◌∙◌, subst, nat_eq, cond, Some}
+use Rattle.std.proofs.Common.{ℕ, ◌<◌, List, sym, ap, ◌∙◌, subst, nat_eq, cond, Some}
 use Rattle.std.specs.Map.{lookup}
 use Rattle.std.specs.List.{All}
 use Rattle.rational.specs.Rational.{ℚ, ◌+ℚ◌}

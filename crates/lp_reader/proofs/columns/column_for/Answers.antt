@@ -1,4 +1,4 @@
-use Rattle.std.proofs.Common.{◌≡◌, ℕ, ◌≤◌, length, refl, sym, ap, ◌∙◌, subst, arith}
+use Rattle.std.proofs.Common.{◌≡◌, ◌≤◌, length, refl, sym, subst, arith}
 use Rattle.name_map.specs.Names.{names_of}
 use Rattle.name_map.proofs.NameLists.{length_map}
 use Rattle.lp_model.specs.Shown.{most_columns}

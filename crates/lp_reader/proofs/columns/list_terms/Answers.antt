@@ -1,4 +1,4 @@
-use Rattle.std.proofs.Common.{sym, ◌∙◌, arith, length}
+use Rattle.std.proofs.Common.{sym, ◌∙◌, arith}
 use Rattle.lp_reader.specs.State.{kept}
 use Rattle.lp_reader.proofs.Forms.{kept_more, kept_all}
 use Rattle.lp_reader.proofs.columns.list_terms.Goals as goal

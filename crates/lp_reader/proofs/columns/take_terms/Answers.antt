@@ -3,7 +3,6 @@ use Rattle.rational.specs.Rational.{ℚ}
 use Rattle.name_map.specs.Names.{names_of}
 use Rattle.lp_statements.specs.Statements.{shown_term}
 use Rattle.lp_reader.proofs.Terms.{TermsSoFar, no_terms, terms_more, terms_fail, terms_done, below_small}
-use Rattle.lp_reader.proofs.Taking.{holds_room}
 use Rattle.lp_reader.proofs.columns.take_terms.Goals as goal
 
 pub loop-term-init : goal.loop-term-init

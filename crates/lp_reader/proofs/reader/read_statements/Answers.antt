@@ -1,5 +1,4 @@
-use Rattle.std.proofs.Common.{Option, Some, None, subst}
-use Rattle.lp_statements.specs.declared.parts.Section.{Section}
+use Rattle.std.proofs.Common.{Some, subst}
 use Rattle.lp_statements.specs.Statements.{shown}
 use Rattle.lp_reader.proofs.Scripted.{Reading, reading-init, form_fails, meaning_fails, reading_on, all_read}
 use Rattle.lp_reader.proofs.Taking.{holds_room, holds_even}

@@ -1,4 +1,4 @@
-use Rattle.std.proofs.Common.{ℕ, ◌+◌, Option, length, map, refl, subst}
+use Rattle.std.proofs.Common.{◌+◌, Option, length, map, refl, subst}
 use Rattle.rational.specs.Rational.{ℚ}
 use Rattle.name_map.specs.Names.{names_of}
 use Rattle.lp_reader.specs.Numbers.{side_of}

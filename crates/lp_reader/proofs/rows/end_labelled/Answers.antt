@@ -1,5 +1,4 @@
-use Rattle.std.proofs.Common.{◌≡◌, Option, sym, ap, ◌∙◌, subst}
-use Rattle.rational.specs.Rational.{ℚ}
+use Rattle.std.proofs.Common.{ap, ◌∙◌, subst}
 use Rattle.name_map.specs.Names.{names_of}
 use Rattle.lp_model.specs.declared.parts.Row.{Row}
 use Rattle.lp_statements.specs.Statements.{shown_text, shown_constant}

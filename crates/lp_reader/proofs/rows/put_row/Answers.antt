@@ -1,4 +1,4 @@
-use Rattle.std.proofs.Common.{◌≡◌, ◌<◌, ◌≤◌, ◌+◌, [], ◌∷◌, ◌++◌, length, List, ℕ, sym, ap, ◌∙◌, arith, length-append}
+use Rattle.std.proofs.Common.{◌≡◌, [], ◌∷◌, ◌++◌, length, ap, ◌∙◌, arith, length-append}
 use Rattle.name_map.specs.Names.{names_of}
 use Rattle.name_map.proofs.NameLists.{map_push}
 use Rattle.lp_reader.proofs.rows.put_row.Goals as goal
