@@ -1,5 +1,6 @@
 //! Texts with what is expected of them.
 
+use crate::told::model_line;
 use mps_reader::read_mps;
 use std::alloc::{AllocError, Global};
 use text_fields::ReadFault;
@@ -46,14 +47,7 @@ fn answer(alloc: Global, text: &[u8]) -> Result<(String, u32), AllocError> {
         return Ok((String::new(alloc), 0));
     }
     match read_mps(alloc, text) {
-        Ok(model) => Ok((
-            format!(in alloc;
-                "rows {} columns {}",
-                model.row_count(),
-                model.column_count()
-            )?,
-            0,
-        )),
+        Ok(model) => Ok((model_line(alloc, &model)?, 0)),
         Err(ReadFault::Stop(stop)) => Ok((format!(in alloc; "{stop}")?, stop.line)),
         Err(ReadFault::Memory) => Err(AllocError),
     }

@@ -1,12 +1,13 @@
 //! Reads texts in the MPS format, most of them faulty, and tells where what `read_mps` answers is not what is expected.
 //!
 //! The file that the first word names has the texts. Each begins with a line `>` and what is expected of it: its first
-//! fault, or how many rows and columns are read. Each faulty text is also cut at each line before its fault, and is then
+//! fault, or its model in one line. Each faulty text is also cut at each line before its fault, and is then
 //! to be truncated there. Then texts are made that stand at a limit and one past it.
 #![tactic(auto)]
 
 mod cases;
 mod limits;
+mod told;
 
 use crate::cases::try_cases;
 use crate::limits::try_limits;
