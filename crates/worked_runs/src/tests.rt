@@ -6,6 +6,7 @@ use std::process::Abort;
 use std::test::Fail;
 
 /// A run: its words, the model's text and that of the second file, and its status and what it writes.
+#[derive(Clone, Copy)]
 struct Row {
     words: [&'static str; 3],
     model: &'static str,
