@@ -59,5 +59,13 @@ fn models(rt: HostRuntime) -> Result<(), Fail> {
         told(alloc, "min\nx\nst\nBounds\nx <= -2\n-inf <= x\nend")?.as_str(),
         "0 1 0"
     );
+    assert_eq!(rt;
+        told(
+            alloc,
+            "\\ two meals\nMinimize\n cost: 3 bread + 2.5 beans\nSubject To\n energy: 2 bread + bean1 - bean2 >= 4\n 1 <= bread + beans <= 9\nBounds\n beans <= 5\n -inf <= bean2 <= 3\n bean1 free\nGeneral\n bread\nEnd\n"
+        )?
+        .as_str(),
+        "2 4 0"
+    );
     Ok(())
 }
