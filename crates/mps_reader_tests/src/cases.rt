@@ -95,7 +95,7 @@ pub fn try_cases(alloc: Global, bytes: &[u8]) -> Result<Found, AllocError> {
         }
         let begin = past_line(bytes, at);
         let end = next_text(bytes, begin);
-        if begin > end || at + 1 > begin {
+        if begin > end || end > bytes.len() || at + 1 > begin {
             return Ok(found);
         }
         let expected = bytes[at + 1..begin].trim_ascii_end();

@@ -23,6 +23,7 @@ fn main(rt: HostRuntime) -> io::Result<()> {
     if let Ok(args) = env::args(&rt) {
         let mut shelf = HostShelf::new(&rt);
         for word in args.skip(1) {
+            bytes.clear();
             if shelf.fetch(word.as_str(), MOST, &mut bytes).is_err() {
                 bytes.clear();
             }
