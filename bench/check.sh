@@ -53,7 +53,7 @@ system() {
                 for (j = 0; j < columns; j++) if ((i, j) in factor) factor[last, j] += factor[i, j]
             }
         }
-        print "ROWS\n N cost"
+        print "NAME system\nROWS\n N cost"
         for (i = 0; i < rows; i++) print " " sense[i] " r" i
         print "COLUMNS"
         for (j = 0; j < columns; j++) {
