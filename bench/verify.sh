@@ -1,5 +1,5 @@
 #!/bin/sh
-# Makes models of 250, 1,000 and 2,000 rows in the small form, each with a report that satisfies it, and prints for each
+# Makes models of 250, 1,000 and 2,000 rows in the MPS format, each with a report that satisfies it, and prints for each
 # the seconds and the peak memory of `iisan verify`. It wants GNU time (Debian's package `time`). A benchmark, no test.
 set -eu
 

@@ -37,7 +37,7 @@ use Rattle.iis_run.specs.Fetches.{IsFetchStop}
 use Rattle.iis_run.specs.Causes.{IsModel, IsNoModel, IsModelOf, AreReported, IsReportEnding, IsDecided, IsChecked, ComesTo, checked_ending, refused_ending}
 use Rattle.iis_run.specs.Scripts.{IsCommands, IsBadScript, script_ending}
 use Rattle.iis_run.specs.Run.{IsCaused}
-use Rattle.iis_run.specs.Steps.{IsModelStop, model_ending, IsReportOf, IsCheckEnd, IsScriptEnd, IsSecondPlan, IsPlanned}
+use Rattle.iis_run.specs.Steps.{IsModelStop, IsQuietRefusal, model_ending, IsReportOf, IsCheckEnd, IsScriptEnd, IsSecondPlan, IsPlanned}
 
 -- these bytes were fetched of a file, where it is told
 abbrev pub IsFetched : Option (List ℕ) → List ℕ → Which → Type 0
@@ -186,39 +186,39 @@ module _ (file : List ℕ → Option (List ℕ)) (before mid now : List ℕ → 
   second_planned Analyse (Answer q commands) m later h = record { declares = subst (λ (r : Program). IfSome (file model) (λ b. IsModelOf model b r)) (sym h.0) m; says = h.1 }
 
 -- there is no model
-pub model_planned : (file : List ℕ → Option (List ℕ)) (before now : List ℕ → ℕ) (verb : Verb) (model second : List ℕ) (e : Ending) → IsModelStop model (file model) (before model) (now model) e → IsCaused file before now (Some (request_for verb model second)) e
-model_planned file before now Verify model second e h = by e h
+pub model_planned : (file : List ℕ → Option (List ℕ)) (before now : List ℕ → ℕ) (verb : Verb) (model second : List ℕ) (e : Ending) → IsModelStop model (file model) (before model) (now model) e → IsQuietRefusal before now e → IsCaused file before now (Some (request_for verb model second)) e
+model_planned file before now Verify model second e h k = by e h k
   where
-    by : (f : Ending) → IsModelStop model (file model) (before model) (now model) f → IsCaused file before now (Some (Request.Verify model second)) f
-    by (ReadFault Model) g = g
-    by (ReadFault Report) g = absurd g
-    by (ReadFault Script) g = absurd g
-    by (TooLong Model) g = g
-    by (TooLong Report) g = absurd g
-    by (TooLong Script) g = absurd g
-    by (ModelRefused stop) g = g
-    by Memory g = tt
-    by Usage g = absurd g
-    by (BadReport n) g = absurd g
-    by CutReport g = absurd g
-    by (BadScript n) g = absurd g
-    by (Checked v) g = absurd g
-model_planned file before now Analyse model second e h = by e h
+    by : (f : Ending) → IsModelStop model (file model) (before model) (now model) f → IsQuietRefusal before now f → IsCaused file before now (Some (Request.Verify model second)) f
+    by (ReadFault Model) g k = g
+    by (ReadFault Report) g k = absurd g
+    by (ReadFault Script) g k = absurd g
+    by (TooLong Model) g k = g
+    by (TooLong Report) g k = absurd g
+    by (TooLong Script) g k = absurd g
+    by (ModelRefused stop) g k = (g, k)
+    by Memory g k = tt
+    by Usage g k = absurd g
+    by (BadReport n) g k = absurd g
+    by CutReport g k = absurd g
+    by (BadScript n) g k = absurd g
+    by (Checked v) g k = absurd g
+model_planned file before now Analyse model second e h k = by e h k
   where
-    by : (f : Ending) → IsModelStop model (file model) (before model) (now model) f → IsCaused file before now (Some (Request.Analyse model second)) f
-    by (ReadFault Model) g = g
-    by (ReadFault Report) g = absurd g
-    by (ReadFault Script) g = absurd g
-    by (TooLong Model) g = g
-    by (TooLong Report) g = absurd g
-    by (TooLong Script) g = absurd g
-    by (ModelRefused stop) g = g
-    by Memory g = tt
-    by Usage g = absurd g
-    by (BadReport n) g = absurd g
-    by CutReport g = absurd g
-    by (BadScript n) g = absurd g
-    by (Checked v) g = absurd g
+    by : (f : Ending) → IsModelStop model (file model) (before model) (now model) f → IsQuietRefusal before now f → IsCaused file before now (Some (Request.Analyse model second)) f
+    by (ReadFault Model) g k = g
+    by (ReadFault Report) g k = absurd g
+    by (ReadFault Script) g k = absurd g
+    by (TooLong Model) g k = g
+    by (TooLong Report) g k = absurd g
+    by (TooLong Script) g k = absurd g
+    by (ModelRefused stop) g k = (g, k)
+    by Memory g k = tt
+    by Usage g k = absurd g
+    by (BadReport n) g k = absurd g
+    by CutReport g k = absurd g
+    by (BadScript n) g k = absurd g
+    by (Checked v) g k = absurd g
 
 -- ---- what a report comes to
 -- a report that was not read

@@ -2,7 +2,7 @@
 use Rattle.std.proofs.Common.{◌≡◌, ◌≢◌, ◌≤◌, refl, sym, ap, ◌∙◌, subst, ℕ, ◌==◌, Bool, true, false, cond, List, Option, Some, None, arith, inl, inr}
 use Rattle.std.specs.Prelude.{◌⊎◌, ◌↔◌, IfSome}
 use Rattle.std.specs.List.{list_any}
-use Rattle.iis_edge.specs.Causes.{Rose}
+use Rattle.iis_edge.specs.Causes.{Rose, KeepsCounts}
 use Rattle.iis_run.specs.Words.{Request}
 use Rattle.std.proofs.lemmas.Bool.{eqb-true}
 use Rattle.frac128.specs.declared.Wide.{Wide as Operation}
@@ -268,7 +268,7 @@ called_or_memory file before now q (ReadFault Model) calm cause = absurd (calm M
 called_or_memory file before now q (ReadFault Report) calm cause = absurd (calm Report cause.0)
 called_or_memory file before now q (ReadFault Script) calm cause = absurd (calm Script cause.0)
 called_or_memory file before now q (TooLong which) calm cause = inr cause
-called_or_memory file before now q (ModelRefused stop) calm cause = inr cause
+called_or_memory file before now q (ModelRefused stop) calm cause = inr cause.0
 called_or_memory file before now q (BadReport n) calm cause = inr cause
 called_or_memory file before now q CutReport calm cause = inr cause
 called_or_memory file before now q (BadScript n) calm cause = inr cause
@@ -403,8 +403,18 @@ module _ {S K : Type 0} (file : S → List ℕ → Option (List ℕ)) (fetch_fau
   pub model_clause : (request : Option Request) (status : ℕ) → Run request status → status ≡ 5 → IsModelRefused (file shelf_old) request
   model_clause request status (inl run) h =
       let r = model_refused_only run.ending (its_own request status 5 run (λ e. omega arith) (λ e. omega arith) h) in
-      (r.0, called request status (ModelRefused r.0) run r.1 (λ q c. c) (λ e. absurd (cc)))
+      (r.0, called request status (ModelRefused r.0) run r.1 (λ q c. c.0) (λ e. absurd (cc)))
   model_clause request status (inr run) h = absurd (unanswered request status 5 run (λ e. omega arith) (λ e. omega arith) (λ e. omega arith) (λ e. omega arith) h)
+
+  alone : (request : Option Request) (stop : ReadStop) → IsCaused (file shelf_old) (fetch_faults shelf_old) (fetch_faults shelf_new) request (ModelRefused stop) → KeepsCounts (fetch_faults shelf_old) (fetch_faults shelf_new)
+  alone None stop cause = absurd (cc)
+  alone (Some q) stop cause = cause.1
+
+  pub alone_clause : (request : Option Request) (status : ℕ) → Run request status → status ≡ 5 → KeepsCounts (fetch_faults shelf_old) (fetch_faults shelf_new)
+  alone_clause request status (inl run) h =
+      let r = model_refused_only run.ending (its_own request status 5 run (λ e. omega arith) (λ e. omega arith) h) in
+      alone request r.0 (subst (IsCaused (file shelf_old) (fetch_faults shelf_old) (fetch_faults shelf_new) request) r.1 run.cause)
+  alone_clause request status (inr run) h = absurd (unanswered request status 5 run (λ e. omega arith) (λ e. omega arith) (λ e. omega arith) (λ e. omega arith) h)
 
   pub text_clause : (request : Option Request) (status : ℕ) → Run request status → status ≡ 6 → IsTextRefused (file shelf_old) request
   text_clause request status (inl run) h = by (text_refused_only run.ending (its_own request status 6 run (λ e. omega arith) (λ e. omega arith) h))

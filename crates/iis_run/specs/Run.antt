@@ -12,7 +12,7 @@ use Rattle.report_text.specs.Reading.{Reads}
 use Rattle.report_text.specs.Form.{AreNumbered}
 use Rattle.cert_check.specs.declared.outcome.Outcome.{Outcome}
 use Rattle.cert_check.specs.declared.outcome.Outcome.TheVariants.{Accepted, Rejected, Wide}
-use Rattle.iis_edge.specs.Causes.{Rose}
+use Rattle.iis_edge.specs.Causes.{Rose, KeepsCounts}
 use Rattle.analysis.specs.Puts.{PutWhole}
 use Rattle.analysis.specs.Right.{AreRight, first_budgets}
 use Rattle.analysis.specs.Written.{IsAnalysis, is_stop, whole_text}
@@ -83,7 +83,7 @@ IsAskedSession file (Some (Request.Verify model report)) program commands = ⊥
 IsAskedSession file (Some (Request.Analyse model script)) program commands = IsSession file model script program commands
 
 -- ---- the whole run
--- the ending has its cause in this run, where `file` tells the files, and `before` and `now` are the counts of faults
+-- the ending has its cause in this run (a refused model also leaves all counts, since nothing is fetched after it), where `file` tells the files, and `before` and `now` are the counts of faults
 abbrev pub IsCaused : (List ℕ → Option (List ℕ)) → (List ℕ → ℕ) → (List ℕ → ℕ) → Option Request → Ending → Type 0
 IsCaused file before now None ending = ending ≡ Usage
 IsCaused file before now (Some request) Usage = ⊥
@@ -91,6 +91,7 @@ IsCaused file before now (Some request) Memory = ⊤
 IsCaused file before now (Some request) (ReadFault Model) = HasFailed before now request Model
 IsCaused file before now (Some request) (ReadFault Report) = HasFailed before now request Report × IfSome (file (model_name request)) (IsModel (model_name request))
 IsCaused file before now (Some request) (ReadFault Script) = HasFailed before now request Script × IfSome (file (model_name request)) (IsModel (model_name request))
+IsCaused file before now (Some request) (ModelRefused stop) = Calls file request (ModelRefused stop) × KeepsCounts before now
 IsCaused file before now (Some request) ending = Calls file request ending
 
 -- an ending with its cause, what it writes and its status

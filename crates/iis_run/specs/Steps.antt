@@ -1,6 +1,6 @@
 -- What the steps of a run come to.
 use Rattle.std.specs.Prelude.{◌≡◌, ◌<◌, ◌≤◌, ⊤, ℕ, false, List, length, Option, IfSome, All}
-use Rattle.iis_edge.specs.Causes.{Rose}
+use Rattle.iis_edge.specs.Causes.{Rose, KeepsCounts}
 use Rattle.lp_model.specs.Program.{Program}
 use Rattle.model_files.specs.Reading.{IsMarkless}
 use Rattle.report_text.specs.Commands.{IsBuilt}
@@ -28,6 +28,11 @@ IsModelStop name file before now (TooLong Model) = IfSome file (λ m. limit_of M
 IsModelStop name file before now (ModelRefused stop) = IfSome file (λ m. IsNoModel name m stop)
 IsModelStop name file before now Memory = ⊤
 IsModelStop name file before now _ = ⊥
+
+-- a model that is refused was fetched, so no count of faults has changed
+abbrev pub IsQuietRefusal : (List ℕ → ℕ) → (List ℕ → ℕ) → Ending → Type 0
+IsQuietRefusal before now (ModelRefused stop) = KeepsCounts before now
+IsQuietRefusal before now _ = ⊤
 
 -- within the limit, and they come to this ending for the program
 pub record IsReportOf (program : Program) (bytes : List ℕ) (ending : Ending) : Type 0 where

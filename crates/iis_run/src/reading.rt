@@ -4,7 +4,7 @@ ghost use Rattle.report_text.specs.Commands.{IsBuilt};
 ghost use Rattle.model_files.specs.Reading.{IsMarkless};
 ghost use Rattle.iis_run.specs.Causes.{ComesTo, IsModelOf, checked_ending, refused_ending};
 ghost use Rattle.iis_run.specs.Scripts.{IsCommands, script_ending};
-ghost use Rattle.iis_run.specs.Steps.{IsModelStop, IsCheckEnd, IsScriptEnd, model_ending};
+ghost use Rattle.iis_run.specs.Steps.{IsModelStop, IsQuietRefusal, IsCheckEnd, IsScriptEnd, model_ending};
 
 use crate::endings::{Ending, Which};
 use crate::fetching::fetch_file;
@@ -26,6 +26,7 @@ pub(crate) fn fetch_model<S: Shelf>(
     ensures read { IfOk result (λ model. IfSome (S.file shelf.old name.now) (λ b. IsModelOf name.now b model)) }
     ensures markless { IfOk result IsMarkless }
     ensures stop { IfErr result (IsModelStop name.now (S.file shelf.old name.now) (S.faults shelf.old name.now) (S.faults shelf.new name.now)) }
+    ensures quiet { IfErr result (IsQuietRefusal (S.faults shelf.old) (S.faults shelf.new)) }
     ensures counts { (n : List ℕ) → S.faults shelf.old n ≤ S.faults shelf.new n }
     ensures files { (n : List ℕ) → S.file shelf.new n ≡ S.file shelf.old n }
 {

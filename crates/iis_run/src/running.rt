@@ -1,6 +1,6 @@
 //! A run: what is asked for is fetched and read, and checked or answered.
 ghost use Rattle.std.specs.Prelude.{◌≡◌, ◌⊎◌, ◌≤◌, ◌↔◌, ℕ, List, None};
-ghost use Rattle.iis_edge.specs.Causes.{Rose};
+ghost use Rattle.iis_edge.specs.Causes.{KeepsCounts, Rose};
 ghost use Rattle.iis_run.specs.Words.{request_of};
 ghost use Rattle.iis_run.specs.Run.{IsRun, HasFetchStop, IsModelRefused, IsTextRefused, IsAccepted, IsUnsettled, IsRefuted, IsBorneOut, Settles};
 ghost use Rattle.model_files.specs.Reading.{IsMarkless};
@@ -105,6 +105,8 @@ pub fn run<S: Shelf, W: Sink>(alloc: Global, words: &[String], shelf: &mut S, ou
     ensures write_fault { result ≡ 4 → Rose (W.faults out.old) (W.faults out.new) }
     // Statuses 5, 6 and 8 come only where the told files call for them.
     ensures model_refused { result ≡ 5 → IsModelRefused (S.file shelf.old) (request_of words.now) }
+    // After status 5 no count has changed: nothing was fetched but the model.
+    ensures model_alone { result ≡ 5 → KeepsCounts (S.faults shelf.old) (S.faults shelf.new) }
     ensures text_refused { result ≡ 6 → IsTextRefused (S.file shelf.old) (request_of words.now) }
     ensures refuted { result ≡ 8 → IsRefuted (S.file shelf.old) (request_of words.now) }
     // Statuses 0 and 1 come only where a report is accepted, or where all commands are answered: 1 where some entry is a stop.

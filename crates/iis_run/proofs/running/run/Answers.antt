@@ -1,6 +1,6 @@
 use Rattle.iis_run.specs.Words.{request_of}
 use Rattle.iis_run.proofs.Counts.{plan_kept}
-use Rattle.iis_run.proofs.Statuses.{planned_run, usage_clause, fetch_stop_clause, write_fault_clause, model_clause, text_clause, accepted_clause, unsettled_clause, refuted_clause, borne_out_clause, bounds_clause, settles_clause}
+use Rattle.iis_run.proofs.Statuses.{planned_run, usage_clause, fetch_stop_clause, write_fault_clause, model_clause, alone_clause, text_clause, accepted_clause, unsettled_clause, refuted_clause, borne_out_clause, bounds_clause, settles_clause}
 use Rattle.iis_run.proofs.running.run.Goals as goal
 
 pub returns : goal.returns
@@ -20,6 +20,7 @@ returns g c =
       fetch_stop = fetch_stop_clause file fetches puts taken shelf shelf' out out' request c.follow.result run;
       write_fault = write_fault_clause file fetches puts taken shelf shelf' out out' request c.follow.result run;
       model_refused = model_clause file fetches puts taken shelf shelf' out out' request c.follow.result run;
+      model_alone = alone_clause file fetches puts taken shelf shelf' out out' request c.follow.result run;
       text_refused = text_clause file fetches puts taken shelf shelf' out out' request c.follow.result run;
       refuted = refuted_clause file fetches puts taken shelf shelf' out out' request c.follow.result run;
       accepted = accepted_clause file fetches puts taken shelf shelf' out out' request c.follow.result run;
