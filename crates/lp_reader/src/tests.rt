@@ -1,11 +1,13 @@
 //! Models and faults of whole texts.
 use super::read_lp;
 use std::alloc::Global;
+use std::process::Abort;
 use std::test::Fail;
-use text_fields::{ReadFault, ReadKind, ReadStop, TextKind};
+use text_fields::{ReadFault, ReadStop};
 
 // What a text is read as: the counts of its rows and columns, or a fault.
-fn told(alloc: Global, text: &str) -> Result<(u32, u32), ReadStop> {
+fn told(rt: &impl Abort, alloc: Global, text: &str) -> Result<(u32, u32), ReadStop> {
+    assert!(rt; text.len() < 1_000);
     match read_lp(alloc, text.as_bytes()) {
         Ok(model) => Ok((model.row_count(), model.column_count())),
         Err(ReadFault::Stop(stop)) => Err(stop),
@@ -15,10 +17,10 @@ fn told(alloc: Global, text: &str) -> Result<(u32, u32), ReadStop> {
 
 #[test]
 fn models(rt: HostRuntime) -> Result<(), Fail> {
-    let alloc = rt.alloc();
     assert_eq!(rt;
         told(
-            alloc,
+            &rt,
+            rt.alloc(),
             "Minimize\nSubject To\nA: x <= 0\nB: x >= 1\nC: x <= 0\nEnd\n"
         ),
         Ok((3, 1))
