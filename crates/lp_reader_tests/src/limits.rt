@@ -60,6 +60,18 @@ fn with_terms(alloc: Global, rows: u32, terms: u32, objective: u32) -> Result<Ve
     Ok(bytes)
 }
 
+// Rows with a label and two columns each.
+fn with_pairs(alloc: Global, count: u32) -> Result<Vec<u8>, AllocError> {
+    let mut bytes = Vec::new(alloc);
+    put(&mut bytes, "Minimize\nobj: x1\nSubject To\n")?;
+    for row in 1..=count {
+        let line = format!(in alloc; "r{row}: x{row} + y{row} >= 0\n")?;
+        put(&mut bytes, line.as_str())?;
+    }
+    put(&mut bytes, "End\n")?;
+    Ok(bytes)
+}
+
 // The fault of a text, with its line.
 fn fault(alloc: Global, text: &[u8]) -> Result<Option<(u32, ReadKind)>, AllocError> {
     if text.len() >= 2_147_483_648 {
@@ -91,6 +103,7 @@ pub fn try_limits(alloc: Global) -> Result<(u32, u32), AllocError> {
     let mut differ: u32 = 0;
     let found = [
         fault(alloc, with_labels(alloc, 2_000)?.as_slice())?,
+        fault(alloc, with_pairs(alloc, 2_000)?.as_slice())?,
         lines_fault(alloc, "min\nst\n", "x\n>= 1\n", 2_000, "end\n")?,
         fault(alloc, with_columns(alloc, 4_000)?.as_slice())?,
         fault(alloc, with_terms(alloc, 50, 1_000, 50_000)?.as_slice())?,
@@ -157,5 +170,5 @@ pub fn try_limits(alloc: Global) -> Result<(u32, u32), AllocError> {
             differ = differ.wrapping_add(1);
         }
     }
-    Ok((18, differ))
+    Ok((19, differ))
 }
