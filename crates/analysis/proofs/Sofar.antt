@@ -9,9 +9,8 @@ use Rattle.report_text.specs.declared.report.Command.{Command}
 use Rattle.report_text.specs.declared.report.Command.TheVariants.{Check, Iis, Pivots}
 use Rattle.report_text.specs.declared.report.Answer.{Answer}
 use Rattle.report_text.specs.declared.report.Entry.{Entry}
-use Rattle.report_text.specs.Commands.{IsBuilt}
 use Rattle.report_text.specs.Grammar.{entry_lines}
-use Rattle.report_text.specs.Form.{AreNumbered}
+use Rattle.report_text.specs.Form.{AreNumbered, IsCommand}
 use Rattle.analysis.specs.declared.pieces.Want.{Want}
 use Rattle.analysis.specs.declared.pieces.Want.TheVariants.{Memory, Fault}
 use Rattle.analysis.specs.Puts.{PutWhole, PutFailed, PutsNothing}
@@ -22,7 +21,7 @@ use Rattle.analysis.proofs.Putting.{put_two, put_none, put_then_none, failed_aft
 use Rattle.analysis.proofs.Entries.{budgets_through, through_more, right_more, right_front, numbered_more, text_more, stop_more}
 
 -- the budgets stay small
-pub few_after : (b : Budgets) (c : Command) → IsBuilt c → b.pivots < 2 ^ 63 → (budgets_after b c).pivots < 2 ^ 63
+pub few_after : (b : Budgets) (c : Command) → IsCommand c → b.pivots < 2 ^ 63 → (budgets_after b c).pivots < 2 ^ 63
 few_after b Check built few = few
 few_after b (Iis method) built few = few
 few_after b (Pivots n) built few = omega (arith, built)

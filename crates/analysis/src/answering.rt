@@ -4,8 +4,7 @@ ghost use Rattle.lp_model.specs.Members.{active_members, is_mark};
 ghost use Rattle.lp_model.specs.MemberSets.{active_set};
 ghost use Rattle.certs.specs.Sites.{Budgets as Allowed};
 ghost use Rattle.certs.specs.Tales.{IsNodeEnd};
-ghost use Rattle.report_text.specs.Commands.{IsBuilt};
-ghost use Rattle.report_text.specs.Form.{IsWholeSite};
+ghost use Rattle.report_text.specs.Form.{IsWholeSite, IsCommand};
 ghost use Rattle.report_text.specs.Printing.{IsKnownAnswer};
 ghost use Rattle.analysis.specs.Answers.{IsLeafProof, budgets_of};
 ghost use Rattle.analysis.specs.Right.{IsChecked, Right, budgets_after, first_budgets as budgets_at_first};
@@ -55,7 +54,7 @@ pub(crate) fn answer(
     command: Command,
 ) -> Result<Answer, AllocError>
     requires linear { All (λ m. is_mark m ≡ false) (active_members model.now) }
-    requires built { IsBuilt command }
+    requires built { IsCommand command }
     requires few { budgets.pivots < 2 ^ 63 }
     ensures right { IfOk result (Right model.now (budgets_of budgets) command) }
     ensures known { IfOk result (IsKnownAnswer model.now) }

@@ -2,7 +2,7 @@
 ghost use Rattle.std.specs.Prelude.{◌≡◌, ◌<◌, ◌^◌, ◌||◌, All, cond, false};
 ghost use Rattle.analysis.specs.declared.pieces.Want.TheVariants.{Memory};
 ghost use Rattle.lp_model.specs.Members.{active_members, is_mark};
-ghost use Rattle.report_text.specs.Commands.{IsBuilt};
+ghost use Rattle.report_text.specs.Form.{IsCommand};
 ghost use Rattle.analysis.specs.Answers.{budgets_of};
 ghost use Rattle.analysis.specs.Pieces.{EntriesPut, EntryPut, ReportPut, TextPut};
 ghost use Rattle.analysis.specs.Written.{IsAnalysis, head_text, foot_text, is_stop as is_stop_of};
@@ -39,7 +39,7 @@ impl From<AllocError> for Want {
 /// The program has no active marks.
 pub fn analyse<W: Sink>(alloc: Global, model: &Model, script: &Script, out: &mut W) -> u8
     requires linear { All (λ m. is_mark m ≡ false) (active_members model.now) }
-    requires built { All IsBuilt script.now }
+    requires built { All IsCommand script.now }
     ensures { IsAnalysis W.faults W.taken out.old out.new model.now script.now result }
 {
     match put_report(alloc, model, script.as_slice(), out) {
@@ -64,7 +64,7 @@ fn put_report<W: Sink>(
     out: &mut W,
 ) -> Result<bool, Want>
     requires linear { All (λ m. is_mark m ≡ false) (active_members model.now) }
-    requires built { All IsBuilt commands.now }
+    requires built { All IsCommand commands.now }
     ensures { ReportPut W.faults W.taken out.old out.new model.now commands.now result }
 {
     put_head(alloc, model, out)?;
@@ -109,7 +109,7 @@ fn put_entries<W: Sink>(
     out: &mut W,
 ) -> Result<bool, Want>
     requires linear { All (λ m. is_mark m ≡ false) (active_members model.now) }
-    requires built { All IsBuilt commands.now }
+    requires built { All IsCommand commands.now }
     ensures { EntriesPut W.faults W.taken out.old out.new model.now commands.now result }
 {
     let mut budgets = first_budgets();
@@ -138,7 +138,7 @@ fn put_entry<W: Sink>(
     out: &mut W,
 ) -> Result<bool, Want>
     requires linear { All (λ m. is_mark m ≡ false) (active_members model.now) }
-    requires built { IsBuilt command.now }
+    requires built { IsCommand command.now }
     requires few { budgets.pivots < 2 ^ 63 }
     ensures { EntryPut W.faults W.taken out.old out.new model.now (budgets_of budgets) command.now result }
 {

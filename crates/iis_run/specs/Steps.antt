@@ -3,7 +3,7 @@ use Rattle.std.specs.Prelude.{◌≡◌, ◌<◌, ◌≤◌, ⊤, ℕ, false, Li
 use Rattle.iis_edge.specs.Causes.{Rose, KeepsCounts}
 use Rattle.lp_model.specs.Program.{Program}
 use Rattle.model_files.specs.Reading.{IsMarkless}
-use Rattle.report_text.specs.Commands.{IsBuilt}
+use Rattle.report_text.specs.Form.{IsCommand}
 use Rattle.analysis.specs.Written.{IsAnalysis}
 use Rattle.text_fields.specs.declared.faults.ReadFault.{ReadFault as ModelFault}
 use Rattle.text_fields.specs.declared.faults.ReadFault.TheVariants.{Stop, Memory as NoMemory}
@@ -80,7 +80,7 @@ IsPlanned file before now request (Answer program commands) = IsAskedSession fil
 -- what is to be answered can be: there are no marks, and a script may have each command
 abbrev pub IsReady : Plan → Type 0
 IsReady (Say ending) = ⊤
-IsReady (Answer program commands) = IsMarkless program × All IsBuilt commands
+IsReady (Answer program commands) = IsMarkless program × All IsCommand commands
 
 -- what a plan writes, and its status
 abbrev pub Follows : {K : Type 0} → (K → ℕ) → (K → Option (List ℕ)) → K → K → Plan → ℕ → Type 0

@@ -1,6 +1,6 @@
 //! Files that are fetched and read.
 ghost use Rattle.std.specs.Prelude.{◌≡◌, ◌≤◌, ℕ, List, length, All, IfOk, IfErr, IfSome};
-ghost use Rattle.report_text.specs.Commands.{IsBuilt};
+ghost use Rattle.report_text.specs.Form.{IsCommand};
 ghost use Rattle.model_files.specs.Reading.{IsMarkless};
 ghost use Rattle.iis_run.specs.Causes.{ComesTo, IsModelOf, checked_ending, refused_ending};
 ghost use Rattle.iis_run.specs.Scripts.{IsCommands, script_ending};
@@ -117,7 +117,7 @@ pub(crate) fn fetch_script<S: Shelf>(
     name: &str,
 ) -> Result<Script, Ending>
     ensures read { IfOk result (λ script. IfSome (S.file shelf.old name.now) (λ b. IsCommands b script)) }
-    ensures built { IfOk result (All IsBuilt) }
+    ensures built { IfOk result (All IsCommand) }
     ensures stop { IfErr result (IsScriptEnd (S.file shelf.old name.now) (S.faults shelf.old name.now) (S.faults shelf.new name.now)) }
     ensures counts { (n : List ℕ) → S.faults shelf.old n ≤ S.faults shelf.new n }
     ensures files { (n : List ℕ) → S.file shelf.new n ≡ S.file shelf.old n }

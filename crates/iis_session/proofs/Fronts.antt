@@ -11,7 +11,8 @@ use Rattle.text_fields.specs.Lines.{lines_of, line_text, after, IsLineAt}
 use Rattle.text_fields.specs.Fields.{is_long}
 use Rattle.text_fields.proofs.LineLists.{lines_of-nil}
 use Rattle.report_text.specs.declared.report.Command.{Command}
-use Rattle.report_text.specs.Commands.{command_of, IsBuilt}
+use Rattle.report_text.specs.Form.{IsCommand}
+use Rattle.report_text.specs.Commands.{command_of}
 use Rattle.report_text.proofs.Scripted.{line_built}
 use Rattle.iis_session.specs.declared.scripts.Saying.{Saying}
 use Rattle.iis_session.specs.declared.scripts.Saying.TheVariants.{Nothing, Says, Bad}
@@ -152,15 +153,15 @@ bad_behind front (line ∷ lines) n h e =
 pub line_bad : (lines : List (List ℕ)) (n : ℕ) → first_bad lines ≡ Some n → IsFirstBad lines n
 line_bad lines n e = bad_behind [] lines n no_lines_right e
 
-line_commands : (line : List ℕ) → All IsBuilt (command_in (saying_of line))
+line_commands : (line : List ℕ) → All IsCommand (command_in (saying_of line))
 line_commands line = by (is_long line) (is_remark line || is_blank_line line) (command_of line) refl
   where
-    by : (a b : Bool) (o : Option Command) → command_of line ≡ o → All IsBuilt (command_in (cond a Bad (cond b Nothing (said_by o))))
-    by true b o e = All-nil IsBuilt
-    by false true o e = All-nil IsBuilt
-    by false false None e = All-nil IsBuilt
-    by false false (Some c) e = All-cons IsBuilt c [] (line_built line c e) (All-nil IsBuilt)
+    by : (a b : Bool) (o : Option Command) → command_of line ≡ o → All IsCommand (command_in (cond a Bad (cond b Nothing (said_by o))))
+    by true b o e = All-nil IsCommand
+    by false true o e = All-nil IsCommand
+    by false false None e = All-nil IsCommand
+    by false false (Some c) e = All-cons IsCommand c [] (line_built line c e) (All-nil IsCommand)
 
-pub lines_built : (lines : List (List ℕ)) → All IsBuilt (commands_of lines)
-lines_built [] = All-nil IsBuilt
-lines_built (line ∷ lines) = All-append IsBuilt (command_in (saying_of line)) (commands_of lines) (line_commands line) (lines_built lines)
+pub lines_built : (lines : List (List ℕ)) → All IsCommand (commands_of lines)
+lines_built [] = All-nil IsCommand
+lines_built (line ∷ lines) = All-append IsCommand (command_in (saying_of line)) (commands_of lines) (line_commands line) (lines_built lines)

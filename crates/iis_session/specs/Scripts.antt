@@ -5,7 +5,8 @@ use Rattle.lane_scan.specs.Bytes.{is_blank}
 use Rattle.text_fields.specs.Lines.{lines_of}
 use Rattle.text_fields.specs.Fields.{is_long}
 use Rattle.report_text.specs.declared.report.Command.{Command}
-use Rattle.report_text.specs.Commands.{command_of, IsBuilt}
+use Rattle.report_text.specs.Form.{IsCommand}
+use Rattle.report_text.specs.Commands.{command_of}
 use Rattle.iis_session.specs.declared.scripts.Saying.{Saying}
 use Rattle.iis_session.specs.declared.scripts.Saying.TheVariants.{Nothing, Says, Bad}
 use Rattle.iis_session.specs.declared.scripts.ScriptStop.{ScriptStop}
@@ -96,4 +97,4 @@ pub record IsFirstBad (lines : List (List ℕ)) (n : ℕ) : Type 0 where
 pub record ScriptLaw : Type 0 where
   pub right : (lines : List (List ℕ)) → first_bad lines ≡ None → AreRight lines
   pub bad : (lines : List (List ℕ)) (n : ℕ) → first_bad lines ≡ Some n → IsFirstBad lines n
-  pub built : (lines : List (List ℕ)) → All IsBuilt (commands_of lines)
+  pub built : (lines : List (List ℕ)) → All IsCommand (commands_of lines)

@@ -2,7 +2,8 @@
 ghost use Rattle.std.specs.Prelude.{◌≡◌, ◌<◌, ◌==◌, ◌||◌, All, List, ℕ, length, IfOk, IfErr, None};
 ghost use Rattle.std.specs.List.{list_all};
 ghost use Rattle.text_fields.specs.Lines.{lines_of};
-ghost use Rattle.report_text.specs.Commands.{command_of, IsBuilt, IsCommandStop};
+ghost use Rattle.report_text.specs.Form.{IsCommand};
+ghost use Rattle.report_text.specs.Commands.{command_of, IsCommandStop};
 ghost use Rattle.iis_session.specs.Scripts.{is_remark, is_blank_line, said_by, saying_of, commands_of, first_bad, IsScriptStop, Takes, IsLineStop, ScriptLaw};
 ghost use Rattle.iis_session.specs.declared.scripts.ScriptStop.TheVariants.{Memory as ScriptMemory};
 
@@ -153,7 +154,7 @@ pub fn read_script(alloc: Global, bytes: &[u8]) -> Result<Script, ScriptStop>
     // No line is bad.
     ensures right { IfOk result (λ _. first_bad (lines_of bytes.now) ≡ None) }
     // Each command is one that a script may have.
-    ensures built { IfOk result (All IsBuilt) }
+    ensures built { IfOk result (All IsCommand) }
     // A stop comes where it is to.
     ensures stop { IfErr result (IsScriptStop bytes.now) }
 {

@@ -23,9 +23,9 @@ use Rattle.report_text.specs.declared.report.Command.{Command}
 use Rattle.report_text.specs.declared.report.Command.TheVariants.{Check, Iis, Pivots}
 use Rattle.report_text.specs.declared.report.Method.{Method}
 use Rattle.report_text.specs.declared.report.Method.TheVariants.{Deletion, Additive, Sensitivity}
-use Rattle.report_text.specs.Form.{most_pivots}
+use Rattle.report_text.specs.Form.{most_pivots, IsCommand}
 use Rattle.report_text.specs.Grammar.{command_text}
-use Rattle.report_text.specs.Commands.{is_numeral, pivots_of, lone_command, budget_command, command_said, unless_fault, command_of, IsBuilt}
+use Rattle.report_text.specs.Commands.{is_numeral, pivots_of, lone_command, budget_command, command_said, unless_fault, command_of}
 
 -- ---- the number of pivots
 by_tests : (a b c : Bool) (n : ℕ) → a ≡ true → b ≡ true → c ≡ true → cond ((a && b) && c) (Some n) None ≡ Some n
@@ -71,10 +71,10 @@ pivots_within word n e = by (is_numeral word) (nat_le (number_of word) most_pivo
     by false c f g = grind arith
 
 -- ---- what a script may have
-none_built : (c : Command) → None ≡ Some c → IsBuilt c
+none_built : (c : Command) → None ≡ Some c → IsCommand c
 none_built c e = grind arith
 
-lone_built : (a : List ℕ) (c : Command) → lone_command a ≡ Some c → IsBuilt c
+lone_built : (a : List ℕ) (c : Command) → lone_command a ≡ Some c → IsCommand c
 lone_built a Check e = tt
 lone_built a (Iis method) e = by (bytes_eq a (codes "check")) e
   where
@@ -87,27 +87,27 @@ lone_built a (Pivots n) e = by (bytes_eq a (codes "check")) e
     by true g = grind arith
     by false g = grind arith
 
-budget_built : (first second third : List ℕ) (c : Command) → budget_command first second third ≡ Some c → IsBuilt c
+budget_built : (first second third : List ℕ) (c : Command) → budget_command first second third ≡ Some c → IsCommand c
 budget_built first second third c e = by (bytes_eq first (codes "budget") && bytes_eq second (codes "pivots")) (pivots_of third) (pivots_within third) c e
   where
-    by : (t : Bool) (found : Option ℕ) → ((n : ℕ) → found ≡ Some n → n ≤ most_pivots) → (c : Command) → cond t (option_map Pivots found) None ≡ Some c → IsBuilt c
+    by : (t : Bool) (found : Option ℕ) → ((n : ℕ) → found ≡ Some n → n ≤ most_pivots) → (c : Command) → cond t (option_map Pivots found) None ≡ Some c → IsCommand c
     by true None h c g = none_built c g
     by true (Some n) h Check g = tt
     by true (Some n) h (Iis method) g = grind arith
     by true (Some n) h (Pivots m) g = h m (grind arith)
     by false found h c g = none_built c g
 
-said_built : (fields : List (List ℕ)) (c : Command) → command_said fields ≡ Some c → IsBuilt c
+said_built : (fields : List (List ℕ)) (c : Command) → command_said fields ≡ Some c → IsCommand c
 said_built [] c e = none_built c e
 said_built (first ∷ []) c e = lone_built first c e
 said_built (first ∷ second ∷ []) c e = none_built c e
 said_built (first ∷ second ∷ third ∷ []) c e = budget_built first second third c e
 said_built (first ∷ second ∷ third ∷ fourth ∷ fields) c e = none_built c e
 
-pub line_built : (line : List ℕ) (c : Command) → command_of line ≡ Some c → IsBuilt c
+pub line_built : (line : List ℕ) (c : Command) → command_of line ≡ Some c → IsCommand c
 line_built line c e = by (field_fault line) e
   where
-    by : (fault : Option TextKind) → unless_fault fault (command_said (fields_of line)) ≡ Some c → IsBuilt c
+    by : (fault : Option TextKind) → unless_fault fault (command_said (fields_of line)) ≡ Some c → IsCommand c
     by None g = said_built (fields_of line) c g
     by (Some fault) g = none_built c g
 
@@ -214,7 +214,7 @@ check_text : command_of (codes "check") ≡ Some Check
 unfolding fields_of field_fault
 check_text = refl
 
-pub own_text : (c : Command) → IsBuilt c → command_of (command_text c) ≡ Some c
+pub own_text : (c : Command) → IsCommand c → command_of (command_text c) ≡ Some c
 own_text Check h = check_text
 own_text (Iis method) h = absurd h
 own_text (Pivots n) h =

@@ -1,5 +1,5 @@
 -- What a line of a script says.
-use Rattle.std.specs.Prelude.{◌≡◌, ℕ, ◌<◌, ◌≤◌, ◌&&◌, nat_lt, nat_le, Bool, true, cond, List, [], ◌∷◌, length, codes, Option, Some, None, option_map}
+use Rattle.std.specs.Prelude.{◌≡◌, ℕ, ◌<◌, ◌≤◌, ◌&&◌, nat_lt, nat_le, Bool, true, cond, List, [], ◌∷◌, length, codes, Option, Some, None, option_map, find}
 use Rattle.std.specs.List.{list_all, list_any}
 use Rattle.std.specs.Str.{bytes_eq}
 use Rattle.lane_scan.specs.Bytes.{is_foreign}
@@ -11,10 +11,11 @@ use Rattle.text_fields.specs.Fields.{fields_of, field_fault}
 use Rattle.report_text.specs.declared.report.Command.{Command}
 use Rattle.report_text.specs.declared.report.Command.TheVariants.{Check, Iis, Pivots}
 use Rattle.report_text.specs.declared.report.Method.{Method}
+use Rattle.report_text.specs.declared.report.Method.TheVariants.{Deletion, Additive, Sensitivity}
 use Rattle.report_text.specs.declared.commands.CommandStop.{CommandStop}
 use Rattle.report_text.specs.declared.commands.CommandStop.TheVariants.{Bad, Memory}
-use Rattle.report_text.specs.Grammar.{command_text}
-use Rattle.report_text.specs.Form.{most_pivots}
+use Rattle.report_text.specs.Grammar.{method_word, command_text}
+use Rattle.report_text.specs.Form.{most_pivots, IsCommand}
 
 -- one digit or more
 abbrev pub is_numeral : List ℕ → Bool
@@ -28,6 +29,14 @@ pivots_of word = cond (is_numeral word && nat_le (number_of word) most_pivots) (
 abbrev pub lone_command : List ℕ → Option Command
 lone_command word = cond (bytes_eq word (codes "check")) (Some Check) None
 
+-- the method that a word names
+abbrev pub method_of : List ℕ → Option Method
+method_of word = find (λ m. bytes_eq word (method_word m)) (Deletion ∷ Additive ∷ Sensitivity ∷ [])
+
+-- what two fields say
+abbrev pub iis_command : List ℕ → List ℕ → Option Command
+iis_command first second = cond (bytes_eq first (codes "iis")) (option_map Iis (method_of second)) None
+
 -- what three fields say
 abbrev pub budget_command : List ℕ → List ℕ → List ℕ → Option Command
 budget_command first second third = cond (bytes_eq first (codes "budget") && bytes_eq second (codes "pivots")) (option_map Pivots (pivots_of third)) None
@@ -36,7 +45,7 @@ budget_command first second third = cond (bytes_eq first (codes "budget") && byt
 abbrev pub command_said : List (List ℕ) → Option Command
 command_said [] = None
 command_said (a ∷ []) = lone_command a
-command_said (a ∷ b ∷ []) = None
+command_said (a ∷ b ∷ []) = iis_command a b
 command_said (a ∷ b ∷ c ∷ []) = budget_command a b c
 command_said (a ∷ b ∷ c ∷ d ∷ fields) = None
 
@@ -54,12 +63,6 @@ abbrev pub command_stop : FieldStop → CommandStop
 command_stop (FieldText fault) = Bad
 command_stop FieldMemory = Memory
 
--- a command that a script may have
-abbrev pub IsBuilt : Command → Type 0
-IsBuilt Check = Unit {0}
-IsBuilt (Iis method) = ⊥
-IsBuilt (Pivots n) = n ≤ most_pivots
-
 -- why a line is not read as a command: it is none, or memory was refused
 abbrev pub IsCommandStop : List ℕ → CommandStop → Type 0
 IsCommandStop line Bad = command_of line ≡ None
@@ -68,11 +71,9 @@ IsCommandStop line Memory = Unit {0}
 -- what holds of the commands of scripts
 pub record CommandLaw : Type 0 where
   -- each is read from its own text
-  pub own : (c : Command) → IsBuilt c → command_of (command_text c) ≡ Some c
+  pub own : (c : Command) → IsCommand c → command_of (command_text c) ≡ Some c
   -- no line is another command
-  pub built : (line : List ℕ) (c : Command) → command_of line ≡ Some c → IsBuilt c
+  pub built : (line : List ℕ) (c : Command) → command_of line ≡ Some c → IsCommand c
   -- a long line is none, and no line with a foreign byte is one
   pub long : (line : List ℕ) → 65536 < length line → command_of line ≡ None
   pub clean : (line : List ℕ) → list_any is_foreign line ≡ true → command_of line ≡ None
-  -- the text of a search for an irreducible set is none as yet
-  pub methods : (method : Method) → command_of (command_text (Iis method)) ≡ None

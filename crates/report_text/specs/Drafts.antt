@@ -1,11 +1,11 @@
 -- What may follow in a report, line by line: the draft that a phrase makes of a draft.
-use Rattle.std.specs.Prelude.{◌≡◌, ◌≢◌, ⊤, ℕ, ◌+◌, ◌-◌, ◌≤◌, nat_le, Bool, true, false, List, [], ◌∷◌, ◌++◌, length, replicate, Option, Some, None, option_map, Result, Ok, Err, flat_map, All}
+use Rattle.std.specs.Prelude.{◌≡◌, ◌≢◌, ⊤, ℕ, ◌+◌, ◌-◌, ◌≤◌, nat_le, Bool, true, false, ◌&&◌, IsTrue, List, [], ◌∷◌, ◌++◌, length, replicate, Option, Some, None, option_map, Result, Ok, Err, flat_map, All}
 use Rattle.std.specs.List.{list_all}
 use Rattle.rational.specs.Rational.{ℚ, zero_ℚ}
 use Rattle.lp_model.specs.Program.{Program, noted_column}
 use Rattle.lp_model.specs.declared.members.Member.{Member}
-use Rattle.lp_model.specs.Members.{comes_before, IsInOrder}
-use Rattle.lp_model.specs.MemberSets.{SetValue, active_set, empty_set}
+use Rattle.lp_model.specs.Members.{comes_before, is_active, IsInOrder}
+use Rattle.lp_model.specs.MemberSets.{SetValue, empty_set}
 use Rattle.lp_model.specs.Satisfaction.{values_at}
 use Rattle.lp_model.specs.declared.parts.Note.{Note}
 use Rattle.certs.specs.declared.evidence.Share.{Share}
@@ -32,7 +32,7 @@ use Rattle.report_text.specs.declared.report.Report.{Report}
 use Rattle.report_text.specs.declared.report.ReportStop.{ReportStop}
 use Rattle.report_text.specs.declared.report.ReportStop.TheVariants.{BadLine, Truncated, Memory}
 use Rattle.report_text.specs.Phrases.{Says}
-use Rattle.report_text.specs.Grammar.{Line, column_name, entry_lines}
+use Rattle.report_text.specs.Grammar.{Line, column_name, left_out, entry_lines}
 use Rattle.report_text.specs.Form.{is_word, IsNamedColumn, IsNamedMember, IsWithinLimit, IsPointFor, IsEntryFor, IsCommand, IsCount, IsOperation, AreUses, AreNumbered, share_before}
 
 -- values with zeros behind them, up to so many
@@ -85,9 +85,13 @@ witnessed_with members witnesses (Phrase.Member m) = only_if (list_all (λ n. co
 witnessed_with members witnesses Phrase.Proof = Some (Next.More (Part.Proof (Found.Witnessed members witnesses)))
 witnessed_with members witnesses _ = None
 
--- the settle run of all active members
-abbrev pub whole_site : Program → Site
-whole_site model = record { kind = Settle; set = active_set model; enforced = empty_set model; path = [] }
+-- the settle run of the active members but these
+abbrev pub site_without : Program → List Member → Site
+site_without model left = record { kind = Settle; set = set_of model (left_out model left); enforced = empty_set model; path = [] }
+
+-- the active members left out, with one more, where it is active and comes after all of them
+abbrev pub with_left_out : Program → List Member → Member → Option (List Member)
+with_left_out model left m = only_if (is_active model m && list_all (λ n. comes_before n m) left) (left ++ m ∷ [])
 
 -- how a stop begins
 abbrev pub stop_begun : StopPhrase → Option Next
@@ -100,14 +104,20 @@ abbrev pub at_site : StopPart → Phrase → Option Next
 at_site next (Phrase.Stop (StopPhrase.Site Settle)) = Some (Next.More (Part.Stop next))
 at_site next _ = None
 
+-- one active member more that is left out, if the next part may be
+abbrev pub left_out_next : (List Member → StopPart) → Option (List Member) → Option Next
+left_out_next next left = option_map (λ members. Next.More (Part.Stop (next members))) left
+
 -- what a part of a stop is with one phrase more
 abbrev pub stop_with : Program → StopPart → Phrase → Option Next
-stop_with model StopPart.Wide p = at_site StopPart.WideSite p
-stop_with model StopPart.WideSite (Phrase.Stop (StopPhrase.Step k)) = Some (Next.More (Part.Stop (StopPart.WideStep k)))
-stop_with model (StopPart.WideStep k) (Phrase.Stop (StopPhrase.Operation o)) = Some (Next.More (Part.Stop (StopPart.WideOperation k o)))
-stop_with model (StopPart.WideOperation k o) Phrase.End = Some (Next.Whole (Answer.Stopped (Stop.Wide (whole_site model) k o)))
-stop_with model StopPart.Spent p = at_site StopPart.SpentSite p
-stop_with model StopPart.SpentSite Phrase.End = Some (Next.Whole (Answer.Stopped (Stop.Pivots (whole_site model))))
+stop_with model StopPart.Wide p = at_site (StopPart.WideSite []) p
+stop_with model (StopPart.WideSite left) (Phrase.Stop (StopPhrase.Without m)) = left_out_next StopPart.WideSite (with_left_out model left m)
+stop_with model (StopPart.WideSite left) (Phrase.Stop (StopPhrase.Step k)) = Some (Next.More (Part.Stop (StopPart.WideStep left k)))
+stop_with model (StopPart.WideStep left k) (Phrase.Stop (StopPhrase.Operation o)) = Some (Next.More (Part.Stop (StopPart.WideOperation left k o)))
+stop_with model (StopPart.WideOperation left k o) Phrase.End = Some (Next.Whole (Answer.Stopped (Stop.Wide (site_without model left) k o)))
+stop_with model StopPart.Spent p = at_site (StopPart.SpentSite []) p
+stop_with model (StopPart.SpentSite left) (Phrase.Stop (StopPhrase.Without m)) = left_out_next StopPart.SpentSite (with_left_out model left m)
+stop_with model (StopPart.SpentSite left) Phrase.End = Some (Next.Whole (Answer.Stopped (Stop.Pivots (site_without model left))))
 stop_with model _ _ = None
 
 -- the answer that a part of one becomes by a phrase, if it may follow
@@ -118,6 +128,7 @@ extended model (Iis method) Part.Nothing Phrase.Feasible = Some (Next.More Part.
 extended model Check Part.Nothing Phrase.Infeasible = Some (Next.More (Part.Listed (Found.Members [])))
 extended model (Iis method) Part.Nothing Phrase.Irreducible = Some (Next.More (Part.Listed (Found.Witnessed [] [])))
 extended model Check Part.Nothing (Phrase.Stop s) = stop_begun s
+extended model (Iis method) Part.Nothing (Phrase.Stop s) = stop_begun s
 extended model (Pivots n) Part.Nothing Phrase.Done = Some (Next.Whole Answer.Done)
 extended model command (Part.Point values) (Phrase.Value j v) = option_map (λ vs. Next.More (Part.Point vs)) (with_value values j v)
 extended model command (Part.Point values) Phrase.End = Some (Next.Whole (Answer.Feasible (point_of model values)))
@@ -216,12 +227,19 @@ IsOneMore model Check members witnesses m = ⊥
 IsOneMore model (Pivots n) members witnesses m = ⊥
 IsOneMore model (Iis method) members witnesses m = AreMembers model (members ++ m ∷ []) × AreWitnesses model members witnesses
 
--- a part of a stop, which answers a check
-abbrev pub IsStopPart : Command → StopPart → Type 0
-IsStopPart Check (StopPart.WideStep k) = IsCount k
-IsStopPart Check (StopPart.WideOperation k o) = IsCount k × IsOperation o
-IsStopPart Check _ = ⊤
-IsStopPart command _ = ⊥
+-- active members in order, with words for names
+pub record AreLeftOut (model : Program) (left : List Member) : Type 0 where
+  pub members : AreMembers model left
+  pub active : All (λ m. IsTrue (is_active model m)) left
+
+-- a part of a stop
+abbrev pub IsStopPart : Program → StopPart → Type 0
+IsStopPart model StopPart.Wide = ⊤
+IsStopPart model (StopPart.WideSite left) = AreLeftOut model left
+IsStopPart model (StopPart.WideStep left k) = AreLeftOut model left × IsCount k
+IsStopPart model (StopPart.WideOperation left k o) = AreLeftOut model left × (IsCount k × IsOperation o)
+IsStopPart model StopPart.Spent = ⊤
+IsStopPart model (StopPart.SpentSite left) = AreLeftOut model left
 
 -- only a check, or the search for an irreducible set, is answered by more than one line
 abbrev pub Asks : Command → Type 0
@@ -238,7 +256,7 @@ IsPartFor model command (Part.Member members witnesses m) = IsOneMore model comm
 IsPartFor model command (Part.Witness members witnesses m values) = IsOneMore model command members witnesses m × AreValues model values
 IsPartFor model command (Part.Proof found) = IsFound model command found
 IsPartFor model command (Part.Leaf found shares) = IsFound model command found × AreUses model shares
-IsPartFor model command (Part.Stop part) = IsStopPart command part
+IsPartFor model command (Part.Stop part) = Asks command × IsStopPart model part
 
 -- nothing is read at the start; a command stands on the line after what is read before it
 abbrev pub IsStageFor : Program → List Note → List Entry → Stage → Type 0

@@ -1,5 +1,5 @@
 -- Which reports stand in the grammar: what is asked of their names, numbers and order.
-use Rattle.std.specs.Prelude.{◌≡◌, ◌≢◌, ℕ, ◌+◌, ◌^◌, ◌<◌, ◌≤◌, nat_lt, nat_le, Bool, true, false, ◌&&◌, ◌||◌, IsTrue, List, [], ◌∷◌, length, All, AllPairs}
+use Rattle.std.specs.Prelude.{◌≡◌, ◌≢◌, ℕ, ◌+◌, ◌^◌, ◌<◌, ◌≤◌, nat_lt, nat_le, Bool, true, false, ◌&&◌, ◌||◌, IsTrue, List, [], ◌∷◌, length, filter, All, AllPairs}
 use Rattle.std.specs.List.{list_all}
 use Rattle.lines.specs.Names.{is_shown}
 use Rattle.rational.specs.Rational.{ℚ, zero_ℚ, ◌<ℚ◌}
@@ -9,8 +9,8 @@ use Rattle.lp_model.specs.Program.{Program, noted_column}
 use Rattle.lp_model.specs.declared.members.Member.{Member}
 use Rattle.lp_model.specs.declared.members.Side.{Side}
 use Rattle.lp_model.specs.declared.members.Side.TheVariants.{Lo, Up}
-use Rattle.lp_model.specs.Members.{comes_before, is_same, IsInOrder}
-use Rattle.lp_model.specs.MemberSets.{SetValue, IsMemberFor, active_set, empty_set}
+use Rattle.lp_model.specs.Members.{comes_before, is_same, has, active_members, IsInOrder}
+use Rattle.lp_model.specs.MemberSets.{SetValue, IsMemberFor, empty_set}
 use Rattle.lp_model.specs.Satisfaction.{values_at}
 use Rattle.certs.specs.declared.evidence.Source.{Source}
 use Rattle.certs.specs.declared.evidence.Source.TheVariants.{Member as Of, Below, Above}
@@ -32,7 +32,7 @@ use Rattle.report_text.specs.declared.report.Answer.{Answer}
 use Rattle.report_text.specs.declared.report.Answer.TheVariants.{Feasible, Infeasible, Irreducible, Done, Stopped}
 use Rattle.report_text.specs.declared.report.Entry.{Entry}
 use Rattle.report_text.specs.declared.report.Report.{Report}
-use Rattle.report_text.specs.Grammar.{column_name, name_of, entry_lines}
+use Rattle.report_text.specs.Grammar.{column_name, name_of, left_out, entry_lines}
 
 -- ---- names
 -- a word: at least one byte, and each one that may stand in a name
@@ -110,12 +110,18 @@ pub record IsOneLeaf (model : Program) (proof : Proof) : Type 0 where
   pub uses : AreUses model combo.shares
 
 -- ---- stops
--- the settle run of all active members
-pub record IsWholeSite (model : Program) (site : Site) : Type 0 where
+-- the settle run of active members in member order, with no enforced part and no branches
+pub record IsSettleSite (model : Program) (site : Site) : Type 0 where
   pub kind : site.kind ≡ Settle
-  pub set_is : site.set ≡ active_set model
+  pub of_model : IsSetOf model site.set
+  pub active : site.set.members ≡ filter (has site.set.members) (active_members model)
   pub enforced_is : site.enforced ≡ empty_set model
   pub path_is : site.path ≡ []
+
+-- such a site, where each active member that is not in its set has a word for a name
+pub record IsSiteFor (model : Program) (site : Site) : Type 0 where
+  pub settle : IsSettleSite model site
+  pub named : All (IsNamedMember model) (left_out model site.set.members)
 
 -- an operation on numbers within the limit
 pub record IsOperation (o : Operation) : Type 0 where
@@ -128,8 +134,8 @@ IsCount n = n < 2 ^ 64
 
 -- Two kinds of stop are printed as yet: an operation too wide, and no pivot left.
 abbrev pub IsStopFor : Program → Stop → Type 0
-IsStopFor model (TooWide site k o) = IsWholeSite model site × (IsCount k × IsOperation o)
-IsStopFor model (Spent site) = IsWholeSite model site
+IsStopFor model (TooWide site k o) = IsSiteFor model site × (IsCount k × IsOperation o)
+IsStopFor model (Spent site) = IsSiteFor model site
 IsStopFor model (Nodes site) = ⊥
 IsStopFor model (Large size) = ⊥
 IsStopFor model Memory = ⊥
@@ -171,7 +177,7 @@ can_answer (Iis method) (Feasible p) = true
 can_answer (Iis method) (Infeasible set proof) = false
 can_answer (Iis method) (Irreducible core) = true
 can_answer (Iis method) Done = false
-can_answer (Iis method) (Stopped stop) = false
+can_answer (Iis method) (Stopped stop) = true
 can_answer (Pivots n) Done = true
 can_answer (Pivots n) _ = false
 

@@ -1,5 +1,5 @@
 -- The lines of a report, piece by piece. A line stands here without the byte 10 that ends it.
-use Rattle.std.specs.Prelude.{ℕ, suc, ◌++◌, cond, List, [], ◌∷◌, map, flat_map, zip, codes, decimal}
+use Rattle.std.specs.Prelude.{ℕ, suc, ◌++◌, cond, not, List, [], ◌∷◌, map, flat_map, filter, zip, codes, decimal}
 use Rattle.std.specs.Fmt.{signed_decimal}
 use Rattle.frac128.specs.declared.Op.{Op}
 use Rattle.frac128.specs.declared.Op.TheVariants.{Plus, Minus, Times, Over}
@@ -16,6 +16,7 @@ use Rattle.lp_model.specs.declared.parts.Note.TheVariants.{LowerRemoved, LowerKe
 use Rattle.lp_model.specs.Program.{Program, row_at, column_at}
 use Rattle.lp_model.specs.declared.members.Member.{Member}
 use Rattle.lp_model.specs.declared.members.Member.TheVariants.{Row, Lower, Upper, Whole}
+use Rattle.lp_model.specs.Members.{has, active_members}
 use Rattle.lp_model.specs.declared.members.Side.{Side}
 use Rattle.lp_model.specs.declared.members.Side.TheVariants.{Lo, Up}
 use Rattle.certs.specs.declared.evidence.Source.{Source}
@@ -129,6 +130,18 @@ site_word Alternative = codes "alternative"
 abbrev pub site_line : Site → Line
 site_line site = codes "site" then site_word site.kind
 
+-- the line of an active member that is not in the site's set
+abbrev pub without_line : Program → Member → Line
+without_line model m = codes "without" then member_text model m
+
+-- the active members that are not in a set
+abbrev pub left_out : Program → List Member → List Member
+left_out model set = filter (λ m. not (has set m)) (active_members model)
+
+-- the lines of a site: its kind, and the active members that are not in its set
+abbrev pub site_lines : Program → Site → List Line
+site_lines model site = site_line site ∷ map (without_line model) (left_out model site.set.members)
+
 -- the line of a turn's number
 abbrev pub step_line : ℕ → Line
 step_line k = codes "step" then decimal k
@@ -138,12 +151,12 @@ abbrev pub operation_line : Operation → Line
 operation_line o = codes "operation" then op_word o.op then printed o.left then printed o.right
 
 -- the lines of a stop, but for want of memory, which is never printed
-abbrev pub stop_lines : Stop → List Line
-stop_lines (TooWide site k o) = codes "too wide" ∷ site_line site ∷ step_line k ∷ operation_line o ∷ codes "end" ∷ []
-stop_lines (Spent site) = codes "pivots spent" ∷ site_line site ∷ codes "end" ∷ []
-stop_lines (Nodes site) = codes "nodes spent" ∷ site_line site ∷ codes "end" ∷ []
-stop_lines (Large size) = (codes "too large" then decimal size) ∷ codes "end" ∷ []
-stop_lines Memory = []
+abbrev pub stop_lines : Program → Stop → List Line
+stop_lines model (TooWide site k o) = codes "too wide" ∷ (site_lines model site ++ step_line k ∷ operation_line o ∷ codes "end" ∷ [])
+stop_lines model (Spent site) = codes "pivots spent" ∷ (site_lines model site ++ codes "end" ∷ [])
+stop_lines model (Nodes site) = codes "nodes spent" ∷ (site_lines model site ++ codes "end" ∷ [])
+stop_lines model (Large size) = (codes "too large" then decimal size) ∷ codes "end" ∷ []
+stop_lines model Memory = []
 
 -- ---- answers
 -- a member of an irreducible set, and its witness
@@ -156,7 +169,7 @@ answer_lines model (Feasible p) = codes "feasible" ∷ (point_lines model p ++ c
 answer_lines model (Infeasible set proof) = codes "infeasible" ∷ (map (member_line model) set.members ++ (proof_lines model proof ++ codes "end" ∷ []))
 answer_lines model (Irreducible core) = codes "irreducible" ∷ (flat_map (witness_lines model) (zip core.members.members core.witnesses) ++ (proof_lines model core.proof ++ codes "end" ∷ []))
 answer_lines model Done = codes "done" ∷ []
-answer_lines model (Stopped stop) = stop_lines stop
+answer_lines model (Stopped stop) = stop_lines model stop
 
 -- ---- reports
 -- the word for a method

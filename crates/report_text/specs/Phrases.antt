@@ -32,6 +32,7 @@ keyword_text Keyword.Use = codes "use"
 keyword_text Keyword.Too = codes "too"
 keyword_text Keyword.Pivots = codes "pivots"
 keyword_text Keyword.Site = codes "site"
+keyword_text Keyword.Without = codes "without"
 keyword_text Keyword.Step = codes "step"
 keyword_text Keyword.Operation = codes "operation"
 keyword_text Keyword.End = codes "end"
@@ -42,6 +43,7 @@ abbrev pub stop_keyword : StopPhrase → Keyword
 stop_keyword StopPhrase.Wide = Keyword.Too
 stop_keyword StopPhrase.Spent = Keyword.Pivots
 stop_keyword (StopPhrase.Site kind) = Keyword.Site
+stop_keyword (StopPhrase.Without m) = Keyword.Without
 stop_keyword (StopPhrase.Step k) = Keyword.Step
 stop_keyword (StopPhrase.Operation o) = Keyword.Operation
 
@@ -71,12 +73,13 @@ source_words model (Below j) side rest = codes "below" ∷ column_name model j �
 source_words model (Above j) side rest = codes "above" ∷ column_name model j ∷ rest
 
 -- the words after the keyword of what is said of a stop
-abbrev pub stop_details : StopPhrase → List (List ℕ)
-stop_details StopPhrase.Wide = codes "wide" ∷ []
-stop_details StopPhrase.Spent = codes "spent" ∷ []
-stop_details (StopPhrase.Site kind) = site_word kind ∷ []
-stop_details (StopPhrase.Step k) = decimal k ∷ []
-stop_details (StopPhrase.Operation o) = op_word o.op ∷ printed o.left ∷ printed o.right ∷ []
+abbrev pub stop_details : Program → StopPhrase → List (List ℕ)
+stop_details model StopPhrase.Wide = codes "wide" ∷ []
+stop_details model StopPhrase.Spent = codes "spent" ∷ []
+stop_details model (StopPhrase.Site kind) = site_word kind ∷ []
+stop_details model (StopPhrase.Without m) = kind_word m ∷ name_of model m ∷ []
+stop_details model (StopPhrase.Step k) = decimal k ∷ []
+stop_details model (StopPhrase.Operation o) = op_word o.op ∷ printed o.left ∷ printed o.right ∷ []
 
 -- the words after the keyword
 abbrev pub details : Program → Phrase → List (List ℕ)
@@ -90,7 +93,7 @@ details model Phrase.Feasible = []
 details model Phrase.Infeasible = []
 details model Phrase.Irreducible = []
 details model Phrase.Done = []
-details model (Phrase.Stop s) = stop_details s
+details model (Phrase.Stop s) = stop_details model s
 details model Phrase.Point = []
 details model (Phrase.Value j v) = column_name model j ∷ printed v ∷ []
 details model (Phrase.Member m) = kind_word m ∷ name_of model m ∷ []
@@ -109,11 +112,12 @@ spelled word (next ∷ rest) = word then spelled next rest
 abbrev pub phrase_line : Program → Phrase → Line
 phrase_line model p = spelled (keyword_text (keyword_of p)) (details model p)
 
--- the numbers of what is said of a stop fit
-abbrev pub IsStopPhrase : StopPhrase → Type 0
-IsStopPhrase (StopPhrase.Step k) = IsCount k
-IsStopPhrase (StopPhrase.Operation o) = IsOperation o
-IsStopPhrase _ = Unit {0}
+-- the numbers of what is said of a stop fit, and a member's name is a word
+abbrev pub IsStopPhrase : Program → StopPhrase → Type 0
+IsStopPhrase model (StopPhrase.Without m) = IsNamedMember model m
+IsStopPhrase model (StopPhrase.Step k) = IsCount k
+IsStopPhrase model (StopPhrase.Operation o) = IsOperation o
+IsStopPhrase model _ = Unit {0}
 
 -- its names are words of the program, its numbers fit, a value is not 0, a weight is above 0 and a budget within its bound
 abbrev pub IsPhraseFor : Program → Phrase → Type 0
@@ -122,7 +126,7 @@ IsPhraseFor model (Phrase.Value j v) = IsNamedColumn model j × (IsWithinLimit v
 IsPhraseFor model (Phrase.Member m) = IsNamedMember model m
 IsPhraseFor model (Phrase.Use s) = IsUse model s
 IsPhraseFor model (Phrase.Command c) = IsCommand c
-IsPhraseFor model (Phrase.Stop s) = IsStopPhrase s
+IsPhraseFor model (Phrase.Stop s) = IsStopPhrase model s
 IsPhraseFor model _ = Unit {0}
 
 -- the line says it

@@ -11,6 +11,8 @@ use Rattle.certs.specs.declared.evidence.Node.{Node}
 use Rattle.certs.specs.declared.evidence.Node.TheVariants.{Split, Leaf}
 use Rattle.certs.specs.declared.evidence.Proof.{Proof}
 use Rattle.certs.specs.Checks.{IsSetOf}
+use Rattle.certs.specs.declared.solving.Stop.{Stop}
+use Rattle.certs.specs.declared.solving.Stop.TheVariants.{Wide as TooWide, Pivots as Spent, Nodes, Large, Memory}
 use Rattle.report_text.specs.declared.report.Core.{Core}
 use Rattle.report_text.specs.declared.report.Answer.{Answer}
 use Rattle.report_text.specs.declared.report.Answer.TheVariants.{Feasible, Infeasible, Irreducible, Done, Stopped}
@@ -58,13 +60,21 @@ pub record IsKnownCore (model : Program) (core : Core) : Type 0 where
   pub points : All (IsKnownPoint model) core.witnesses
   pub proof : IsKnownProof model core.proof
 
+-- a set of members of the program; what has no site has none
+abbrev pub IsKnownStop : Program → Stop → Type 0
+IsKnownStop model (TooWide site k o) = IsSetOf model site.set
+IsKnownStop model (Spent site) = IsSetOf model site.set
+IsKnownStop model (Nodes site) = IsSetOf model site.set
+IsKnownStop model (Large size) = Unit {0}
+IsKnownStop model Memory = Unit {0}
+
 -- an answer of such parts
 abbrev pub IsKnownAnswer : Program → Answer → Type 0
 IsKnownAnswer model (Feasible p) = IsKnownPoint model p
 IsKnownAnswer model (Infeasible set proof) = IsSetOf model set × IsKnownProof model proof
 IsKnownAnswer model (Irreducible core) = IsKnownCore model core
 IsKnownAnswer model Done = Unit {0}
-IsKnownAnswer model (Stopped stop) = Unit {0}
+IsKnownAnswer model (Stopped stop) = IsKnownStop model stop
 
 -- ---- the parts of a report
 -- the lines before the entries

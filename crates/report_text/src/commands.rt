@@ -2,8 +2,8 @@
 ghost use Rattle.std.specs.Prelude.{◌≡◌, ◌≤◌, All, length, map, IfOk, IfErr, IfSome, Some};
 ghost use Rattle.text_fields.specs.Lines.{text_of};
 ghost use Rattle.text_fields.specs.Fields.{IsInside};
-ghost use Rattle.report_text.specs.Form.{most_pivots};
-ghost use Rattle.report_text.specs.Commands.{pivots_of, lone_command, budget_command, command_said, command_of, command_stop, IsBuilt, IsCommandStop, CommandLaw};
+ghost use Rattle.report_text.specs.Form.{most_pivots, IsCommand};
+ghost use Rattle.report_text.specs.Commands.{pivots_of, lone_command, budget_command, command_said, command_of, command_stop, IsCommandStop, CommandLaw};
 ghost use Rattle.report_text.specs.declared.commands.CommandStop.{CommandStop};
 
 use crate::report::Command;
@@ -103,7 +103,7 @@ pub fn read_command(alloc: Global, text: &[u8]) -> Result<Command, CommandStop>
     // The line is the command.
     ensures command { IfOk result (λ command. command_of text.now ≡ Some command) }
     // A script may have it.
-    ensures built { IfOk result IsBuilt }
+    ensures built { IfOk result IsCommand }
     // A line that is none is refused as such.
     ensures stop { IfErr result (IsCommandStop text.now) }
 {

@@ -60,20 +60,20 @@ pub(crate) struct Question {
 }
 
 /// How far a stop is read.
-#[derive(Clone, Copy, PartialEq, Eq, Debug)]
+#[derive(Drop)]
 pub(crate) enum StopPart {
     /// `too wide`.
     Wide,
-    /// The same, and the site.
-    WideSite,
+    /// The same, the site, and the active members so far that are not in its set.
+    WideSite(Members),
     /// The same, and the number of the turn.
-    WideStep(u64),
+    WideStep(Members, u64),
     /// The same, and the operation.
-    WideOperation(u64, Wide),
+    WideOperation(Members, u64, Wide),
     /// `pivots spent`.
     Spent,
-    /// The same, and the site.
-    SpentSite,
+    /// The same, the site, and the active members so far that are not in its set.
+    SpentSite(Members),
 }
 
 /// How far an answer is read.

@@ -24,6 +24,7 @@ pub(crate) enum Keyword {
     Too,
     Pivots,
     Site,
+    Without,
     Step,
     Operation,
     End,
@@ -36,6 +37,7 @@ pub(crate) enum StopPhrase {
     Wide,
     Spent,
     Site(SiteKind),
+    Without(Member),
     Step(u64),
     Operation(Wide),
 }

@@ -2,7 +2,7 @@ use Rattle.std.proofs.Common.{◌+◌, ◌<◌, ◌^◌, refl, sym, subst}
 use Rattle.std.proofs.lemmas.Result.{err_from_is_err_and}
 use Rattle.std.proofs.lemmas.List.Elements.{All-get_or}
 use Rattle.certs.specs.Sites.{Budgets}
-use Rattle.report_text.specs.Commands.{IsBuilt}
+use Rattle.report_text.specs.Form.{IsCommand}
 use Rattle.analysis.specs.Answers.{budgets_of}
 use Rattle.analysis.proofs.Sofar.{HasPut, has_more, has_stopped, has_all, few_after}
 use Rattle.analysis.proofs.pieces.put_entries.Goals as goal
@@ -22,7 +22,7 @@ loop-command-preserved g c =
           subst (HasPut g.W.Sink.faults g.W.Sink.taken c.args.out.now c.put_entry.new.out c.args.model.now c.args.commands.now (l.command-index + 1) (budgets_of c.after-budgets.result)) (sym c.is_either-stopped.ensures)
           (has_more g.W.Sink.faults g.W.Sink.taken c.args.out.now l.out c.put_entry.new.out c.args.model.now c.args.commands.now l.command-index _ _ (budgets_of l.budgets) (budgets_of c.after-budgets.result) l.stopped c.in_ok-stops.stops
           c.loop-command-test.true refl l.invariant.put c.in_ok-stops.ensures c.after-budgets.ensures);
-      few = subst (λ (b : Budgets). b.pivots < 2 ^ 63) (sym c.after-budgets.ensures) (few_after (budgets_of l.budgets) _ (All-get_or IsBuilt c.args.commands.now l.command-index _ c.loop-command-test.true c.requires.built) l.invariant.few);
+      few = subst (λ (b : Budgets). b.pivots < 2 ^ 63) (sym c.after-budgets.ensures) (few_after (budgets_of l.budgets) _ (All-get_or IsCommand c.args.commands.now l.command-index _ c.loop-command-test.true c.requires.built) l.invariant.few);
     }
 
 pub returns : goal.returns
