@@ -1,22 +1,31 @@
 -- What it is for an answer to be right: of the program, within the budgets in force, to its command.
-use Rattle.std.specs.Prelude.{◌≡◌, ⊤, ℕ, List, [], ◌∷◌, length}
+use Rattle.std.specs.Prelude.{◌≡◌, ◌⊎◌, ⊤, ℕ, List, [], ◌∷◌, length}
 use Rattle.rational.specs.Rational.{ℚ}
 use Rattle.lp_model.specs.Program.{Program}
+use Rattle.lp_model.specs.declared.members.Member.{Member}
 use Rattle.lp_model.specs.Members.{active_members}
 use Rattle.lp_model.specs.MemberSets.{SetValue, active_set}
-use Rattle.lp_model.specs.Satisfaction.{Satisfies, values_at}
+use Rattle.lp_model.specs.Satisfaction.{Satisfies, values_at, IsPart, IsIrreducible}
 use Rattle.certs.specs.declared.evidence.Proof.{Proof}
+use Rattle.certs.specs.Checks.{IsSetOf}
+use Rattle.certs.specs.Filter.{Late, Early, IsLateTest, IsEarlyTest}
+use Rattle.certs.specs.declared.solving.Site.{Site}
 use Rattle.certs.specs.declared.solving.Stop.{Stop}
 use Rattle.certs.specs.declared.solving.Stop.TheVariants.{Wide, Pivots as Spent, Nodes, Large, Memory}
 use Rattle.certs.specs.Proof.{IsProof}
 use Rattle.certs.specs.Named.{used_set}
 use Rattle.certs.specs.Sites.{Budgets, IsStopped}
+use Rattle.filter_steps.specs.Isolated.{AreWitnesses}
+use Rattle.linear_oracle.specs.Value.{IsPlainCore}
+use Rattle.report_text.specs.declared.report.Method.{Method}
+use Rattle.report_text.specs.declared.report.Method.TheVariants.{Deletion, Additive, Sensitivity}
+use Rattle.report_text.specs.declared.report.Core.{Core}
 use Rattle.report_text.specs.declared.report.Command.{Command}
 use Rattle.report_text.specs.declared.report.Command.TheVariants.{Check, Iis, Pivots}
 use Rattle.report_text.specs.declared.report.Answer.{Answer}
 use Rattle.report_text.specs.declared.report.Answer.TheVariants.{Feasible, Infeasible, Irreducible, Done, Stopped}
 use Rattle.report_text.specs.declared.report.Entry.{Entry}
-use Rattle.report_text.specs.Form.{IsWholeSite}
+use Rattle.report_text.specs.Form.{IsSettleSite}
 
 -- ---- answers
 -- The proof is one of the printed members, and these are the active members that it uses.
@@ -24,18 +33,27 @@ pub record IsRefutation (model : Program) (printed : SetValue) (proof : Proof) :
   pub proves : IsProof model printed.members proof.nodes
   pub used : printed ≡ used_set (active_set model) proof.nodes
 
--- the site is that of all active members, and its own run stops so within the budgets
-abbrev pub IsRightStop : Program → Budgets → Stop → Type 0
-IsRightStop model budgets (Wide site k o) = IsWholeSite model site × IsStopped model budgets (Wide site k o)
-IsRightStop model budgets (Spent site) = IsWholeSite model site × IsStopped model budgets (Spent site)
-IsRightStop model budgets (Nodes site) = ⊥
-IsRightStop model budgets (Large size) = ⊥
-IsRightStop model budgets Memory = ⊥
+-- the site is the settle run of a set of active members that passes the test
+pub record IsSiteOf (IsTest : List Member → Type 0) (model : Program) (site : Site) : Type 0 where
+  pub settle : IsSettleSite model site
+  pub test : IsTest site.set.members
+
+-- the stop's site is one of such a set, and its own run stops so within the budgets
+abbrev pub IsRightStop : (List Member → Type 0) → Program → Budgets → Stop → Type 0
+IsRightStop IsTest model budgets (Wide site k o) = IsSiteOf IsTest model site × IsStopped model budgets (Wide site k o)
+IsRightStop IsTest model budgets (Spent site) = IsSiteOf IsTest model site × IsStopped model budgets (Spent site)
+IsRightStop IsTest model budgets (Nodes site) = ⊥
+IsRightStop IsTest model budgets (Large size) = ⊥
+IsRightStop IsTest model budgets Memory = ⊥
 
 -- a point has a value for each column and satisfies the active members
 pub record IsRightPoint (model : Program) (values : List ℚ) : Type 0 where
   pub each : length values ≡ length model.columns
   pub satisfies : Satisfies model (active_members model) (values_at values)
+
+-- a check asks for all active members
+abbrev pub IsWhole : Program → List Member → Type 0
+IsWhole model set = set ≡ active_members model
 
 -- what is right to `check`
 abbrev pub IsChecked : Program → Budgets → Answer → Type 0
@@ -43,12 +61,47 @@ IsChecked model budgets (Feasible point) = IsRightPoint model point.values
 IsChecked model budgets (Infeasible printed proof) = IsRefutation model printed proof
 IsChecked model budgets (Irreducible core) = ⊥
 IsChecked model budgets Done = ⊥
-IsChecked model budgets (Stopped stop) = IsRightStop model budgets stop
+IsChecked model budgets (Stopped stop) = IsRightStop (IsWhole model) model budgets stop
+
+-- ---- irreducible sets
+-- Active members that are irreducible: the proof is one of them, and for each of them its own witness satisfies all the others.
+pub record IsRightCore (model : Program) (core : Core) : Type 0 where
+  pub of_model : IsSetOf model core.members
+  pub active : IsPart core.members.members (active_members model)
+  pub proves : IsProof model core.members.members core.proof.nodes
+  pub witnesses : AreWitnesses model core.members.members core.witnesses
+  pub irreducible : IsIrreducible model core.members.members
+
+-- what is right to a search that leaves such members and asks for such sets
+abbrev pub IsIsolated : (List Member → Type 0) → (List Member → Type 0) → Program → Budgets → Answer → Type 0
+IsIsolated IsKept IsTest model budgets (Feasible point) = IsRightPoint model point.values
+IsIsolated IsKept IsTest model budgets (Infeasible printed proof) = ⊥
+IsIsolated IsKept IsTest model budgets (Irreducible core) = IsRightCore model core × IsKept core.members.members
+IsIsolated IsKept IsTest model budgets Done = ⊥
+IsIsolated IsKept IsTest model budgets (Stopped stop) = IsRightStop IsTest model budgets stop
+
+-- The core of the active members within the budgets: those that the proof by the run of their plain system uses.
+abbrev pub IsCore : Program → Budgets → List Member → Type 0
+IsCore model budgets core = IsPlainCore model budgets.pivots (record { core = core; asked = active_members model })
+
+-- what a late filter leaves of the core
+abbrev pub IsLateOfCore : Program → Budgets → List Member → Type 0
+IsLateOfCore model budgets kept = (core : List Member) × (IsCore model budgets core × Late model core kept)
+
+-- all active members, or a set that a late filter of the core may ask for
+abbrev pub IsCoreTest : Program → Budgets → List Member → Type 0
+IsCoreTest model budgets set = IsWhole model set ⊎ ((core : List Member) × (IsCore model budgets core × IsLateTest model core set))
+
+-- what is right to a search by each method
+abbrev pub IsFound : Method → Program → Budgets → Answer → Type 0
+IsFound Deletion model budgets answer = IsIsolated (Late model (active_members model)) (IsLateTest model (active_members model)) model budgets answer
+IsFound Additive model budgets answer = IsIsolated (Early model (active_members model)) (IsEarlyTest model (active_members model)) model budgets answer
+IsFound Sensitivity model budgets answer = IsIsolated (IsLateOfCore model budgets) (IsCoreTest model budgets) model budgets answer
 
 -- An answer is right only to a command that may have it; a budget is always done.
 abbrev pub Right : Program → Budgets → Command → Answer → Type 0
 Right model budgets Check answer = IsChecked model budgets answer
-Right model budgets (Iis method) answer = ⊥
+Right model budgets (Iis method) answer = IsFound method model budgets answer
 Right model budgets (Pivots n) answer = answer ≡ Done
 
 -- ---- budgets

@@ -62,16 +62,18 @@ impl<'a> LinearOracle<'a> {
         self.asks
     }
 
-    /// Its stops, in order.
+    /// Its stops, in order: each is that of the run of the asked set's plain system.
     pub fn stops(&self) -> &[StopRecord]
-        ensures { result.now ≡ self.now.stops }
+        ensures stops { result.now ≡ self.now.stops }
+        ensures plain { All (IsPlainStop self.now.model self.now.pivots) self.now.stops }
     {
         self.stops.as_slice()
     }
 
-    /// The members that the first infeasible verdict used.
+    /// The members that the first infeasible verdict used: those of the proof by the run of the asked set's plain system.
     pub fn first_core(&self) -> Option<&CoreRecord>
-        ensures { option_map (λ r. r.now) result ≡ self.now.first }
+        ensures first { option_map (λ r. r.now) result ≡ self.now.first }
+        ensures plain { IfSome self.now.first (IsPlainCore self.now.model self.now.pivots) }
     {
         self.first.as_ref()
     }
