@@ -1,5 +1,5 @@
 use super::*;
-use report_text::Command;
+use report_text::{Command, Method};
 use std::alloc::{AllocError, Global};
 use std::test::Fail;
 
@@ -45,6 +45,17 @@ fn scripts(rt: HostRuntime) {
     assert!(rt;
         reads(
             alloc,
+            b"iis deletion\n iis\tadditive\niis sensitivity",
+            &[
+                Command::Iis(Method::Deletion),
+                Command::Iis(Method::Additive),
+                Command::Iis(Method::Sensitivity)
+            ]
+        )
+    );
+    assert!(rt;
+        reads(
+            alloc,
             b"budget pivots 1000000\nbudget\tpivots\t0000000000000000000000000\n",
             &[Command::Pivots(1_000_000), Command::Pivots(0)]
         )
@@ -61,7 +72,10 @@ fn bad_lines(rt: HostRuntime) {
     assert!(rt; refuses(alloc, b"budget pivots 18446744073709551623\n", 1));
     assert!(rt; refuses(alloc, b"check\ncheck x\n", 2));
     assert!(rt; refuses(alloc, b"check\nCheck\n", 2));
-    assert!(rt; refuses(alloc, b"iis deletion\n", 1));
+    assert!(rt; refuses(alloc, b"check\niis fast\n", 2));
+    assert!(rt; refuses(alloc, b"iis\n", 1));
+    assert!(rt; refuses(alloc, b"iis deletion additive\n", 1));
+    assert!(rt; refuses(alloc, b"deletion iis\n", 1));
     assert!(rt; refuses(alloc, b"\n # no remark\n", 2));
     assert!(rt; refuses(alloc, b"* no remark\n", 1));
     assert!(rt; refuses(alloc, b"check \x0b", 1));

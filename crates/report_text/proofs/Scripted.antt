@@ -25,7 +25,7 @@ use Rattle.report_text.specs.declared.report.Method.{Method}
 use Rattle.report_text.specs.declared.report.Method.TheVariants.{Deletion, Additive, Sensitivity}
 use Rattle.report_text.specs.Form.{most_pivots, IsCommand}
 use Rattle.report_text.specs.Grammar.{command_text}
-use Rattle.report_text.specs.Commands.{is_numeral, pivots_of, lone_command, budget_command, command_said, unless_fault, command_of}
+use Rattle.report_text.specs.Commands.{is_numeral, pivots_of, lone_command, method_of, iis_command, budget_command, command_said, unless_fault, command_of}
 
 -- ---- the number of pivots
 by_tests : (a b c : Bool) (n : ℕ) → a ≡ true → b ≡ true → c ≡ true → cond ((a && b) && c) (Some n) None ≡ Some n
@@ -76,16 +76,22 @@ none_built c e = grind arith
 
 lone_built : (a : List ℕ) (c : Command) → lone_command a ≡ Some c → IsCommand c
 lone_built a Check e = tt
-lone_built a (Iis method) e = by (bytes_eq a (codes "check")) e
-  where
-    by : (t : Bool) → cond t (Some Check) None ≡ Some (Iis method) → ⊥
-    by true g = grind arith
-    by false g = grind arith
+lone_built a (Iis method) e = tt
 lone_built a (Pivots n) e = by (bytes_eq a (codes "check")) e
   where
     by : (t : Bool) → cond t (Some Check) None ≡ Some (Pivots n) → n ≤ most_pivots
     by true g = grind arith
     by false g = grind arith
+
+search_built : (first second : List ℕ) (c : Command) → iis_command first second ≡ Some c → IsCommand c
+search_built first second Check e = tt
+search_built first second (Iis method) e = tt
+search_built first second (Pivots n) e = by (bytes_eq first (codes "iis")) (method_of second) e
+  where
+    by : (t : Bool) (found : Option Method) → cond t (option_map Iis found) None ≡ Some (Pivots n) → n ≤ most_pivots
+    by true None g = grind arith
+    by true (Some method) g = grind arith
+    by false found g = grind arith
 
 budget_built : (first second third : List ℕ) (c : Command) → budget_command first second third ≡ Some c → IsCommand c
 budget_built first second third c e = by (bytes_eq first (codes "budget") && bytes_eq second (codes "pivots")) (pivots_of third) (pivots_within third) c e
@@ -93,14 +99,14 @@ budget_built first second third c e = by (bytes_eq first (codes "budget") && byt
     by : (t : Bool) (found : Option ℕ) → ((n : ℕ) → found ≡ Some n → n ≤ most_pivots) → (c : Command) → cond t (option_map Pivots found) None ≡ Some c → IsCommand c
     by true None h c g = none_built c g
     by true (Some n) h Check g = tt
-    by true (Some n) h (Iis method) g = grind arith
+    by true (Some n) h (Iis method) g = tt
     by true (Some n) h (Pivots m) g = h m (grind arith)
     by false found h c g = none_built c g
 
 said_built : (fields : List (List ℕ)) (c : Command) → command_said fields ≡ Some c → IsCommand c
 said_built [] c e = none_built c e
 said_built (first ∷ []) c e = lone_built first c e
-said_built (first ∷ second ∷ []) c e = none_built c e
+said_built (first ∷ second ∷ []) c e = search_built first second c e
 said_built (first ∷ second ∷ third ∷ []) c e = budget_built first second third c e
 said_built (first ∷ second ∷ third ∷ fourth ∷ fields) c e = none_built c e
 
@@ -214,9 +220,15 @@ check_text : command_of (codes "check") ≡ Some Check
 unfolding fields_of field_fault
 check_text = refl
 
+search_text : (method : Method) → command_of (command_text (Iis method)) ≡ Some (Iis method)
+unfolding fields_of field_fault
+search_text Deletion = refl
+search_text Additive = refl
+search_text Sensitivity = refl
+
 pub own_text : (c : Command) → IsCommand c → command_of (command_text c) ≡ Some c
 own_text Check h = check_text
-own_text (Iis method) h = absurd h
+own_text (Iis method) h = search_text method
 own_text (Pivots n) h =
     let small : n < 2 ^ 64 = omega arith in
     let digits = (decimal_is_IsNumeral n small).0.1 in
@@ -225,9 +237,3 @@ own_text (Pivots n) h =
     (budget_faultless (decimal n) (length-decimal-le 7 n (omega arith) (omega arith) small) (digits-no_foreign (decimal n) digits))
     (word_alone (decimal n) some (digits-no_blank (decimal n) digits))
     (some_pivots (decimal n) n (λ e. omega arith) (digits_decimal own n small) (digits_value-decimal own n small) h)
-
-pub no_method : (method : Method) → command_of (command_text (Iis method)) ≡ None
-unfolding fields_of field_fault
-no_method Deletion = refl
-no_method Additive = refl
-no_method Sensitivity = refl

@@ -3,10 +3,10 @@ ghost use Rattle.std.specs.Prelude.{◌≡◌, ◌≤◌, All, length, map, IfOk
 ghost use Rattle.text_fields.specs.Lines.{text_of};
 ghost use Rattle.text_fields.specs.Fields.{IsInside};
 ghost use Rattle.report_text.specs.Form.{most_pivots, IsCommand};
-ghost use Rattle.report_text.specs.Commands.{pivots_of, lone_command, budget_command, command_said, command_of, command_stop, IsCommandStop, CommandLaw};
+ghost use Rattle.report_text.specs.Commands.{pivots_of, lone_command, method_of, iis_command, budget_command, command_said, command_of, command_stop, IsCommandStop, CommandLaw};
 ghost use Rattle.report_text.specs.declared.commands.CommandStop.{CommandStop};
 
-use crate::report::Command;
+use crate::report::{Command, Method};
 use std::alloc::Global;
 use text_fields::{FieldStop, Line, Span, fields};
 use thiserror::Error;
@@ -64,6 +64,35 @@ fn read_lone(word: &[u8]) -> Option<Command>
     None
 }
 
+// The method that a word names.
+fn read_method(word: &[u8]) -> Option<Method>
+    ensures { result ≡ method_of word.now }
+{
+    if word == b"deletion".as_slice() {
+        return Some(Method::Deletion);
+    }
+    if word == b"additive".as_slice() {
+        return Some(Method::Additive);
+    }
+    if word == b"sensitivity".as_slice() {
+        return Some(Method::Sensitivity);
+    }
+    None
+}
+
+// `iis`, and a method.
+fn read_search(first: &[u8], second: &[u8]) -> Option<Command>
+    ensures { result ≡ iis_command first.now second.now }
+{
+    if first != b"iis".as_slice() {
+        return None;
+    }
+    let Some(method) = read_method(second) else {
+        return None;
+    };
+    Some(Command::Iis(method))
+}
+
 // `budget pivots`, and a number.
 fn read_budget(first: &[u8], second: &[u8], third: &[u8]) -> Option<Command>
     ensures { result ≡ budget_command first.now second.now third.now }
@@ -87,6 +116,7 @@ fn read_fields(text: &[u8], spans: &[Span]) -> Option<Command>
 {
     match spans {
         [word] => read_lone(word.text(text)),
+        [first, second] => read_search(first.text(text), second.text(text)),
         [first, second, third] => {
             read_budget(first.text(text), second.text(text), third.text(text))
         }
@@ -96,9 +126,9 @@ fn read_fields(text: &[u8], spans: &[Span]) -> Option<Command>
 
 /// The command that a line is, which stands without its end.
 ///
-/// Its fields, which blanks (32, 9 and 13) part, are `check`, or `budget`, `pivots` and a number of at most 1,000,000 in one
-/// digit or more. Everything else is `Bad`, and so is a line of more than 65,536 bytes. `Memory` comes where memory was
-/// refused.
+/// Its fields, which blanks (32, 9 and 13) part, are `check`; or `iis` and `deletion`, `additive` or `sensitivity`; or
+/// `budget`, `pivots` and a number of at most 1,000,000 in one digit or more. Everything else is `Bad`, and so is a line
+/// of more than 65,536 bytes. `Memory` comes where memory was refused.
 pub fn read_command(alloc: Global, text: &[u8]) -> Result<Command, CommandStop>
     // The line is the command.
     ensures command { IfOk result (λ command. command_of text.now ≡ Some command) }
