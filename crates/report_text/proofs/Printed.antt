@@ -108,6 +108,10 @@ line_more start done next lines l d e =
     ∙ (append_assoc start (text_of lines) (ended l)
     ∙ ap (λ t. start ++ t) (ap (λ t. text_of lines ++ t) (sym (append-nil (ended l))) ∙ sym (text_both lines (l ∷ [])))))
 
+-- more lines
+pub lines_more : (start done next : List ℕ) (lines more : List Line) → done ≡ start ++ text_of lines → next ≡ done ++ text_of more → next ≡ start ++ text_of (lines ++ more)
+lines_more start done next lines more d e = e ∙ (ap (λ t. t ++ text_of more) d ∙ (append_assoc start (text_of lines) (text_of more) ∙ ap (λ t. start ++ t) (sym (text_both lines more))))
+
 -- ---- the members that are left out
 -- the text of the missing ones among members is that of the first of them and of the others
 missing_both : (model : Program) (set first others : List Member) → missing_text model set (first ++ others) ≡ missing_text model set first ++ missing_text model set others
