@@ -13,13 +13,14 @@ use Rattle.certs.specs.declared.evidence.Point.{Point}
 use Rattle.certs.specs.declared.evidence.Node.{Node}
 use Rattle.certs.specs.declared.evidence.Node.TheVariants.{Split, Leaf}
 use Rattle.certs.specs.declared.evidence.Proof.{Proof}
+use Rattle.certs.specs.declared.solving.Site.{Site}
 use Rattle.certs.specs.declared.solving.Stop.{Stop}
 use Rattle.certs.specs.declared.solving.Stop.TheVariants.{Wide as TooWide, Pivots as Spent, Nodes, Large, Memory}
 use Rattle.report_text.specs.declared.report.Answer.{Answer}
 use Rattle.report_text.specs.declared.report.Answer.TheVariants.{Feasible, Infeasible, Irreducible, Done, Stopped}
 use Rattle.report_text.specs.declared.report.Entry.{Entry}
 use Rattle.report_text.specs.declared.report.Report.{Report}
-use Rattle.report_text.specs.Grammar.{Line, ◌then◌, column_name, member_line, value_line, value_lines, point_lines, use_line, node_lines, proof_lines, witness_lines, site_line, step_line, operation_line, stop_lines, answer_lines, command_text, entry_lines, note_line, report_lines}
+use Rattle.report_text.specs.Grammar.{Line, ◌then◌, column_name, member_line, value_line, value_lines, point_lines, use_line, node_lines, proof_lines, witness_lines, site_line, without_line, left_out, site_lines, step_line, operation_line, stop_lines, answer_lines, command_text, entry_lines, note_line, report_lines}
 use Rattle.report_text.specs.Form.{IsNamedColumn, IsEntryFor, IsReportFor}
 use Rattle.report_text.specs.Reading.{IsFront, IsWhole}
 
@@ -85,19 +86,30 @@ proof_is model proof = before (codes "proof") (flat_map (node_lines model) proof
 proof_ended : (model : Program) (proof : Proof) → All NotFoot (proof_lines model proof ++ codes "end" ∷ [])
 proof_ended model proof = All-append NotFoot (proof_lines model proof) (codes "end" ∷ []) (proof_is model proof) ended
 
+-- the lines of a site
+site_is : (model : Program) (site : Site) → All NotFoot (site_lines model site)
+site_is model site =
+    before (site_line site) (map (without_line model) (left_out model site.set.members)) refl
+    (all_lines NotFoot (without_line model) (λ m. other_start (without_line model m) refl) (left_out model site.set.members))
+
+-- the lines of a site, and the end of the answer
+site_ended : (model : Program) (site : Site) → All NotFoot (site_lines model site ++ codes "end" ∷ [])
+site_ended model site = All-append NotFoot (site_lines model site) (codes "end" ∷ []) (site_is model site) ended
+
 -- the lines of a stop
-stop_is : (stop : Stop) → All NotFoot (stop_lines stop)
-stop_is (TooWide site k o) =
-    before (codes "too wide") (site_line site ∷ step_line k ∷ operation_line o ∷ codes "end" ∷ []) refl
-    (before (site_line site) (step_line k ∷ operation_line o ∷ codes "end" ∷ []) refl (before (step_line k) (operation_line o ∷ codes "end" ∷ []) refl (before (operation_line o) (codes "end" ∷ []) refl ended)))
-stop_is (Spent site) = before (codes "pivots spent") (site_line site ∷ codes "end" ∷ []) refl (before (site_line site) (codes "end" ∷ []) refl ended)
-stop_is (Nodes site) = before (codes "nodes spent") (site_line site ∷ codes "end" ∷ []) refl (before (site_line site) (codes "end" ∷ []) refl ended)
-stop_is (Large size) = before (codes "too large" then decimal size) (codes "end" ∷ []) refl ended
-stop_is Memory = All-nil NotFoot
+stop_is : (model : Program) (stop : Stop) → All NotFoot (stop_lines model stop)
+stop_is model (TooWide site k o) =
+    before (codes "too wide") (site_lines model site ++ step_line k ∷ operation_line o ∷ codes "end" ∷ []) refl
+    (All-append NotFoot (site_lines model site) (step_line k ∷ operation_line o ∷ codes "end" ∷ []) (site_is model site)
+    (before (step_line k) (operation_line o ∷ codes "end" ∷ []) refl (before (operation_line o) (codes "end" ∷ []) refl ended)))
+stop_is model (Spent site) = before (codes "pivots spent") (site_lines model site ++ codes "end" ∷ []) refl (site_ended model site)
+stop_is model (Nodes site) = before (codes "nodes spent") (site_lines model site ++ codes "end" ∷ []) refl (site_ended model site)
+stop_is model (Large size) = before (codes "too large" then decimal size) (codes "end" ∷ []) refl ended
+stop_is model Memory = All-nil NotFoot
 
 answer_is : (model : Program) (a : Answer) → All NotFoot (answer_lines model a)
 answer_is model Done = before (codes "done") [] refl (All-nil NotFoot)
-answer_is model (Stopped stop) = stop_is stop
+answer_is model (Stopped stop) = stop_is model stop
 answer_is model (Feasible p) = before (codes "feasible") (point_lines model p ++ codes "end" ∷ []) refl (All-append NotFoot (point_lines model p) (codes "end" ∷ []) (point_is model p) ended)
 answer_is model (Infeasible set proof) = before (codes "infeasible") (map (member_line model) set.members ++ (proof_lines model proof ++ codes "end" ∷ [])) refl
     (All-append NotFoot (map (member_line model) set.members) (proof_lines model proof ++ codes "end" ∷ [])

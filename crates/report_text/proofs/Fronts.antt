@@ -1,5 +1,5 @@
 -- Each phrase that is taken stands behind what is read, and what is read is the front of a report.
-use Rattle.std.proofs.Common.{◌≡◌, ◌≢◌, ◌<◌, ◌≤◌, refl, sym, ap, subst, ◌∙◌, ℕ, zero, suc, ◌+◌, ◌-◌, Bool, true, false, cond, List, [], ◌∷◌, ◌++◌, length, append_assoc, append-nil, Option, Some, None, arith, ◌⊎◌, inl, inr}
+use Rattle.std.proofs.Common.{◌≡◌, ◌≢◌, ◌<◌, ◌≤◌, refl, sym, ap, subst, ◌∙◌, ℕ, zero, suc, ◌+◌, ◌-◌, Bool, true, false, cond, ◌&&◌, List, [], ◌∷◌, ◌++◌, length, append_assoc, append-nil, Option, Some, None, arith, ◌⊎◌, inl, inr}
 use Rattle.std.specs.Prelude.{map, flat_map, zip, replicate, option_map, All, IsTrue, nat_le}
 use Rattle.std.specs.List.{list_all}
 use Rattle.std.proofs.lemmas.List.{length-append, length-replicate, length-map, map-append}
@@ -7,18 +7,19 @@ use Rattle.std.proofs.lemmas.List.Elements.{All-nil, All-head, All-tail, All-app
 use Rattle.std.proofs.lemmas.List.Quantifiers.{all_pairs_push}
 use Rattle.std.proofs.lemmas.List.Concat.{flat_map-append}
 use Rattle.std.proofs.lemmas.List.Sums.{AllPass-from_list_all}
-use Rattle.std.proofs.lemmas.Bool.{leb-true}
+use Rattle.std.proofs.lemmas.Bool.{leb-true, and_parts}
 use Rattle.algebra.specs.Gcd.{gcd, gcd_within}
 use Rattle.rational.specs.Rational.{ℚ, frac, zero_ℚ, eq_ℚ}
 use Rattle.rational.proofs.Compare.{eq-Decides}
 use Rattle.lp_model.specs.Program.{Program, noted_column}
 use Rattle.lp_model.specs.declared.parts.Note.{Note}
 use Rattle.lp_model.specs.declared.members.Member.{Member}
-use Rattle.lp_model.specs.Members.{comes_before}
+use Rattle.lp_model.specs.Members.{comes_before, is_active}
 use Rattle.lp_model.specs.Satisfaction.{values_at}
 use Rattle.certs.specs.declared.evidence.Share.{Share}
 use Rattle.certs.specs.declared.evidence.Point.{Point}
 use Rattle.certs.specs.declared.solving.SiteKind.TheVariants.{Settle}
+use Rattle.certs.specs.declared.solving.Stop.{Stop}
 use Rattle.certs.specs.declared.solving.Stop.TheVariants.{Wide as TooWide, Pivots as Spent}
 use Rattle.report_text.specs.declared.report.Command.{Command}
 use Rattle.report_text.specs.declared.report.Command.TheVariants.{Check, Iis, Pivots}
@@ -36,8 +37,9 @@ use Rattle.report_text.specs.declared.drafts.Draft.{Draft}
 use Rattle.report_text.specs.Grammar.{column_name, entry_lines}
 use Rattle.report_text.specs.Form.{is_word, IsNamedColumn, IsNamedMember, IsWithinLimit, IsUse, AreUses, IsListed, IsOneLeaf, IsPointFor, IsAnswerFor, IsEntryFor, AreNumbered, can_answer, share_before}
 use Rattle.report_text.specs.Phrases.{IsPhraseFor, phrase_line}
-use Rattle.report_text.specs.Drafts.{filled, point_of, leaf_of, set_of, answer_of, only_if, witnessed_with, whole_site, at_site, stop_begun, stop_with, extended, placed, between, advanced, AreValues, AreMembers, AreWitnesses, IsFound, IsOneMore, IsStopPart, IsPartFor, IsDraftFor}
-use Rattle.report_text.proofs.Said.{value_phrases, point_phrases, proof_phrases, witness_phrases, answer_front, answer_end, entry_phrases, body_phrases, entry_spelled}
+use Rattle.report_text.specs.Drafts.{filled, point_of, leaf_of, set_of, answer_of, only_if, witnessed_with, site_without, with_left_out, left_out_next, at_site, stop_begun, stop_with, extended, placed, between, advanced, AreValues, AreMembers, AreWitnesses, IsFound, IsOneMore, AreLeftOut, IsStopPart, Asks, IsPartFor, IsDraftFor}
+use Rattle.report_text.proofs.Said.{value_phrases, point_phrases, proof_phrases, witness_phrases, without_phrase, site_phrases, answer_front, answer_end, entry_phrases, body_phrases, entry_spelled}
+use Rattle.report_text.proofs.LeftOut.{left_twice, site_in_form}
 
 -- ---- what is read, as phrases
 abbrev pub found_phrases : Found → List Phrase
@@ -48,13 +50,17 @@ found_phrases (Found.Witnessed members witnesses) = Phrase.Irreducible ∷ flat_
 abbrev pub settle_phrase : Phrase
 settle_phrase = Phrase.Stop (StopPhrase.Site Settle)
 
+-- what a stop says first, the site of its run, and the members left out
+abbrev pub begun_phrases : StopPhrase → List Member → List Phrase
+begun_phrases s left = Phrase.Stop s ∷ settle_phrase ∷ map without_phrase left
+
 abbrev pub stop_part_phrases : StopPart → List Phrase
 stop_part_phrases StopPart.Wide = Phrase.Stop StopPhrase.Wide ∷ []
-stop_part_phrases StopPart.WideSite = Phrase.Stop StopPhrase.Wide ∷ settle_phrase ∷ []
-stop_part_phrases (StopPart.WideStep k) = Phrase.Stop StopPhrase.Wide ∷ settle_phrase ∷ Phrase.Stop (StopPhrase.Step k) ∷ []
-stop_part_phrases (StopPart.WideOperation k o) = Phrase.Stop StopPhrase.Wide ∷ settle_phrase ∷ Phrase.Stop (StopPhrase.Step k) ∷ Phrase.Stop (StopPhrase.Operation o) ∷ []
+stop_part_phrases (StopPart.WideSite left) = begun_phrases StopPhrase.Wide left
+stop_part_phrases (StopPart.WideStep left k) = begun_phrases StopPhrase.Wide left ++ Phrase.Stop (StopPhrase.Step k) ∷ []
+stop_part_phrases (StopPart.WideOperation left k o) = begun_phrases StopPhrase.Wide left ++ Phrase.Stop (StopPhrase.Step k) ∷ Phrase.Stop (StopPhrase.Operation o) ∷ []
 stop_part_phrases StopPart.Spent = Phrase.Stop StopPhrase.Spent ∷ []
-stop_part_phrases StopPart.SpentSite = Phrase.Stop StopPhrase.Spent ∷ settle_phrase ∷ []
+stop_part_phrases (StopPart.SpentSite left) = begun_phrases StopPhrase.Spent left
 
 abbrev pub part_phrases : Part → List Phrase
 part_phrases Part.Nothing = []
@@ -67,14 +73,14 @@ part_phrases (Part.Proof found) = found_phrases found ++ Phrase.Proof ∷ []
 part_phrases (Part.Leaf found shares) = found_phrases found ++ Phrase.Proof ∷ Phrase.Leaf ∷ map Phrase.Use shares
 part_phrases (Part.Stop part) = stop_part_phrases part
 
-abbrev pub draft_phrases : Draft → List Phrase
-draft_phrases draft = by draft.stage
+abbrev pub draft_phrases : Program → Draft → List Phrase
+draft_phrases model draft = by draft.stage
   where
     by : Stage → List Phrase
     by Stage.Start = []
-    by Stage.Between = body_phrases draft.notes draft.entries
-    by (Stage.Answering question part) = body_phrases draft.notes draft.entries ++ Phrase.Command question.command ∷ part_phrases part
-    by Stage.Done = body_phrases draft.notes draft.entries ++ Phrase.Foot ∷ []
+    by Stage.Between = body_phrases model draft.notes draft.entries
+    by (Stage.Answering question part) = body_phrases model draft.notes draft.entries ++ Phrase.Command question.command ∷ part_phrases part
+    by Stage.Done = body_phrases model draft.notes draft.entries ++ Phrase.Foot ∷ []
 
 -- ---- what a condition told
 only_told : {X : Type 0} (b : Bool) (x y : X) → only_if b x ≡ Some y → (b ≡ true) × (x ≡ y)
@@ -262,43 +268,67 @@ module _ (model : Program) where
   one_more_each (Pivots n) members witnesses m h = absurd h
   one_more_each (Iis method) members witnesses m h = h.1.each
 
+  -- one active member more that is left out
+  left_taken : (left : List Member) (m : Member) → AreLeftOut model left → IsNamedMember model m → (is_active model m && list_all (λ n. comes_before n m) left) ≡ true → AreLeftOut model (left ++ m ∷ [])
+  left_taken left m h named may =
+      let both = and_parts (is_active model m) (list_all (λ n. comes_before n m) left) may in
+      record { members = member_taken left m h.members named both.1; active = All-push (λ n. IsTrue (is_active model n)) left m h.active both.0 }
+
+  none_left : AreLeftOut model []
+  none_left = record { members = no_members; active = All-nil (λ n. IsTrue (is_active model n)) }
+
   -- a stop, and a phrase
-  begun_taken : (s : StopPhrase) (next : Part) → stop_begun s ≡ Some (Next.More next) → Took Check Part.Nothing (Phrase.Stop s) next
+  begun_taken : (c : Command) (s : StopPhrase) (next : Part) → Asks c → stop_begun s ≡ Some (Next.More next) → Took c Part.Nothing (Phrase.Stop s) next
   unfolding Took
-  begun_taken StopPhrase.Wide next e = subst (Took Check Part.Nothing (Phrase.Stop StopPhrase.Wide)) (more_is (Part.Stop StopPart.Wide) next e) (tt, refl)
-  begun_taken StopPhrase.Spent next e = subst (Took Check Part.Nothing (Phrase.Stop StopPhrase.Spent)) (more_is (Part.Stop StopPart.Spent) next e) (tt, refl)
-  begun_taken _ next e = absurd (cc)
+  begun_taken c StopPhrase.Wide next asks e = subst (Took c Part.Nothing (Phrase.Stop StopPhrase.Wide)) (more_is (Part.Stop StopPart.Wide) next e) ((asks, tt), refl)
+  begun_taken c StopPhrase.Spent next asks e = subst (Took c Part.Nothing (Phrase.Stop StopPhrase.Spent)) (more_is (Part.Stop StopPart.Spent) next e) ((asks, tt), refl)
+  begun_taken c _ next asks e = absurd (cc)
 
-  site_taken : (part then : StopPart) (p : Phrase) (next : Part) → IsStopPart Check then → stop_part_phrases then ≡ stop_part_phrases part ++ settle_phrase ∷ []
-      → at_site then p ≡ Some (Next.More next) → Took Check (Part.Stop part) p next
+  site_taken : (c : Command) (part then : StopPart) (p : Phrase) (next : Part) → Asks c × IsStopPart model then → stop_part_phrases then ≡ stop_part_phrases part ++ settle_phrase ∷ []
+      → at_site then p ≡ Some (Next.More next) → Took c (Part.Stop part) p next
   unfolding Took
-  site_taken part then (Phrase.Stop (StopPhrase.Site Settle)) next h k e = subst (Took Check (Part.Stop part) settle_phrase) (more_is (Part.Stop then) next e) (h, k)
-  site_taken part then (Phrase.Stop _) next h k e = absurd (cc)
-  site_taken part then _ next h k e = absurd (cc)
+  site_taken c part then (Phrase.Stop (StopPhrase.Site Settle)) next h k e = subst (Took c (Part.Stop part) settle_phrase) (more_is (Part.Stop then) next e) (h, k)
+  site_taken c part then (Phrase.Stop _) next h k e = absurd (cc)
+  site_taken c part then _ next h k e = absurd (cc)
 
-  stop_taken : (c : Command) (part : StopPart) (p : Phrase) (next : Part) → IsStopPart c part → IsPhraseFor model p → stop_with model part p ≡ Some (Next.More next) → Took c (Part.Stop part) p next
+  without_taken : (c : Command) (s : StopPhrase) (make : List Member → StopPart) (left : List Member) (m : Member) (next : Part) → Asks c × AreLeftOut model left → IsNamedMember model m
+      → ((members : List Member) → AreLeftOut model members → IsStopPart model (make members)) → ((members : List Member) → stop_part_phrases (make members) ≡ begun_phrases s members)
+      → left_out_next make (with_left_out model left m) ≡ Some (Next.More next) → Took c (Part.Stop (make left)) (without_phrase m) next
   unfolding Took
-  stop_taken Check StopPart.Wide p next h k e = site_taken StopPart.Wide StopPart.WideSite p next tt refl e
-  stop_taken Check StopPart.WideSite (Phrase.Stop (StopPhrase.Step n)) next h k e = subst (Took Check (Part.Stop StopPart.WideSite) (Phrase.Stop (StopPhrase.Step n))) (more_is (Part.Stop (StopPart.WideStep n)) next e) (k, refl)
-  stop_taken Check StopPart.WideSite (Phrase.Stop _) next h k e = absurd (cc)
-  stop_taken Check StopPart.WideSite _ next h k e = absurd (cc)
-  stop_taken Check (StopPart.WideStep n) (Phrase.Stop (StopPhrase.Operation o)) next h k e =
-      subst (Took Check (Part.Stop (StopPart.WideStep n)) (Phrase.Stop (StopPhrase.Operation o))) (more_is (Part.Stop (StopPart.WideOperation n o)) next e) ((h, k), refl)
-  stop_taken Check (StopPart.WideStep n) (Phrase.Stop _) next h k e = absurd (cc)
-  stop_taken Check (StopPart.WideStep n) _ next h k e = absurd (cc)
-  stop_taken Check (StopPart.WideOperation n o) Phrase.End next h k e = absurd (cc)
-  stop_taken Check (StopPart.WideOperation n o) _ next h k e = absurd (cc)
-  stop_taken Check StopPart.Spent p next h k e = site_taken StopPart.Spent StopPart.SpentSite p next tt refl e
-  stop_taken Check StopPart.SpentSite Phrase.End next h k e = absurd (cc)
-  stop_taken Check StopPart.SpentSite _ next h k e = absurd (cc)
-  stop_taken (Iis method) part p next h k e = absurd h
-  stop_taken (Pivots n) part p next h k e = absurd h
+  without_taken c s make left m next h named may said e =
+      let t = mapped_told (λ members. Next.More (Part.Stop (make members))) (is_active model m && list_all (λ n. comes_before n m) left) (left ++ m ∷ []) (Next.More next) e in
+      subst (Took c (Part.Stop (make left)) (without_phrase m)) (same_more (Part.Stop (make (left ++ m ∷ []))) next t.1) (
+        (h.0, may (left ++ m ∷ []) (left_taken left m h.1 named t.0)),
+        said (left ++ m ∷ []) ∙ ap (λ l. Phrase.Stop s ∷ settle_phrase ∷ l) (map_push without_phrase left m) ∙ ap (λ l. l ++ without_phrase m ∷ []) (sym (said left)),
+      )
+
+  stop_taken : (c : Command) (part : StopPart) (p : Phrase) (next : Part) → Asks c × IsStopPart model part → IsPhraseFor model p → stop_with model part p ≡ Some (Next.More next) → Took c (Part.Stop part) p next
+  unfolding Took
+  stop_taken c StopPart.Wide p next h k e = site_taken c StopPart.Wide (StopPart.WideSite []) p next (h.0, none_left) refl e
+  stop_taken c (StopPart.WideSite left) (Phrase.Stop (StopPhrase.Without m)) next h k e = without_taken c StopPhrase.Wide (λ members. StopPart.WideSite members) left m next h k (λ members l. l) (λ members. refl) e
+  stop_taken c (StopPart.WideSite left) (Phrase.Stop (StopPhrase.Step n)) next h k e =
+      subst (Took c (Part.Stop (StopPart.WideSite left)) (Phrase.Stop (StopPhrase.Step n))) (more_is (Part.Stop (StopPart.WideStep left n)) next e) ((h.0, (h.1, k)), refl)
+  stop_taken c (StopPart.WideSite left) (Phrase.Stop _) next h k e = absurd (cc)
+  stop_taken c (StopPart.WideSite left) _ next h k e = absurd (cc)
+  stop_taken c (StopPart.WideStep left n) (Phrase.Stop (StopPhrase.Operation o)) next h k e =
+      subst (Took c (Part.Stop (StopPart.WideStep left n)) (Phrase.Stop (StopPhrase.Operation o))) (more_is (Part.Stop (StopPart.WideOperation left n o)) next e)
+      ((h.0, (h.1.0, (h.1.1, k))), sym (append_assoc (begun_phrases StopPhrase.Wide left) (Phrase.Stop (StopPhrase.Step n) ∷ []) (Phrase.Stop (StopPhrase.Operation o) ∷ [])))
+  stop_taken c (StopPart.WideStep left n) (Phrase.Stop _) next h k e = absurd (cc)
+  stop_taken c (StopPart.WideStep left n) _ next h k e = absurd (cc)
+  stop_taken c (StopPart.WideOperation left n o) Phrase.End next h k e = absurd (cc)
+  stop_taken c (StopPart.WideOperation left n o) _ next h k e = absurd (cc)
+  stop_taken c StopPart.Spent p next h k e = site_taken c StopPart.Spent (StopPart.SpentSite []) p next (h.0, none_left) refl e
+  stop_taken c (StopPart.SpentSite left) (Phrase.Stop (StopPhrase.Without m)) next h k e = without_taken c StopPhrase.Spent (λ members. StopPart.SpentSite members) left m next h k (λ members l. l) (λ members. refl) e
+  stop_taken c (StopPart.SpentSite left) (Phrase.Stop _) next h k e = absurd (cc)
+  stop_taken c (StopPart.SpentSite left) Phrase.End next h k e = absurd (cc)
+  stop_taken c (StopPart.SpentSite left) _ next h k e = absurd (cc)
 
   more_taken : (c : Command) (part : Part) (p : Phrase) (next : Part) → IsPartFor model c part → IsPhraseFor model p → extended model c part p ≡ Some (Next.More next) → Took c part p next
   unfolding Took
   more_taken Check Part.Nothing Phrase.Feasible next h k e = subst (Took Check Part.Nothing Phrase.Feasible) (more_is Part.Feasible next e) (tt, refl)
   more_taken (Iis method) Part.Nothing Phrase.Feasible next h k e = subst (Took (Iis method) Part.Nothing Phrase.Feasible) (more_is Part.Feasible next e) (tt, refl)
-  more_taken Check Part.Nothing (Phrase.Stop s) next h k e = begun_taken s next e
+  more_taken Check Part.Nothing (Phrase.Stop s) next h k e = begun_taken Check s next tt e
+  more_taken (Iis method) Part.Nothing (Phrase.Stop s) next h k e = begun_taken (Iis method) s next tt e
   more_taken (Pivots n) Part.Nothing Phrase.Done next h k e = absurd (cc)
   more_taken (Pivots n) Part.Nothing _ next h k e = absurd (cc)
   more_taken c (Part.Stop part) p next h k e = stop_taken c part p next h k e
@@ -356,7 +386,7 @@ module _ (model : Program) where
     ended : p ≡ answer_end answer
     kind : can_answer c answer ≡ true
     form : IsAnswerFor model answer
-    said : answer_front answer ≡ part_phrases part
+    said : answer_front model answer ≡ part_phrases part
 
   -- no answer ends with a site
   no_site : (then : StopPart) (p : Phrase) (a : Answer) → at_site then p ≡ Some (Next.Whole a) → ⊥
@@ -390,26 +420,6 @@ module _ (model : Program) where
   point_ends (Iis method) values h = record { ended = refl; kind = refl; form = point_taken values h.1; said = ap (λ l. Phrase.Feasible ∷ l) (point_said values) }
   point_ends (Pivots n) values h = absurd h.0
 
-  stop_ends : (c : Command) (part : StopPart) (p : Phrase) (a : Answer) → IsStopPart c part → stop_with model part p ≡ Some (Next.Whole a) → Ends c (Part.Stop part) p a
-  stop_ends Check (StopPart.WideOperation k o) Phrase.End a h e =
-      subst (Ends Check (Part.Stop (StopPart.WideOperation k o)) Phrase.End) (whole_is (Answer.Stopped (TooWide (whole_site model) k o)) a e)
-      (record { ended = refl; kind = refl; form = (record { kind = refl; set_is = refl; enforced_is = refl; path_is = refl }, (h.0, h.1)); said = refl })
-  stop_ends Check (StopPart.WideOperation k o) _ a h e = absurd (cc)
-  stop_ends Check StopPart.SpentSite Phrase.End a h e =
-      subst (Ends Check (Part.Stop StopPart.SpentSite) Phrase.End) (whole_is (Answer.Stopped (Spent (whole_site model))) a e)
-      (record { ended = refl; kind = refl; form = record { kind = refl; set_is = refl; enforced_is = refl; path_is = refl }; said = refl })
-  stop_ends Check StopPart.SpentSite _ a h e = absurd (cc)
-  stop_ends Check StopPart.Wide p a h e = absurd (no_site StopPart.WideSite p a e)
-  stop_ends Check StopPart.Spent p a h e = absurd (no_site StopPart.SpentSite p a e)
-  stop_ends Check StopPart.WideSite (Phrase.Stop (StopPhrase.Step n)) a h e = absurd (cc)
-  stop_ends Check StopPart.WideSite (Phrase.Stop _) a h e = absurd (cc)
-  stop_ends Check StopPart.WideSite _ a h e = absurd (cc)
-  stop_ends Check (StopPart.WideStep n) (Phrase.Stop (StopPhrase.Operation o)) a h e = absurd (cc)
-  stop_ends Check (StopPart.WideStep n) (Phrase.Stop _) a h e = absurd (cc)
-  stop_ends Check (StopPart.WideStep n) _ a h e = absurd (cc)
-  stop_ends (Iis method) part p a h e = absurd h
-  stop_ends (Pivots n) part p a h e = absurd h
-
   begun_ends : (s : StopPhrase) (a : Answer) → stop_begun s ≡ Some (Next.Whole a) → ⊥
   begun_ends StopPhrase.Wide a e = cc
   begun_ends StopPhrase.Spent a e = cc
@@ -417,6 +427,48 @@ module _ (model : Program) where
 
   not_whole : {X : Type 0} (make : X → Next) (b : Bool) (x : X) (a : Answer) → ((y : X) → Next.Whole a ≢ make y) → option_map make (only_if b x) ≡ Some (Next.Whole a) → ⊥
   not_whole make b x a differ e = let t = mapped_told make b x (Next.Whole a) e in differ x (sym t.1)
+
+  -- nor with a member that is left out
+  no_left : (make : List Member → StopPart) (left : List Member) (m : Member) (a : Answer) → left_out_next make (with_left_out model left m) ≡ Some (Next.Whole a) → ⊥
+  no_left make left m a e = not_whole (λ members. Next.More (Part.Stop (make members))) (is_active model m && list_all (λ n. comes_before n m) left) (left ++ m ∷ []) a (λ y s. cc) e
+
+  -- a stop answers what asks for more than one line
+  can_stop : (c : Command) (stop : Stop) → Asks c → can_answer c (Answer.Stopped stop) ≡ true
+  can_stop Check stop h = refl
+  can_stop (Iis method) stop h = refl
+  can_stop (Pivots n) stop h = absurd h
+
+  -- the site of a stop is no more than what is read of it
+  site_said : (s : StopPhrase) (left : List Member) (rest : List Phrase) → AreLeftOut model left → Phrase.Stop s ∷ (site_phrases model (site_without model left) ++ rest) ≡ begun_phrases s left ++ rest
+  site_said s left rest h = ap (λ (l : List Member). Phrase.Stop s ∷ settle_phrase ∷ (map without_phrase l ++ rest)) (left_twice model left h)
+
+  stop_ends : (c : Command) (part : StopPart) (p : Phrase) (a : Answer) → Asks c × IsStopPart model part → stop_with model part p ≡ Some (Next.Whole a) → Ends c (Part.Stop part) p a
+  stop_ends c (StopPart.WideOperation left k o) Phrase.End a h e =
+      let stop = TooWide (site_without model left) k o in
+      subst (Ends c (Part.Stop (StopPart.WideOperation left k o)) Phrase.End) (whole_is (Answer.Stopped stop) a e)
+      (record {
+        ended = refl;
+        kind = can_stop c stop h.0;
+        form = (site_in_form model left h.1.0, h.1.1);
+        said = site_said StopPhrase.Wide left (Phrase.Stop (StopPhrase.Step k) ∷ Phrase.Stop (StopPhrase.Operation o) ∷ []) h.1.0;
+      })
+  stop_ends c (StopPart.WideOperation left k o) _ a h e = absurd (cc)
+  stop_ends c (StopPart.SpentSite left) Phrase.End a h e =
+      let stop = Spent (site_without model left) in
+      subst (Ends c (Part.Stop (StopPart.SpentSite left)) Phrase.End) (whole_is (Answer.Stopped stop) a e)
+      (record { ended = refl; kind = can_stop c stop h.0; form = site_in_form model left h.1; said = ap (λ (l : List Member). begun_phrases StopPhrase.Spent l) (left_twice model left h.1) })
+  stop_ends c (StopPart.SpentSite left) (Phrase.Stop (StopPhrase.Without m)) a h e = absurd (no_left (λ members. StopPart.SpentSite members) left m a e)
+  stop_ends c (StopPart.SpentSite left) (Phrase.Stop _) a h e = absurd (cc)
+  stop_ends c (StopPart.SpentSite left) _ a h e = absurd (cc)
+  stop_ends c StopPart.Wide p a h e = absurd (no_site (StopPart.WideSite []) p a e)
+  stop_ends c StopPart.Spent p a h e = absurd (no_site (StopPart.SpentSite []) p a e)
+  stop_ends c (StopPart.WideSite left) (Phrase.Stop (StopPhrase.Without m)) a h e = absurd (no_left (λ members. StopPart.WideSite members) left m a e)
+  stop_ends c (StopPart.WideSite left) (Phrase.Stop (StopPhrase.Step n)) a h e = absurd (cc)
+  stop_ends c (StopPart.WideSite left) (Phrase.Stop _) a h e = absurd (cc)
+  stop_ends c (StopPart.WideSite left) _ a h e = absurd (cc)
+  stop_ends c (StopPart.WideStep left n) (Phrase.Stop (StopPhrase.Operation o)) a h e = absurd (cc)
+  stop_ends c (StopPart.WideStep left n) (Phrase.Stop _) a h e = absurd (cc)
+  stop_ends c (StopPart.WideStep left n) _ a h e = absurd (cc)
 
   no_answer : (members : List Member) (witnesses : List Point) (p : Phrase) (a : Answer) → witnessed_with members witnesses p ≡ Some (Next.Whole a) → ⊥
   no_answer members witnesses (Phrase.Member m) a e =
@@ -440,6 +492,7 @@ module _ (model : Program) where
   whole_taken (Pivots n) Part.Nothing Phrase.Done a h e = subst (Ends (Pivots n) Part.Nothing Phrase.Done) (whole_is Answer.Done a e) (record { ended = refl; kind = refl; form = tt; said = refl })
   whole_taken (Pivots n) Part.Nothing _ a h e = absurd (cc)
   whole_taken Check Part.Nothing (Phrase.Stop s) a h e = absurd (begun_ends s a e)
+  whole_taken (Iis method) Part.Nothing (Phrase.Stop s) a h e = absurd (begun_ends s a e)
   whole_taken Check Part.Nothing Phrase.Feasible a h e = absurd (cc)
   whole_taken Check Part.Nothing _ a h e = absurd (cc)
   whole_taken (Iis method) Part.Nothing Phrase.Feasible a h e = absurd (cc)
@@ -464,25 +517,25 @@ module _ (model : Program) where
         (l ∙ ap (λ k. n + k) (length-append (entry_lines model f) (flat_map (entry_lines model) entries)) ∙ (omega arith)),
   )
 
-  entries_length : (entries : List Entry) → All (IsEntryFor model) entries → length (flat_map (entry_lines model) entries) ≡ length (flat_map entry_phrases entries)
+  entries_length : (entries : List Entry) → All (IsEntryFor model) entries → length (flat_map (entry_lines model) entries) ≡ length (flat_map (entry_phrases model) entries)
   entries_length [] h = refl
   entries_length (e ∷ entries) h =
-      let first = ap length (entry_spelled model e (All-head (IsEntryFor model) e entries h)) ∙ length-map (entry_phrases e) (phrase_line model) in
+      let first = ap length (entry_spelled model e (All-head (IsEntryFor model) e entries h)) ∙ length-map (entry_phrases model e) (phrase_line model) in
       let rest = entries_length entries (All-tail (IsEntryFor model) e entries h) in
-      length-append (entry_lines model e) (flat_map (entry_lines model) entries) ∙ ap (λ k. k + length (flat_map (entry_lines model) entries)) first ∙ ap (λ k. length (entry_phrases e) + k) rest ∙ sym (length-append (entry_phrases e) (flat_map entry_phrases entries))
+      length-append (entry_lines model e) (flat_map (entry_lines model) entries) ∙ ap (λ k. k + length (flat_map (entry_lines model) entries)) first ∙ ap (λ k. length (entry_phrases model e) + k) rest ∙ sym (length-append (entry_phrases model e) (flat_map (entry_phrases model) entries))
 
-  body_length : (notes : List Note) (entries : List Entry) → All (IsEntryFor model) entries → length (body_phrases notes entries) ≡ suc (length notes + length (flat_map (entry_lines model) entries))
+  body_length : (notes : List Note) (entries : List Entry) → All (IsEntryFor model) entries → length (body_phrases model notes entries) ≡ suc (length notes + length (flat_map (entry_lines model) entries))
   body_length notes entries h =
-      ap suc (length-append (map Phrase.Note notes) (flat_map entry_phrases entries) ∙ ap (λ k. k + length (flat_map entry_phrases entries)) (length-map notes Phrase.Note) ∙ ap (λ k. length notes + k) (sym (entries_length entries h)))
+      ap suc (length-append (map Phrase.Note notes) (flat_map (entry_phrases model) entries) ∙ ap (λ k. k + length (flat_map (entry_phrases model) entries)) (length-map notes Phrase.Note) ∙ ap (λ k. length notes + k) (sym (entries_length entries h)))
 
-  body_push : (notes : List Note) (entries : List Entry) (e : Entry) → body_phrases notes (entries ++ e ∷ []) ≡ body_phrases notes entries ++ entry_phrases e
+  body_push : (notes : List Note) (entries : List Entry) (e : Entry) → body_phrases model notes (entries ++ e ∷ []) ≡ body_phrases model notes entries ++ entry_phrases model e
   body_push notes entries e =
-      ap (λ l. Phrase.Head ∷ (map Phrase.Note notes ++ l)) (flat_map-append entry_phrases entries (e ∷ []) ∙ ap (λ l. flat_map entry_phrases entries ++ l) (append-nil (entry_phrases e)))
-      ∙ ap (λ l. Phrase.Head ∷ l) (sym (append_assoc (map Phrase.Note notes) (flat_map entry_phrases entries) (entry_phrases e)))
+      ap (λ l. Phrase.Head ∷ (map Phrase.Note notes ++ l)) (flat_map-append (entry_phrases model) entries (e ∷ []) ∙ ap (λ l. flat_map (entry_phrases model) entries ++ l) (append-nil (entry_phrases model e)))
+      ∙ ap (λ l. Phrase.Head ∷ l) (sym (append_assoc (map Phrase.Note notes) (flat_map (entry_phrases model) entries) (entry_phrases model e)))
 
   -- what a phrase makes of a draft
   abbrev Draws : Draft → Phrase → Draft → Type 0
-  Draws d p next = IsDraftFor model next × (draft_phrases next ≡ draft_phrases d ++ p ∷ [])
+  Draws d p next = IsDraftFor model next × (draft_phrases model next ≡ draft_phrases model d ++ p ∷ [])
 
   draft_is : (a b : Draft) → Some a ≡ Some b → a ≡ b
   draft_is a b e = cc
@@ -492,7 +545,7 @@ module _ (model : Program) where
 
   -- between entries
   between_taken : (n : ℕ) (notes : List Note) (entries : List Entry) (p : Phrase) (next : Draft) → IsDraftFor model (record { notes = notes; entries = entries; stage = Stage.Between }) → IsPhraseFor model p
-      → n ≡ suc (length (body_phrases notes entries)) → between n (record { notes = notes; entries = entries; stage = Stage.Between }) p ≡ Some next
+      → n ≡ suc (length (body_phrases model notes entries)) → between n (record { notes = notes; entries = entries; stage = Stage.Between }) p ≡ Some next
       → Draws (record { notes = notes; entries = entries; stage = Stage.Between }) p next
   between_taken n notes [] (Phrase.Note note) next h k l e =
       drawn (record { notes = notes; entries = []; stage = Stage.Between }) (Phrase.Note note) (record { notes = notes ++ note ∷ []; entries = []; stage = Stage.Between }) next e (
@@ -520,7 +573,7 @@ module _ (model : Program) where
   answering_taken notes entries question part p (Next.More more) h k e =
       let t = more_taken question.command part p more h.stage.1.1 k e in (
         record { notes = h.notes; entries = h.entries; numbered = h.numbered; stage = (h.stage.0, (h.stage.1.0, t.0)) },
-        ap (λ l. body_phrases notes entries ++ Phrase.Command question.command ∷ l) t.1 ∙ sym (append_assoc (body_phrases notes entries) (Phrase.Command question.command ∷ part_phrases part) (p ∷ [])),
+        ap (λ l. body_phrases model notes entries ++ Phrase.Command question.command ∷ l) t.1 ∙ sym (append_assoc (body_phrases model notes entries) (Phrase.Command question.command ∷ part_phrases part) (p ∷ [])),
       )
   answering_taken notes entries question part p (Next.Whole answer) h k e =
       let t = whole_taken question.command part p answer h.stage.1.1 e in
@@ -532,17 +585,17 @@ module _ (model : Program) where
           stage = tt;
         },
         body_push notes entries entry
-            ∙ ap (λ l. body_phrases notes entries ++ Phrase.Command question.command ∷ (l ++ answer_end answer ∷ [])) t.said
-            ∙ ap (λ q. body_phrases notes entries ++ Phrase.Command question.command ∷ (part_phrases part ++ q ∷ [])) (sym t.ended)
-            ∙ sym (append_assoc (body_phrases notes entries) (Phrase.Command question.command ∷ part_phrases part) (p ∷ [])),
+            ∙ ap (λ l. body_phrases model notes entries ++ Phrase.Command question.command ∷ (l ++ answer_end answer ∷ [])) t.said
+            ∙ ap (λ q. body_phrases model notes entries ++ Phrase.Command question.command ∷ (part_phrases part ++ q ∷ [])) (sym t.ended)
+            ∙ sym (append_assoc (body_phrases model notes entries) (Phrase.Command question.command ∷ part_phrases part) (p ∷ [])),
       )
 
   pub taken : (n : ℕ) (notes : List Note) (entries : List Entry) (stage : Stage) (p : Phrase) (next : Draft) → IsDraftFor model (record { notes = notes; entries = entries; stage = stage }) → IsPhraseFor model p
-      → n ≡ suc (length (draft_phrases (record { notes = notes; entries = entries; stage = stage }))) → advanced model n (record { notes = notes; entries = entries; stage = stage }) p ≡ Some next
+      → n ≡ suc (length (draft_phrases model (record { notes = notes; entries = entries; stage = stage }))) → advanced model n (record { notes = notes; entries = entries; stage = stage }) p ≡ Some next
       → Draws (record { notes = notes; entries = entries; stage = stage }) p next
   taken n notes entries Stage.Start Phrase.Head next h k l e =
       drawn (record { notes = notes; entries = entries; stage = Stage.Start }) Phrase.Head (record { notes = notes; entries = entries; stage = Stage.Between }) next e
-      (record { notes = h.notes; entries = h.entries; numbered = h.numbered; stage = tt }, ap (λ m. Phrase.Head ∷ (map Phrase.Note m ++ flat_map entry_phrases entries)) h.stage.0 ∙ ap (λ m. Phrase.Head ∷ flat_map entry_phrases m) h.stage.1)
+      (record { notes = h.notes; entries = h.entries; numbered = h.numbered; stage = tt }, ap (λ m. Phrase.Head ∷ (map Phrase.Note m ++ flat_map (entry_phrases model) entries)) h.stage.0 ∙ ap (λ m. Phrase.Head ∷ flat_map (entry_phrases model) m) h.stage.1)
   taken n notes entries Stage.Start _ next h k l e = absurd (cc)
   taken n notes entries Stage.Between p next h k l e = between_taken n notes entries p next h k l e
   taken n notes entries (Stage.Answering question part) p next h k l e =

@@ -36,6 +36,7 @@ leads model (Phrase.Command c) h = refl
 leads model (Phrase.Stop StopPhrase.Wide) h = refl
 leads model (Phrase.Stop StopPhrase.Spent) h = refl
 leads model (Phrase.Stop (StopPhrase.Site kind)) h = refl
+leads model (Phrase.Stop (StopPhrase.Without m)) h = refl
 leads model (Phrase.Stop (StopPhrase.Step k)) h = refl
 leads model (Phrase.Stop (StopPhrase.Operation o)) h = refl
 leads model (Phrase.Value j v) h = refl

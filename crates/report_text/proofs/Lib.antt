@@ -10,6 +10,7 @@ pub mod Named
 pub mod Lexed
 pub mod Lasts
 pub mod Listed
+pub mod LeftOut
 pub mod OneReport
 pub mod Printed
 pub mod Scripted

@@ -53,7 +53,7 @@ one_list (x ∷ xs) (y ∷ ys) p q f g =
     ap (λ z. z ∷ xs) e ∙ ap (λ l. y ∷ l) rest
 
 -- ---- one member more
-has_push : (xs : List Member) (m n : Member) → has (xs ++ m ∷ []) n ≡ (is_same m n || has xs n)
+pub has_push : (xs : List Member) (m n : Member) → has (xs ++ m ∷ []) n ≡ (is_same m n || has xs n)
 has_push [] m n = refl
 has_push (x ∷ xs) m n = ap (λ b. is_same x n || b) (has_push xs m n) ∙ exchanged (is_same x n) (is_same m n) (has xs n)
   where
@@ -62,7 +62,7 @@ has_push (x ∷ xs) m n = ap (λ b. is_same x n || b) (has_push xs m n) ∙ exch
     exchanged true false c = refl
     exchanged false b c = refl
 
-same_flip : (m n : Member) → is_same m n ≡ true → is_same n m ≡ true
+pub same_flip : (m n : Member) → is_same m n ≡ true → is_same n m ≡ true
 same_flip m n h = subst (λ (k : Member). is_same k m ≡ true) (same_members m n h) (same_self m)
 
 module _ (rows columns : ℕ) (xs : List Member) (m : Member) (possible : All (IsMemberFor rows columns) (xs ++ m ∷ [])) (order : IsInOrder (xs ++ m ∷ [])) where

@@ -126,24 +126,12 @@ op_one Over b e = absurd (apart (codes "over") (op_word b) refl e)
 operation_is : (a b : Op) (l m r s : ℚ) → a ≡ b → l ≡ m → r ≡ s → (let x : Operation = record { op = a; left = l; right = r } in x) ≡ record { op = b; left = m; right = s }
 operation_is a b l m r s e g h = ap (λ c. record { op = c; left = l; right = r }) e ∙ ap (λ c. record { op = b; left = c; right = r }) g ∙ ap (λ c. record { op = b; left = m; right = c }) h
 
-operation_one : (a b : Operation) → IsOperation a → IsOperation b → stop_details (StopPhrase.Operation a) ≡ stop_details (StopPhrase.Operation b) → a ≡ b
-operation_one a b h k d =
+operation_one : (model : Program) (a b : Operation) → IsOperation a → IsOperation b → stop_details model (StopPhrase.Operation a) ≡ stop_details model (StopPhrase.Operation b) → a ≡ b
+operation_one model a b h k d =
     let ops : op_word a.op ≡ op_word b.op = cc in
     let lefts : printed a.left ≡ printed b.left = cc in
     let rights : printed a.right ≡ printed b.right = cc in
     operation_is a.op b.op a.left b.left a.right b.right (op_one a.op b.op ops) (fraction_one a.left b.left h.left k.left lefts) (fraction_one a.right b.right h.right k.right rights)
-
-stop_one : (a b : StopPhrase) → IsStopPhrase a → IsStopPhrase b → stop_keyword a ≡ stop_keyword b → stop_details a ≡ stop_details b → a ≡ b
-stop_one StopPhrase.Wide StopPhrase.Wide h k e d = refl
-stop_one StopPhrase.Spent StopPhrase.Spent h k e d = refl
-stop_one (StopPhrase.Site a) (StopPhrase.Site b) h k e d = let words : site_word a ≡ site_word b = cc in ap StopPhrase.Site (site_one a b words)
-stop_one (StopPhrase.Step m) (StopPhrase.Step n) h k e d = let words : decimal m ≡ decimal n = cc in ap StopPhrase.Step (decimal_injective m n h k words)
-stop_one (StopPhrase.Operation a) (StopPhrase.Operation b) h k e d = ap StopPhrase.Operation (operation_one a b h k d)
-stop_one StopPhrase.Wide _ h k e d = absurd (cc)
-stop_one StopPhrase.Spent _ h k e d = absurd (cc)
-stop_one (StopPhrase.Site a) _ h k e d = absurd (cc)
-stop_one (StopPhrase.Step m) _ h k e d = absurd (cc)
-stop_one (StopPhrase.Operation a) _ h k e d = absurd (cc)
 
 -- ---- names
 module _ (model : Program) (f : IsWellFormed model) where
@@ -159,6 +147,21 @@ module _ (model : Program) (f : IsWellFormed model) where
   member_one (Lower i) n h k w e = absurd (apart (codes "lower") (kind_word n) refl w)
   member_one (Upper i) n h k w e = absurd (apart (codes "upper") (kind_word n) refl w)
   member_one (Whole i) n h k w e = absurd (apart (codes "whole") (kind_word n) refl w)
+
+  -- what is said of a stop
+  stop_one : (a b : StopPhrase) → IsStopPhrase model a → IsStopPhrase model b → stop_keyword a ≡ stop_keyword b → stop_details model a ≡ stop_details model b → a ≡ b
+  stop_one StopPhrase.Wide StopPhrase.Wide h k e d = refl
+  stop_one StopPhrase.Spent StopPhrase.Spent h k e d = refl
+  stop_one (StopPhrase.Site a) (StopPhrase.Site b) h k e d = let words : site_word a ≡ site_word b = cc in ap StopPhrase.Site (site_one a b words)
+  stop_one (StopPhrase.Without m) (StopPhrase.Without n) h k e d = let kinds : kind_word m ≡ kind_word n = cc in let names : name_of model m ≡ name_of model n = cc in ap StopPhrase.Without (member_one m n h k kinds names)
+  stop_one (StopPhrase.Step m) (StopPhrase.Step n) h k e d = let words : decimal m ≡ decimal n = cc in ap StopPhrase.Step (decimal_injective m n h k words)
+  stop_one (StopPhrase.Operation a) (StopPhrase.Operation b) h k e d = ap StopPhrase.Operation (operation_one model a b h k d)
+  stop_one StopPhrase.Wide _ h k e d = absurd (cc)
+  stop_one StopPhrase.Spent _ h k e d = absurd (cc)
+  stop_one (StopPhrase.Site a) _ h k e d = absurd (cc)
+  stop_one (StopPhrase.Without m) _ h k e d = absurd (cc)
+  stop_one (StopPhrase.Step m) _ h k e d = absurd (cc)
+  stop_one (StopPhrase.Operation a) _ h k e d = absurd (cc)
 
   side_one : (s t : Side) → side_word s ≡ side_word t → s ≡ t
   side_one Lo Lo e = refl
@@ -286,6 +289,7 @@ module _ (model : Program) (f : IsWellFormed model) where
       spelled_back Keyword.Too = refl
       spelled_back Keyword.Pivots = refl
       spelled_back Keyword.Site = refl
+      spelled_back Keyword.Without = refl
       spelled_back Keyword.Step = refl
       spelled_back Keyword.Operation = refl
       spelled_back Keyword.End = refl
@@ -310,7 +314,7 @@ pub one_report : OneReportLaw
 unfolding done
 one_report model bytes r s f a b =
     let lines : report_lines model r ≡ report_lines model s = append_cancel_right (report_lines model r) (report_lines model s) ([] ∷ []) (sym (parts_of_read model bytes r a) ∙ parts_of_read model bytes s b) in
-    let phrases = phrases_one model f (report_phrases r) (report_phrases s) (report_for model r a.form) (report_for model s b.form) (sym (report_spelled model r a.form) ∙ lines ∙ report_spelled model s b.form) in
+    let phrases = phrases_one model f (report_phrases model r) (report_phrases model s) (report_for model r a.form) (report_for model s b.form) (sym (report_spelled model r a.form) ∙ lines ∙ report_spelled model s b.form) in
     let same : Some (done model r) ≡ Some (done model s) = sym (report_read model r a.form) ∙ ap (run model 1 nothing_read) phrases ∙ report_read model s b.form in
     let d : done model r ≡ done model s = cc in
     ap (λ (x : Draft). record { notes = x.notes; entries = x.entries }) d

@@ -1,22 +1,25 @@
 -- What is left to be printed after a step.
-use Rattle.std.proofs.Common.{◌≡◌, ◌<◌, ◌≤◌, ◌+◌, refl, sym, ◌∙◌, ap, subst, ℕ, suc, true, false, Bool, cond, List, [], ◌∷◌, ◌++◌, append_assoc, append-nil, drop, get_or, length, filter, find, zip, map, flat_map, Option, Some, None}
+use Rattle.std.proofs.Common.{◌≡◌, ◌<◌, ◌≤◌, ◌+◌, refl, sym, ◌∙◌, ap, subst, ℕ, suc, true, false, Bool, not, ◌&&◌, cond, add-one, List, [], ◌∷◌, ◌++◌, append_assoc, append-nil, drop, get_or, length, filter, find, zip, map, flat_map, Option, Some, None}
 use Rattle.std.specs.Prelude.{codes}
-use Rattle.std.proofs.lemmas.List.{at_drop_more}
+use Rattle.std.proofs.lemmas.List.{at_drop_more, map-append}
 use Rattle.std.proofs.Math.ListN.{drop_of_length-le}
 use Rattle.std.proofs.lemmas.Grind.{flat_map-append}
+use Rattle.std.proofs.lemmas.List.Elements.{filter-append}
 use Rattle.lp_model.specs.declared.parts.Note.{Note}
 use Rattle.lp_model.specs.declared.members.Member.{Member}
 use Rattle.lp_model.specs.declared.members.Member.TheVariants.{Row, Lower, Upper, Whole}
 use Rattle.lp_model.specs.Program.{Program}
-use Rattle.lp_model.specs.Members.{IsInOrder}
+use Rattle.lp_model.specs.Members.{has, is_active, numbered, possible_members, IsInOrder}
+use Rattle.lp_model.specs.Evaluation.{IsInRange}
 use Rattle.lp_model.specs.MemberSets.{SetValue, IsPossibleIn, follows}
 use Rattle.certs.specs.Checks.{IsSetOf}
 use Rattle.certs.specs.declared.evidence.Point.{Point}
 use Rattle.certs.proofs.Walk.{all_follow, next_step, none_follow}
 use Rattle.report_text.specs.declared.report.Entry.{Entry}
 use Rattle.report_text.specs.declared.report.Report.{Report}
-use Rattle.report_text.specs.Grammar.{Line, member_line, witness_lines, entry_lines, note_line, report_lines, text_of}
-use Rattle.report_text.specs.Printing.{ended, head_lines, foot_lines, IsKnownMember, PartsLaw}
+use Rattle.report_text.specs.Grammar.{Line, member_line, without_line, left_out, witness_lines, entry_lines, note_line, report_lines, text_of}
+use Rattle.report_text.specs.Printing.{ended, missing_text, head_lines, foot_lines, IsKnownMember, PartsLaw}
+use Rattle.report_text.proofs.LeftOut.{filter_twice}
 
 -- the text of lines is that of the first ones and of the others
 pub text_both : (first others : List Line) → text_of (first ++ others) ≡ text_of first ++ text_of others
@@ -104,3 +107,63 @@ line_more start done next lines l d e =
     ∙ (ap (λ t. t ++ ended l) d
     ∙ (append_assoc start (text_of lines) (ended l)
     ∙ ap (λ t. start ++ t) (ap (λ t. text_of lines ++ t) (sym (append-nil (ended l))) ∙ sym (text_both lines (l ∷ [])))))
+
+-- more lines
+pub lines_more : (start done next : List ℕ) (lines more : List Line) → done ≡ start ++ text_of lines → next ≡ done ++ text_of more → next ≡ start ++ text_of (lines ++ more)
+lines_more start done next lines more d e = e ∙ (ap (λ t. t ++ text_of more) d ∙ (append_assoc start (text_of lines) (text_of more) ∙ ap (λ t. start ++ t) (sym (text_both lines more))))
+
+-- ---- the members that are left out
+-- the text of the missing ones among members is that of the first of them and of the others
+missing_both : (model : Program) (set first others : List Member) → missing_text model set (first ++ others) ≡ missing_text model set first ++ missing_text model set others
+missing_both model set first others =
+    ap (λ (l : List Member). text_of (map (without_line model) l)) (filter-append (λ m. is_active model m && not (has set m)) first others)
+    ∙ (ap text_of (map-append (without_line model) (filter (λ m. is_active model m && not (has set m)) first) (filter (λ m. is_active model m && not (has set m)) others))
+    ∙ text_both (map (without_line model) (filter (λ m. is_active model m && not (has set m)) first)) (map (without_line model) (filter (λ m. is_active model m && not (has set m)) others)))
+
+-- one possible member more
+pub missing_more : (model : Program) (set : List Member) (make : ℕ → Member) (i : ℕ) (start done next : List ℕ) → done ≡ start ++ missing_text model set (numbered make i) → next ≡ done ++ missing_text model set (make i ∷ []) → next ≡ start ++ missing_text model set (numbered make (i + 1))
+missing_more model set make i start done next d e =
+    e
+    ∙ (ap (λ t. t ++ missing_text model set (make i ∷ [])) d
+    ∙ (append_assoc start (missing_text model set (numbered make i)) (missing_text model set (make i ∷ []))
+    ∙ ap (λ t. start ++ t) (sym (missing_both model set (numbered make i) (make i ∷ [])) ∙ ap (λ n. missing_text model set (numbered make n)) (sym (add-one i)))))
+
+-- all of them
+pub missing_all : (model : Program) (set : List Member) (start a b c d : List ℕ) → a ≡ start ++ missing_text model set (numbered Row (length model.rows)) → b ≡ a ++ missing_text model set (numbered Lower (length model.columns)) → c ≡ b ++ missing_text model set (numbered Upper (length model.columns))
+    → d ≡ c ++ missing_text model set (numbered Whole (length model.columns)) → d ≡ start ++ text_of (map (without_line model) (left_out model set))
+missing_all model set start a b c d p q r s =
+    let rows = numbered Row (length model.rows) in
+    let lowers = numbered Lower (length model.columns) in
+    let uppers = numbered Upper (length model.columns) in
+    let wholes = numbered Whole (length model.columns) in
+    let m : List Member → List ℕ = missing_text model set in
+    s ∙ ap (λ t. t ++ m wholes) (r ∙ ap (λ t. t ++ m uppers) (q ∙ ap (λ t. t ++ m lowers) p))
+    ∙ four start (m rows) (m lowers) (m uppers) (m wholes)
+    ∙ ap (λ t. start ++ t) (
+      ap (λ t. m rows ++ t) (ap (λ t. m lowers ++ t) (sym (missing_both model set uppers wholes)) ∙ sym (missing_both model set lowers (uppers ++ wholes)))
+      ∙ sym (missing_both model set rows (lowers ++ (uppers ++ wholes)))
+      ∙ ap (λ (l : List Member). text_of (map (without_line model) l)) (sym (filter_twice (is_active model) (λ n. not (has set n)) (possible_members model))))
+  where
+    four : (s w x y z : List ℕ) → s ++ w ++ x ++ y ++ z ≡ s ++ (w ++ (x ++ (y ++ z)))
+    four s w x y z = append_assoc (s ++ w ++ x) y z ∙ (append_assoc (s ++ w) x (y ++ z) ∙ append_assoc s w (x ++ (y ++ z)))
+
+-- the line of the one member that is missing, or none
+pub missing_one : (model : Program) (set : List Member) (m : Member) → (is_active model m && not (has set m)) ≡ true → missing_text model set (m ∷ []) ≡ ended (without_line model m)
+missing_one model set m e = ap (λ (b : Bool). text_of (map (without_line model) (cond b (m ∷ []) []))) e ∙ append-nil (ended (without_line model m))
+
+pub missing_none : (model : Program) (set : List Member) (m : Member) → (is_active model m && not (has set m)) ≡ false → missing_text model set (m ∷ []) ≡ []
+missing_none model set m e = ap (λ (b : Bool). text_of (map (without_line model) (cond b (m ∷ []) []))) e
+
+-- a member that can be printed is one in range
+pub in_range : (model : Program) (m : Member) → IsKnownMember model m → IsInRange model m
+in_range model (Row i) h = h
+in_range model (Lower j) h = h
+in_range model (Upper j) h = h
+in_range model (Whole j) h = h
+
+-- and possible in a set of the program
+pub possible_member : (model : Program) (set : SetValue) (m : Member) → IsSetOf model set → IsKnownMember model m → IsPossibleIn set m
+possible_member model set (Row i) is h = subst (λ (n : ℕ). i < n) (sym is.rows) h
+possible_member model set (Lower j) is h = subst (λ (n : ℕ). j < n) (sym is.columns) h
+possible_member model set (Upper j) is h = subst (λ (n : ℕ). j < n) (sym is.columns) h
+possible_member model set (Whole j) is h = subst (λ (n : ℕ). j < n) (sym is.columns) h

@@ -33,7 +33,7 @@ use Rattle.report_text.specs.Grammar.{Line, text_of, report_lines}
 use Rattle.report_text.specs.Form.{IsReportFor, IsOperation}
 use Rattle.report_text.specs.Reading.{Reads, IsFront, IsWhole, IsBadLine, IsTruncated, IsReportStop}
 use Rattle.report_text.specs.Phrases.{IsPhraseFor, phrase_line, Says}
-use Rattle.report_text.specs.Drafts.{point_of, answer_of, whole_site, extended, placed, advanced, nothing_read, Takes, IsLineStop, ended, IsDraftFor}
+use Rattle.report_text.specs.Drafts.{point_of, answer_of, site_without, extended, placed, advanced, nothing_read, Takes, IsLineStop, ended, IsDraftFor}
 use Rattle.report_text.proofs.Said.{report_phrases, report_spelled, report_for}
 use Rattle.report_text.proofs.Spelling.{some_parts, parts_of_read, text_of_parts}
 use Rattle.report_text.proofs.Runs.{run, run_append, run_step, done, report_read}
@@ -64,24 +64,24 @@ module _ (model : Program) where
   whole_form : (notes : List Note) (entries : List Entry) → IsDraftFor model (draft_of notes entries Stage.Done) → IsReportFor model (record { notes = notes; entries = entries })
   whole_form notes entries h = record { notes = h.notes; entries = h.entries; numbered = h.numbered }
 
-  whole_lines : (notes : List Note) (entries : List Entry) → IsDraftFor model (draft_of notes entries Stage.Done) → report_lines model (record { notes = notes; entries = entries }) ≡ lines_of model (draft_phrases (draft_of notes entries Stage.Done))
+  whole_lines : (notes : List Note) (entries : List Entry) → IsDraftFor model (draft_of notes entries Stage.Done) → report_lines model (record { notes = notes; entries = entries }) ≡ lines_of model (draft_phrases model (draft_of notes entries Stage.Done))
   whole_lines notes entries h = report_spelled model (record { notes = notes; entries = entries }) (whole_form notes entries h)
 
   Front : Draft → Type 0
-  Front d = IsFront model (lines_of model (draft_phrases d))
+  Front d = IsFront model (lines_of model (draft_phrases model d))
 
   -- what a phrase leads to a front from is one
   back : (notes : List Note) (entries : List Entry) (stage : Stage) (p : Phrase) (next : Draft) → IsDraftFor model (draft_of notes entries stage) → IsPhraseFor model p
-      → advanced model (suc (length (draft_phrases (draft_of notes entries stage)))) (draft_of notes entries stage) p ≡ Some next → (IsDraftFor model next → Front next) → Front (draft_of notes entries stage)
+      → advanced model (suc (length (draft_phrases model (draft_of notes entries stage)))) (draft_of notes entries stage) p ≡ Some next → (IsDraftFor model next → Front next) → Front (draft_of notes entries stage)
   unfolding Front
   back notes entries stage p next h k e front =
-      let t = taken model (suc (length (draft_phrases (draft_of notes entries stage)))) notes entries stage p next h k refl e in
-      let said : lines_of model (draft_phrases next) ≡ lines_of model (draft_phrases (draft_of notes entries stage)) ++ lines_of model (p ∷ []) = ap (lines_of model) t.1 ∙ map-append (phrase_line model) (draft_phrases (draft_of notes entries stage)) (p ∷ []) in
-      shorter_front model (lines_of model (draft_phrases (draft_of notes entries stage))) (lines_of model (p ∷ [])) (subst (IsFront model) said (front t.0))
+      let t = taken model (suc (length (draft_phrases model (draft_of notes entries stage)))) notes entries stage p next h k refl e in
+      let said : lines_of model (draft_phrases model next) ≡ lines_of model (draft_phrases model (draft_of notes entries stage)) ++ lines_of model (p ∷ []) = ap (lines_of model) t.1 ∙ map-append (phrase_line model) (draft_phrases model (draft_of notes entries stage)) (p ∷ []) in
+      shorter_front model (lines_of model (draft_phrases model (draft_of notes entries stage))) (lines_of model (p ∷ [])) (subst (IsFront model) said (front t.0))
 
   front_done : (notes : List Note) (entries : List Entry) → IsDraftFor model (draft_of notes entries Stage.Done) → Front (draft_of notes entries Stage.Done)
   unfolding Front
-  front_done notes entries h = ([], record { report = record { notes = notes; entries = entries }; form = whole_form notes entries h; lines = whole_lines notes entries h ∙ sym (append-nil (lines_of model (draft_phrases (draft_of notes entries Stage.Done)))) })
+  front_done notes entries h = ([], record { report = record { notes = notes; entries = entries }; form = whole_form notes entries h; lines = whole_lines notes entries h ∙ sym (append-nil (lines_of model (draft_phrases model (draft_of notes entries Stage.Done)))) })
 
   front_between : (notes : List Note) (entries : List Entry) → IsDraftFor model (draft_of notes entries Stage.Between) → Front (draft_of notes entries Stage.Between)
   front_between notes entries h = back notes entries Stage.Between Phrase.Foot (draft_of notes entries Stage.Done) h tt refl (front_done notes entries)
@@ -131,25 +131,25 @@ module _ (model : Program) where
     front_nothing (Iis method) e = more_back Part.Nothing Part.Feasible Phrase.Feasible tt (ap (λ d. extended model d Part.Nothing Phrase.Feasible) e) front_feasible
     front_nothing (Pivots n) e = last_back Part.Nothing Phrase.Done Answer.Done tt (ap (λ d. extended model d Part.Nothing Phrase.Done) e)
 
-    front_operation : (k : ℕ) (o : Operation) → Within (Part.Stop (StopPart.WideOperation k o))
-    front_operation k o = end_back (Part.Stop (StopPart.WideOperation k o)) (Answer.Stopped (TooWide (whole_site model) k o)) refl
+    front_operation : (left : List Member) (k : ℕ) (o : Operation) → Within (Part.Stop (StopPart.WideOperation left k o))
+    front_operation left k o = end_back (Part.Stop (StopPart.WideOperation left k o)) (Answer.Stopped (TooWide (site_without model left) k o)) refl
 
-    front_step : (k : ℕ) → Within (Part.Stop (StopPart.WideStep k))
-    front_step k = more_back (Part.Stop (StopPart.WideStep k)) (Part.Stop (StopPart.WideOperation k zeros)) (Phrase.Stop (StopPhrase.Operation zeros)) zeros_fit refl (front_operation k zeros)
+    front_step : (left : List Member) (k : ℕ) → Within (Part.Stop (StopPart.WideStep left k))
+    front_step left k = more_back (Part.Stop (StopPart.WideStep left k)) (Part.Stop (StopPart.WideOperation left k zeros)) (Phrase.Stop (StopPhrase.Operation zeros)) zeros_fit refl (front_operation left k zeros)
 
-    front_site : Within (Part.Stop StopPart.WideSite)
-    front_site = more_back (Part.Stop StopPart.WideSite) (Part.Stop (StopPart.WideStep 0)) (Phrase.Stop (StopPhrase.Step 0)) (omega arith) refl (front_step 0)
+    front_site : (left : List Member) → Within (Part.Stop (StopPart.WideSite left))
+    front_site left = more_back (Part.Stop (StopPart.WideSite left)) (Part.Stop (StopPart.WideStep left 0)) (Phrase.Stop (StopPhrase.Step 0)) (omega arith) refl (front_step left 0)
 
-    front_spent : Within (Part.Stop StopPart.SpentSite)
-    front_spent = end_back (Part.Stop StopPart.SpentSite) (Answer.Stopped (Spent (whole_site model))) refl
+    front_spent : (left : List Member) → Within (Part.Stop (StopPart.SpentSite left))
+    front_spent left = end_back (Part.Stop (StopPart.SpentSite left)) (Answer.Stopped (Spent (site_without model left))) refl
 
     front_stop : (part : StopPart) → Within (Part.Stop part)
-    front_stop StopPart.Wide = more_back (Part.Stop StopPart.Wide) (Part.Stop StopPart.WideSite) (Phrase.Stop (StopPhrase.Site Settle)) tt refl front_site
-    front_stop StopPart.WideSite = front_site
-    front_stop (StopPart.WideStep k) = front_step k
-    front_stop (StopPart.WideOperation k o) = front_operation k o
-    front_stop StopPart.Spent = more_back (Part.Stop StopPart.Spent) (Part.Stop StopPart.SpentSite) (Phrase.Stop (StopPhrase.Site Settle)) tt refl front_spent
-    front_stop StopPart.SpentSite = front_spent
+    front_stop StopPart.Wide = more_back (Part.Stop StopPart.Wide) (Part.Stop (StopPart.WideSite [])) (Phrase.Stop (StopPhrase.Site Settle)) tt refl (front_site [])
+    front_stop (StopPart.WideSite left) = front_site left
+    front_stop (StopPart.WideStep left k) = front_step left k
+    front_stop (StopPart.WideOperation left k o) = front_operation left k o
+    front_stop StopPart.Spent = more_back (Part.Stop StopPart.Spent) (Part.Stop (StopPart.SpentSite [])) (Phrase.Stop (StopPhrase.Site Settle)) tt refl (front_spent [])
+    front_stop (StopPart.SpentSite left) = front_spent left
 
     front_part : (part : Part) → Within part
     front_part Part.Nothing = front_nothing question.command refl
@@ -174,7 +174,7 @@ module _ (model : Program) where
 -- the draft says these lines, and whatever phrases say them lead to it
 pub record HasRead (model : Program) (front : List Line) (draft : Draft) : Type 0 where
   pub form : IsDraftFor model draft
-  pub said : front ≡ map (phrase_line model) (draft_phrases draft)
+  pub said : front ≡ map (phrase_line model) (draft_phrases model draft)
   pub only : (ps : List Phrase) → All (IsPhraseFor model) ps → map (phrase_line model) ps ≡ front → run model 1 nothing_read ps ≡ Some draft
 
 -- phrases, cut where one says a line
@@ -217,8 +217,8 @@ module _ (model : Program) where
       empty (p ∷ ps) e = absurd (cc)
 
   -- the number of a line
-  counted : (front : List Line) (draft : Draft) → HasRead model front draft → length front ≡ length (draft_phrases draft)
-  counted front draft h = ap length h.said ∙ length-map (draft_phrases draft) (phrase_line model)
+  counted : (front : List Line) (draft : Draft) → HasRead model front draft → length front ≡ length (draft_phrases model draft)
+  counted front draft h = ap length h.said ∙ length-map (draft_phrases model draft) (phrase_line model)
 
   -- one phrase after those of the front
   next_run : (front : List Line) (draft : Draft) (qs more : List Phrase) (p : Phrase) → HasRead model front draft → All (IsPhraseFor model) qs → map (phrase_line model) qs ≡ front
@@ -238,11 +238,11 @@ module _ (model : Program) where
   -- one line more
   pub one_line_more : (front : List Line) (line : Line) (draft next : Draft) → HasRead model front draft → Takes model (suc (length front)) draft line next → HasRead model (front ++ line ∷ []) next
   one_line_more front line draft next h t =
-      let n : suc (length front) ≡ suc (length (draft_phrases draft)) = ap suc (counted front draft h) in
+      let n : suc (length front) ≡ suc (length (draft_phrases model draft)) = ap suc (counted front draft h) in
       let made = taken model (suc (length front)) draft.notes draft.entries draft.stage t.phrase next h.form t.says.form n (t.all t.phrase t.says) in
       record {
         form = made.0;
-        said = ap (λ l. l ++ line ∷ []) h.said ∙ ap (λ l. map (phrase_line model) (draft_phrases draft) ++ l ∷ []) t.says.text ∙ sym (map-append (phrase_line model) (draft_phrases draft) (t.phrase ∷ [])) ∙ ap (map (phrase_line model)) (sym made.1);
+        said = ap (λ l. l ++ line ∷ []) h.said ∙ ap (λ l. map (phrase_line model) (draft_phrases model draft) ++ l ∷ []) t.says.text ∙ sym (map-append (phrase_line model) (draft_phrases model draft) (t.phrase ∷ [])) ∙ ap (map (phrase_line model)) (sym made.1);
         only = λ ps all e.
             let c = cut_at model ps front line [] e in
             let qs = c.before in let p = c.phrase in let more = c.behind in let is = c.whole in let spelled = c.said in
@@ -266,7 +266,7 @@ module _ (model : Program) where
   line_is_wrong front line draft h none goes =
       let report = goes.1.report in
       let all = report_for model report goes.1.form in
-      let c = cut_at model (report_phrases report) front line goes.0 (sym (report_spelled model report goes.1.form) ∙ goes.1.lines ∙ append_assoc front (line ∷ []) goes.0) in
+      let c = cut_at model (report_phrases model report) front line goes.0 (sym (report_spelled model report goes.1.form) ∙ goes.1.lines ∙ append_assoc front (line ∷ []) goes.0) in
       let qs = c.before in let p = c.phrase in let more = c.behind in
       let same : All (IsPhraseFor model) (qs ++ p ∷ more) = subst (All (IsPhraseFor model)) c.whole all in
       let ends : run model 1 nothing_read (qs ++ p ∷ more) ≡ Some (done model report) = ap (run model 1 nothing_read) (sym c.whole) ∙ report_read model report goes.1.form in
@@ -277,7 +277,7 @@ module _ (model : Program) where
   -- the report that the lines are, if they are one
   led_to : (front : List Line) (draft : Draft) (report : Report) → HasRead model front draft → IsReportFor model report → report_lines model report ≡ front → draft ≡ done model report
   led_to front draft report h form e =
-      let r : Some (done model report) ≡ Some draft = sym (report_read model report form) ∙ h.only (report_phrases report) (report_for model report form) (sym (report_spelled model report form) ∙ e) in
+      let r : Some (done model report) ≡ Some draft = sym (report_read model report form) ∙ h.only (report_phrases model report) (report_for model report form) (sym (report_spelled model report form) ∙ e) in
       cc
 
   -- lines that did not lead to the last one are no report
@@ -289,7 +289,7 @@ module _ (model : Program) where
   pub is_whole : (front : List Line) (draft : Draft) → HasRead model front draft → draft.stage ≡ Stage.Done → IsWhole model front
   is_whole front draft h e = by draft.stage e h.form h.said
     where
-      by : (stage : Stage) → stage ≡ Stage.Done → IsDraftFor model (draft_of draft.notes draft.entries stage) → front ≡ map (phrase_line model) (draft_phrases (draft_of draft.notes draft.entries stage)) → IsWhole model front
+      by : (stage : Stage) → stage ≡ Stage.Done → IsDraftFor model (draft_of draft.notes draft.entries stage) → front ≡ map (phrase_line model) (draft_phrases model (draft_of draft.notes draft.entries stage)) → IsWhole model front
       by Stage.Done e f said = record { report = record { notes = draft.notes; entries = draft.entries }; form = whole_form model draft.notes draft.entries f; lines = whole_lines model draft.notes draft.entries f ∙ sym said ∙ sym (append-nil front) }
       by Stage.Start e f said = absurd (cc)
       by Stage.Between e f said = absurd (cc)

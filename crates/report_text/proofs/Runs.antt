@@ -1,10 +1,10 @@
 -- The phrases of a report lead from nothing to the whole report.
-use Rattle.std.proofs.Common.{◌≡◌, ◌≤◌, refl, sym, ap, subst, ◌∙◌, ℕ, suc, ◌+◌, ◌-◌, Bool, true, false, true≢false, cond, List, [], ◌∷◌, ◌++◌, length, append_assoc, append-nil, Option, Some, None, arith}
+use Rattle.std.proofs.Common.{◌≡◌, ◌≤◌, refl, sym, ap, subst, ◌∙◌, ℕ, suc, ◌+◌, ◌-◌, Bool, true, false, true≢false, cond, ◌&&◌, List, [], ◌∷◌, ◌++◌, length, append_assoc, append-nil, Option, Some, None, arith}
 use Rattle.std.specs.Prelude.{map, flat_map, zip, replicate, option_and_then, option_map, All, AllPairs, nat_le}
 use Rattle.std.specs.List.{list_all}
 use Rattle.std.proofs.lemmas.List.{replicate_more, length-append, length-map}
 use Rattle.report_text.specs.Phrases.{phrase_line}
-use Rattle.report_text.proofs.Said.{value_phrases, point_phrases, node_phrases, proof_phrases, witness_phrases, stop_phrases, answer_front, answer_end, entry_phrases, report_phrases, entry_spelled}
+use Rattle.report_text.proofs.Said.{value_phrases, point_phrases, node_phrases, proof_phrases, witness_phrases, without_phrase, site_phrases, stop_phrases, answer_front, answer_end, entry_phrases, report_phrases, entry_spelled}
 use Rattle.std.proofs.lemmas.List.Elements.{All-head, All-tail, All-contains, Contains-append_right}
 use Rattle.std.proofs.lemmas.Bool.{and_from, le-leb}
 use Rattle.rational.proofs.Compare.{eq-Decides}
@@ -13,7 +13,7 @@ use Rattle.rational.specs.Rational.{ℚ, zero_ℚ, eq_ℚ}
 use Rattle.lp_model.specs.Program.{Program}
 use Rattle.lp_model.specs.declared.parts.Note.{Note}
 use Rattle.lp_model.specs.declared.members.Member.{Member}
-use Rattle.lp_model.specs.Members.{comes_before, IsInOrder}
+use Rattle.lp_model.specs.Members.{comes_before, is_active, IsInOrder}
 use Rattle.certs.specs.declared.evidence.Point.{Point}
 use Rattle.certs.specs.declared.evidence.Proof.{Proof}
 use Rattle.certs.specs.declared.evidence.Branch.{Branch}
@@ -37,9 +37,11 @@ use Rattle.report_text.specs.declared.drafts.Part.{Part}
 use Rattle.report_text.specs.declared.drafts.Next.{Next}
 use Rattle.report_text.specs.declared.drafts.Stage.{Stage}
 use Rattle.report_text.specs.declared.drafts.Draft.{Draft}
-use Rattle.lp_model.specs.MemberSets.{SetValue, active_set, empty_set}
-use Rattle.report_text.specs.Form.{IsListed, IsOneLeaf, IsPointFor, IsWholeSite, IsStopFor, IsAnswerFor, IsEntryFor, AreNumbered, IsReportFor, can_answer, share_before}
-use Rattle.report_text.specs.Drafts.{filled, point_of, leaf_of, set_of, only_if, with_value, witnessed_with, whole_site, at_site, extended, placed, advanced, nothing_read}
+use Rattle.lp_model.specs.MemberSets.{SetValue, empty_set}
+use Rattle.report_text.specs.Grammar.{left_out}
+use Rattle.report_text.specs.Form.{IsListed, IsOneLeaf, IsPointFor, IsSettleSite, IsStopFor, IsAnswerFor, IsEntryFor, AreNumbered, IsReportFor, can_answer, share_before}
+use Rattle.report_text.specs.Drafts.{filled, point_of, leaf_of, set_of, only_if, with_value, witnessed_with, site_without, with_left_out, left_out_next, at_site, stop_begun, extended, placed, advanced, nothing_read}
+use Rattle.report_text.proofs.LeftOut.{left_in_order, left_active, set_twice}
 
 -- ---- runs
 -- the draft that phrases lead to, where the first is that of line number n
@@ -172,9 +174,8 @@ module _ (model : Program) (c : Command) (make : List ℚ → Part)
       (r.0, (r.1.0, ap (λ vs. record { values = vs }) (ap (λ n. filled n r.0) (sym h.len) ∙ r.1.1.1)))
 
 -- ---- lists in order
--- where a part has a list whose elements come one after another, further elements are read into it
-module _ (model : Program) (c : Command) {X : Type 0} (before : X → X → Bool) (make : List X → Part) (say : X → Phrase)
-    (takes : (xs : List X) (x : X) → list_all (λ y. before y x) xs ≡ true → extended model c (make xs) (say x) ≡ Some (Next.More (make (xs ++ x ∷ [])))) where
+-- what stands before an element comes before it
+module _ {X : Type 0} (before : X → X → Bool) where
   all_before : (xs : List X) (x : X) (rest : List X) → AllPairs (λ y z. IsTrue (before y z)) (xs ++ x ∷ rest) → list_all (λ y. before y x) xs ≡ true
   all_before [] x rest h = refl
   all_before (y ∷ xs) x rest h = and_from (before y x) (list_all (λ z. before z x) xs) (All-contains (λ z. IsTrue (before y z)) (xs ++ x ∷ rest) x (pairs_head y (xs ++ x ∷ rest) h) (Contains-append_right xs (x ∷ rest) x (0, omega arith, refl))) (all_before xs x rest (pairs_tail y (xs ++ x ∷ rest) h))
@@ -185,12 +186,29 @@ module _ (model : Program) (c : Command) {X : Type 0} (before : X → X → Bool
       pairs_tail : (y : X) (xs : List X) → AllPairs (λ y z. IsTrue (before y z)) (y ∷ xs) → AllPairs (λ y z. IsTrue (before y z)) xs
       pairs_tail y xs h i j d l m = h (suc i) (suc j) d (omega arith) (omega arith)
 
+-- where a part has a list whose elements come one after another, further elements are read into it
+module _ (model : Program) (c : Command) {X : Type 0} (before : X → X → Bool) (make : List X → Part) (say : X → Phrase)
+    (takes : (xs : List X) (x : X) → list_all (λ y. before y x) xs ≡ true → extended model c (make xs) (say x) ≡ Some (Next.More (make (xs ++ x ∷ [])))) where
   list_read : (xs rest : List X) → AllPairs (λ y z. IsTrue (before y z)) (xs ++ rest) → grown model c (make xs) (map say rest) ≡ Some (make (xs ++ rest))
   list_read xs [] h = ap (λ l. Some (make l)) (sym (append-nil xs))
   list_read xs (x ∷ rest) h =
-      grown_step model c (make xs) (make (xs ++ x ∷ [])) (say x) (map say rest) (takes xs x (all_before xs x rest h))
+      grown_step model c (make xs) (make (xs ++ x ∷ [])) (say x) (map say rest) (takes xs x (all_before before xs x rest h))
       ∙ list_read (xs ++ x ∷ []) rest (subst (AllPairs (λ y z. IsTrue (before y z))) (sym (append_assoc xs (x ∷ []) rest)) h)
       ∙ ap (λ l. Some (make l)) (append_assoc xs (x ∷ []) rest)
+
+-- ---- members left out
+-- where a part has members left out, further active ones that come after them are read into it
+module _ (model : Program) (c : Command) (make : List Member → StopPart)
+    (takes : (left : List Member) (m : Member) → extended model c (Part.Stop (make left)) (without_phrase m) ≡ left_out_next make (with_left_out model left m)) where
+  left_out_read : (left rest : List Member) → IsInOrder (left ++ rest) → All (λ m. IsTrue (is_active model m)) rest → grown model c (Part.Stop (make left)) (map without_phrase rest) ≡ Some (Part.Stop (make (left ++ rest)))
+  left_out_read left [] order h = ap (λ l. Some (Part.Stop (make l))) (sym (append-nil left))
+  left_out_read left (m ∷ rest) order h =
+      let after = all_before comes_before left m rest order in
+      let may : (is_active model m && list_all (λ n. comes_before n m) left) ≡ true = and_from (is_active model m) (list_all (λ n. comes_before n m) left) (All-head (λ n. IsTrue (is_active model n)) m rest h) after in
+      grown_step model c (Part.Stop (make left)) (Part.Stop (make (left ++ m ∷ []))) (without_phrase m) (map without_phrase rest)
+      (takes left m ∙ ap (left_out_next make) (only_true (is_active model m && list_all (λ n. comes_before n m) left) (left ++ m ∷ []) may))
+      ∙ left_out_read (left ++ m ∷ []) rest (subst IsInOrder (sym (append_assoc left (m ∷ []) rest)) order) (All-tail (λ n. IsTrue (is_active model n)) m rest h)
+      ∙ ap (λ l. Some (Part.Stop (make l))) (append_assoc left (m ∷ []) rest)
 
 -- ---- sets with witnesses
 -- a part that takes a member, or the start of the proof, as the list of these members and witnesses does
@@ -220,7 +238,7 @@ module _ (model : Program) (c : Command) where
   witnesses_read part members [] witnesses (p ∷ more) acts order e h = absurd (omega arith)
   witnesses_read part members (m ∷ rest) witnesses [] acts order e h = absurd (omega arith)
   witnesses_read part members (m ∷ rest) witnesses (p ∷ more) acts order e h =
-      let first = witness_read part members witnesses m p acts (all_before model c comes_before (λ ms. Part.Listed (Found.Members ms)) Phrase.Member (λ ms n t. ap (option_map (λ l. Next.More (Part.Listed (Found.Members l)))) (only_true (list_all (λ k. comes_before k n) ms) (ms ++ n ∷ []) t)) members m rest order) (All-head (IsPointFor model) p more h) in
+      let first = witness_read part members witnesses m p acts (all_before comes_before members m rest order) (All-head (IsPointFor model) p more h) in
       let others = witnesses_read first.0 (members ++ m ∷ []) rest (witnesses ++ p ∷ []) more first.1.1 (subst IsInOrder (sym (append_assoc members (m ∷ []) rest)) order) (let l : length more ≡ length rest = omega arith in l) (All-tail (IsPointFor model) p more h) in (
         others.0,
         (
@@ -252,45 +270,69 @@ same_set : (model : Program) (set : SetValue) → IsListed model set → set_of 
 same_set model set h = ap (λ r. record { rows = r; columns = length model.columns; members = set.members }) (sym h.of_model.rows) ∙ ap (λ c. record { rows = set.rows; columns = c; members = set.members }) (sym h.of_model.columns)
 
 -- the site of a stop
-same_site : (model : Program) (site : Site) → IsWholeSite model site → whole_site model ≡ site
-same_site model site h = by site.kind site.set site.enforced site.path h.kind h.set_is h.enforced_is h.path_is
+same_site : (model : Program) (site : Site) → IsSettleSite model site → site_without model (left_out model site.set.members) ≡ site
+same_site model site h = by site.kind site.set site.enforced site.path h.kind set_is h.enforced_is h.path_is
   where
-    by : (kind : SiteKind) (set enforced : SetValue) (path : List Branch) → kind ≡ Settle → set ≡ active_set model → enforced ≡ empty_set model → path ≡ []
-        → whole_site model ≡ record { kind = kind; set = set; enforced = enforced; path = path }
+    members_of : left_out model (left_out model site.set.members) ≡ site.set.members
+    members_of = set_twice model site.set.members h.active
+
+    set_is : site.set ≡ set_of model (left_out model (left_out model site.set.members))
+    set_is =
+        ap (λ r. record { rows = r; columns = site.set.columns; members = site.set.members }) h.of_model.rows
+        ∙ ap (λ c. record { rows = length model.rows; columns = c; members = site.set.members }) h.of_model.columns
+        ∙ ap (set_of model) (sym members_of)
+
+    by : (kind : SiteKind) (set enforced : SetValue) (path : List Branch) → kind ≡ Settle → set ≡ set_of model (left_out model (left_out model site.set.members)) → enforced ≡ empty_set model → path ≡ []
+        → site_without model (left_out model site.set.members) ≡ record { kind = kind; set = set; enforced = enforced; path = path }
     by kind set enforced path k s e p =
-        ap (λ x. record { kind = x; set = active_set model; enforced = empty_set model; path = [] }) (sym k)
+        let own = set_of model (left_out model (left_out model site.set.members)) in
+        ap (λ x. record { kind = x; set = own; enforced = empty_set model; path = [] }) (sym k)
         ∙ ap (λ x. record { kind = kind; set = x; enforced = empty_set model; path = [] }) (sym s)
         ∙ ap (λ x. record { kind = kind; set = set; enforced = x; path = [] }) (sym e)
         ∙ ap (λ x. record { kind = kind; set = set; enforced = enforced; path = x }) (sym p)
 
 -- an answer's front leads to a part that its last line makes the answer
 AnswerRead : Program → Command → Answer → Type 0
-AnswerRead model c a = (end : Part) × ((grown model c Part.Nothing (answer_front a) ≡ Some end) × (extended model c end (answer_end a) ≡ Some (Next.Whole a)))
+AnswerRead model c a = (end : Part) × ((grown model c Part.Nothing (answer_front model a) ≡ Some end) × (extended model c end (answer_end a) ≡ Some (Next.Whole a)))
+
+-- the lines of a site
+site_read : (model : Program) (c : Command) (start : StopPart) (make : List Member → StopPart) (site : Site) → IsSettleSite model site
+    → ((p : Phrase) → extended model c (Part.Stop start) p ≡ at_site (make []) p)
+    → ((left : List Member) (m : Member) → extended model c (Part.Stop (make left)) (without_phrase m) ≡ left_out_next make (with_left_out model left m))
+    → grown model c (Part.Stop start) (site_phrases model site) ≡ Some (Part.Stop (make (left_out model site.set.members)))
+site_read model c start make site h opens takes =
+    let left = left_out model site.set.members in
+    grown_step model c (Part.Stop start) (Part.Stop (make [])) (Phrase.Stop (StopPhrase.Site site.kind)) (map without_phrase left)
+    (opens (Phrase.Stop (StopPhrase.Site site.kind)) ∙ ap (λ x. at_site (make []) (Phrase.Stop (StopPhrase.Site x))) h.kind)
+    ∙ left_out_read model c make takes [] left (left_in_order model site.set.members) (left_active model site.set.members)
 
 -- a stop
-stop_read : (model : Program) (stop : Stop) → IsStopFor model stop → AnswerRead model Check (Stopped stop)
+stop_read : (model : Program) (c : Command) (stop : Stop) → IsStopFor model stop → ((s : StopPhrase) → extended model c Part.Nothing (Phrase.Stop s) ≡ stop_begun s) → AnswerRead model c (Stopped stop)
 unfolding AnswerRead
-stop_read model (TooWide site k o) h = (
-  Part.Stop (StopPart.WideOperation k o),
-  (
-    grown_step model Check Part.Nothing (Part.Stop StopPart.Wide) (Phrase.Stop StopPhrase.Wide) (Phrase.Stop (StopPhrase.Site site.kind) ∷ Phrase.Stop (StopPhrase.Step k) ∷ Phrase.Stop (StopPhrase.Operation o) ∷ []) refl
-        ∙ grown_step model Check (Part.Stop StopPart.Wide) (Part.Stop StopPart.WideSite) (Phrase.Stop (StopPhrase.Site site.kind)) (Phrase.Stop (StopPhrase.Step k) ∷ Phrase.Stop (StopPhrase.Operation o) ∷ []) (ap (λ x. at_site StopPart.WideSite (Phrase.Stop (StopPhrase.Site x))) h.0.kind)
-        ∙ grown_step model Check (Part.Stop StopPart.WideSite) (Part.Stop (StopPart.WideStep k)) (Phrase.Stop (StopPhrase.Step k)) (Phrase.Stop (StopPhrase.Operation o) ∷ []) refl
-        ∙ grown_step model Check (Part.Stop (StopPart.WideStep k)) (Part.Stop (StopPart.WideOperation k o)) (Phrase.Stop (StopPhrase.Operation o)) [] refl,
-    ap (λ s. Some (Next.Whole (Stopped (TooWide s k o)))) (same_site model site h.0),
-  ),
-)
-stop_read model (Spent site) h = (
-  Part.Stop StopPart.SpentSite,
-  (
-    grown_step model Check Part.Nothing (Part.Stop StopPart.Spent) (Phrase.Stop StopPhrase.Spent) (Phrase.Stop (StopPhrase.Site site.kind) ∷ []) refl
-        ∙ grown_step model Check (Part.Stop StopPart.Spent) (Part.Stop StopPart.SpentSite) (Phrase.Stop (StopPhrase.Site site.kind)) [] (ap (λ x. at_site StopPart.SpentSite (Phrase.Stop (StopPhrase.Site x))) h.kind),
-    ap (λ s. Some (Next.Whole (Stopped (Spent s)))) (same_site model site h),
-  ),
-)
-stop_read model (Nodes site) h = absurd h
-stop_read model (Large size) h = absurd h
-stop_read model Memory h = absurd h
+stop_read model c (TooWide site k o) h begins =
+    let left = left_out model site.set.members in (
+      Part.Stop (StopPart.WideOperation left k o),
+      (
+        grown_step model c Part.Nothing (Part.Stop StopPart.Wide) (Phrase.Stop StopPhrase.Wide) (site_phrases model site ++ Phrase.Stop (StopPhrase.Step k) ∷ Phrase.Stop (StopPhrase.Operation o) ∷ []) (begins StopPhrase.Wide)
+            ∙ grown_append model c (Part.Stop StopPart.Wide) (Part.Stop (StopPart.WideSite left)) (site_phrases model site) (Phrase.Stop (StopPhrase.Step k) ∷ Phrase.Stop (StopPhrase.Operation o) ∷ [])
+            (site_read model c StopPart.Wide (λ members. StopPart.WideSite members) site h.0.settle (λ p. refl) (λ members m. refl))
+            ∙ grown_step model c (Part.Stop (StopPart.WideSite left)) (Part.Stop (StopPart.WideStep left k)) (Phrase.Stop (StopPhrase.Step k)) (Phrase.Stop (StopPhrase.Operation o) ∷ []) refl
+            ∙ grown_step model c (Part.Stop (StopPart.WideStep left k)) (Part.Stop (StopPart.WideOperation left k o)) (Phrase.Stop (StopPhrase.Operation o)) [] refl,
+        ap (λ s. Some (Next.Whole (Stopped (TooWide s k o)))) (same_site model site h.0.settle),
+      ),
+    )
+stop_read model c (Spent site) h begins =
+    let left = left_out model site.set.members in (
+      Part.Stop (StopPart.SpentSite left),
+      (
+        grown_step model c Part.Nothing (Part.Stop StopPart.Spent) (Phrase.Stop StopPhrase.Spent) (site_phrases model site) (begins StopPhrase.Spent)
+            ∙ site_read model c StopPart.Spent (λ members. StopPart.SpentSite members) site h.settle (λ p. refl) (λ members m. refl),
+        ap (λ s. Some (Next.Whole (Stopped (Spent s)))) (same_site model site h.settle),
+      ),
+    )
+stop_read model c (Nodes site) h begins = absurd h
+stop_read model c (Large size) h begins = absurd h
+stop_read model c Memory h begins = absurd h
 
 -- a point
 feasible_read : (model : Program) (c : Command) (p : Point) → IsPointFor model p → extended model c Part.Nothing Phrase.Feasible ≡ Some (Next.More Part.Feasible) → AnswerRead model c (Feasible p)
@@ -309,7 +351,8 @@ unfolding AnswerRead
 answer_read model Check (Feasible p) can h = feasible_read model Check p h refl
 answer_read model (Iis method) (Feasible p) can h = feasible_read model (Iis method) p h refl
 answer_read model (Pivots n) Done can h = (Part.Nothing, (refl, refl))
-answer_read model Check (Stopped stop) can h = stop_read model stop h
+answer_read model Check (Stopped stop) can h = stop_read model Check stop h (λ s. refl)
+answer_read model (Iis method) (Stopped stop) can h = stop_read model (Iis method) stop h (λ s. refl)
 answer_read model Check (Infeasible set proof) can h =
     let members = set.members in
     let found = Found.Members members in
@@ -339,7 +382,6 @@ answer_read model Check (Irreducible core) can h = absurd (true≢false (sym can
 answer_read model (Iis method) (Infeasible set proof) can h = absurd (true≢false (sym can))
 answer_read model Check Done can h = absurd (true≢false (sym can))
 answer_read model (Iis method) Done can h = absurd (true≢false (sym can))
-answer_read model (Iis method) (Stopped stop) can h = absurd (true≢false (sym can))
 answer_read model (Pivots n) _ can h = absurd (true≢false (sym can))
 
 -- ---- entries, notes and the whole
@@ -347,7 +389,7 @@ module _ (model : Program) where
   between : List Note → List Entry → Draft
   between notes entries = record { notes = notes; entries = entries; stage = Stage.Between }
 
-  entry_read : (notes : List Note) (entries : List Entry) (e : Entry) → IsEntryFor model e → run model e.line (between notes entries) (entry_phrases e) ≡ Some (between notes (entries ++ e ∷ []))
+  entry_read : (notes : List Note) (entries : List Entry) (e : Entry) → IsEntryFor model e → run model e.line (between notes entries) (entry_phrases model e) ≡ Some (between notes (entries ++ e ∷ []))
   unfolding between AnswerRead
   entry_read notes entries e h =
       let last_phrase = answer_end e.answer in
@@ -355,19 +397,19 @@ module _ (model : Program) where
       let start = answering (between notes entries) q Part.Nothing in
       let r = answer_read model e.command e.answer h.kind h.answer in
       let last = answering (between notes entries) q r.0 in
-      run_step model e.line (between notes entries) start (Phrase.Command e.command) (answer_front e.answer ++ last_phrase ∷ []) refl
-      ∙ run_append model (suc e.line) start last (answer_front e.answer) (last_phrase ∷ []) (grown_runs model (suc e.line) (between notes entries) q Part.Nothing r.0 (answer_front e.answer) r.1.0)
-      ∙ run_step model (suc e.line + length (answer_front e.answer)) last (between notes (entries ++ e ∷ [])) last_phrase [] (ap (option_map (placed last q)) r.1.1)
+      run_step model e.line (between notes entries) start (Phrase.Command e.command) (answer_front model e.answer ++ last_phrase ∷ []) refl
+      ∙ run_append model (suc e.line) start last (answer_front model e.answer) (last_phrase ∷ []) (grown_runs model (suc e.line) (between notes entries) q Part.Nothing r.0 (answer_front model e.answer) r.1.0)
+      ∙ run_step model (suc e.line + length (answer_front model e.answer)) last (between notes (entries ++ e ∷ [])) last_phrase [] (ap (option_map (placed last q)) r.1.1)
 
   entries_read : (n : ℕ) (notes : List Note) (entries more : List Entry) → All (IsEntryFor model) more → AreNumbered model n more
-      → run model n (between notes entries) (flat_map entry_phrases more) ≡ Some (between notes (entries ++ more))
+      → run model n (between notes entries) (flat_map (entry_phrases model) more) ≡ Some (between notes (entries ++ more))
   entries_read n notes entries [] h numbered = ap (λ l. Some (between notes l)) (sym (append-nil entries))
   entries_read n notes entries (e ∷ more) h numbered =
       let first = All-head (IsEntryFor model) e more h in
-      let next = n + length (entry_phrases e) in
-      run_append model n (between notes entries) (between notes (entries ++ e ∷ [])) (entry_phrases e) (flat_map entry_phrases more)
-      (subst (λ l. run model l (between notes entries) (entry_phrases e) ≡ Some (between notes (entries ++ e ∷ []))) numbered.0 (entry_read notes entries e first))
-      ∙ entries_read next notes (entries ++ e ∷ []) more (All-tail (IsEntryFor model) e more h) (subst (λ k. AreNumbered model (n + k) more) (ap length (entry_spelled model e first) ∙ length-map (entry_phrases e) (phrase_line model)) numbered.1)
+      let next = n + length (entry_phrases model e) in
+      run_append model n (between notes entries) (between notes (entries ++ e ∷ [])) (entry_phrases model e) (flat_map (entry_phrases model) more)
+      (subst (λ l. run model l (between notes entries) (entry_phrases model e) ≡ Some (between notes (entries ++ e ∷ []))) numbered.0 (entry_read notes entries e first))
+      ∙ entries_read next notes (entries ++ e ∷ []) more (All-tail (IsEntryFor model) e more h) (subst (λ k. AreNumbered model (n + k) more) (ap length (entry_spelled model e first) ∙ length-map (entry_phrases model e) (phrase_line model)) numbered.1)
       ∙ ap (λ l. Some (between notes l)) (append_assoc entries (e ∷ []) more)
 
   notes_read : (n : ℕ) (notes more : List Note) → run model n (between notes []) (map Phrase.Note more) ≡ Some (between (notes ++ more) [])
@@ -382,11 +424,11 @@ module _ (model : Program) where
   unfoldable pub done : Report → Draft
   done report = record { notes = report.notes; entries = report.entries; stage = Stage.Done }
 
-  pub report_read : (report : Report) → IsReportFor model report → run model 1 nothing_read (report_phrases report) ≡ Some (done report)
+  pub report_read : (report : Report) → IsReportFor model report → run model 1 nothing_read (report_phrases model report) ≡ Some (done report)
   unfolding between done
   report_read report h =
       let notes = map Phrase.Note report.notes in
-      let entries = flat_map entry_phrases report.entries in
+      let entries = flat_map (entry_phrases model) report.entries in
       let middle = between report.notes report.entries in
       let two : run model 2 (between [] []) (notes ++ entries) ≡ Some middle =
       run_append model 2 (between [] []) (between report.notes []) notes entries (notes_read 2 [] report.notes)

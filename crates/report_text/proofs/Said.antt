@@ -19,6 +19,7 @@ use Rattle.certs.specs.declared.evidence.Point.{Point}
 use Rattle.certs.specs.declared.evidence.Node.{Node}
 use Rattle.certs.specs.declared.evidence.Node.TheVariants.{Split, Leaf}
 use Rattle.certs.specs.declared.evidence.Proof.{Proof}
+use Rattle.certs.specs.declared.solving.Site.{Site}
 use Rattle.certs.specs.declared.solving.Stop.{Stop}
 use Rattle.certs.specs.declared.solving.Stop.TheVariants.{Wide as TooWide, Pivots as Spent, Nodes, Large, Memory}
 use Rattle.report_text.specs.declared.report.Command.{Command}
@@ -30,8 +31,8 @@ use Rattle.report_text.specs.declared.report.Report.{Report}
 use Rattle.report_text.specs.declared.phrases.Phrase.{Phrase}
 use Rattle.report_text.specs.declared.phrases.StopPhrase.{StopPhrase}
 use Rattle.lp_model.specs.Satisfaction.{values_at}
-use Rattle.report_text.specs.Form.{is_word, IsWithinLimit, IsNamedColumn, IsNamedMember, IsUse, IsOneLeaf, IsPointFor, IsStopFor, IsAnswerFor, IsEntryFor, IsReportFor}
-use Rattle.report_text.specs.Grammar.{Line, ◌then◌, column_name, name_of, kind_word, member_line, side_word, source_text, command_text, value_line, value_lines, point_lines, use_line, node_lines, proof_lines, witness_lines, stop_lines, answer_lines, entry_lines, note_line, report_lines}
+use Rattle.report_text.specs.Form.{is_word, IsWithinLimit, IsNamedColumn, IsNamedMember, IsUse, IsOneLeaf, IsPointFor, IsSiteFor, IsStopFor, IsAnswerFor, IsEntryFor, IsReportFor}
+use Rattle.report_text.specs.Grammar.{Line, ◌then◌, column_name, name_of, kind_word, member_line, side_word, source_text, command_text, value_line, value_lines, point_lines, use_line, node_lines, proof_lines, witness_lines, site_line, without_line, left_out, site_lines, step_line, operation_line, stop_lines, answer_lines, entry_lines, note_line, report_lines}
 use Rattle.report_text.specs.Phrases.{spelled, source_words, phrase_line, IsPhraseFor}
 
 -- ---- the phrases of a report
@@ -52,34 +53,42 @@ proof_phrases proof = Phrase.Proof ∷ flat_map node_phrases proof.nodes
 abbrev pub witness_phrases : Member × Point → List Phrase
 witness_phrases w = Phrase.Member w.0 ∷ point_phrases w.1
 
+-- an active member that is not in the set of a site
+abbrev pub without_phrase : Member → Phrase
+without_phrase m = Phrase.Stop (StopPhrase.Without m)
+
+-- a site, and the active members that are not in its set
+abbrev pub site_phrases : Program → Site → List Phrase
+site_phrases model site = Phrase.Stop (StopPhrase.Site site.kind) ∷ map without_phrase (left_out model site.set.members)
+
 -- a stop without its end
-abbrev pub stop_phrases : Stop → List Phrase
-stop_phrases (TooWide site k o) = Phrase.Stop StopPhrase.Wide ∷ Phrase.Stop (StopPhrase.Site site.kind) ∷ Phrase.Stop (StopPhrase.Step k) ∷ Phrase.Stop (StopPhrase.Operation o) ∷ []
-stop_phrases (Spent site) = Phrase.Stop StopPhrase.Spent ∷ Phrase.Stop (StopPhrase.Site site.kind) ∷ []
-stop_phrases _ = []
+abbrev pub stop_phrases : Program → Stop → List Phrase
+stop_phrases model (TooWide site k o) = Phrase.Stop StopPhrase.Wide ∷ (site_phrases model site ++ Phrase.Stop (StopPhrase.Step k) ∷ Phrase.Stop (StopPhrase.Operation o) ∷ [])
+stop_phrases model (Spent site) = Phrase.Stop StopPhrase.Spent ∷ site_phrases model site
+stop_phrases model _ = []
 
 -- an answer without its last line
-abbrev pub answer_front : Answer → List Phrase
-answer_front (Feasible p) = Phrase.Feasible ∷ point_phrases p
-answer_front (Infeasible set proof) = Phrase.Infeasible ∷ (map Phrase.Member set.members ++ proof_phrases proof)
-answer_front (Irreducible core) = Phrase.Irreducible ∷ (flat_map witness_phrases (zip core.members.members core.witnesses) ++ proof_phrases core.proof)
-answer_front Done = []
-answer_front (Stopped stop) = stop_phrases stop
+abbrev pub answer_front : Program → Answer → List Phrase
+answer_front model (Feasible p) = Phrase.Feasible ∷ point_phrases p
+answer_front model (Infeasible set proof) = Phrase.Infeasible ∷ (map Phrase.Member set.members ++ proof_phrases proof)
+answer_front model (Irreducible core) = Phrase.Irreducible ∷ (flat_map witness_phrases (zip core.members.members core.witnesses) ++ proof_phrases core.proof)
+answer_front model Done = []
+answer_front model (Stopped stop) = stop_phrases model stop
 
 -- the last line of an answer
 abbrev pub answer_end : Answer → Phrase
 answer_end Done = Phrase.Done
 answer_end _ = Phrase.End
 
-abbrev pub entry_phrases : Entry → List Phrase
-entry_phrases e = Phrase.Command e.command ∷ (answer_front e.answer ++ answer_end e.answer ∷ [])
+abbrev pub entry_phrases : Program → Entry → List Phrase
+entry_phrases model e = Phrase.Command e.command ∷ (answer_front model e.answer ++ answer_end e.answer ∷ [])
 
 -- all that stands before the foot
-abbrev pub body_phrases : List Note → List Entry → List Phrase
-body_phrases notes entries = Phrase.Head ∷ (map Phrase.Note notes ++ flat_map entry_phrases entries)
+abbrev pub body_phrases : Program → List Note → List Entry → List Phrase
+body_phrases model notes entries = Phrase.Head ∷ (map Phrase.Note notes ++ flat_map (entry_phrases model) entries)
 
-abbrev pub report_phrases : Report → List Phrase
-report_phrases report = body_phrases report.notes report.entries ++ Phrase.Foot ∷ []
+abbrev pub report_phrases : Program → Report → List Phrase
+report_phrases model report = body_phrases model report.notes report.entries ++ Phrase.Foot ∷ []
 
 -- ---- single lines
 use_spelled : (model : Program) (s : Share) → use_line model s ≡ phrase_line model (Phrase.Use s)
@@ -145,15 +154,22 @@ module _ (model : Program) where
   witness_spelled : (w : Member × Point) → witness_lines model w ≡ map (phrase_line model) (witness_phrases w)
   witness_spelled w = ap (λ l. member_line model w.0 ∷ l) (point_spelled w.1)
 
-  stop_spelled : (stop : Stop) → IsStopFor model stop → stop_lines stop ≡ map (phrase_line model) (stop_phrases stop ++ Phrase.End ∷ [])
-  stop_spelled (TooWide site k o) h = refl
-  stop_spelled (Spent site) h = refl
+  site_spelled : (site : Site) → site_lines model site ≡ map (phrase_line model) (site_phrases model site)
+  site_spelled site = ap (λ l. site_line site ∷ l) (map_map model without_phrase (without_line model) (λ m. refl) (left_out model site.set.members))
+
+  stop_spelled : (stop : Stop) → IsStopFor model stop → stop_lines model stop ≡ map (phrase_line model) (stop_phrases model stop ++ Phrase.End ∷ [])
+  stop_spelled (TooWide site k o) h =
+      ap (λ l. codes "too wide" ∷ (l ++ step_line k ∷ operation_line o ∷ codes "end" ∷ [])) (site_spelled site)
+      ∙ ap (λ l. codes "too wide" ∷ l) (joined_lines model (site_phrases model site) (Phrase.Stop (StopPhrase.Step k) ∷ Phrase.Stop (StopPhrase.Operation o) ∷ []))
+  stop_spelled (Spent site) h =
+      ap (λ l. codes "pivots spent" ∷ (l ++ codes "end" ∷ [])) (site_spelled site)
+      ∙ ap (λ l. codes "pivots spent" ∷ l) (sym (map-append (phrase_line model) (site_phrases model site) (Phrase.End ∷ [])))
   stop_spelled (Nodes site) h = absurd h
   stop_spelled (Large size) h = absurd h
   stop_spelled Memory h = absurd h
 
   -- an answer is its front and its last line
-  answer_spelled : (a : Answer) → IsAnswerFor model a → answer_lines model a ≡ map (phrase_line model) (answer_front a ++ answer_end a ∷ [])
+  answer_spelled : (a : Answer) → IsAnswerFor model a → answer_lines model a ≡ map (phrase_line model) (answer_front model a ++ answer_end a ∷ [])
   answer_spelled Done h = refl
   answer_spelled (Stopped stop) h = stop_spelled stop h
   answer_spelled (Feasible p) h = ap (λ l. codes "feasible" ∷ (l ++ codes "end" ∷ [])) (point_spelled p) ∙ ap (λ l. codes "feasible" ∷ l) (sym (map-append (phrase_line model) (point_phrases p) (Phrase.End ∷ [])))
@@ -166,15 +182,15 @@ module _ (model : Program) where
       ∙ ap (λ l. codes "irreducible" ∷ (map (phrase_line model) (flat_map witness_phrases (zip core.members.members core.witnesses)) ++ (l ++ codes "end" ∷ []))) (proof_spelled core.proof h.proof)
       ∙ ap (λ l. codes "irreducible" ∷ l) (joined_lines model (flat_map witness_phrases (zip core.members.members core.witnesses)) (proof_phrases core.proof))
 
-  pub entry_spelled : (e : Entry) → IsEntryFor model e → entry_lines model e ≡ map (phrase_line model) (entry_phrases e)
+  pub entry_spelled : (e : Entry) → IsEntryFor model e → entry_lines model e ≡ map (phrase_line model) (entry_phrases model e)
   entry_spelled e h = ap (λ l. l ∷ answer_lines model e.answer) (command_spelled model e.command) ∙ ap (λ l. phrase_line model (Phrase.Command e.command) ∷ l) (answer_spelled e.answer h.answer)
 
-  pub report_spelled : (report : Report) → IsReportFor model report → report_lines model report ≡ map (phrase_line model) (report_phrases report)
+  pub report_spelled : (report : Report) → IsReportFor model report → report_lines model report ≡ map (phrase_line model) (report_phrases model report)
   report_spelled report h =
       let notes = map Phrase.Note report.notes in
-      let entries = flat_map entry_phrases report.entries in
+      let entries = flat_map (entry_phrases model) report.entries in
       ap (λ l. codes "iisan report 1" ∷ (l ++ (flat_map (entry_lines model) report.entries ++ codes "report end" ∷ []))) (map_map model Phrase.Note (note_line model) (note_spelled model) report.notes)
-      ∙ ap (λ l. codes "iisan report 1" ∷ (map (phrase_line model) notes ++ (l ++ codes "report end" ∷ []))) (flat_both model (entry_lines model) entry_phrases report.entries (λ k d l. entry_spelled (get_or report.entries k d) (h.entries k d l)))
+      ∙ ap (λ l. codes "iisan report 1" ∷ (map (phrase_line model) notes ++ (l ++ codes "report end" ∷ []))) (flat_both model (entry_lines model) (entry_phrases model) report.entries (λ k d l. entry_spelled (get_or report.entries k d) (h.entries k d l)))
       ∙ ap (λ l. codes "iisan report 1" ∷ l) (sym (append_assoc (map (phrase_line model) notes) (map (phrase_line model) entries) (codes "report end" ∷ []))
       ∙ ap (λ l. l ++ codes "report end" ∷ []) (sym (map-append (phrase_line model) notes entries)) ∙ sym (map-append (phrase_line model) (notes ++ entries) (Phrase.Foot ∷ [])))
 
@@ -233,13 +249,20 @@ module _ (model : Program) where
       All-cons (λ w. IsNamedMember model w.0 × IsPointFor model w.1) (m, p) (zip members witnesses) (All-head (IsNamedMember model) m members q, All-head (IsPointFor model) p witnesses r)
       (zipped members witnesses (All-tail (IsNamedMember model) m members q) (All-tail (IsPointFor model) p witnesses r))
 
-  stop_for : (stop : Stop) → IsStopFor model stop → All For (stop_phrases stop)
+  site_for : (site : Site) → IsSiteFor model site → All For (site_phrases model site)
+  unfolding For
+  site_for site h =
+      All-cons For (Phrase.Stop (StopPhrase.Site site.kind)) (map without_phrase (left_out model site.set.members)) tt
+      (each_for (IsNamedMember model) without_phrase (λ m k. k) (left_out model site.set.members) h.named)
+
+  stop_for : (stop : Stop) → IsStopFor model stop → All For (stop_phrases model stop)
   unfolding For
   stop_for (TooWide site k o) h =
-      All-cons For (Phrase.Stop StopPhrase.Wide) (Phrase.Stop (StopPhrase.Site site.kind) ∷ Phrase.Stop (StopPhrase.Step k) ∷ Phrase.Stop (StopPhrase.Operation o) ∷ []) tt
-      (All-cons For (Phrase.Stop (StopPhrase.Site site.kind)) (Phrase.Stop (StopPhrase.Step k) ∷ Phrase.Stop (StopPhrase.Operation o) ∷ []) tt
-      (All-cons For (Phrase.Stop (StopPhrase.Step k)) (Phrase.Stop (StopPhrase.Operation o) ∷ []) h.1.0 (All-cons For (Phrase.Stop (StopPhrase.Operation o)) [] h.1.1 (All-nil For))))
-  stop_for (Spent site) h = All-cons For (Phrase.Stop StopPhrase.Spent) (Phrase.Stop (StopPhrase.Site site.kind) ∷ []) tt (All-cons For (Phrase.Stop (StopPhrase.Site site.kind)) [] tt (All-nil For))
+      let step = Phrase.Stop (StopPhrase.Step k) in
+      let operation = Phrase.Stop (StopPhrase.Operation o) in
+      All-cons For (Phrase.Stop StopPhrase.Wide) (site_phrases model site ++ step ∷ operation ∷ []) tt
+      (All-append For (site_phrases model site) (step ∷ operation ∷ []) (site_for site h.0) (All-cons For step (operation ∷ []) h.1.0 (All-cons For operation [] h.1.1 (All-nil For))))
+  stop_for (Spent site) h = All-cons For (Phrase.Stop StopPhrase.Spent) (site_phrases model site) tt (site_for site h)
   stop_for (Nodes site) h = absurd h
   stop_for (Large size) h = absurd h
   stop_for Memory h = absurd h
@@ -252,7 +275,7 @@ module _ (model : Program) where
   end_for Done = tt
   end_for (Stopped stop) = tt
 
-  answer_for : (a : Answer) → IsAnswerFor model a → All For (answer_front a)
+  answer_for : (a : Answer) → IsAnswerFor model a → All For (answer_front model a)
   unfolding For
   answer_for Done h = All-nil For
   answer_for (Stopped stop) h = stop_for stop h
@@ -266,15 +289,15 @@ module _ (model : Program) where
       (flat_for (λ w. IsNamedMember model w.0 × IsPointFor model w.1) witness_phrases witness_for (zip core.members.members core.witnesses) (zipped core.members.members core.witnesses h.members.named h.points))
       (proof_for core.proof h.proof))
 
-  entry_for : (e : Entry) → IsEntryFor model e → All For (entry_phrases e)
+  entry_for : (e : Entry) → IsEntryFor model e → All For (entry_phrases model e)
   unfolding For
-  entry_for e h = All-cons For (Phrase.Command e.command) (answer_front e.answer ++ answer_end e.answer ∷ []) h.command (All-push For (answer_front e.answer) (answer_end e.answer) (answer_for e.answer h.answer) (end_for e.answer))
+  entry_for e h = All-cons For (Phrase.Command e.command) (answer_front model e.answer ++ answer_end e.answer ∷ []) h.command (All-push For (answer_front model e.answer) (answer_end e.answer) (answer_for e.answer h.answer) (end_for e.answer))
 
-  pub report_for : (report : Report) → IsReportFor model report → All (IsPhraseFor model) (report_phrases report)
+  pub report_for : (report : Report) → IsReportFor model report → All (IsPhraseFor model) (report_phrases model report)
   unfolding For
   report_for report h =
-      All-cons For Phrase.Head ((map Phrase.Note report.notes ++ flat_map entry_phrases report.entries) ++ Phrase.Foot ∷ []) tt
-      (All-push For (map Phrase.Note report.notes ++ flat_map entry_phrases report.entries) Phrase.Foot
-      (All-append For (map Phrase.Note report.notes) (flat_map entry_phrases report.entries)
+      All-cons For Phrase.Head ((map Phrase.Note report.notes ++ flat_map (entry_phrases model) report.entries) ++ Phrase.Foot ∷ []) tt
+      (All-push For (map Phrase.Note report.notes ++ flat_map (entry_phrases model) report.entries) Phrase.Foot
+      (All-append For (map Phrase.Note report.notes) (flat_map (entry_phrases model) report.entries)
       (each_for (λ note. IsNamedColumn model (noted_column note)) Phrase.Note (λ note k. k) report.notes h.notes)
-      (flat_for (IsEntryFor model) entry_phrases entry_for report.entries h.entries)) tt)
+      (flat_for (IsEntryFor model) (entry_phrases model) entry_for report.entries h.entries)) tt)

@@ -109,6 +109,7 @@ keyword_shown Keyword.Use = plain (codes "use") refl
 keyword_shown Keyword.Too = plain (codes "too") refl
 keyword_shown Keyword.Pivots = plain (codes "pivots") refl
 keyword_shown Keyword.Site = plain (codes "site") refl
+keyword_shown Keyword.Without = plain (codes "without") refl
 keyword_shown Keyword.Step = plain (codes "step") refl
 keyword_shown Keyword.Operation = plain (codes "operation") refl
 keyword_shown Keyword.End = plain (codes "end") refl
@@ -119,6 +120,7 @@ abbrev pub is_stop : Keyword → Bool
 is_stop Keyword.Too = true
 is_stop Keyword.Pivots = true
 is_stop Keyword.Site = true
+is_stop Keyword.Without = true
 is_stop Keyword.Step = true
 is_stop Keyword.Operation = true
 is_stop _ = false
@@ -130,6 +132,7 @@ stop_apart k s h e = true≢false (sym (by s) ∙ ap is_stop (sym e) ∙ h)
     by StopPhrase.Wide = refl
     by StopPhrase.Spent = refl
     by (StopPhrase.Site kind) = refl
+    by (StopPhrase.Without m) = refl
     by (StopPhrase.Step k) = refl
     by (StopPhrase.Operation o) = refl
 
@@ -154,19 +157,22 @@ op_shown Minus = plain (codes "minus") refl
 op_shown Times = plain (codes "times") refl
 op_shown Over = plain (codes "over") refl
 
-stop_shown : (s : StopPhrase) → IsStopPhrase s → All Shown (stop_details s)
-stop_shown StopPhrase.Wide h = and_shown (codes "wide") [] (plain (codes "wide") refl) none_shown
-stop_shown StopPhrase.Spent h = and_shown (codes "spent") [] (plain (codes "spent") refl) none_shown
-stop_shown (StopPhrase.Site kind) h = and_shown (site_word kind) [] (site_shown kind) none_shown
-stop_shown (StopPhrase.Step k) h = and_shown (decimal k) [] (count_shown k h) none_shown
-stop_shown (StopPhrase.Operation o) h = and_shown (op_word o.op) (printed o.left ∷ printed o.right ∷ []) (op_shown o.op) (and_shown (printed o.left) (printed o.right ∷ []) (printed_shown o.left h.left) (and_shown (printed o.right) [] (printed_shown o.right h.right) none_shown))
-
 module _ (model : Program) where
   kind_shown : (m : Member) → Shown (kind_word m)
   kind_shown (Row i) = plain (codes "row") refl
   kind_shown (Lower j) = plain (codes "lower") refl
   kind_shown (Upper j) = plain (codes "upper") refl
   kind_shown (Whole j) = plain (codes "whole") refl
+
+  stop_shown : (s : StopPhrase) → IsStopPhrase model s → All Shown (stop_details model s)
+  stop_shown StopPhrase.Wide h = and_shown (codes "wide") [] (plain (codes "wide") refl) none_shown
+  stop_shown StopPhrase.Spent h = and_shown (codes "spent") [] (plain (codes "spent") refl) none_shown
+  stop_shown (StopPhrase.Site kind) h = and_shown (site_word kind) [] (site_shown kind) none_shown
+  stop_shown (StopPhrase.Without m) h = and_shown (kind_word m) (name_of model m ∷ []) (kind_shown m) (and_shown (name_of model m) [] (word_shown (name_of model m) h.word) none_shown)
+  stop_shown (StopPhrase.Step k) h = and_shown (decimal k) [] (count_shown k h) none_shown
+  stop_shown (StopPhrase.Operation o) h =
+      and_shown (op_word o.op) (printed o.left ∷ printed o.right ∷ []) (op_shown o.op)
+      (and_shown (printed o.left) (printed o.right ∷ []) (printed_shown o.left h.left) (and_shown (printed o.right) [] (printed_shown o.right h.right) none_shown))
 
   side_shown : (side : Side) → Shown (side_word side)
   side_shown Lo = plain (codes "lo") refl
@@ -257,4 +263,4 @@ text_of_parts bytes lines e = sym (join_with_byte-slice_split 10 bytes) ∙ ap (
 pub parts_of_read : (model : Program) (bytes : List ℕ) (report : Report) → Reads model bytes report → parts 10 bytes ≡ report_lines model report ++ [] ∷ []
 parts_of_read model bytes report h =
     ap (parts 10) h.text
-    ∙ parts_of_text (report_lines model report) (subst (All (Without 10)) (sym (report_spelled model report h.form)) (lines_no_mark model (report_phrases report) (report_for model report h.form)))
+    ∙ parts_of_text (report_lines model report) (subst (All (Without 10)) (sym (report_spelled model report h.form)) (lines_no_mark model (report_phrases model report) (report_for model report h.form)))

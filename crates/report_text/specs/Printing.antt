@@ -1,8 +1,9 @@
 -- What can be printed, the parts of a printed report, and that a printed report is read.
-use Rattle.std.specs.Prelude.{◌≡◌, ℕ, ◌<◌, List, [], ◌∷◌, ◌++◌, length, map, flat_map, codes, All}
+use Rattle.std.specs.Prelude.{◌≡◌, ℕ, ◌<◌, ◌&&◌, not, List, [], ◌∷◌, ◌++◌, length, map, flat_map, filter, codes, All}
 use Rattle.lp_model.specs.declared.parts.Note.{Note}
 use Rattle.lp_model.specs.Program.{Program}
 use Rattle.lp_model.specs.declared.members.Member.{Member}
+use Rattle.lp_model.specs.Members.{is_active, has}
 use Rattle.lp_model.specs.MemberSets.{IsMemberFor}
 use Rattle.certs.specs.declared.evidence.Source.{Source}
 use Rattle.certs.specs.declared.evidence.Source.TheVariants.{Member as Of, Below, Above}
@@ -17,7 +18,7 @@ use Rattle.report_text.specs.declared.report.Core.{Core}
 use Rattle.report_text.specs.declared.report.Answer.{Answer}
 use Rattle.report_text.specs.declared.report.Answer.TheVariants.{Feasible, Infeasible, Irreducible, Done, Stopped}
 use Rattle.report_text.specs.declared.report.Report.{Report}
-use Rattle.report_text.specs.Grammar.{Line, entry_lines, note_line, report_lines, text_of}
+use Rattle.report_text.specs.Grammar.{Line, without_line, entry_lines, note_line, report_lines, text_of}
 use Rattle.report_text.specs.Form.{IsAnswerFor, IsReportFor}
 use Rattle.report_text.specs.Reading.{Reads}
 
@@ -29,6 +30,10 @@ ended line = line ++ 10 ∷ []
 pub record Keeps (old new : List ℕ) : Type 0 where
   pub more : List ℕ
   pub is : new ≡ old ++ more
+
+-- the text of the lines of those of some members that are active and not in a set
+abbrev pub missing_text : Program → List Member → List Member → List ℕ
+missing_text model set members = text_of (map (without_line model) (filter (λ m. is_active model m && not (has set m)) members))
 
 -- ---- what can be printed: what names rows and columns that there are
 -- a member whose row or column there is

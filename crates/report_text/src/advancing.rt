@@ -1,6 +1,7 @@
 //! What a phrase makes of a draft.
 ghost use Rattle.std.specs.Prelude.{◌≡◌, ℕ, IfOk, option_map};
 ghost use Rattle.lp_model.specs.Program.{Program};
+ghost use Rattle.report_text.specs.Phrases.{IsPhraseFor};
 ghost use Rattle.report_text.specs.Drafts.{between as between_drafts, placed, extended, advanced, nothing_read, IsPartFor, IsDraftFor};
 
 use crate::drafts::{Draft, Next, Part, Question, Stage};
@@ -119,7 +120,8 @@ fn advance_answer(
     part: Part,
     phrase: Phrase,
 ) -> Result<Option<Draft>, AllocError>
-    requires { IsPartFor model.now question.command part }
+    requires part { IsPartFor model.now question.command part }
+    requires phrase { IsPhraseFor model.now phrase }
     ensures { (stage : Stage) → IfOk result (λ d. d ≡ option_map (placed (record { notes = notes; entries = entries; stage = stage }) question) (extended model.now question.command part phrase)) }
 {
     let Some(next) = follow(alloc, model, question.command, part, phrase)? else {
@@ -150,7 +152,8 @@ pub(crate) fn advance(
     number: u64,
     phrase: Phrase,
 ) -> Result<Option<Draft>, AllocError>
-    requires { IsDraftFor model.now draft }
+    requires draft { IsDraftFor model.now draft }
+    requires phrase { IsPhraseFor model.now phrase }
     ensures { IfOk result (λ d. d ≡ advanced model.now number draft phrase) }
 {
     let Draft {

@@ -2,8 +2,9 @@
 ghost use Rattle.std.specs.Prelude.{◌≡◌, ◌≤◌, IfOk, All, AllPairs, IsTrue, length};
 ghost use Rattle.lp_model.specs.Members.{IsInOrder};
 ghost use Rattle.lp_model.specs.MemberSets.{IsMemberFor};
-ghost use Rattle.report_text.specs.Form.{share_before};
-ghost use Rattle.report_text.specs.Drafts.{filled, point_of, leaf_of, set_of, answer_of, with_value, with_member, with_share, whole_site, IsFound};
+ghost use Rattle.report_text.specs.Grammar.{left_out};
+ghost use Rattle.report_text.specs.Form.{share_before, IsNamedMember};
+ghost use Rattle.report_text.specs.Drafts.{filled, point_of, leaf_of, set_of, answer_of, with_value, with_member, with_share, with_left_out, site_without, IsFound, AreLeftOut};
 ghost use Rattle.certs.specs.declared.solving.Stop.TheVariants.{Wide as TooWide, Pivots as Spent};
 
 use crate::drafts::{Found, Members};
@@ -64,6 +65,22 @@ pub(crate) fn add_member(members: Members, member: Member) -> Result<Option<Memb
     let mut items = members.into_vec();
     items.push(member)?;
     Ok(Some(Members::new(items)))
+}
+
+/// The active members that are left out with one more, where it is active and comes after all of them.
+pub(crate) fn add_left_out(
+    model: &Model,
+    left: Members,
+    member: Member,
+) -> Result<Option<Members>, AllocError>
+    requires named { IsNamedMember model.now member }
+    requires in_order { IsInOrder left }
+    ensures { IfOk result (λ m. m ≡ with_left_out model.now left member) }
+{
+    if !model.is_active(member) {
+        return Ok(None);
+    }
+    add_member(left, member)
 }
 
 /// The shares with one more, where it comes after all of them.
@@ -131,11 +148,24 @@ pub(crate) fn make_answer(
     }
 }
 
-// The settle run of all active members.
-fn make_site(alloc: Global, model: &Model) -> Result<Site, AllocError>
-    ensures { IfOk result (λ s. s ≡ whole_site model.now) }
+// The set of the active members but these.
+fn make_others(alloc: Global, model: &Model, left: &[Member]) -> Result<MemberSet, AllocError>
+    requires { All (IsMemberFor (length model.now.rows) (length model.now.columns)) left.now }
+    ensures { IfOk result (λ s. s ≡ set_of model.now (left_out model.now left.now)) }
 {
-    let set = model.members(alloc)?;
+    let mut set = model.members(alloc)?;
+    for member in left {
+        set.remove(*member);
+    }
+    Ok(set)
+}
+
+// The settle run of the active members but these.
+fn make_site(alloc: Global, model: &Model, left: &Members) -> Result<Site, AllocError>
+    requires { AreLeftOut model.now left.now }
+    ensures { IfOk result (λ s. s ≡ site_without model.now left.now) }
+{
+    let set = make_others(alloc, model, left.as_slice())?;
     let enforced = MemberSet::empty(alloc, model)?;
     Ok(Site {
         kind: SiteKind::Settle,
@@ -149,19 +179,26 @@ fn make_site(alloc: Global, model: &Model) -> Result<Site, AllocError>
 pub(crate) fn make_wide(
     alloc: Global,
     model: &Model,
+    left: &Members,
     step: u64,
     wide: Wide,
 ) -> Result<Answer, AllocError>
-    ensures { IfOk result (λ a. a ≡ Answer.Stopped (TooWide (whole_site model.now) step wide)) }
+    requires { AreLeftOut model.now left.now }
+    ensures { IfOk result (λ a. a ≡ Answer.Stopped (TooWide (site_without model.now left.now) step wide)) }
 {
-    let site = make_site(alloc, model)?;
+    let site = make_site(alloc, model, left)?;
     Ok(Answer::Stopped(Stop::Wide(site, step, wide)))
 }
 
 /// The stop where no pivot is left.
-pub(crate) fn make_spent(alloc: Global, model: &Model) -> Result<Answer, AllocError>
-    ensures { IfOk result (λ a. a ≡ Answer.Stopped (Spent (whole_site model.now))) }
+pub(crate) fn make_spent(
+    alloc: Global,
+    model: &Model,
+    left: &Members,
+) -> Result<Answer, AllocError>
+    requires { AreLeftOut model.now left.now }
+    ensures { IfOk result (λ a. a ≡ Answer.Stopped (Spent (site_without model.now left.now))) }
 {
-    let site = make_site(alloc, model)?;
+    let site = make_site(alloc, model, left)?;
     Ok(Answer::Stopped(Stop::Pivots(site)))
 }

@@ -2,6 +2,7 @@
 ghost use Rattle.std.specs.Prelude.{◌≡◌, ◌≤◌, ◌++◌, ◌∷◌, [], IfOk, AllPairs, IsTrue, length};
 ghost use Rattle.report_text.specs.Form.{share_before};
 ghost use Rattle.lp_model.specs.Members.{IsInOrder};
+ghost use Rattle.report_text.specs.Phrases.{IsPhraseFor};
 ghost use Rattle.report_text.specs.Drafts.{members_of, point_of, witnessed_with, extended, IsFound, IsPartFor};
 ghost use Rattle.lp_model.specs.Program.{Program};
 
@@ -57,8 +58,8 @@ fn open_stop(command: Command, phrase: StopPhrase) -> Option<Next>
     ensures { (model : Program) → result ≡ extended model command Part.Nothing (Phrase.Stop phrase) }
 {
     match command {
-        Command::Check => begin_stop(phrase),
-        Command::Iis(_) | Command::Pivots(_) => None,
+        Command::Check | Command::Iis(_) => begin_stop(phrase),
+        Command::Pivots(_) => None,
     }
 }
 
@@ -271,7 +272,8 @@ pub(crate) fn follow(
     part: Part,
     phrase: Phrase,
 ) -> Result<Option<Next>, AllocError>
-    requires { IsPartFor model.now command part }
+    requires part { IsPartFor model.now command part }
+    requires phrase { IsPhraseFor model.now phrase }
     ensures { IfOk result (λ n. n ≡ extended model.now command part phrase) }
 {
     match part {

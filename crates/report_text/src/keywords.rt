@@ -60,6 +60,9 @@ pub(crate) fn leading_keyword(word: &[u8]) -> Option<Keyword>
     if word == b"site".as_slice() {
         return Some(Keyword::Site);
     }
+    if word == b"without".as_slice() {
+        return Some(Keyword::Without);
+    }
     if word == b"step".as_slice() {
         return Some(Keyword::Step);
     }

@@ -11,7 +11,9 @@ use crate::keywords::{leading_keyword, lone_phrase};
 use crate::naming::{column_of, count_of, fraction_of, member_of, side_of};
 use crate::phrases::{Keyword, Phrase};
 use crate::report::{Command, Method};
-use crate::stop_words::{read_operation, read_pivots, read_site, read_step, read_too};
+use crate::stop_words::{
+    read_operation, read_pivots, read_site, read_step, read_too, read_without,
+};
 use certs::{Share, Source};
 use frac128::Frac;
 use lines::{Words, cut, split_words};
@@ -129,6 +131,7 @@ fn read_two(model: &Model, keyword: Keyword, first: &[u8], second: &[u8]) -> Opt
         Keyword::Command => read_command(first, second),
         Keyword::Value => read_value(model, first, second),
         Keyword::Member => read_member(model, first, second),
+        Keyword::Without => read_without(model, first, second),
         _ => None,
     }
 }

@@ -4,10 +4,11 @@ ghost use Rattle.lp_model.specs.Program.{Program};
 ghost use Rattle.report_text.specs.Grammar.{op_word, site_word};
 ghost use Rattle.report_text.specs.Words.{Finds, IsSpelled};
 
-use crate::naming::{count_of, fraction_of};
+use crate::naming::{count_of, fraction_of, member_of};
 use crate::phrases::{Keyword, Phrase, StopPhrase};
 use certs::SiteKind;
 use frac128::{Op, Wide};
+use lp_model::Model;
 
 // The kind of a site.
 fn kind_of(word: &[u8]) -> Option<SiteKind>
@@ -78,6 +79,16 @@ pub(crate) fn read_site(word: &[u8]) -> Option<Phrase>
         return None;
     };
     Some(Phrase::Stop(StopPhrase::Site(kind)))
+}
+
+/// An active member that is not in the site's set.
+pub(crate) fn read_without(model: &Model, kind: &[u8], name: &[u8]) -> Option<Phrase>
+    ensures { Finds (IsSpelled model.now Keyword.Without (kind.now ∷ name.now ∷ [])) result }
+{
+    let Some(member) = member_of(model, kind, name) else {
+        return None;
+    };
+    Some(Phrase::Stop(StopPhrase::Without(member)))
 }
 
 /// The number of a turn.

@@ -1,4 +1,4 @@
-//! Reports on a program with the rows c1 and c2 and the columns x and y.
+//! Reports on a program with the rows c1, c2 and c3, of which the last is dropped, and the columns x and y.
 ghost use Rattle.std.specs.Prelude.{◌≡◌, ℕ, List, []};
 ghost use Rattle.lp_model.specs.Program.{IsWellFormedColumn};
 ghost use Rattle.lp_model.specs.Shown.{named_column};
@@ -20,6 +20,9 @@ const TWO_ENTRIES: &[u8] =
 const STOPS: &[u8] =
     b"iisan report 1\ncommand budget pivots 0\ndone\ncommand check\npivots spent\nsite settle\nend\ncommand budget pivots 1000000\ndone\ncommand check\ntoo wide\nsite settle\nstep 17\noperation minus 1000000000000000000000000000000 1/1000000000000000000000000000000\nend\nreport end\n";
 
+const LEFT_OUT: &[u8] =
+    b"iisan report 1\ncommand iis deletion\npivots spent\nsite settle\nwithout row c1\nend\ncommand check\ntoo wide\nsite settle\nwithout row c2\nwithout lower y\nstep 3\noperation plus 1/2 3\nend\nreport end\n";
+
 // A column from 0 to 3.
 fn box_column() -> Column
     ensures { (name : List ℕ) → IsWellFormedColumn (named_column name result) }
@@ -37,7 +40,7 @@ fn box_column() -> Column
 }
 
 // A row without terms and sides.
-fn free_row(alloc: Global) -> Row
+fn free_row(alloc: Global, active: bool) -> Row
     ensures terms { result.terms ≡ [] }
     ensures weight { result.weight ≡ Weight.Rigid }
 {
@@ -45,7 +48,7 @@ fn free_row(alloc: Global) -> Row
         terms: Terms::new(Vec::new(alloc)),
         lo: None,
         up: None,
-        active: true,
+        active,
         weight: Weight::Rigid,
     }
 }
@@ -60,8 +63,9 @@ fn make(alloc: Global) -> Result<Model, ModelStop> {
     let mut model = Model::new(alloc, false);
     add_box(&mut model, alloc, b"x")?;
     add_box(&mut model, alloc, b"y")?;
-    model.add_row(alloc, b"c1", free_row(alloc))?;
-    model.add_row(alloc, b"c2", free_row(alloc))?;
+    model.add_row(alloc, b"c1", free_row(alloc, true))?;
+    model.add_row(alloc, b"c2", free_row(alloc, true))?;
+    model.add_row(alloc, b"c3", free_row(alloc, false))?;
     Ok(model)
 }
 
@@ -311,7 +315,7 @@ fn bad_wide(rt: &(impl Abort + AllocGlobal), line: u64, text: &str) -> Result<()
 
 #[test]
 fn bad_stops(rt: HostRuntime) -> Result<(), Fail> {
-    bad(&rt, 3, "command iis deletion\npivots spent\n")?;
+    bad(&rt, 4, "command iis deletion\npivots spent\nend\n")?;
     bad(&rt, 3, "command check\nsite settle\n")?;
     bad(&rt, 4, "command check\npivots spent\nsite improve\n")?;
     bad(&rt, 5, "command check\npivots spent\nsite settle\nstep 0\n")?;
@@ -328,6 +332,100 @@ fn bad_stops(rt: HostRuntime) -> Result<(), Fail> {
         7,
         "site settle\nstep 18446744073709551615\noperation over 1 0\nstep 0",
     )?;
+    Ok(())
+}
+
+// The site of a stop that has one.
+fn site_of(stop: &Stop) -> Option<&Site> {
+    match stop {
+        Stop::Wide(site, _, _) => Some(site),
+        Stop::Pivots(site) => Some(site),
+        _ => None,
+    }
+}
+
+// A stop in the settle run of so many members, of which this is the first.
+fn expect_run(rt: &impl Abort, answer: &Answer, count: u64, first: Member) {
+    let Answer::Stopped(stop) = answer else {
+        assert!(rt; false, "another answer");
+        return;
+    };
+    match site_of(stop) {
+        Some(site) => {
+            assert_eq!(rt; site.kind, SiteKind::Settle);
+            expect_members(rt, &site.set, count, first);
+        }
+        None => assert!(rt; false, "another stop"),
+    }
+}
+
+#[test]
+fn left_out(rt: HostRuntime) -> Result<(), Fail> {
+    let Ok(report) = read(rt.alloc(), LEFT_OUT) else {
+        return Err(Fail::from(AllocError));
+    };
+    let entries = report.entries.as_slice();
+    assert_eq!(rt; entries.len(), 2);
+    if entries.len() == 2 {
+        assert_eq!(rt; entries[0].command, Command::Iis(Method::Deletion));
+        expect_run(&rt, &entries[0].answer, 5, Member::Row(1));
+        assert_eq!(rt; entries[1].command, Command::Check);
+        assert_eq!(rt; entries[1].line, 7);
+        expect_run(&rt, &entries[1].answer, 4, Member::Row(0));
+    }
+    Ok(())
+}
+
+// What is read of the text is printed as the text.
+fn same(
+    rt: &(impl Abort + AllocGlobal),
+    model: &Model,
+    text: &[u8],
+) -> Result<(), AllocError> {
+    let Ok(report) = read_report(rt.alloc(), text, model) else {
+        return Err(AllocError);
+    };
+    answers_can_be_printed();
+    let mut into = Vec::new(rt.alloc());
+    print_head(model, &mut into)?;
+    for entry in report.entries.as_slice() {
+        print_entry(model, &entry.command, &entry.answer, &mut into)?;
+    }
+    print_foot(&mut into)?;
+    assert_eq!(rt; into.as_slice(), text);
+    Ok(())
+}
+
+#[test]
+fn printed_back(rt: HostRuntime) -> Result<(), Fail> {
+    let Ok(model) = make(rt.alloc()) else {
+        return Err(Fail::from(AllocError));
+    };
+    same(&rt, &model, COMBINATION)?;
+    same(&rt, &model, STOPS)?;
+    same(&rt, &model, LEFT_OUT)?;
+    Ok(())
+}
+
+// The line with this number is bad where these lines follow the site of a stop.
+fn bad_site(rt: &(impl Abort + AllocGlobal), line: u64, text: &str) -> Result<(), AllocError> {
+    let text =
+        format!(in rt.alloc(); "command iis additive\npivots spent\nsite settle\n{text}\n")?;
+    bad(rt, line, text.as_str())
+}
+
+#[test]
+fn bad_left_out(rt: HostRuntime) -> Result<(), Fail> {
+    bad_site(&rt, 6, "without row c2\nwithout row c1")?;
+    bad_site(&rt, 6, "without lower x\nwithout row c1")?;
+    bad_site(&rt, 6, "without row c1\nwithout row c1")?;
+    bad_site(&rt, 5, "without row c3")?;
+    bad_site(&rt, 5, "without row c4")?;
+    bad_site(&rt, 5, "without whole x")?;
+    bad_site(&rt, 5, "without row")?;
+    bad_site(&rt, 6, "without row c1\nsite settle")?;
+    bad(&rt, 4, "command check\npivots spent\nwithout row c1\n")?;
+    bad_wide(&rt, 6, "site settle\nstep 0\nwithout row c1")?;
     Ok(())
 }
 
@@ -380,6 +478,9 @@ fn fronts(rt: HostRuntime) -> Result<(), Fail> {
     }
     for count in 0..STOPS.len() {
         stops(&rt, &STOPS[..count], ReportStop::Truncated);
+    }
+    for count in 0..LEFT_OUT.len() {
+        stops(&rt, &LEFT_OUT[..count], ReportStop::Truncated);
     }
     Ok(())
 }

@@ -1,13 +1,14 @@
 //! The printed lines of commands, answers and reports.
 #![tactic(auto, using(crate::proofs::Kept::keeps_on, crate::proofs::Kept::keeps_more, crate::proofs::Kept::keeps_same))]
 
-ghost use Rattle.std.specs.Prelude.{◌≡◌, ◌++◌, ◌∷◌, [], ◌<◌, ◌≤◌, OnOk, codes, decimal, length, map, flat_map, zip, ℕ, All};
+ghost use Rattle.std.specs.Prelude.{◌≡◌, ◌++◌, ◌∷◌, [], ◌<◌, ◌≤◌, ◌&&◌, not, OnOk, codes, decimal, length, map, flat_map, zip, ℕ, All};
 ghost use Rattle.std.specs.Fmt.{signed_decimal};
 ghost use Rattle.frac128.specs.Printed.{printed};
 ghost use Rattle.certs.specs.Checks.{IsSetOf};
 ghost use Rattle.lp_model.specs.Program.{noted_column};
-ghost use Rattle.report_text.specs.Grammar.{◌then◌, column_name, name_of, kind_word, member_line, value_line, value_lines, point_lines, side_word, source_text, use_line, node_lines, proof_lines, op_word, site_word, site_line, step_line, operation_line, stop_lines, witness_lines, answer_lines, method_word, command_text, entry_lines, note_line, text_of};
-ghost use Rattle.report_text.specs.Printing.{CanPrintLaw, PartsLaw, PrintedLaw, ended, head_lines, foot_lines, IsKnownMember, IsKnownSource, IsKnownNode, IsKnownProof, IsKnownPoint, IsKnownCore, IsKnownAnswer, Keeps};
+ghost use Rattle.lp_model.specs.Members.{has, is_active as is_in_force};
+ghost use Rattle.report_text.specs.Grammar.{◌then◌, column_name, name_of, kind_word, member_line, value_line, value_lines, point_lines, side_word, source_text, use_line, node_lines, proof_lines, op_word, site_word, without_line, left_out, site_lines, step_line, operation_line, stop_lines, witness_lines, answer_lines, method_word, command_text, entry_lines, note_line, text_of};
+ghost use Rattle.report_text.specs.Printing.{CanPrintLaw, PartsLaw, PrintedLaw, ended, head_lines, foot_lines, IsKnownMember, IsKnownSource, IsKnownNode, IsKnownProof, IsKnownPoint, IsKnownCore, IsKnownStop, IsKnownAnswer, Keeps, missing_text};
 
 use crate::report::{Answer, Command, Core, Method};
 use certs::{Node, Point, Proof, Share, Site, SiteKind, Source, Stop};
@@ -288,13 +289,74 @@ fn site_name(kind: SiteKind) -> &'static str
     }
 }
 
-// Appends the line of a site.
-fn print_site(site: &Site, into: &mut Vec<u8>) -> Result<(), AllocError>
-    ensures text { OnOk result (into.new.items ≡ into.old.items ++ ended (site_line site.now)) }
+// Whether a member is active and not in the set.
+fn is_left_out(model: &Model, set: &MemberSet, member: Member) -> bool
+    requires set { IsSetOf model.now set.now }
+    requires member { IsKnownMember model.now member }
+    ensures { result ≡ (is_in_force model.now member && not (has set.now.members member)) }
+{
+    model.is_active(member) && !set.contains(member)
+}
+
+// Appends the line of a member that is not in a set.
+fn print_without(model: &Model, member: Member, into: &mut Vec<u8>) -> Result<(), AllocError>
+    requires { IsKnownMember model.now member }
+    ensures text { OnOk result (into.new.items ≡ into.old.items ++ ended (without_line model.now member)) }
+    ensures front { Keeps into.old.items into.new.items }
+{
+    push_word(b"without", into)?;
+    push_word(kind_name(member).as_bytes(), into)?;
+    push_line(member_name(model, member), into)
+}
+
+// Appends the line of a member, where it is active and not in the set.
+fn print_missing(
+    model: &Model,
+    set: &MemberSet,
+    member: Member,
+    into: &mut Vec<u8>,
+) -> Result<(), AllocError>
+    requires set { IsSetOf model.now set.now }
+    requires member { IsKnownMember model.now member }
+    ensures text { OnOk result (into.new.items ≡ into.old.items ++ missing_text model.now set.now.members (member ∷ [])) }
+    ensures front { Keeps into.old.items into.new.items }
+{
+    if !is_left_out(model, set, member) {
+        return Ok(());
+    }
+    print_without(model, member, into)
+}
+
+// Appends the lines of the active members that are not in the set.
+fn print_left_out(model: &Model, set: &MemberSet, into: &mut Vec<u8>) -> Result<(), AllocError>
+    requires { IsSetOf model.now set.now }
+    ensures text { OnOk result (into.new.items ≡ into.old.items ++ text_of (map (without_line model.now) (left_out model.now set.now.members))) }
+    ensures front { Keeps into.old.items into.new.items }
+{
+    'rows: for row in 0..model.row_count() {
+        print_missing(model, set, Member::Row(row), into)?;
+    }
+    'lowers: for column in 0..model.column_count() {
+        print_missing(model, set, Member::Lower(column), into)?;
+    }
+    'uppers: for column in 0..model.column_count() {
+        print_missing(model, set, Member::Upper(column), into)?;
+    }
+    'wholes: for column in 0..model.column_count() {
+        print_missing(model, set, Member::Whole(column), into)?;
+    }
+    Ok(())
+}
+
+// Appends the lines of a site: its kind, and the active members that are not in its set.
+fn print_site(model: &Model, site: &Site, into: &mut Vec<u8>) -> Result<(), AllocError>
+    requires { IsSetOf model.now site.now.set }
+    ensures text { OnOk result (into.new.items ≡ into.old.items ++ text_of (site_lines model.now site.now)) }
     ensures front { Keeps into.old.items into.new.items }
 {
     push_word(b"site", into)?;
-    push_line(site_name(site.kind).as_bytes(), into)
+    push_line(site_name(site.kind).as_bytes(), into)?;
+    print_left_out(model, &site.set, into)
 }
 
 // Appends the line of a turn's number.
@@ -320,35 +382,43 @@ fn print_operation(operation: &Wide, into: &mut Vec<u8>) -> Result<(), AllocErro
 
 // Appends the lines of a stop at an operation.
 fn print_wide(
+    model: &Model,
     site: &Site,
     step: u64,
     operation: &Wide,
     into: &mut Vec<u8>,
 ) -> Result<(), AllocError>
-    ensures text { OnOk result (into.new.items ≡ into.old.items ++ text_of (stop_lines (Stop.Wide site.now step operation.now))) }
+    requires { IsSetOf model.now site.now.set }
+    ensures text { OnOk result (into.new.items ≡ into.old.items ++ text_of (stop_lines model.now (Stop.Wide site.now step operation.now))) }
     ensures front { Keeps into.old.items into.new.items }
 {
     push_line(b"too wide", into)?;
-    print_site(site, into)?;
+    print_site(model, site, into)?;
     print_step(step, into)?;
     print_operation(operation, into)?;
     push_line(b"end", into)?;
     Ok(())
 }
 
-// Appends a line, that of a site, and the end.
-fn print_spent(what: &[u8], site: &Site, into: &mut Vec<u8>) -> Result<(), AllocError>
-    ensures text { OnOk result (into.new.items ≡ into.old.items ++ text_of (what.now ∷ site_line site.now ∷ codes "end" ∷ [])) }
+// Appends a line, those of a site, and the end.
+fn print_spent(
+    model: &Model,
+    what: &[u8],
+    site: &Site,
+    into: &mut Vec<u8>,
+) -> Result<(), AllocError>
+    requires { IsSetOf model.now site.now.set }
+    ensures text { OnOk result (into.new.items ≡ into.old.items ++ text_of (what.now ∷ (site_lines model.now site.now ++ codes "end" ∷ []))) }
     ensures front { Keeps into.old.items into.new.items }
 {
     push_line(what, into)?;
-    print_site(site, into)?;
+    print_site(model, site, into)?;
     push_line(b"end", into)
 }
 
 // Appends the lines of a stop at a size.
 fn print_large(size: u64, into: &mut Vec<u8>) -> Result<(), AllocError>
-    ensures text { OnOk result (into.new.items ≡ into.old.items ++ text_of (stop_lines (Stop.Large size))) }
+    ensures text { OnOk result (into.new.items ≡ into.old.items ++ text_of ((codes "too large" then decimal size) ∷ codes "end" ∷ [])) }
     ensures front { Keeps into.old.items into.new.items }
 {
     push_word(b"too large", into)?;
@@ -357,14 +427,15 @@ fn print_large(size: u64, into: &mut Vec<u8>) -> Result<(), AllocError>
 }
 
 // Appends the lines of a stop.
-fn print_stop(stop: &Stop, into: &mut Vec<u8>) -> Result<(), AllocError>
-    ensures text { OnOk result (into.new.items ≡ into.old.items ++ text_of (stop_lines stop.now)) }
+fn print_stop(model: &Model, stop: &Stop, into: &mut Vec<u8>) -> Result<(), AllocError>
+    requires { IsKnownStop model.now stop.now }
+    ensures text { OnOk result (into.new.items ≡ into.old.items ++ text_of (stop_lines model.now stop.now)) }
     ensures front { Keeps into.old.items into.new.items }
 {
     match stop {
-        Stop::Wide(site, step, operation) => print_wide(site, *step, operation, into),
-        Stop::Pivots(site) => print_spent(b"pivots spent", site, into),
-        Stop::Nodes(site) => print_spent(b"nodes spent", site, into),
+        Stop::Wide(site, step, operation) => print_wide(model, site, *step, operation, into),
+        Stop::Pivots(site) => print_spent(model, b"pivots spent", site, into),
+        Stop::Nodes(site) => print_spent(model, b"nodes spent", site, into),
         Stop::Large(size) => print_large(*size, into),
         Stop::Memory => Ok(()),
     }
@@ -480,7 +551,7 @@ pub fn print_answer(model: &Model, answer: &Answer, into: &mut Vec<u8>) -> Resul
         Answer::Infeasible(set, proof) => print_infeasible(model, set, proof, into),
         Answer::Irreducible(core) => print_irreducible(model, core, into),
         Answer::Done => push_line(b"done", into),
-        Answer::Stopped(stop) => print_stop(stop, into),
+        Answer::Stopped(stop) => print_stop(model, stop, into),
     }
 }
 

@@ -197,48 +197,61 @@ fn infeasible(rt: HostRuntime) -> Result<(), Fail> {
     Ok(())
 }
 
-// The settle run of all members.
-fn site(alloc: Global) -> Result<Site, AllocError> {
-    let Ok(model) = program(alloc) else {
-        return Err(AllocError);
-    };
+// The settle run of all members but the row c2 and the lower bound of y.
+fn site(alloc: Global, model: &Model) -> Result<Site, AllocError>
+    requires rows { 1 < length model.now.rows }
+    requires columns { 1 < length model.now.columns }
+    ensures { IfOk result (λ s. IsSetOf model.now s.set) }
+{
+    let mut set = model.members(alloc)?;
+    set.remove(Member::Row(1));
+    set.remove(Member::Lower(1));
     Ok(Site {
         kind: SiteKind::Settle,
-        set: MemberSet::empty(alloc, &model)?,
-        enforced: MemberSet::empty(alloc, &model)?,
+        set,
+        enforced: MemberSet::empty(alloc, model)?,
         path: Path::new(Vec::new(alloc)),
     })
 }
 
-// The stop is printed so.
-fn prints_stop(rt: &(impl Abort + AllocGlobal), stop: Stop, text: &[u8]) -> Result<(), AllocError> {
-    let Ok(model) = program(rt.alloc()) else {
-        return Err(AllocError);
-    };
-    let answer = Answer::Stopped(stop);
-    prints(rt, &model, &answer, text)
-}
-
 #[test]
 fn wide_stop(rt: HostRuntime) -> Result<(), Fail> {
+    let Ok(model) = program(rt.alloc()) else {
+        return Err(Fail::from(AllocError));
+    };
+    if model.row_count() != 2 || model.column_count() != 3 {
+        return Err(Fail::from(AllocError));
+    }
     let wide = Wide {
         op: Op::Over,
         left: halves(1),
         right: Frac::whole(-3),
     };
-    let stop = Stop::Wide(site(rt.alloc())?, 7, wide);
-    prints_stop(
+    let answer = Answer::Stopped(Stop::Wide(site(rt.alloc(), &model)?, 7, wide));
+    prints(
         &rt,
-        stop,
-        b"too wide\nsite settle\nstep 7\noperation over 1/2 -3\nend\n",
+        &model,
+        &answer,
+        b"too wide\nsite settle\nwithout row c2\nwithout lower y\nstep 7\noperation over 1/2 -3\nend\n",
     )?;
     Ok(())
 }
 
 #[test]
 fn spent_stop(rt: HostRuntime) -> Result<(), Fail> {
-    let stop = Stop::Pivots(site(rt.alloc())?);
-    prints_stop(&rt, stop, b"pivots spent\nsite settle\nend\n")?;
+    let Ok(model) = program(rt.alloc()) else {
+        return Err(Fail::from(AllocError));
+    };
+    if model.row_count() != 2 || model.column_count() != 3 {
+        return Err(Fail::from(AllocError));
+    }
+    let answer = Answer::Stopped(Stop::Pivots(site(rt.alloc(), &model)?));
+    prints(
+        &rt,
+        &model,
+        &answer,
+        b"pivots spent\nsite settle\nwithout row c2\nwithout lower y\nend\n",
+    )?;
     Ok(())
 }
 

@@ -3,8 +3,5 @@ use Rattle.report_text.specs.declared.drafts.StopPart.{StopPart}
 use Rattle.report_text.specs.Drafts.{stop_with}
 use Rattle.report_text.proofs.stopping.follow_stop.Goals as goal
 
-pub returns-in-WideSite : goal.returns-in-WideSite
-returns-in-WideSite c = c.follow_wide_site.ensures c.args.model.now ∙ ap (λ (part : StopPart). stop_with c.args.model.now part c.args.phrase) (sym c.in-WideSite.is)
-
 pub returns-in-WideStep : goal.returns-in-WideStep
 returns-in-WideStep c = c.follow_wide_step.ensures c.args.model.now ∙ ap (λ (part : StopPart). stop_with c.args.model.now part c.args.phrase) (sym c.in-WideStep.is)
