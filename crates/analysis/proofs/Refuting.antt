@@ -1,5 +1,5 @@
 -- The members that a leaf uses: its combination is one of them alone.
-use Rattle.std.proofs.Common.{◌≡◌, ◌<◌, ℕ, zero, suc, refl, sym, ◌∙◌, ap, subst, Bool, true, false, true≢false, ◌||◌, List, [], ◌∷◌, length, filter, Err, get_or, arith}
+use Rattle.std.proofs.Common.{◌≡◌, ◌<◌, ℕ, zero, suc, refl, sym, ◌∙◌, ap, subst, Bool, true, true≢false, ◌||◌, List, [], ◌∷◌, length, filter, arith}
 use Rattle.std.specs.Prelude.{All, Contains, IsSome}
 use Rattle.std.specs.List.{list_any}
 use Rattle.std.proofs.lemmas.Bool.{or_right}
@@ -27,9 +27,7 @@ use Rattle.certs.specs.Proof.Tree.{Tip}
 use Rattle.certs.specs.Violation.{is_of}
 use Rattle.certs.specs.Named.{IsKnownNode, IsKnownSource, node_uses, used_set}
 use Rattle.certs.specs.declared.evidence.Branch.{Branch}
-use Rattle.certs.specs.declared.solving.Stop.{Stop}
 use Rattle.certs.specs.declared.solving.Verdict.TheVariants.{Infeasible}
-use Rattle.certs.specs.Tales.{IsNodeEnd}
 use Rattle.certs.proofs.Sides.{all_both}
 use Rattle.certs.proofs.PlainCuts.{plain_cut}
 use Rattle.linear_oracle.specs.Value.{IsPlainProof}
@@ -146,7 +144,3 @@ leaf_proof model set proof pivots formed whole h = record {
   leaf = h.leaf;
   combination = subst (λ (l : SetValue). IsCombination model l.members [] h.combo.shares) whole (plain_cut model set.members [] pivots h.combo.shares formed (All-nil (λ (b : Branch). b.column < length model.columns)) h.cut);
 }
-
--- its stop is that of the run of the active members
-pub stop_end : (model : Program) (set : SetValue) (stop : Stop) (pivots : ℕ) → set ≡ active_set model → IsNodeEnd model set.members [] pivots (Err stop) → IsNodeEnd model (active_members model) [] pivots (Err stop)
-stop_end model set stop pivots whole h = subst (λ (l : SetValue). IsNodeEnd model l.members [] pivots (Err stop)) whole h

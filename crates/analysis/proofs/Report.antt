@@ -1,5 +1,5 @@
 -- The whole report from its pieces.
-use Rattle.std.proofs.Common.{◌≡◌, ◌+◌, refl, sym, ◌∙◌, ap, subst, ℕ, ◌==◌, Bool, true, false, cond, List, [], ◌∷◌, ◌++◌, length, Option, Ok, Err, inl, inr, eq-eqb}
+use Rattle.std.proofs.Common.{◌≡◌, refl, sym, ◌∙◌, ap, subst, ℕ, ◌==◌, Bool, cond, List, [], ◌++◌, length, Option, Ok, Err, inl, inr, eq-eqb}
 use Rattle.std.proofs.lemmas.Bool.{cond-true}
 use Rattle.lp_model.specs.Program.{Program}
 use Rattle.certs.specs.Sites.{Budgets}
@@ -8,13 +8,13 @@ use Rattle.report_text.specs.declared.report.Answer.{Answer}
 use Rattle.report_text.specs.declared.report.Entry.{Entry}
 use Rattle.analysis.specs.declared.pieces.Want.{Want}
 use Rattle.analysis.specs.declared.pieces.Want.TheVariants.{Memory, Fault}
-use Rattle.report_text.specs.Grammar.{entry_lines, text_of}
+use Rattle.report_text.specs.Grammar.{entry_lines}
 use Rattle.report_text.specs.Printing.{head_lines, foot_lines}
 use Rattle.std.specs.Prelude.{flat_map}
-use Rattle.analysis.specs.Puts.{PutWhole, PutFailed, PutsNothing}
+use Rattle.analysis.specs.Puts.{PutWhole, PutFailed}
 use Rattle.analysis.specs.Right.{Right}
-use Rattle.analysis.specs.Written.{head_text, entries_text, foot_text, whole_text, status_of, IsAnalysis}
-use Rattle.analysis.specs.Pieces.{Answers, AllAnswers, EntryPut, EntriesPut, ReportPut, TextPut, entry_text}
+use Rattle.analysis.specs.Written.{head_text, entries_text, foot_text, whole_text, IsAnalysis}
+use Rattle.analysis.specs.Pieces.{Answers, EntryPut, EntriesPut, ReportPut, TextPut, entry_text}
 use Rattle.analysis.proofs.Entries.{text_append}
 use Rattle.analysis.proofs.Putting.{put_two, put_then_none, failed_after, failed_longer}
 

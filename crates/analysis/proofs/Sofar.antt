@@ -1,5 +1,5 @@
 -- The entries that were put so far.
-use Rattle.std.proofs.Common.{◌≡◌, ◌≤◌, ◌<◌, ◌+◌, ◌^◌, refl, sym, ◌∙◌, ap, subst, ℕ, Bool, false, ◌||◌, List, [], ◌∷◌, ◌++◌, length, length-append, get_or, take, drop, Option, Result, Ok, Err, arith}
+use Rattle.std.proofs.Common.{◌≡◌, ◌≤◌, ◌<◌, ◌+◌, ◌^◌, refl, sym, ◌∙◌, ap, subst, ℕ, Bool, false, ◌||◌, List, [], ◌∷◌, ◌++◌, length, length-append, get_or, take, drop, Option, Ok, Err, arith}
 use Rattle.std.specs.Prelude.{flat_map}
 use Rattle.std.specs.List.{list_any}
 use Rattle.std.proofs.lemmas.List.{take_more, take_all, take-append-drop}
@@ -16,8 +16,8 @@ use Rattle.analysis.specs.declared.pieces.Want.TheVariants.{Memory, Fault}
 use Rattle.analysis.specs.Puts.{PutWhole, PutFailed, PutsNothing}
 use Rattle.analysis.specs.Right.{Right, AreRight, budgets_after, first_budgets}
 use Rattle.analysis.specs.Written.{entries_text, is_stop}
-use Rattle.analysis.specs.Pieces.{Answers, AllAnswers, EntryPut, EntriesPut, entry_text}
-use Rattle.analysis.proofs.Putting.{put_two, put_none, put_then_none, failed_after}
+use Rattle.analysis.specs.Pieces.{EntryPut, EntriesPut, entry_text}
+use Rattle.analysis.proofs.Putting.{put_two, put_then_none, failed_after}
 use Rattle.analysis.proofs.Entries.{budgets_through, through_more, right_more, right_front, numbered_more, text_more, stop_more}
 
 -- the budgets stay small

@@ -7,7 +7,6 @@ use Rattle.report_text.specs.declared.report.Command.{Command}
 use Rattle.report_text.specs.declared.report.Answer.{Answer}
 use Rattle.report_text.specs.declared.report.Answer.TheVariants.{Feasible, Infeasible, Irreducible, Done, Stopped}
 use Rattle.report_text.specs.declared.report.Entry.{Entry}
-use Rattle.report_text.specs.declared.report.Report.{Report}
 use Rattle.report_text.specs.Grammar.{entry_lines, report_lines, text_of}
 use Rattle.report_text.specs.Printing.{head_lines, foot_lines}
 use Rattle.report_text.specs.Form.{AreNumbered}

@@ -1,15 +1,15 @@
 //! The answer to a command.
-ghost use Rattle.std.specs.Prelude.{◌≡◌, ◌<◌, ◌^◌, [], Err, IfOk, All, false};
+ghost use Rattle.std.specs.Prelude.{◌≡◌, ◌<◌, ◌^◌, IfOk, All, false};
 ghost use Rattle.lp_model.specs.Members.{active_members, is_mark};
 ghost use Rattle.lp_model.specs.MemberSets.{active_set};
 ghost use Rattle.certs.specs.Sites.{Budgets as Allowed};
-ghost use Rattle.certs.specs.Tales.{IsNodeEnd};
-ghost use Rattle.report_text.specs.Form.{IsWholeSite, IsCommand};
+ghost use Rattle.report_text.specs.Form.{IsCommand};
 ghost use Rattle.report_text.specs.Printing.{IsKnownAnswer};
 ghost use Rattle.analysis.specs.Answers.{IsLeafProof, budgets_of};
 ghost use Rattle.analysis.specs.Right.{IsChecked, Right, budgets_after, first_budgets as budgets_at_first};
 
-use certs::{MemberSet, Oracle, Path, Proof, Site, SiteKind, Stop, Verdict, members_used};
+use crate::searching::{search, stopped};
+use certs::{MemberSet, Oracle, Proof, Verdict, members_used};
 use linear_oracle::LinearOracle;
 use lp_model::Model;
 use report_text::{Answer, Command};
@@ -61,7 +61,7 @@ pub(crate) fn answer(
 {
     match command {
         Command::Check => check(alloc, model, budgets),
-        Command::Iis(_) => unreachable!(),
+        Command::Iis(method) => search(alloc, model, budgets, method),
         Command::Pivots(_) => Ok(Answer::Done),
     }
 }
@@ -80,7 +80,7 @@ fn check(alloc: Global, model: &Model, budgets: Budgets) -> Result<Answer, Alloc
     match oracle.ask(alloc, &set) {
         Ok(Verdict::Feasible(point)) => Ok(Answer::Feasible(point)),
         Ok(Verdict::Infeasible(proof)) => refuted(alloc, model, &set, proof),
-        Err(stop) => stopped(alloc, model, set, &stop),
+        Err(stop) => stopped(&oracle, stop),
     }
 }
 
@@ -100,38 +100,4 @@ fn refuted(
     let _count = set.count();
     let used = members_used(alloc, set, &proof)?;
     Ok(Answer::Infeasible(used, proof))
-}
-
-// A stop of the run of all active members as an answer, but for want of memory.
-fn stopped(alloc: Global, model: &Model, set: MemberSet, stop: &Stop) -> Result<Answer, AllocError>
-    requires whole { set ≡ active_set model.now }
-    ensures right { (budgets : Allowed) → IsNodeEnd model.now (active_members model.now) [] budgets.pivots (Err stop.now) → IfOk result (IsChecked model.now budgets) }
-    ensures known { IfOk result (IsKnownAnswer model.now) }
-{
-    match stop {
-        Stop::Wide(_, step, wide) => {
-            let site = whole_site(alloc, model, set)?;
-            Ok(Answer::Stopped(Stop::Wide(site, *step, *wide)))
-        }
-        Stop::Pivots(_) => {
-            let site = whole_site(alloc, model, set)?;
-            Ok(Answer::Stopped(Stop::Pivots(site)))
-        }
-        Stop::Nodes(_) => Err(AllocError),
-        Stop::Large(_) => Err(AllocError),
-        Stop::Memory => Err(AllocError),
-    }
-}
-
-// The site of the run of all active members.
-fn whole_site(alloc: Global, model: &Model, set: MemberSet) -> Result<Site, AllocError>
-    requires { set ≡ active_set model.now }
-    ensures { IfOk result (IsWholeSite model.now) }
-{
-    Ok(Site {
-        kind: SiteKind::Settle,
-        set,
-        enforced: MemberSet::empty(alloc, model)?,
-        path: Path::new(Vec::new(alloc)),
-    })
 }

@@ -3,5 +3,6 @@
 
 mod answering;
 mod pieces;
+mod searching;
 
 pub use pieces::analyse;

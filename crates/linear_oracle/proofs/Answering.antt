@@ -1,9 +1,9 @@
 -- What an oracle answers.
-use Rattle.std.proofs.Common.{◌≡◌, ℕ, sym, ◌∙◌, ap, subst, Bool, true, false, true≢false, get_or, not, List, [], Ok, Err, inl, inr}
-use Rattle.std.specs.Prelude.{All, Contains, IfOk, Result, ◌⊎◌}
+use Rattle.std.proofs.Common.{◌≡◌, ℕ, refl, sym, ◌∙◌, ap, subst, Bool, true, false, true≢false, get_or, not, List, [], ◌++◌, Ok, Err, None, Some, inl, inr}
+use Rattle.std.specs.Prelude.{All, Contains, IfErr, IfOk, IfSome, Result, Option, ◌⊎◌}
 use Rattle.std.specs.List.{list_any}
 use Rattle.std.proofs.lemmas.Bool.{false_from_ne_true, not-true}
-use Rattle.std.proofs.lemmas.List.Elements.{All-contains, All-weaker}
+use Rattle.std.proofs.lemmas.List.Elements.{All-append, All-cons, All-contains, All-nil, All-weaker}
 use Rattle.std.proofs.lemmas.List.Folds.{list_any_at, list_any_none}
 use Rattle.lp_model.specs.declared.members.Member.{Member}
 use Rattle.lp_model.specs.Members.{is_mark}
@@ -17,17 +17,20 @@ use Rattle.certs.specs.declared.evidence.Source.{Source}
 use Rattle.certs.specs.declared.evidence.Source.TheVariants.{Member as Of, Below, Above}
 use Rattle.certs.specs.declared.solving.NodeEnd.{NodeEnd}
 use Rattle.certs.specs.declared.solving.NodeEnd.TheVariants.{Point as AtPoint, Cut}
+use Rattle.certs.specs.declared.solving.Site.{Site}
 use Rattle.certs.specs.declared.solving.Stop.{Stop}
 use Rattle.certs.specs.declared.solving.Stop.TheVariants.{Wide, Pivots, Nodes, Large, Memory}
 use Rattle.certs.specs.declared.solving.Verdict.{Verdict}
 use Rattle.certs.specs.declared.solving.Verdict.TheVariants.{Feasible, Infeasible}
+use Rattle.certs.specs.Checks.{IsSetOf}
 use Rattle.certs.specs.Combination.{IsCombination, IsFrom, IsThere}
 use Rattle.certs.specs.Named.{IsKnownSource}
 use Rattle.certs.specs.Proof.{Tip}
-use Rattle.certs.specs.Tales.{IsNodeEnd, IsSiteWithin, IsVerdict}
+use Rattle.certs.specs.Solves.{IsPlainCut}
+use Rattle.certs.specs.Tales.{FirstCore, IsNodeEnd, IsSiteWithin, IsVerdict, Stopped, first_core_after, listed_stop}
 use Rattle.std.proofs.lemmas.List.Elements.{All-contains_itself}
 use Rattle.linear_oracle.specs.Ended.{Shows}
-use Rattle.linear_oracle.specs.Value.{IsLeafOf, is_linear}
+use Rattle.linear_oracle.specs.Value.{IsLeafOf, IsPlainCore, IsPlainStop, IsStopOf, IsTrueTale, is_linear}
 use Rattle.linear_oracle.proofs.Members.{with_unmarked}
 use Rattle.linear_oracle.proofs.Shares.{columns_are}
 
@@ -92,3 +95,61 @@ cut_verdict model set end combo e shows (Err stop) leaf = tt
 -- with a member that is no mark the set has none
 pub with_linear : (set : SetValue) (m : Member) → is_linear set.members ≡ true → is_mark m ≡ false → is_linear (set_with set m).members ≡ true
 with_linear set m h e = ap not (list_any_none is_mark (set_with set m).members (with_unmarked set m (unmarked set.members h) e))
+
+-- ---- the tale
+-- want of memory has no site
+pub memory_of_model : {A : Type 0} (model : Program) (r : Result A Stop) → IfErr r (λ stop. stop ≡ Memory) → IfErr r (IsStopOf model)
+memory_of_model model (Ok a) h = tt
+memory_of_model model (Err stop) h = subst (IsStopOf model) (sym h) tt
+
+-- the sets of a site are ones of the program where they are these
+pub site_sets : (model : Program) (set : SetValue) (site : Site) → IsSetOf model set → site.set ≡ set → site.enforced ≡ record set { members = [] } → IsSetOf model site.set × IsSetOf model site.enforced
+site_sets model set site of e f = (
+  subst (IsSetOf model) (sym e) of,
+  subst (IsSetOf model) (sym f) (record { rows = of.rows; columns = of.columns }),
+)
+
+listed_plain : (model : Program) (set : List Member) (pivots : ℕ) (stop : Stop) → IsNodeEnd model set [] pivots (Err stop) → IsStopOf model stop → All (IsPlainStop model pivots) (listed_stop stop set [])
+listed_plain model set pivots (Wide site step operation) h of =
+    let told : Stopped = record { stop = Wide site step operation; set = set; enforced = [] } in
+    All-cons (IsPlainStop model pivots) told [] (record { of_model = of; stops = h }) (All-nil (IsPlainStop model pivots))
+listed_plain model set pivots (Pivots site) h of =
+    let told : Stopped = record { stop = Pivots site; set = set; enforced = [] } in
+    All-cons (IsPlainStop model pivots) told [] (record { of_model = of; stops = h }) (All-nil (IsPlainStop model pivots))
+listed_plain model set pivots (Nodes site) h of = absurd h
+listed_plain model set pivots (Large size) h of = absurd h
+listed_plain model set pivots Memory h of = All-nil (IsPlainStop model pivots)
+
+answer_plain : (model : Program) (set : List Member) (pivots : ℕ) (stop answer : Stop) → IsNodeEnd model set [] pivots (Err stop) → IsStopOf model stop → (answer ≡ stop) ⊎ (answer ≡ Memory)
+    → All (IsPlainStop model pivots) (listed_stop answer set [])
+answer_plain model set pivots stop answer h of (inl e) = subst (λ (s : Stop). All (IsPlainStop model pivots) (listed_stop s set [])) (sym e) (listed_plain model set pivots stop h of)
+answer_plain model set pivots stop answer h of (inr e) = subst (λ (s : Stop). All (IsPlainStop model pivots) (listed_stop s set [])) (sym e) (All-nil (IsPlainStop model pivots))
+
+-- the tale stays true with the stop that is answered
+pub tale_with_stop : (model : Program) (set : List Member) (pivots : ℕ) (stops now : List Stopped) (first : Option FirstCore) (stop answer : Stop) → IsTrueTale model pivots stops first
+    → IsNodeEnd model set [] pivots (Err stop) → IsStopOf model stop → (answer ≡ stop) ⊎ (answer ≡ Memory) → now ≡ stops ++ listed_stop answer set [] → IsTrueTale model pivots now first
+tale_with_stop model set pivots stops now first stop answer tale h of which e = record {
+  few = tale.few;
+  stops_are =
+      subst (All (IsPlainStop model pivots)) (sym e)
+      (All-append (IsPlainStop model pivots) stops (listed_stop answer set []) tale.stops_are (answer_plain model set pivots stop answer h of which));
+  first_is = tale.first_is;
+}
+
+first_plain : (model : Program) (set : List Member) (pivots : ℕ) (combo : Combo) → IsPlainCut model set [] pivots combo.shares → (first : Option FirstCore) → IfSome first (IsPlainCore model pivots)
+    → (result : Result Verdict Stop) → IfOk result (IsLeafOf combo) → IfSome (first_core_after first set result) (IsPlainCore model pivots)
+first_plain model set pivots combo cut (Some first) kept result leaf = kept
+first_plain model set pivots combo cut None kept (Ok (Infeasible proof)) leaf = record { proof = proof; plain = record { combo = combo; leaf = leaf; cut = cut }; core_is = refl }
+first_plain model set pivots combo cut None kept (Ok (Feasible point)) leaf = tt
+first_plain model set pivots combo cut None kept (Err stop) leaf = tt
+
+-- and with the core of the verdict
+pub tale_with_core : (model : Program) (set : List Member) (pivots : ℕ) (stops : List Stopped) (first now : Option FirstCore) (end : NodeEnd) (combo : Combo) (result : Result Verdict Stop) → IsTrueTale model pivots stops first
+    → end ≡ Cut combo → IsNodeEnd model set [] pivots (Ok end) → IfOk result (IsLeafOf combo) → now ≡ first_core_after first set result → IsTrueTale model pivots stops now
+tale_with_core model set pivots stops first now end combo result tale is h leaf e =
+    let cut : IsPlainCut model set [] pivots combo.shares = subst (λ (z : NodeEnd). IsNodeEnd model set [] pivots (Ok z)) is h in
+    record {
+      few = tale.few;
+      stops_are = tale.stops_are;
+      first_is = subst (λ (o : Option FirstCore). IfSome o (IsPlainCore model pivots)) (sym e) (first_plain model set pivots combo cut first tale.first_is result leaf);
+    }

@@ -1,5 +1,5 @@
 -- What contracts see of an oracle, and what it answers.
-use Rattle.std.specs.Prelude.{◌≡◌, ⊤, ℕ, Bool, false, not, List, [], ◌∷◌, Option, Result, Ok, Err}
+use Rattle.std.specs.Prelude.{◌≡◌, ◌<◌, ◌^◌, ⊤, ℕ, Bool, false, not, List, [], ◌∷◌, Option, Result, Ok, Err, All, IfSome}
 use Rattle.std.specs.List.{list_any}
 use Rattle.lp_model.specs.declared.members.Member.{Member}
 use Rattle.lp_model.specs.Program.{Program}
@@ -16,11 +16,12 @@ use Rattle.certs.specs.Plain.{plain_system}
 use Rattle.certs.specs.Solves.{SettlesAt, IsPlainCut}
 use Rattle.certs.specs.Tales.{Stopped, FirstCore, core_of, IsNodeEnd}
 
--- the program, the pivots of each run, how often it was asked, its stops in order, and the first core
+-- the program, the pivots of each run, how often it was asked, the pivots that its runs made, its stops in order, and the first core
 pub record OracleValue : Type 0 where
   pub model : Program
   pub pivots : ℕ
   pub asks : ℕ
+  pub made : ℕ
   pub stops : List Stopped
   pub first : Option FirstCore
 
@@ -64,3 +65,9 @@ pub record IsPlainCore (model : Program) (pivots : ℕ) (told : FirstCore) : Typ
   pub proof : Proof
   pub plain : IsPlainProof model told.asked pivots (Infeasible proof)
   pub core_is : told.core ≡ core_of told.asked proof.nodes
+
+-- what is kept of an oracle: each told stop is one of those runs, and so is the told first core
+pub record IsTrueTale (model : Program) (pivots : ℕ) (stops : List Stopped) (first : Option FirstCore) : Type 0 where
+  pub few : pivots < 2 ^ 63
+  pub stops_are : All (IsPlainStop model pivots) stops
+  pub first_is : IfSome first (IsPlainCore model pivots)

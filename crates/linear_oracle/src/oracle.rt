@@ -1,5 +1,5 @@
 //! The oracle.
-ghost use Rattle.std.specs.Prelude.{◌≡◌, ◌≤◌, ◌<◌, ◌^◌, [], ◌∷◌, true, None, Ok, All, IfErr, IfOk, List, length};
+ghost use Rattle.std.specs.Prelude.{◌≡◌, ◌≤◌, ◌<◌, ◌^◌, [], ◌∷◌, true, None, Ok, All, IfErr, IfOk, IfSome, List, length};
 ghost use Rattle.std.specs.Option.{option_map};
 ghost use Rattle.lp_model.specs.declared.members.Member.{Member as OneMember};
 ghost use Rattle.lp_model.specs.Satisfaction.{IsPart};
@@ -8,7 +8,7 @@ ghost use Rattle.certs.specs.Named.{IsKnownNode, IsKnownSource};
 ghost use Rattle.certs.specs.Sites.{Budgets};
 ghost use Rattle.certs.specs.Tales.{IsSiteWithin, IsVerdict, core_of, first_core_after, one_more, stops_after};
 ghost use Rattle.certs.specs.declared.solving.Stop.TheVariants.{Memory};
-ghost use Rattle.linear_oracle.specs.Value.{OracleValue, IsLeafOf, IsPlainVerdict, is_linear};
+ghost use Rattle.linear_oracle.specs.Value.{OracleValue, IsLeafOf, IsPlainCore, IsPlainStop, IsPlainVerdict, is_linear};
 
 use crate::records::{CoreRecord, StopRecord, answered};
 use crate::solve::solve;
@@ -19,37 +19,39 @@ use certs::{
 use lp_model::Model;
 use std::alloc::{AllocError, Global};
 
-/// An oracle for sets without marks. Each ask is one run of the set's plain system, with so many pivots.
+/// An oracle for sets without marks. Each ask is one run of the set's plain system, with so many pivots. What it tells
+/// of its stops and of its first core is so of those runs.
 #[derive(Drop)]
 pub struct LinearOracle<'a> {
     model: &'a Model,
     pivots: u64,
     asks: u64,
+    made: u64,
     stops: Vec<StopRecord>,
     first: Option<CoreRecord>,
 }
 
 impl<'a> std::marker::Model for LinearOracle<'a> {
-    ghost use Rattle.std.specs.Prelude.{◌<◌, ◌^◌};
-    ghost use Rattle.linear_oracle.specs.Value.{OracleValue};
+    ghost use Rattle.linear_oracle.specs.Value.{OracleValue, IsTrueTale};
 
     ghost Value = { OracleValue };
 
-    ghost view = { λ o. record { model = o.model.now; pivots = o.pivots; asks = o.asks; stops = o.stops.items; first = o.first } };
+    ghost view = { λ o. record { model = o.model.now; pivots = o.pivots; asks = o.asks; made = o.made; stops = o.stops.items; first = o.first } };
 
-    ghost invariant = { λ o. o.pivots < 2 ^ 63 };
+    ghost invariant = { λ o. IsTrueTale o.model.now o.pivots o.stops.items o.first };
 }
 
 impl<'a> LinearOracle<'a> {
     /// An oracle for a program, which may spend so many pivots in each run. It was asked nothing yet.
     pub fn new(alloc: Global, model: &'a Model, pivots: u64) -> LinearOracle<'a>
         requires { pivots < 2 ^ 63 }
-        ensures { result ≡ record { model = model.now; pivots = pivots; asks = 0; stops = []; first = None } }
+        ensures { result ≡ record { model = model.now; pivots = pivots; asks = 0; made = 0; stops = []; first = None } }
     {
         LinearOracle {
             model,
             pivots,
             asks: 0,
+            made: 0,
             stops: Vec::new(alloc),
             first: None,
         }
@@ -60,6 +62,13 @@ impl<'a> LinearOracle<'a> {
         ensures { result ≡ self.now.asks }
     {
         self.asks
+    }
+
+    /// How many pivots its runs made so far, for measurements; it stays at its greatest value once there.
+    pub fn pivots_made(&self) -> u64
+        ensures { result ≡ self.now.made }
+    {
+        self.made
     }
 
     /// Its stops, in order: each is that of the run of the asked set's plain system.
@@ -106,11 +115,12 @@ impl Oracle for LinearOracle<'_> {
         ensures parts { (s part : List OneMember) → IsPart part s → is_linear s ≡ true → is_linear part ≡ true }
         // How the run of the set's plain system ends.
         ensures plain { IsPlainVerdict self.old.model set.now.members self.old.pivots result }
+        ensures made { self.old.made ≤ self.new.made }
     {
         self.asks = self.asks.saturating_add(1);
         // That the members of a set are possible members is told with their count.
         let _count = set.count();
-        let end = match solve(alloc, self.model, set, &[], self.pivots) {
+        let end = match solve(alloc, self.model, set, &[], self.pivots, &mut self.made) {
             Ok(end) => end,
             Err(stop) => return Err(answered(alloc, &mut self.stops, set, stop)),
         };
@@ -128,7 +138,7 @@ impl BranchAsk for LinearOracle<'_> {
         set: &MemberSet,
         path: &[Branch],
     ) -> Result<NodeEnd, Stop> {
-        solve(alloc, self.model, set, path, self.pivots)
+        solve(alloc, self.model, set, path, self.pivots, &mut self.made)
     }
 }
 

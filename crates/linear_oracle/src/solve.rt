@@ -1,5 +1,5 @@
 //! The run of the plain system of a set on a path.
-ghost use Rattle.std.specs.Prelude.{◌≡◌, ◌<◌, ◌≤◌, ◌^◌, false, true, All, IfOk, None, length};
+ghost use Rattle.std.specs.Prelude.{◌≡◌, ◌<◌, ◌≤◌, ◌^◌, false, true, All, IfErr, IfOk, None, length};
 ghost use Rattle.lp_model.specs.Program.{IsWellFormed};
 ghost use Rattle.lp_model.specs.Shown.{most_columns, most_rows};
 ghost use Rattle.certs.specs.Checks.{IsSetOf};
@@ -9,6 +9,7 @@ ghost use Rattle.certs.specs.Tableau.{IsTableauOf, IsWellFormedSystem, start_bas
 ghost use Rattle.certs.specs.Tales.{IsNodeEnd};
 ghost use Rattle.dictionary.specs.Value.{tableau_of};
 ghost use Rattle.linear_oracle.specs.Ended.{Shows};
+ghost use Rattle.linear_oracle.specs.Value.{IsStopOf};
 
 use crate::crossings::first_crossing;
 use crate::ends::{crossing_end, cut_end, point_end, stop_end};
@@ -19,7 +20,7 @@ use lp_model::Model;
 use simplex::{Settled, settle};
 use std::alloc::{AllocError, Global};
 
-/// The end of the run of the set's plain system on a path, with so many pivots.
+/// The end of the run of the set's plain system on a path, with so many pivots. Those that it makes are added to a count.
 ///
 /// # Errors
 ///
@@ -30,6 +31,7 @@ pub(crate) fn solve(
     set: &MemberSet,
     path: &[Branch],
     pivots: u64,
+    made: &mut u64,
 ) -> Result<NodeEnd, Stop>
     requires same { IsSetOf model.now set.now }
     requires known { All (λ b. b.column < length model.now.columns) path.now }
@@ -37,6 +39,8 @@ pub(crate) fn solve(
     requires budget { pivots < 2 ^ 63 }
     ensures end { IsNodeEnd model.now set.now.members path.now pivots result }
     ensures shows { IfOk result (Shows model.now set.now.members path.now) }
+    ensures stop { IfErr result (IsStopOf model.now) }
+    ensures made { made.old ≤ made.new }
 {
     // With the counts it is told that the program is well formed, that it has few rows and columns, and that the set's
     // members may be in it.
@@ -49,34 +53,37 @@ pub(crate) fn solve(
     if let Some(variable) = first_crossing(&system) {
         return crossing_end(alloc, model, set, path, variable);
     }
-    settle_system(alloc, model, set, path, &system, pivots)
+    let mut left = pivots;
+    let end = settle_system(alloc, model, set, path, &system, &mut left);
+    *made = made.saturating_add(pivots.saturating_sub(left));
+    end
 }
 
-// The end of the run, where no limits cross.
+// The end of the run, where no limits cross. What it leaves of the pivots is told.
 fn settle_system(
     alloc: Global,
     model: &Model,
     set: &MemberSet,
     path: &[Branch],
     system: &System,
-    pivots: u64,
+    pivots: &mut u64,
 ) -> Result<NodeEnd, Stop>
     requires same { IsSetOf model.now set.now }
     requires known { All (λ b. b.column < length model.now.columns) path.now }
     requires fitting { All IsFitting path.now }
-    requires budget { pivots < 2 ^ 63 }
+    requires budget { pivots.old < 2 ^ 63 }
     requires plain { system.now ≡ system_of model.now set.now.members path.now false }
     requires apart { least_crossing system.now ≡ None }
     requires formed { IsWellFormedSystem system.now }
     requires few { variables system.now < 2 ^ 31 }
-    ensures { IsNodeEnd model.now set.now.members path.now pivots result }
+    ensures end { IsNodeEnd model.now set.now.members path.now pivots.old result }
+    ensures stop { IfErr result (IsStopOf model.now) }
 {
     let Ok(mut dictionary) = started(alloc, system) else {
         return Err(Stop::Memory);
     };
-    let mut left = pivots;
     let mut turn = 0;
-    let settled = match settle(&mut dictionary, &mut left, &mut turn) {
+    let settled = match settle(&mut dictionary, pivots, &mut turn) {
         Ok(settled) => settled,
         Err(stop) => return Err(stop_end(alloc, set, path, stop)),
     };

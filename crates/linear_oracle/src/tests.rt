@@ -254,6 +254,7 @@ fn rows_that_contradict(rt: HostRuntime) -> Result<(), Fail> {
     };
     assert!(rt; is_refuted(&verdict, row_shares()));
     assert_eq!(rt; oracle.asks(), 1);
+    assert_eq!(rt; oracle.pivots_made(), 1);
     assert!(rt; oracle.stops().is_empty());
     Ok(())
 }
@@ -287,6 +288,7 @@ fn no_pivots(rt: HostRuntime) -> Result<(), Fail> {
     };
     assert!(rt; is_spent(&stop, 2));
     assert_eq!(rt; oracle.asks(), 1);
+    assert_eq!(rt; oracle.pivots_made(), 0);
     let [record] = oracle.stops() else {
         return Err(Fail::from(AllocError));
     };

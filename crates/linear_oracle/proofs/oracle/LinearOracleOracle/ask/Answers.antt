@@ -6,7 +6,7 @@ use Rattle.certs.specs.Tales.{IsVerdict}
 use Rattle.certs.specs.declared.solving.Verdict.TheVariants.{Feasible}
 use Rattle.linear_oracle.specs.Value.{OracleValue}
 use Rattle.linear_oracle.proofs.Members.{all_possible}
-use Rattle.linear_oracle.proofs.Answering.{answered_within, cut_verdict, known_sources, linear_part, point_verdict}
+use Rattle.linear_oracle.proofs.Answering.{answered_within, cut_verdict, known_sources, linear_part, point_verdict, tale_with_core, tale_with_stop}
 use Rattle.linear_oracle.proofs.oracle.LinearOracleOracle.ask.Goals as goal
 
 pub solve-requires-clause-same : goal.solve-requires-clause-same
@@ -36,3 +36,15 @@ returns-in-Cut-clause-verdict c =
 
 pub returns-in-Cut-clause-parts : goal.returns-in-Cut-clause-parts
 returns-in-Cut-clause-parts c = linear_part
+
+pub invariant_of-self : goal.invariant_of-self
+invariant_of-self c =
+    let o = c.self.inside in
+    tale_with_stop o.model.now c.args.set.now.members o.pivots o.stops.items c.answered.new.stops.items o.first c.in-Err.stop c.answered.result c.self.invariant
+    c.in-Err.ensures.end c.in-Err.ensures.stop c.answered.ensures.stop c.answered.ensures.listed
+
+pub invariant_of-self-in-Cut : goal.invariant_of-self-in-Cut
+invariant_of-self-in-Cut c =
+    let o = c.self.inside in
+    tale_with_core o.model.now c.args.set.now.members o.pivots o.stops.items o.first c.refuted.new.first c.in-Ok.end c.in-Cut.combo c.refuted.result c.self.invariant
+    c.in-Cut.is c.in-Ok.ensures.end c.refuted.ensures.leaf c.refuted.ensures.first_core

@@ -1,0 +1,43 @@
+use Rattle.std.proofs.Common.{◌≡◌, ap, sym, subst, not, false}
+use Rattle.std.specs.Prelude.{All}
+use Rattle.std.proofs.lemmas.List.Folds.{list_any_none}
+use Rattle.lp_model.specs.Members.{active_members, is_mark}
+use Rattle.lp_model.specs.MemberSets.{SetValue}
+use Rattle.certs.specs.Sites.{Budgets}
+use Rattle.linear_oracle.specs.Value.{OracleValue}
+use Rattle.sensitivity_filter.specs.Cores.{IsCoreTest as IsToldTest, IsLateOfCore as IsLateOfTold}
+use Rattle.analysis.specs.Answers.{budgets_of}
+use Rattle.analysis.specs.Right.{IsCoreTest, IsLateOfCore}
+use Rattle.analysis.proofs.Found.{core_test, core_test_is_part, found_answer, late_of_core, late_of_core_is_part, plain_first}
+use Rattle.analysis.proofs.Stopping.{first_stop, isolated_stop, known_stopped}
+use Rattle.analysis.proofs.searching.by_sensitivity.Goals as goal
+
+pub isolate-requires-clause-served : goal.isolate-requires-clause-served
+isolate-requires-clause-served c =
+    ap not (list_any_none is_mark c.in_ok-set.set.members (subst (λ (s : SetValue). All (λ m. is_mark m ≡ false) s.members) (sym c.in_ok-set.ensures) c.requires.linear))
+
+pub returns-in-Ok : goal.returns-in-Ok
+returns-in-Ok c =
+    let model = c.args.model.now in
+    let active = active_members model in
+    let budgets = budgets_of c.args.budgets in
+    let e = c.in-Ok.ensures in
+    let first = c.isolate.new.oracle.first in
+    let plain = plain_first model budgets c.new-oracle.result c.isolate.new.oracle c.new-oracle.ensures c.isolate.ensures.model (ap (λ (b : Budgets). b.pivots) c.isolate.ensures.budgets) c.first_core-first.ensures.plain in
+    let h = found_answer (λ m s. IsLateOfTold m s first) (IsLateOfCore model budgets) (IsCoreTest model budgets) c.new-oracle.result.model model c.in_ok-set.set budgets c.in-Ok.found c.isolated.result
+    (ap (λ (o : OracleValue). o.model) c.new-oracle.ensures) c.in_ok-set.ensures c.requires.linear (late_of_core model budgets first plain) (late_of_core_is_part model active first) c.isolated.ensures
+    (record { kept = e.late; proof = e.proof; witnesses = e.witnesses; irreducible = e.irreducible; same = e.same; point = e.point }) in
+    record { right = h.0; known = h.1 }
+
+pub returns : goal.returns
+returns c =
+    let model = c.args.model.now in
+    let active = active_members model in
+    let budgets = budgets_of c.args.budgets in
+    let test = IsCoreTest model budgets in
+    let first = c.isolate.new.oracle.first in
+    let pivots = ap (λ (b : Budgets). b.pivots) c.isolate.ensures.budgets in
+    let plain = plain_first model budgets c.new-oracle.result c.isolate.new.oracle c.new-oracle.ensures c.isolate.ensures.model pivots c.first_core-first-in-Err.ensures.plain in
+    let h = first_stop (λ m s. IsToldTest m s first) test model c.in_ok-set.set budgets c.new-oracle.result c.isolate.new.oracle c.in-Err.stop c.stopped.result c.new-oracle.ensures c.in_ok-set.ensures
+    c.isolate.ensures.model pivots c.in-Err.ensures.stop (core_test_is_part model active first) (core_test model budgets first plain) c.stopped.ensures in
+    record { right = isolated_stop (IsLateOfCore model budgets) test model budgets c.stopped.result h; known = known_stopped test model budgets c.stopped.result h }
