@@ -4,4 +4,8 @@
 #[cfg(test)]
 mod examples;
 #[cfg(test)]
+mod rows;
+#[cfg(test)]
+mod searches;
+#[cfg(test)]
 mod tests;

@@ -1,58 +1,8 @@
 use crate::examples;
-use iis_edge::{File, MemShelf, MemSink};
-use iis_run::run;
-use std::alloc::{AllocError, Global};
-use std::process::Abort;
+use crate::rows::{LP, MPS, Row, VERIFY, VERIFY_LP, expect};
 use std::test::Fail;
 
-/// A run: its words, the model's text and that of the second file, and its status and what it writes.
-#[derive(Clone, Copy)]
-struct Row {
-    words: [&'static str; 3],
-    model: &'static str,
-    second: &'static str,
-    status: u8,
-    written: &'static str,
-}
-
-const MPS: [&str; 3] = ["analyse", "m.mps", "s.txt"];
-
-const LP: [&str; 3] = ["analyse", "m.lp", "s.txt"];
-
-const VERIFY: [&str; 3] = ["verify", "m.mps", "r.txt"];
-
-const VERIFY_LP: [&str; 3] = ["verify", "m.lp", "r.txt"];
-
 const CHECK: &str = "check\n";
-
-fn file(alloc: Global, name: &str, text: &str) -> Result<File, AllocError> {
-    Ok(File {
-        name: name.as_bytes().to_vec(alloc)?,
-        bytes: text.as_bytes().to_vec(alloc)?,
-    })
-}
-
-// Whether the run is so.
-fn is_so(alloc: Global, row: &Row) -> Result<bool, AllocError> {
-    let mut words = Vec::new(alloc);
-    for word in &row.words {
-        words.push(String::from_str(alloc, word)?)?;
-    }
-    let mut files = Vec::new(alloc);
-    files.push(file(alloc, row.words[1], row.model)?)?;
-    files.push(file(alloc, row.words[2], row.second)?)?;
-    let mut shelf = MemShelf::new(alloc, files, Vec::new(alloc));
-    let mut out = MemSink::new(alloc, 10_000, Vec::new(alloc))?;
-    let status = run(alloc, words.as_slice(), &mut shelf, &mut out);
-    Ok(status == row.status && out.bytes() == row.written.as_bytes())
-}
-
-fn expect(rt: &impl Abort, alloc: Global, rows: &[Row]) -> Result<(), AllocError> {
-    for row in rows {
-        assert!(rt; is_so(alloc, row)?, "{}{}", row.model, row.written);
-    }
-    Ok(())
-}
 
 const EMPTY: &str = "ROWS\nCOLUMNS\nENDATA\n";
 
