@@ -25,6 +25,7 @@ use Rattle.lp_model.specs.MemberSets.{active_set, empty_set}
 use Rattle.report_text.specs.Grammar.{report_lines}
 use Rattle.report_text.specs.Form.{IsNamedColumn, IsNamedMember, IsUse, IsEntryFor, IsReportFor, share_before}
 use Rattle.report_text.proofs.Endings.{pair_in_order}
+use Rattle.report_text.proofs.LeftOut.{whole_in_form, none_missing}
 use Rattle.cert_check.specs.Samples.{sample, sample_terms, sample_set, sample_nodes, sample_report, stop_report}
 
 pub one_term : IsForm 1 sample_terms
@@ -92,9 +93,9 @@ stop_form model =
     record {
       notes = All-nil (λ note. IsNamedColumn model (noted_column note));
       entries = All-cons (IsEntryFor model) budget (stop ∷ []) (record { command = omega arith; kind = refl; answer = tt })
-          (All-cons (IsEntryFor model) stop [] (record { command = tt; kind = refl; answer = record { kind = refl; set_is = refl; enforced_is = refl; path_is = refl } }) (All-nil (IsEntryFor model)));
+          (All-cons (IsEntryFor model) stop [] (record { command = tt; kind = refl; answer = whole_in_form model }) (All-nil (IsEntryFor model)));
       numbered = (refl, (refl, tt));
     }
 
 pub stop_lines_few : (model : Program) → length (report_lines model (stop_report model)) ≡ 8
-stop_lines_few model = refl
+stop_lines_few model = rw (none_missing model) refl

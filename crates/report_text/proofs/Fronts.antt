@@ -39,7 +39,7 @@ use Rattle.report_text.specs.Form.{is_word, IsNamedColumn, IsNamedMember, IsWith
 use Rattle.report_text.specs.Phrases.{IsPhraseFor, phrase_line}
 use Rattle.report_text.specs.Drafts.{filled, point_of, leaf_of, set_of, answer_of, only_if, witnessed_with, site_without, with_left_out, left_out_next, at_site, stop_begun, stop_with, extended, placed, between, advanced, AreValues, AreMembers, AreWitnesses, IsFound, IsOneMore, AreLeftOut, IsStopPart, Asks, IsPartFor, IsDraftFor}
 use Rattle.report_text.proofs.Said.{value_phrases, point_phrases, proof_phrases, witness_phrases, without_phrase, site_phrases, answer_front, answer_end, entry_phrases, body_phrases, entry_spelled}
-use Rattle.report_text.proofs.LeftOut.{left_twice, site_in_form}
+use Rattle.report_text.proofs.LeftOut.{none_left, left_twice, site_in_form}
 
 -- ---- what is read, as phrases
 abbrev pub found_phrases : Found → List Phrase
@@ -274,9 +274,6 @@ module _ (model : Program) where
       let both = and_parts (is_active model m) (list_all (λ n. comes_before n m) left) may in
       record { members = member_taken left m h.members named both.1; active = All-push (λ n. IsTrue (is_active model n)) left m h.active both.0 }
 
-  none_left : AreLeftOut model []
-  none_left = record { members = no_members; active = All-nil (λ n. IsTrue (is_active model n)) }
-
   -- a stop, and a phrase
   begun_taken : (c : Command) (s : StopPhrase) (next : Part) → Asks c → stop_begun s ≡ Some (Next.More next) → Took c Part.Nothing (Phrase.Stop s) next
   unfolding Took
@@ -304,7 +301,7 @@ module _ (model : Program) where
 
   stop_taken : (c : Command) (part : StopPart) (p : Phrase) (next : Part) → Asks c × IsStopPart model part → IsPhraseFor model p → stop_with model part p ≡ Some (Next.More next) → Took c (Part.Stop part) p next
   unfolding Took
-  stop_taken c StopPart.Wide p next h k e = site_taken c StopPart.Wide (StopPart.WideSite []) p next (h.0, none_left) refl e
+  stop_taken c StopPart.Wide p next h k e = site_taken c StopPart.Wide (StopPart.WideSite []) p next (h.0, none_left model) refl e
   stop_taken c (StopPart.WideSite left) (Phrase.Stop (StopPhrase.Without m)) next h k e = without_taken c StopPhrase.Wide (λ members. StopPart.WideSite members) left m next h k (λ members l. l) (λ members. refl) e
   stop_taken c (StopPart.WideSite left) (Phrase.Stop (StopPhrase.Step n)) next h k e =
       subst (Took c (Part.Stop (StopPart.WideSite left)) (Phrase.Stop (StopPhrase.Step n))) (more_is (Part.Stop (StopPart.WideStep left n)) next e) ((h.0, (h.1, k)), refl)
@@ -317,7 +314,7 @@ module _ (model : Program) where
   stop_taken c (StopPart.WideStep left n) _ next h k e = absurd (cc)
   stop_taken c (StopPart.WideOperation left n o) Phrase.End next h k e = absurd (cc)
   stop_taken c (StopPart.WideOperation left n o) _ next h k e = absurd (cc)
-  stop_taken c StopPart.Spent p next h k e = site_taken c StopPart.Spent (StopPart.SpentSite []) p next (h.0, none_left) refl e
+  stop_taken c StopPart.Spent p next h k e = site_taken c StopPart.Spent (StopPart.SpentSite []) p next (h.0, none_left model) refl e
   stop_taken c (StopPart.SpentSite left) (Phrase.Stop (StopPhrase.Without m)) next h k e = without_taken c StopPhrase.Spent (λ members. StopPart.SpentSite members) left m next h k (λ members l. l) (λ members. refl) e
   stop_taken c (StopPart.SpentSite left) (Phrase.Stop _) next h k e = absurd (cc)
   stop_taken c (StopPart.SpentSite left) Phrase.End next h k e = absurd (cc)

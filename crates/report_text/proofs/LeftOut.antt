@@ -1,16 +1,17 @@
 -- Members left out of the active ones: those that are left out of what is left are the ones left out at first.
-use Rattle.std.proofs.Common.{◌≡◌, refl, sym, ap, subst, ◌∙◌, ℕ, ◌+◌, ◌<◌, Bool, true, false, true≢false, not, cond, ◌&&◌, ◌||◌, List, [], ◌∷◌, ◌++◌, length, take, get_or, filter}
+use Rattle.std.proofs.Common.{◌≡◌, refl, sym, ap, subst, ◌∙◌, ℕ, ◌+◌, ◌<◌, Bool, true, false, true≢false, not, cond, ◌&&◌, ◌||◌, List, [], ◌∷◌, ◌++◌, length, take, get_or, filter, arith}
 use Rattle.std.specs.Prelude.{All, Contains, IsTrue}
 use Rattle.std.proofs.lemmas.Bool.{and_parts}
 use Rattle.std.proofs.lemmas.List.{take_more}
-use Rattle.std.proofs.lemmas.List.Elements.{All-contains, All-weaker, All-contains_itself}
+use Rattle.std.proofs.lemmas.List.Elements.{All-nil, All-contains, All-weaker, All-contains_itself}
 use Rattle.std.proofs.lemmas.List.Kept.{AllPairs-filter}
 use Rattle.lp_model.specs.declared.members.Member.{Member}
 use Rattle.lp_model.specs.Program.{Program}
 use Rattle.lp_model.specs.Members.{comes_before, is_same, has, is_active, active_members, IsInOrder}
-use Rattle.lp_model.specs.MemberSets.{set_without}
+use Rattle.lp_model.specs.MemberSets.{set_without, active_set, empty_set}
 use Rattle.lp_model.proofs.Sets.{same_members, contains_of_has, has_of_contains, members_law}
 use Rattle.lp_model.proofs.Marked.{is_what_it_has}
+use Rattle.certs.specs.declared.solving.SiteKind.TheVariants.{Settle}
 use Rattle.report_text.specs.Grammar.{left_out}
 use Rattle.report_text.specs.Form.{IsNamedMember, IsSettleSite, IsSiteFor}
 use Rattle.report_text.specs.Drafts.{set_of, site_without, AreLeftOut}
@@ -129,3 +130,14 @@ module _ (model : Program) where
     settle = record { kind = refl; of_model = record { rows = refl; columns = refl }; active = is_what_it_has (λ m. not (has left m)) (active_members model); enforced_is = refl; path_is = refl };
     named = subst (All (IsNamedMember model)) (sym (left_twice left h)) h.members.named;
   }
+
+  -- ---- where nothing is left out
+  pub none_left : AreLeftOut model []
+  none_left = record { members = record { named = All-nil (IsNamedMember model); in_order = λ i j d l m. absurd (omega arith) }; active = All-nil (λ m. IsTrue (is_active model m)) }
+
+  -- the settle run of all active members
+  pub whole_in_form : IsSiteFor model (record { kind = Settle; set = active_set model; enforced = empty_set model; path = [] })
+  whole_in_form = subst (λ (l : List Member). IsSiteFor model (record { kind = Settle; set = set_of model l; enforced = empty_set model; path = [] })) all_left (site_in_form [] none_left)
+
+  pub none_missing : left_out model (active_members model) ≡ []
+  none_missing = ap (left_out model) (sym all_left) ∙ left_twice [] none_left

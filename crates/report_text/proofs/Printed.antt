@@ -140,9 +140,9 @@ missing_all model set start a b c d p q r s =
     s ∙ ap (λ t. t ++ m wholes) (r ∙ ap (λ t. t ++ m uppers) (q ∙ ap (λ t. t ++ m lowers) p))
     ∙ four start (m rows) (m lowers) (m uppers) (m wholes)
     ∙ ap (λ t. start ++ t) (
-      ap (λ t. m rows ++ t) (ap (λ t. m lowers ++ t) (sym (missing_both model set uppers wholes)) ∙ sym (missing_both model set lowers (uppers ++ wholes)))
-      ∙ sym (missing_both model set rows (lowers ++ (uppers ++ wholes)))
-      ∙ ap (λ (l : List Member). text_of (map (without_line model) l)) (sym (filter_twice (is_active model) (λ n. not (has set n)) (possible_members model))))
+    ap (λ t. m rows ++ t) (ap (λ t. m lowers ++ t) (sym (missing_both model set uppers wholes)) ∙ sym (missing_both model set lowers (uppers ++ wholes)))
+    ∙ sym (missing_both model set rows (lowers ++ (uppers ++ wholes)))
+    ∙ ap (λ (l : List Member). text_of (map (without_line model) l)) (sym (filter_twice (is_active model) (λ n. not (has set n)) (possible_members model))))
   where
     four : (s w x y z : List ℕ) → s ++ w ++ x ++ y ++ z ≡ s ++ (w ++ (x ++ (y ++ z)))
     four s w x y z = append_assoc (s ++ w ++ x) y z ∙ (append_assoc (s ++ w) x (y ++ z) ∙ append_assoc s w (x ++ (y ++ z)))

@@ -191,11 +191,7 @@ pub(crate) fn make_wide(
 }
 
 /// The stop where no pivot is left.
-pub(crate) fn make_spent(
-    alloc: Global,
-    model: &Model,
-    left: &Members,
-) -> Result<Answer, AllocError>
+pub(crate) fn make_spent(alloc: Global, model: &Model, left: &Members) -> Result<Answer, AllocError>
     requires { AreLeftOut model.now left.now }
     ensures { IfOk result (λ a. a ≡ Answer.Stopped (Spent (site_without model.now left.now))) }
 {

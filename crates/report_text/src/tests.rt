@@ -377,11 +377,7 @@ fn left_out(rt: HostRuntime) -> Result<(), Fail> {
 }
 
 // What is read of the text is printed as the text.
-fn same(
-    rt: &(impl Abort + AllocGlobal),
-    model: &Model,
-    text: &[u8],
-) -> Result<(), AllocError> {
+fn same(rt: &(impl Abort + AllocGlobal), model: &Model, text: &[u8]) -> Result<(), AllocError> {
     let Ok(report) = read_report(rt.alloc(), text, model) else {
         return Err(AllocError);
     };
@@ -409,8 +405,7 @@ fn printed_back(rt: HostRuntime) -> Result<(), Fail> {
 
 // The line with this number is bad where these lines follow the site of a stop.
 fn bad_site(rt: &(impl Abort + AllocGlobal), line: u64, text: &str) -> Result<(), AllocError> {
-    let text =
-        format!(in rt.alloc(); "command iis additive\npivots spent\nsite settle\n{text}\n")?;
+    let text = format!(in rt.alloc(); "command iis additive\npivots spent\nsite settle\n{text}\n")?;
     bad(rt, line, text.as_str())
 }
 
