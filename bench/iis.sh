@@ -1,9 +1,10 @@
 #!/bin/sh
 # Looks for irreducible sets by each of the three filters on generated plans in the LP format (10, 60, 100 and 200 periods)
 # and on random sparse systems in the MPS format, of up to 200 rows and 400 columns, one of them feasible. Prints for each
-# the asks, the pivots, the seconds and the size of the set; and beside them the seconds of `z3` and `cvc5`, where these are
-# installed, and the size of the unsatisfiable core that they find and minimise, on the same systems in SMT-LIB. A run that
-# takes more than 120 seconds is cut off. It wants GNU time (Debian's package `time`). A benchmark, no test.
+# the asks, the pivots, the seconds of processor time and the size of the set; and beside them the seconds of `z3` and `cvc5`,
+# where these are installed, and the size of the unsatisfiable core that they find and minimise, on the same systems in
+# SMT-LIB. A run that takes more than 120 seconds by the clock is cut off. It wants GNU time (Debian's package `time`). A
+# benchmark, no test.
 set -eu
 
 top=$(CDPATH='' cd -- "$(dirname -- "$0")/.." && pwd)
@@ -67,13 +68,13 @@ smt() {
     echo "(get-unsat-core)"
 }
 
-# The seconds of a command, whose output goes to the file `said`; where it is cut off, the limit.
+# The processor seconds of a command, whose output goes to the file `said`; where it is cut off, that it is.
 seconds() {
-    /usr/bin/time -f '%e' -o figures timeout "$limit" "$@" >said 2>&1 </dev/null || true
+    /usr/bin/time -f '%U %S' -o figures timeout "$limit" "$@" >said 2>&1 </dev/null || true
     if grep -q 'status 124' figures; then
-        echo "over $limit"
+        echo "cut off"
     else
-        tail -n 1 figures
+        tail -n 1 figures | awk '{ printf "%.2f\n", $1 + $2 }'
     fi
 }
 
@@ -99,7 +100,7 @@ solver() {
     else
         found=-
     fi
-    echo "| $name | $solver | | | $taken | $found |"
+    echo "| $name | \`$solver\` | | | $taken | $found |"
 }
 
 # The lines of the table for a model, whose assertions are in the file `terms`.

@@ -45,6 +45,7 @@ struct Request {
 #[derive(Clone, Copy)]
 struct Told {
     asks: u64,
+    pivots: u64,
     end: &'static str,
     size: u64,
 }
@@ -129,6 +130,7 @@ fn search(alloc: Global, model: &Model, filter: Filter) -> Result<Told, AllocErr
     let given = isolated(alloc, filter, &mut oracle, &set);
     Ok(Told {
         asks: oracle.asks(),
+        pivots: oracle.pivots_made(),
         end: word(&given),
         size: size(&given),
     })
@@ -191,5 +193,8 @@ fn main(rt: HostRuntime) -> io::Result<()> {
     let Some(told) = answer(rt.alloc(), &request) else {
         return println!(rt; "the model is not read");
     };
-    println!(rt; "asks {} end {} size {}", told.asks, told.end, told.size)
+    println!(rt;
+        "asks {} pivots {} end {} size {}",
+        told.asks, told.pivots, told.end, told.size
+    )
 }

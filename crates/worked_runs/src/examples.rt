@@ -608,7 +608,8 @@ check
 ";
 
 /// `production.lp`.
-pub(crate) const PRODUCTION_LP: &str = "\\ A production plan for three periods: what is made and what is in store meets the demand of 8, 12 and 13.
+pub(crate) const PRODUCTION_LP: &str =
+    "\\ A production plan for three periods: what is made and what is in store meets the demand of 8, 12 and 13.
 \\ No more than 10 can be made in a period.
 Minimize
  cost: s1 + s2 + s3
@@ -703,7 +704,8 @@ report end
 ";
 
 /// `production_larger.lp`.
-pub(crate) const PRODUCTION_LARGER_LP: &str = "\\ The production plan for three periods, with a capacity of 13 in the third.
+pub(crate) const PRODUCTION_LARGER_LP: &str =
+    "\\ The production plan for three periods, with a capacity of 13 in the third.
 Minimize
  cost: s1 + s2 + s3
 Subject To
@@ -782,7 +784,8 @@ report end
 ";
 
 /// `kettle.lp`.
-pub(crate) const KETTLE_LP: &str = "\\ A batch that is to be 2, and at least 3, in a kettle that holds 1.
+pub(crate) const KETTLE_LP: &str =
+    "\\ A batch that is to be 2, and at least 3, in a kettle that holds 1.
 Minimize
 Subject To
  recipe: batch = 2

@@ -169,9 +169,27 @@ fn production(rt: HostRuntime) -> Result<(), Fail> {
     let larger = examples::PRODUCTION_LARGER_LP;
     let searches = [
         lp(plan, examples::CHECK, 0, examples::PRODUCTION_REPORT, ONE),
-        lp(plan, examples::IIS, 0, examples::PRODUCTION_IRREDUCIBLE, ONE),
-        lp(larger, examples::IIS, 0, examples::PRODUCTION_LARGER_REPORT, ONE),
-        lp(plan, FIVE, 1, FIVE_REPORT, "accepted settled 3 unsettled 1\n"),
+        lp(
+            plan,
+            examples::IIS,
+            0,
+            examples::PRODUCTION_IRREDUCIBLE,
+            ONE,
+        ),
+        lp(
+            larger,
+            examples::IIS,
+            0,
+            examples::PRODUCTION_LARGER_REPORT,
+            ONE,
+        ),
+        lp(
+            plan,
+            FIVE,
+            1,
+            FIVE_REPORT,
+            "accepted settled 3 unsettled 1\n",
+        ),
     ];
     for search in searches {
         expect_search(&rt, alloc, &search)?;
