@@ -13,7 +13,7 @@ use Rattle.lp_model.proofs.Sets.{same_members, contains_of_has, has_of_contains,
 use Rattle.lp_model.proofs.Marked.{is_what_it_has}
 use Rattle.certs.specs.declared.solving.SiteKind.TheVariants.{Settle}
 use Rattle.report_text.specs.Grammar.{left_out}
-use Rattle.report_text.specs.Form.{IsNamedMember, IsSettleSite, IsSiteFor}
+use Rattle.report_text.specs.Form.{IsNamedMember, IsSiteFor}
 use Rattle.report_text.specs.Drafts.{set_of, site_without, AreLeftOut}
 use Rattle.report_text.proofs.Listed.{one_list, has_push, same_flip}
 

@@ -1,6 +1,5 @@
 -- What is left to be printed after a step.
-use Rattle.std.proofs.Common.{◌≡◌, ◌<◌, ◌≤◌, ◌+◌, refl, sym, ◌∙◌, ap, subst, ℕ, suc, true, false, Bool, not, ◌&&◌, cond, add-one, List, [], ◌∷◌, ◌++◌, append_assoc, append-nil, drop, get_or, length, filter, find, zip, map, flat_map, Option, Some, None}
-use Rattle.std.specs.Prelude.{codes}
+use Rattle.std.proofs.Common.{◌≡◌, ◌<◌, ◌≤◌, ◌+◌, refl, sym, ◌∙◌, ap, subst, ℕ, true, false, Bool, not, ◌&&◌, cond, add-one, List, [], ◌∷◌, ◌++◌, append_assoc, append-nil, drop, get_or, length, filter, find, zip, map, flat_map, Option, Some, None}
 use Rattle.std.proofs.lemmas.List.{at_drop_more, map-append}
 use Rattle.std.proofs.Math.ListN.{drop_of_length-le}
 use Rattle.std.proofs.lemmas.Grind.{flat_map-append}
@@ -14,10 +13,9 @@ use Rattle.lp_model.specs.Evaluation.{IsInRange}
 use Rattle.lp_model.specs.MemberSets.{SetValue, IsPossibleIn, follows}
 use Rattle.certs.specs.Checks.{IsSetOf}
 use Rattle.certs.specs.declared.evidence.Point.{Point}
-use Rattle.certs.proofs.Walk.{all_follow, next_step, none_follow}
+use Rattle.certs.proofs.Walk.{next_step, none_follow}
 use Rattle.report_text.specs.declared.report.Entry.{Entry}
-use Rattle.report_text.specs.declared.report.Report.{Report}
-use Rattle.report_text.specs.Grammar.{Line, member_line, without_line, left_out, witness_lines, entry_lines, note_line, report_lines, text_of}
+use Rattle.report_text.specs.Grammar.{Line, member_line, without_line, left_out, witness_lines, entry_lines, note_line, text_of}
 use Rattle.report_text.specs.Printing.{ended, missing_text, head_lines, foot_lines, IsKnownMember, PartsLaw}
 use Rattle.report_text.proofs.LeftOut.{filter_twice}
 

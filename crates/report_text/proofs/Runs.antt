@@ -4,7 +4,7 @@ use Rattle.std.specs.Prelude.{map, flat_map, zip, replicate, option_and_then, op
 use Rattle.std.specs.List.{list_all}
 use Rattle.std.proofs.lemmas.List.{replicate_more, length-append, length-map}
 use Rattle.report_text.specs.Phrases.{phrase_line}
-use Rattle.report_text.proofs.Said.{value_phrases, point_phrases, node_phrases, proof_phrases, witness_phrases, without_phrase, site_phrases, stop_phrases, answer_front, answer_end, entry_phrases, report_phrases, entry_spelled}
+use Rattle.report_text.proofs.Said.{value_phrases, point_phrases, node_phrases, proof_phrases, witness_phrases, without_phrase, site_phrases, answer_front, answer_end, entry_phrases, report_phrases, entry_spelled}
 use Rattle.std.proofs.lemmas.List.Elements.{All-head, All-tail, All-contains, Contains-append_right}
 use Rattle.std.proofs.lemmas.Bool.{and_from, le-leb}
 use Rattle.rational.proofs.Compare.{eq-Decides}

@@ -1,6 +1,5 @@
-use Rattle.std.proofs.Common.{◌++◌, refl, sym, ◌∙◌, ap, append-nil, map, Some}
-use Rattle.lp_model.specs.MemberSets.{follows}
-use Rattle.certs.proofs.Walk.{all_follow, none_follow, fewer_follow, next_possible}
+use Rattle.std.proofs.Common.{◌++◌, refl, sym, ◌∙◌, ap, map}
+use Rattle.certs.proofs.Walk.{all_follow, fewer_follow, next_possible}
 use Rattle.report_text.specs.Grammar.{member_line, text_of}
 use Rattle.report_text.proofs.Kept.{keeps_same, keeps_on}
 use Rattle.report_text.proofs.Printed.{goes_on, members_left, members_ended, known_member}
