@@ -6,6 +6,8 @@ mod examples;
 #[cfg(test)]
 mod rows;
 #[cfg(test)]
+mod search_examples;
+#[cfg(test)]
 mod searches;
 #[cfg(test)]
 mod tests;

@@ -1,6 +1,7 @@
 //! Searches for irreducible sets, byte by byte, and that what is written of each is accepted.
-use crate::examples;
+use crate::examples::CHECK;
 use crate::rows::{LP, MPS, Row, VERIFY, VERIFY_LP, expect, expect_cut};
+use crate::search_examples;
 use iis_edge::Cut;
 use std::alloc::{AllocError, Global};
 use std::process::Abort;
@@ -130,10 +131,14 @@ fn two_sets(rt: HostRuntime) -> Result<(), Fail> {
     let runs = [
         (TWO_SETS_SCRIPT, TWO_SETS_REPORT, TWO),
         ("iis sensitivity\n", SENSITIVITY_REPORT, ONE),
-        (examples::FILTERS, examples::TWO_SETS_REPORT, THREE),
+        (
+            search_examples::FILTERS,
+            search_examples::TWO_SETS_REPORT,
+            THREE,
+        ),
     ];
     for (script, report, line) in runs {
-        let search = lp(examples::TWO_SETS_LP, script, 0, report, line);
+        let search = lp(search_examples::TWO_SETS_LP, script, 0, report, line);
         expect_search(&rt, rt.alloc(), &search)?;
     }
     Ok(())
@@ -147,7 +152,7 @@ const CUT_REPORT: &str =
 fn failing_put(rt: HostRuntime) -> Result<(), Fail> {
     let row = Row {
         words: LP,
-        model: examples::TWO_SETS_LP,
+        model: search_examples::TWO_SETS_LP,
         second: TWO_SETS_SCRIPT,
         status: 4,
         written: CUT_REPORT,
@@ -165,22 +170,22 @@ const FIVE_REPORT: &str =
 #[test]
 fn production(rt: HostRuntime) -> Result<(), Fail> {
     let alloc = rt.alloc();
-    let plan = examples::PRODUCTION_LP;
-    let larger = examples::PRODUCTION_LARGER_LP;
+    let plan = search_examples::PRODUCTION_LP;
+    let larger = search_examples::PRODUCTION_LARGER_LP;
     let searches = [
-        lp(plan, examples::CHECK, 0, examples::PRODUCTION_REPORT, ONE),
+        lp(plan, CHECK, 0, search_examples::PRODUCTION_REPORT, ONE),
         lp(
             plan,
-            examples::IIS,
+            search_examples::IIS,
             0,
-            examples::PRODUCTION_IRREDUCIBLE,
+            search_examples::PRODUCTION_IRREDUCIBLE,
             ONE,
         ),
         lp(
             larger,
-            examples::IIS,
+            search_examples::IIS,
             0,
-            examples::PRODUCTION_LARGER_REPORT,
+            search_examples::PRODUCTION_LARGER_REPORT,
             ONE,
         ),
         lp(
@@ -204,7 +209,13 @@ const FEASIBLE_REPORT: &str =
 
 #[test]
 fn feasible(rt: HostRuntime) -> Result<(), Fail> {
-    let search = lp(FEASIBLE, examples::FILTERS, 0, FEASIBLE_REPORT, THREE);
+    let search = lp(
+        FEASIBLE,
+        search_examples::FILTERS,
+        0,
+        FEASIBLE_REPORT,
+        THREE,
+    );
     expect_search(&rt, rt.alloc(), &search)?;
     Ok(())
 }
@@ -226,14 +237,14 @@ fn stops_in_the_middle(rt: HostRuntime) -> Result<(), Fail> {
     let alloc = rt.alloc();
     let searches = [
         lp(
-            examples::KETTLE_LP,
-            examples::NO_PIVOTS,
+            search_examples::KETTLE_LP,
+            search_examples::NO_PIVOTS,
             1,
-            examples::KETTLE_REPORT,
+            search_examples::KETTLE_REPORT,
             "accepted settled 1 unsettled 3\n",
         ),
         lp(
-            examples::KETTLE_LP,
+            search_examples::KETTLE_LP,
             KETTLE_SCRIPT,
             1,
             AGAIN_REPORT,
@@ -267,42 +278,42 @@ fn refusals(rt: HostRuntime) -> Result<(), Fail> {
     let runs = [
         (
             LP,
-            examples::TWO_SETS_LP,
+            search_examples::TWO_SETS_LP,
             "check\niis fast\n",
             6,
             "script refused line 2\n",
         ),
         (
             LP,
-            examples::TWO_SETS_LP,
+            search_examples::TWO_SETS_LP,
             "iis\n",
             6,
             "script refused line 1\n",
         ),
         (
             LP,
-            examples::TWO_SETS_LP,
+            search_examples::TWO_SETS_LP,
             "iis deletion additive\n",
             6,
             "script refused line 1\n",
         ),
         (
             VERIFY_LP,
-            examples::TWO_SETS_LP,
+            search_examples::TWO_SETS_LP,
             FALSE_WITNESS,
             8,
             "rejected line 7\n",
         ),
         (
             VERIFY_LP,
-            examples::KETTLE_LP,
+            search_examples::KETTLE_LP,
             EXCHANGED,
             6,
             "report refused line 6\n",
         ),
         (
             VERIFY_LP,
-            examples::KETTLE_LP,
+            search_examples::KETTLE_LP,
             NOT_THERE,
             6,
             "report refused line 5\n",
