@@ -1,9 +1,9 @@
 //! Texts with what is expected of them.
 
-use crate::told::model_line;
 use lp_reader::read_lp;
 use std::alloc::{AllocError, Global};
 use text_fields::ReadFault;
+use told_models::model_line;
 
 /// How many texts were read, how many answers differ, and the number of the first text that differs.
 #[derive(Clone, Copy)]

@@ -1,9 +1,9 @@
 //! Texts with what is expected of them.
 
-use crate::told::model_line;
 use mps_reader::read_mps;
 use std::alloc::{AllocError, Global};
 use text_fields::ReadFault;
+use told_models::model_line;
 
 /// How many texts and cuts were read, how many answers differ, and the number of the first text that differs.
 #[derive(Clone, Copy)]

@@ -7,7 +7,6 @@
 
 mod cases;
 mod limits;
-mod told;
 
 use crate::cases::try_cases;
 use crate::limits::try_limits;
