@@ -8,6 +8,8 @@ top=$(CDPATH='' cd -- "$(dirname -- "$0")/.." && pwd)
 work=$(mktemp -d)
 trap 'rm -rf "$work"' EXIT
 turns=${1:-10}
+# shellcheck source=bench/reading.sh
+. "$top/bench/reading.sh"
 
 awk -v pad=100 'function name(kind, number) { return sprintf("%s%0*d", kind, pad, number) }
 BEGIN {
@@ -42,26 +44,8 @@ BEGIN {
     print "ENDATA"
 }' >"$work/column.mps"
 
-(cd "$top/crates/mps_bench" && rt run) >"$work/log" 2>&1 </dev/null || {
-    tail -n 5 "$work/log" >&2
-    exit 1
-}
+build mps_bench
 for file in limits comments column; do
-    (cd "$work" && /usr/bin/time -f '%e %M' -o "$file.time" "$top/crates/mps_bench/out/mps_bench" "$file.mps" "$turns") >"$work/said"
-    grep -q 'rows [1-9]' "$work/said" || {
-        echo "$file is refused" >&2
-        exit 1
-    }
-    size=$(wc -c <"$work/$file.mps")
-    awk -v file="$file" -v size="$size" -v turns="$turns" '{ printf "%s %.1f MB: %.0f MB/s, %.0f MB at the peak\n", file, size / 1e6, size * turns / $1 / 1e6, $2 / 1000 }' "$work/$file.time"
+    read_text mps_bench "$file.mps"
 done
-cat >"$work/count" <<'END'
-i=0
-while [ "$i" -lt "$1" ]; do
-    wc -w <limits.mps >counted
-    i=$((i + 1))
-done
-END
-(cd "$work" && /usr/bin/time -f '%e' -o plain.time sh count "$turns")
-size=$(wc -c <"$work/limits.mps")
-awk -v size="$size" -v turns="$turns" '{ printf "wc -w: %.0f MB/s\n", size * turns / $1 / 1e6 }' "$work/plain.time"
+print_count limits.mps

@@ -7,6 +7,8 @@ top=$(CDPATH='' cd -- "$(dirname -- "$0")/.." && pwd)
 work=$(mktemp -d)
 trap 'rm -rf "$work"' EXIT
 turns=${1:-20}
+# shellcheck source=bench/reading.sh
+. "$top/bench/reading.sh"
 
 awk 'BEGIN {
     print "NAME scan\nROWS\n N cost"
@@ -21,23 +23,13 @@ awk 'BEGIN {
 }' >"$work/whole"
 head -c 16777216 "$work/whole" >"$work/model.mps"
 
-(cd "$top/crates/scan_bench" && rt run) >"$work/log" 2>&1 </dev/null || {
-    tail -n 5 "$work/log" >&2
-    exit 1
-}
+build scan_bench
 words=$(wc -w <"$work/model.mps")
 (cd "$work" && /usr/bin/time -f '%e' -o proved.time "$top/crates/scan_bench/out/scan_bench" model.mps "$turns") >"$work/said"
 grep -q " fields $((words))$" "$work/said" || {
     echo "the words differ: $(cat "$work/said") $words" >&2
     exit 1
 }
-cat >"$work/count" <<'EOF'
-i=0
-while [ "$i" -lt "$1" ]; do
-    wc -w <model.mps >counted
-    i=$((i + 1))
-done
-EOF
-(cd "$work" && /usr/bin/time -f '%e' -o plain.time sh count "$turns")
-paste -d ' ' "$work/proved.time" "$work/plain.time" |
+count_words model.mps >"$work/plain.seconds"
+paste -d ' ' "$work/proved.time" "$work/plain.seconds" |
     awk -v turns="$turns" '{ size = 16.777216 * turns; printf "lines and fields %.0f MB/s, wc -w %.0f MB/s, ratio of times %.2f\n", size / $1, size / $2, $1 / $2 }'

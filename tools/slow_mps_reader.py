@@ -26,6 +26,8 @@ from fractions import Fraction
 from math import lcm
 from typing import NamedTuple, Optional
 
+from reader_cases import run
+
 # ---- limits
 WIDEST = 2**127 - 1
 MOST_PLACES = 38
@@ -732,44 +734,5 @@ def made_text(chance: random.Random) -> bytes:
     return "".join(line + "\n" for line in lines).encode()
 
 
-# ---- cases
-def cases_of(content: bytes) -> list:
-    """The cases of a file: what is expected, and the text."""
-    cases = []
-    for case in re.split(rb"^>", content, flags=re.MULTILINE)[1:]:
-        expected, _, text = case.partition(b"\n")
-        cases.append((expected.rstrip(), text))
-    return cases
-
-
-def check(path: str) -> int:
-    """Says for how many cases of a file the answer differs, and which these are."""
-    with open(path, "rb") as file:
-        cases = cases_of(file.read())
-    differing = [place for place, (expected, text) in enumerate(cases, 1) if answer(text).encode() != expected]
-    print(f"cases {len(cases)} differ {len(differing)}")
-    for place in differing:
-        print(f"case {place} is answered {answer(cases[place - 1][1])}")
-    return 1 if differing else 0
-
-
-def make(count: int, seed: int) -> int:
-    """Prints cases that are made by chance."""
-    chance = random.Random(seed)
-    for _ in range(count):
-        text = made_text(chance)
-        sys.stdout.buffer.write(b">" + answer(text).encode() + b"\n" + text)
-    return 0
-
-
-def main(words: list) -> int:
-    if len(words) == 2 and words[0] == "check":
-        return check(words[1])
-    if len(words) == 3 and words[0] == "make" and words[1].isdecimal() and words[2].isdecimal():
-        return make(int(words[1]), int(words[2]))
-    print("usage: slow_mps_reader.py check FILE | make COUNT SEED", file=sys.stderr)
-    return 2
-
-
 if __name__ == "__main__":
-    sys.exit(main(sys.argv[1:]))
+    sys.exit(run("slow_mps_reader.py", sys.argv[1:], b">", answer, made_text))
