@@ -606,3 +606,129 @@ report end
 pub(crate) const CHECK: &str = "# Is there a point that keeps every row and bound?
 check
 ";
+
+/// `short_flour.mps`.
+pub(crate) const SHORT_FLOUR_MPS: &str = "ROWS
+ E week1
+ E week2
+ E week3
+ L oven1
+ L oven2
+ L oven3
+ L shift1
+ L shift2
+ L shift3
+ L store1
+ L store2
+ L flour
+ G safety
+COLUMNS
+ bake1 week1 1
+ bake1 oven1 1
+ bake1 flour 2
+ bake2 week2 1
+ bake2 oven2 1
+ bake2 flour 2
+ bake3 week3 1
+ bake3 oven3 1
+ bake3 flour 2
+ extra1 week1 1
+ extra1 shift1 1
+ extra1 flour 2
+ extra2 week2 1
+ extra2 shift2 1
+ extra2 flour 2
+ extra3 week3 1
+ extra3 shift3 1
+ extra3 flour 2
+ stock1 week1 -1
+ stock1 week2 1
+ stock1 store1 1
+ stock2 week2 -1
+ stock2 week3 1
+ stock2 store2 1
+ stock3 week3 -1
+ stock3 safety 1
+RHS
+ week1 120
+ week2 150
+ week3 180
+ oven1 140
+ oven2 140
+ oven3 140
+ shift1 20
+ shift2 20
+ shift3 20
+ store1 40
+ store2 40
+ flour 900
+ safety 10
+ENDATA
+";
+
+/// `short_flour.script`.
+pub(crate) const SHORT_FLOUR_SCRIPT: &str =
+    "# is the plan possible, and with how little work is that known?
+check
+budget pivots 3
+check
+";
+
+/// `short_flour.report`.
+pub(crate) const SHORT_FLOUR_REPORT: &str = "iisan report 1
+command check
+infeasible
+member row week1
+member row week2
+member row week3
+member row flour
+member row safety
+proof
+leaf
+use row week1 lo 2
+use row week2 lo 2
+use row week3 lo 2
+use row flour up 1
+use row safety lo 2
+end
+command budget pivots 3
+done
+command check
+pivots spent
+site settle
+end
+report end
+";
+
+/// `two_rows.mps`.
+pub(crate) const TWO_ROWS_MPS: &str = "ROWS
+ L c1
+ G c2
+COLUMNS
+ x c1 3
+ x c2 2
+ y c1 3
+ y c2 2
+RHS
+ c1 1
+ c2 1
+ENDATA
+";
+
+/// `two_rows.script`.
+pub(crate) const TWO_ROWS_SCRIPT: &str = "check
+";
+
+/// `two_rows.infeasible.report`.
+pub(crate) const TWO_ROWS_REPORT: &str = "iisan report 1
+command check
+infeasible
+member row c1
+member row c2
+proof
+leaf
+use row c1 up 1
+use row c2 lo 3/2
+end
+report end
+";

@@ -29,25 +29,50 @@ fn file(alloc: Global, name: &str, text: &str) -> Result<File, AllocError> {
     })
 }
 
-// Whether the run is so, where these puts fail.
-fn is_so(alloc: Global, row: &Row, cuts: &[Cut]) -> Result<bool, AllocError> {
-    let mut words = Vec::new(alloc);
-    for word in &row.words {
-        words.push(String::from_str(alloc, word)?)?;
+// The status of a run over a model and a second file, where these puts fail, and what it writes.
+fn outcome(
+    alloc: Global,
+    words: &[&str; 3],
+    model: &str,
+    second: &str,
+    cuts: &[Cut],
+) -> Result<(u8, MemSink), AllocError> {
+    let mut line = Vec::new(alloc);
+    for word in words {
+        line.push(String::from_str(alloc, word)?)?;
     }
     let mut files = Vec::new(alloc);
-    files.push(file(alloc, row.words[1], row.model)?)?;
-    files.push(file(alloc, row.words[2], row.second)?)?;
+    files.push(file(alloc, words[1], model)?)?;
+    files.push(file(alloc, words[2], second)?)?;
     let mut shelf = MemShelf::new(alloc, files, Vec::new(alloc));
     let mut out = MemSink::new(alloc, 10_000, cuts.to_vec(alloc)?)?;
-    let status = run(alloc, words.as_slice(), &mut shelf, &mut out);
+    let status = run(alloc, line.as_slice(), &mut shelf, &mut out);
+    Ok((status, out))
+}
+
+// Whether the run is so, where these puts fail.
+fn is_so(alloc: Global, row: &Row, cuts: &[Cut]) -> Result<bool, AllocError> {
+    let (status, out) = outcome(alloc, &row.words, row.model, row.second, cuts)?;
     Ok(status == row.status && out.bytes() == row.written.as_bytes())
 }
 
-/// Asserts that the runs are so.
+// Whether a report that is written whole is accepted, with the status of the analysis, or its check comes to a sum that is
+// too wide.
+fn is_accepted(alloc: Global, row: &Row) -> Result<bool, AllocError> {
+    if row.words[0] != "analyse" || row.status > 1 {
+        return Ok(true);
+    }
+    let words = ["verify", row.words[1], row.words[2]];
+    let (status, out) = outcome(alloc, &words, row.model, row.written, &[])?;
+    let accepted = status == row.status && out.bytes().starts_with(b"accepted settled ");
+    Ok(accepted || status == 8 && out.bytes().starts_with(b"wide line "))
+}
+
+/// Asserts that the runs are so, and that each report which is written whole is accepted.
 pub(crate) fn expect(rt: &impl Abort, alloc: Global, rows: &[Row]) -> Result<(), AllocError> {
     for row in rows {
         assert!(rt; is_so(alloc, row, &[])?, "{}{}", row.model, row.written);
+        assert!(rt; is_accepted(alloc, row)?, "{}", row.written);
     }
     Ok(())
 }

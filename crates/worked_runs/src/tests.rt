@@ -312,3 +312,33 @@ fn guide(rt: HostRuntime) -> Result<(), Fail> {
     }
     Ok(())
 }
+
+// The guide's smaller examples, with scripts of their own.
+#[test]
+fn guide_scripts(rt: HostRuntime) -> Result<(), Fail> {
+    let runs = [
+        (
+            examples::SHORT_FLOUR_MPS,
+            examples::SHORT_FLOUR_SCRIPT,
+            1,
+            examples::SHORT_FLOUR_REPORT,
+        ),
+        (
+            examples::TWO_ROWS_MPS,
+            examples::TWO_ROWS_SCRIPT,
+            0,
+            examples::TWO_ROWS_REPORT,
+        ),
+    ];
+    for (model, second, status, written) in runs {
+        let row = Row {
+            words: MPS,
+            model,
+            second,
+            status,
+            written,
+        };
+        expect(&rt, rt.alloc(), &[row])?;
+    }
+    Ok(())
+}
