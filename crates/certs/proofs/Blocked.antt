@@ -23,7 +23,7 @@ use Rattle.lp_model.specs.Program.{IsForm}
 use Rattle.lp_model.specs.Members.{column_form}
 use Rattle.rational.proofs.Forms.{by_known}
 use Rattle.certs.proofs.Tableaus.{sum_passing, sum_nonbasic}
-use Rattle.certs.proofs.LastTable.{signed_as}
+use Rattle.certs.proofs.Signs.{signed_as}
 use Rattle.certs.specs.Ended.{share_for, shares_for, is_upper, numbers_from, blocked_multiple, blocked_shares, BlockedLaw}
 
 -- ---- sums over shares

@@ -1,5 +1,0 @@
-use Rattle.certs.proofs.Bounded.{valid_bound_law}
-use Rattle.certs.proofs.laws.bound_is_valid.Goals as goal
-
-pub returns : goal.returns
-returns c = valid_bound_law

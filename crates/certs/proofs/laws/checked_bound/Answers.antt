@@ -1,5 +1,0 @@
-use Rattle.certs.proofs.Passed.{bound_check_law}
-use Rattle.certs.proofs.laws.checked_bound.Goals as goal
-
-pub returns : goal.returns
-returns c = bound_check_law

@@ -1,5 +1,0 @@
-use Rattle.certs.proofs.Passed.{combination_check_law}
-use Rattle.certs.proofs.laws.checked_combination.Goals as goal
-
-pub returns : goal.returns
-returns c = combination_check_law

@@ -1,5 +1,0 @@
-use Rattle.certs.proofs.Passed.{point_check_law}
-use Rattle.certs.proofs.laws.checked_point.Goals as goal
-
-pub returns : goal.returns
-returns c = point_check_law

@@ -1,5 +1,0 @@
-use Rattle.certs.proofs.Passed.{ray_check_law}
-use Rattle.certs.proofs.laws.checked_ray.Goals as goal
-
-pub returns : goal.returns
-returns c = ray_check_law

@@ -1,5 +1,0 @@
-use Rattle.certs.proofs.Refuted.{combination_law}
-use Rattle.certs.proofs.laws.combination_refutes.Goals as goal
-
-pub returns : goal.returns
-returns c = combination_law

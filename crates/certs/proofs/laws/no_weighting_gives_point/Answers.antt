@@ -1,5 +1,0 @@
-use Rattle.certs.proofs.NoWeighting.{no_weighting_law}
-use Rattle.certs.proofs.laws.no_weighting_gives_point.Goals as goal
-
-pub returns : goal.returns
-returns c = no_weighting_law

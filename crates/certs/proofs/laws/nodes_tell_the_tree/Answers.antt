@@ -1,5 +1,0 @@
-use Rattle.certs.proofs.Refuted.{one_tree_law}
-use Rattle.certs.proofs.laws.nodes_tell_the_tree.Goals as goal
-
-pub returns : goal.returns
-returns c = one_tree_law

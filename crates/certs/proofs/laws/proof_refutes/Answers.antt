@@ -1,5 +1,0 @@
-use Rattle.certs.proofs.Refuted.{proof_law}
-use Rattle.certs.proofs.laws.proof_refutes.Goals as goal
-
-pub returns : goal.returns
-returns c = proof_law

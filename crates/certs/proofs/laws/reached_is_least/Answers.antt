@@ -1,5 +1,0 @@
-use Rattle.certs.proofs.Missed.{least_point_law}
-use Rattle.certs.proofs.laws.reached_is_least.Goals as goal
-
-pub returns : goal.returns
-returns c = least_point_law

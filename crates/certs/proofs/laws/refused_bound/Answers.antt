@@ -1,5 +1,0 @@
-use Rattle.certs.proofs.Refused.{bound_no_law}
-use Rattle.certs.proofs.laws.refused_bound.Goals as goal
-
-pub returns : goal.returns
-returns c = bound_no_law

@@ -1,5 +1,0 @@
-use Rattle.certs.proofs.Refused.{combination_no_law}
-use Rattle.certs.proofs.laws.refused_combination.Goals as goal
-
-pub returns : goal.returns
-returns c = combination_no_law

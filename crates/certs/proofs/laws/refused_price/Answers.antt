@@ -1,5 +1,0 @@
-use Rattle.certs.proofs.Refused.{price_no_law}
-use Rattle.certs.proofs.laws.refused_price.Goals as goal
-
-pub returns : goal.returns
-returns c = price_no_law

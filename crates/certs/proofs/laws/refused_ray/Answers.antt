@@ -1,5 +1,0 @@
-use Rattle.certs.proofs.Refused.{ray_no_law}
-use Rattle.certs.proofs.laws.refused_ray.Goals as goal
-
-pub returns : goal.returns
-returns c = ray_no_law

@@ -1,5 +1,0 @@
-use Rattle.certs.proofs.Sound.{refuted_law}
-use Rattle.certs.proofs.laws.taken_combination_refutes.Goals as goal
-
-pub returns : goal.returns
-returns c = refuted_law

@@ -1,5 +1,0 @@
-use Rattle.certs.proofs.Sound.{satisfiable_law}
-use Rattle.certs.proofs.laws.taken_values_satisfy.Goals as goal
-
-pub returns : goal.returns
-returns c = satisfiable_law

@@ -1,5 +1,0 @@
-use Rattle.certs.proofs.Blocked.{blocked_law}
-use Rattle.certs.proofs.run_laws.blocked_is_combination.Goals as goal
-
-pub returns : goal.returns
-returns c = blocked_law

@@ -1,5 +1,0 @@
-use Rattle.certs.proofs.Translated.{translation}
-use Rattle.certs.proofs.run_laws.combination_is_translated.Goals as goal
-
-pub returns : goal.returns
-returns c = translation

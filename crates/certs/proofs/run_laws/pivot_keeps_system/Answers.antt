@@ -1,5 +1,0 @@
-use Rattle.certs.proofs.Tableaus.{pivot_law}
-use Rattle.certs.proofs.run_laws.pivot_keeps_system.Goals as goal
-
-pub returns : goal.returns
-returns c = pivot_law

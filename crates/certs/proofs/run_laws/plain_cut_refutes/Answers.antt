@@ -1,5 +1,0 @@
-use Rattle.certs.proofs.PlainCuts.{plain_cut}
-use Rattle.certs.proofs.run_laws.plain_cut_refutes.Goals as goal
-
-pub returns : goal.returns
-returns c = plain_cut

@@ -1,5 +1,0 @@
-use Rattle.certs.proofs.Feasible.{feasible_law}
-use Rattle.certs.proofs.run_laws.settled_is_solution.Goals as goal
-
-pub returns : goal.returns
-returns c = feasible_law

@@ -1,0 +1,12 @@
+mod Missed
+mod Bounded
+mod Priced
+mod Enforced
+mod Support
+mod Columns
+mod LastTable
+mod Cheapest
+mod NoWeighting
+mod Outcomes
+mod PlainPaths
+mod Examples
