@@ -1,10 +1,9 @@
 //! A program of the rows 3x + 3y <= 1, 2x + 2y >= 1 and x + y >= 1/2, where x is at least 3 and at most 2, and evidence
 //! of what it cannot do.
-ghost use Rattle.std.specs.Prelude.{◌≡◌, ◌≢◌, ◌<◌, ℕ, List, IfOk, length};
+ghost use Rattle.std.specs.Prelude.{◌≡◌, ◌≢◌, ◌<◌, ℕ, false, List, IfOk};
 ghost use Rattle.rational.specs.Rational.{zero_ℚ};
 ghost use Rattle.lp_model.specs.Program.{IsForm, IsWellFormedColumn};
 ghost use Rattle.lp_model.specs.Shown.{named_column};
-ghost use Rattle.lp_model.specs.MemberSets.{IsMemberFor};
 ghost use Rattle.certs.specs.Checks.{IsSetOf};
 
 use super::*;
@@ -27,6 +26,18 @@ fn column(lo: i64, up: i64) -> Column
         lower_weight: Weight::Rigid,
         upper_weight: Weight::Rigid,
     }
+}
+
+// Puts a column last.
+fn add_column(
+    model: &mut Model,
+    alloc: Global,
+    name: &[u8],
+    lo: i64,
+    up: i64,
+) -> Result<(), ModelStop> {
+    model.add_column(alloc, name, column(lo, up))?;
+    Ok(())
 }
 
 // The form that takes the columns x and y both this many times.
@@ -54,17 +65,26 @@ fn row(terms: Terms, lo: Option<Frac>, up: Option<Frac>) -> Row
     }
 }
 
-// Puts the row that takes both columns so many times.
+// Whether a factor is 0.
+fn is_zero(factor: Frac) -> bool
+    ensures { result ≡ false → factor ≢ zero_ℚ }
+{
+    factor == Frac::whole(0)
+}
+
+// Puts the row last that takes both columns so many times.
 fn add_both(
     model: &mut Model,
     alloc: Global,
     name: &[u8],
-    factor: Frac,
+    factor: i64,
     lo: Option<Frac>,
     up: Option<Frac>,
-) -> Result<(), ModelStop>
-    requires { factor ≢ zero_ℚ }
-{
+) -> Result<(), ModelStop> {
+    let factor = Frac::whole(factor);
+    if is_zero(factor) {
+        return Err(ModelStop::Limit);
+    }
     if model.column_count() < 2 {
         return Err(ModelStop::Limit);
     }
@@ -78,154 +98,107 @@ fn add_both(
 // The program.
 fn program(alloc: Global) -> Result<Model, ModelStop> {
     let mut model = Model::new(alloc, false);
-    model.add_column(alloc, b"x", column(3, 2))?;
-    model.add_column(alloc, b"y", column(0, 3))?;
+    add_column(&mut model, alloc, b"x", 3, 2)?;
+    add_column(&mut model, alloc, b"y", 0, 3)?;
     let one = Frac::whole(1);
-    add_both(&mut model, alloc, b"c1", Frac::whole(3), None, Some(one))?;
-    add_both(&mut model, alloc, b"c2", Frac::whole(2), Some(one), None)?;
-    add_both(
-        &mut model,
-        alloc,
-        b"c3",
-        Frac::whole(1),
-        Frac::new(1, 2).ok(),
-        None,
-    )?;
+    add_both(&mut model, alloc, b"c1", 3, None, Some(one))?;
+    add_both(&mut model, alloc, b"c2", 2, Some(one), None)?;
+    add_both(&mut model, alloc, b"c3", 1, Frac::new(1, 2).ok(), None)?;
     Ok(model)
 }
 
+// Puts a member into a set, where the program has so many rows or columns.
+fn put(model: &Model, set: &mut MemberSet, member: Member)
+    requires { IsSetOf model.now set.old }
+    ensures { IsSetOf model.now set.new }
+{
+    let most = match member {
+        Member::Row(_) => model.row_count(),
+        _ => model.column_count(),
+    };
+    let (Member::Row(index) | Member::Lower(index) | Member::Upper(index) | Member::Whole(index)) =
+        member;
+    if index < most {
+        set.insert(member);
+    }
+}
+
 // The set of two members.
-fn pair(
-    alloc: Global,
-    model: &Model,
-    first: Member,
-    second: Member,
-) -> Result<MemberSet, AllocError>
-    requires first { IsMemberFor (length model.now.rows) (length model.now.columns) first }
-    requires second { IsMemberFor (length model.now.rows) (length model.now.columns) second }
-    ensures { IfOk result (λ set. IsSetOf model.now set) }
+fn pair(alloc: Global, model: &Model, members: [Member; 2]) -> Result<MemberSet, AllocError>
+    ensures { IfOk result (IsSetOf model.now) }
 {
     let mut set = MemberSet::empty(alloc, model)?;
-    set.insert(first);
-    set.insert(second);
+    put(model, &mut set, members[0]);
+    put(model, &mut set, members[1]);
     Ok(set)
 }
 
-// What the check says of two shares, and of the set of two members.
-fn say(
-    alloc: Global,
-    first: Member,
-    second: Member,
-    shares: [Share; 2],
-) -> Result<Checked, AllocError>
-    requires first { IsMemberFor 3 2 first }
-    requires second { IsMemberFor 3 2 second }
-{
-    let Ok(model) = program(alloc) else {
-        return Err(AllocError);
-    };
-    if model.row_count() != 3 {
-        return Err(AllocError);
-    }
-    if model.column_count() != 2 {
-        return Err(AllocError);
-    }
-    let set = pair(alloc, &model, first, second)?;
-    let combo = Combo {
-        shares: Shares::new(Vec::from_slice(alloc, &shares)?),
-    };
-    let mut sums = [Frac::whole(7), Frac::whole(-7)];
-    Ok(check_combo(&model, &set, &[], &combo, &mut sums))
-}
+// Numerator and denominator.
+type Parts = (i128, i128);
 
-// A side of a member, this many times.
-fn share(member: Member, side: Side, weight: Frac) -> Share {
-    Share {
-        source: Source::Member(member),
-        side,
-        weight,
+// The number of these parts.
+fn number(parts: Parts) -> Frac {
+    match Frac::new(parts.0, parts.1) {
+        Ok(number) => number,
+        Err(_) => Frac::whole(0),
     }
 }
 
-const FIRST: Member = Member::Row(0);
+// Sides of two sources, each so many times.
+type Uses = [(Source, Side, Parts); 2];
 
-const SECOND: Member = Member::Row(1);
-
-const THIRD: Member = Member::Row(2);
-
-const LOWER: Member = Member::Lower(0);
-
-const UPPER: Member = Member::Upper(0);
-
-#[test]
-fn combinations(rt: HostRuntime) -> Result<(), Fail> {
-    let alloc = rt.alloc();
-    let one = Frac::whole(1);
-    let up = share(FIRST, Side::Up, one);
-    // The right side is 1 - 3/2.
-    assert_eq!(rt;
-        say(
-            alloc,
-            FIRST,
-            THIRD,
-            [up, share(THIRD, Side::Lo, Frac::whole(3))]
-        )?,
-        Checked::Yes
-    );
-    let Ok(half) = Frac::new(3, 2) else {
-        return Err(Fail::from(AllocError));
-    };
-    assert_eq!(rt;
-        say(alloc, FIRST, SECOND, [up, share(SECOND, Side::Lo, half)])?,
-        Checked::Yes
-    );
-    // The right side is 2 - 3.
-    let lower = share(LOWER, Side::Lo, one);
-    let upper = share(UPPER, Side::Up, one);
-    assert_eq!(rt; say(alloc, LOWER, UPPER, [lower, upper])?, Checked::Yes);
-    // The columns do not cancel.
-    assert_eq!(rt;
-        say(alloc, FIRST, SECOND, [up, share(SECOND, Side::Lo, one)])?,
-        Checked::No
-    );
-    // The set does not have the second row.
-    assert_eq!(rt;
-        say(alloc, FIRST, THIRD, [up, share(SECOND, Side::Lo, half)])?,
-        Checked::No
-    );
-    // A weight that is not above 0, and a side that is not there.
-    let nothing = share(SECOND, Side::Lo, Frac::whole(0));
-    assert_eq!(rt; say(alloc, FIRST, SECOND, [up, nothing])?, Checked::No);
-    let other = share(FIRST, Side::Lo, one);
-    assert_eq!(rt;
-        say(alloc, FIRST, SECOND, [other, share(SECOND, Side::Lo, half)])?,
-        Checked::No
-    );
-    Ok(())
+// The combination of the uses.
+fn combo(alloc: Global, uses: Uses) -> Result<Combo, AllocError> {
+    let mut shares = Vec::new(alloc);
+    for (source, side, parts) in uses {
+        shares.push(Share {
+            source,
+            side,
+            weight: number(parts),
+        })?;
+    }
+    Ok(Combo {
+        shares: Shares::new(shares),
+    })
 }
 
-#[test]
-fn wide_sums(rt: HostRuntime) -> Result<(), Fail> {
-    let alloc = rt.alloc();
-    let Ok(most) = Frac::new(i128::MAX, 1) else {
-        return Err(Fail::from(AllocError));
-    };
-    let up = share(FIRST, Side::Up, most);
+// What a check is to say; `Wide` of three times the greatest number.
+#[derive(Clone, Copy)]
+enum Want {
+    Yes,
+    No,
+    Wide,
+}
+
+// Whether a check says what it is to say.
+fn is_wanted(checked: Checked, want: Want) -> bool {
     let product = Wide {
         op: Op::Times,
         left: Frac::whole(3),
-        right: most,
+        right: number(MOST),
     };
-    let lo = share(THIRD, Side::Lo, Frac::whole(3));
-    assert_eq!(rt; say(alloc, FIRST, THIRD, [up, lo])?, Checked::Wide(product));
-    // The test of the weights comes before any arithmetic.
-    let nothing = share(THIRD, Side::Lo, Frac::whole(0));
-    assert_eq!(rt; say(alloc, FIRST, THIRD, [up, nothing])?, Checked::No);
-    Ok(())
+    match want {
+        Want::Yes => checked == Checked::Yes,
+        Want::No => checked == Checked::No,
+        Want::Wide => checked == Checked::Wide(product),
+    }
 }
 
-// What the check says of two shares and no members, on the path of x at most 3 and x at least 4.
-fn say_apart(alloc: Global, shares: [Share; 2]) -> Result<Checked, AllocError> {
+// What the check says of a combination of the set of two members.
+fn say(alloc: Global, members: [Member; 2], uses: Uses) -> Result<Checked, AllocError> {
+    let Ok(model) = program(alloc) else {
+        return Err(AllocError);
+    };
+    if model.column_count() != 2 {
+        return Err(AllocError);
+    }
+    let set = pair(alloc, &model, members)?;
+    let mut sums = [Frac::whole(7), Frac::whole(-7)];
+    Ok(check_combo(&model, &set, &[], &combo(alloc, uses)?, &mut sums))
+}
+
+// What the check says of a combination of no members, on the path of x at most 3 and x at least 4.
+fn say_apart(alloc: Global, uses: Uses) -> Result<Checked, AllocError> {
     let Ok(model) = program(alloc) else {
         return Err(AllocError);
     };
@@ -233,9 +206,6 @@ fn say_apart(alloc: Global, shares: [Share; 2]) -> Result<Checked, AllocError> {
         return Err(AllocError);
     }
     let set = MemberSet::empty(alloc, &model)?;
-    let combo = Combo {
-        shares: Shares::new(Vec::from_slice(alloc, &shares)?),
-    };
     let path = [
         Branch {
             column: 0,
@@ -249,93 +219,125 @@ fn say_apart(alloc: Global, shares: [Share; 2]) -> Result<Checked, AllocError> {
         },
     ];
     let mut sums = [Frac::whole(0), Frac::whole(0)];
-    Ok(check_combo(&model, &set, &path, &combo, &mut sums))
+    Ok(check_combo(&model, &set, &path, &combo(alloc, uses)?, &mut sums))
 }
 
-// What the path says of a column, this many times.
-fn branch_share(source: Source, side: Side, weight: i64) -> Share {
-    Share {
-        source,
-        side,
-        weight: Frac::whole(weight),
-    }
-}
-
-#[test]
-fn branches(rt: HostRuntime) -> Result<(), Fail> {
-    let alloc = rt.alloc();
-    let below = branch_share(Source::Below(0), Side::Up, 1);
-    // The right side is 3 - 4.
-    let above = branch_share(Source::Above(0), Side::Lo, 1);
-    assert_eq!(rt; say_apart(alloc, [below, above])?, Checked::Yes);
-    // The column does not cancel.
-    let twice = branch_share(Source::Above(0), Side::Lo, 2);
-    assert_eq!(rt; say_apart(alloc, [below, twice])?, Checked::No);
-    // The path says nothing of the column y, and no lower side comes from a greatest number.
-    let other = branch_share(Source::Above(1), Side::Lo, 1);
-    assert_eq!(rt; say_apart(alloc, [below, other])?, Checked::No);
-    let turned = branch_share(Source::Below(0), Side::Lo, 1);
-    assert_eq!(rt; say_apart(alloc, [below, turned])?, Checked::No);
-    Ok(())
-}
-
-// What the check says of the point x, y and two members.
-fn say_of(
-    alloc: Global,
-    first: Member,
-    second: Member,
-    values: [Frac; 2],
-) -> Result<Checked, AllocError>
-    requires first { IsMemberFor 3 2 first }
-    requires second { IsMemberFor 3 2 second }
-{
+// What the check says of a point and the set of two members.
+fn say_of(alloc: Global, members: [Member; 2], x: Parts, y: Parts) -> Result<Checked, AllocError> {
     let Ok(model) = program(alloc) else {
         return Err(AllocError);
     };
-    if model.row_count() != 3 {
-        return Err(AllocError);
-    }
     if model.column_count() != 2 {
         return Err(AllocError);
     }
-    let set = pair(alloc, &model, first, second)?;
+    let set = pair(alloc, &model, members)?;
     let point = Point {
-        values: Values::new(Vec::from_slice(alloc, &values)?),
+        values: Values::new(Vec::from_slice(alloc, &[number(x), number(y)])?),
     };
     Ok(check_point(&model, &set, &point))
 }
 
+const MOST: Parts = (i128::MAX, 1);
+
+const FIRST: Member = Member::Row(0);
+
+const SECOND: Member = Member::Row(1);
+
+const THIRD: Member = Member::Row(2);
+
+const LOWER: Member = Member::Lower(0);
+
+const UPPER: Member = Member::Upper(0);
+
+// A side of a member, so many times.
+fn side_of(member: Member, side: Side, weight: Parts) -> (Source, Side, Parts) {
+    (Source::Member(member), side, weight)
+}
+
+#[test]
+fn combinations(rt: HostRuntime) -> Result<(), Fail> {
+    let first = side_of(FIRST, Side::Up, (1, 1));
+    let second = side_of(SECOND, Side::Lo, (3, 2));
+    let third = side_of(THIRD, Side::Lo, (3, 1));
+    let lower = side_of(LOWER, Side::Lo, (1, 1));
+    let upper = side_of(UPPER, Side::Up, (1, 1));
+    let table = [
+        // The right side is 1 - 3/2.
+        ([FIRST, THIRD], [first, third], Want::Yes),
+        ([FIRST, SECOND], [first, second], Want::Yes),
+        // The right side is 2 - 3.
+        ([LOWER, UPPER], [lower, upper], Want::Yes),
+        // The columns do not cancel.
+        (
+            [FIRST, SECOND],
+            [first, side_of(SECOND, Side::Lo, (1, 1))],
+            Want::No,
+        ),
+        // The set does not have the second row.
+        ([FIRST, THIRD], [first, second], Want::No),
+        // A weight that is not above 0, and a side that is not there.
+        (
+            [FIRST, SECOND],
+            [first, side_of(SECOND, Side::Lo, (0, 1))],
+            Want::No,
+        ),
+        (
+            [FIRST, SECOND],
+            [side_of(FIRST, Side::Lo, (1, 1)), second],
+            Want::No,
+        ),
+        // The test of the weights comes before any arithmetic.
+        (
+            [FIRST, THIRD],
+            [side_of(FIRST, Side::Up, MOST), third],
+            Want::Wide,
+        ),
+        (
+            [FIRST, THIRD],
+            [
+                side_of(FIRST, Side::Up, MOST),
+                side_of(THIRD, Side::Lo, (0, 1)),
+            ],
+            Want::No,
+        ),
+    ];
+    for (members, uses, want) in table {
+        assert!(rt; is_wanted(say(rt.alloc(), members, uses)?, want));
+    }
+    Ok(())
+}
+
+#[test]
+fn branches(rt: HostRuntime) -> Result<(), Fail> {
+    let below = (Source::Below(0), Side::Up, (1, 1));
+    let table = [
+        // The right side is 3 - 4.
+        ((Source::Above(0), Side::Lo, (1, 1)), Want::Yes),
+        // The column does not cancel.
+        ((Source::Above(0), Side::Lo, (2, 1)), Want::No),
+        // The path says nothing of the column y, and no lower side comes from a greatest number.
+        ((Source::Above(1), Side::Lo, (1, 1)), Want::No),
+        ((Source::Below(0), Side::Lo, (1, 1)), Want::No),
+    ];
+    for (other, want) in table {
+        assert!(rt; is_wanted(say_apart(rt.alloc(), [below, other])?, want));
+    }
+    Ok(())
+}
+
 #[test]
 fn points(rt: HostRuntime) -> Result<(), Fail> {
-    let alloc = rt.alloc();
-    let nothing = Frac::whole(0);
-    let one = Frac::whole(1);
-    assert_eq!(rt;
-        say_of(alloc, FIRST, FIRST, [nothing, nothing])?,
-        Checked::Yes
-    );
-    assert_eq!(rt;
-        say_of(alloc, FIRST, SECOND, [nothing, nothing])?,
-        Checked::No
-    );
-    assert_eq!(rt; say_of(alloc, SECOND, THIRD, [one, one])?, Checked::Yes);
-    assert_eq!(rt; say_of(alloc, LOWER, UPPER, [one, one])?, Checked::No);
-    // A mark that the column does not have.
-    assert_eq!(rt;
-        say_of(alloc, UPPER, Member::Whole(0), [one, one])?,
-        Checked::Yes
-    );
-    let Ok(most) = Frac::new(i128::MAX, 1) else {
-        return Err(Fail::from(AllocError));
-    };
-    let product = Wide {
-        op: Op::Times,
-        left: Frac::whole(3),
-        right: most,
-    };
-    assert_eq!(rt;
-        say_of(alloc, FIRST, SECOND, [nothing, most])?,
-        Checked::Wide(product)
-    );
+    let table = [
+        ([FIRST, FIRST], (0, 1), (0, 1), Want::Yes),
+        ([FIRST, SECOND], (0, 1), (0, 1), Want::No),
+        ([SECOND, THIRD], (1, 1), (1, 1), Want::Yes),
+        ([LOWER, UPPER], (1, 1), (1, 1), Want::No),
+        // A mark that the column does not have.
+        ([UPPER, Member::Whole(0)], (1, 1), (1, 1), Want::Yes),
+        ([FIRST, SECOND], (0, 1), MOST, Want::Wide),
+    ];
+    for (members, x, y, want) in table {
+        assert!(rt; is_wanted(say_of(rt.alloc(), members, x, y)?, want));
+    }
     Ok(())
 }
