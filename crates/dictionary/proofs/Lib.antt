@@ -10,5 +10,4 @@ pub mod Pivots
 pub mod Sounds
 pub mod Fills
 pub mod Begins
-pub mod SampleForms
 mod Formed

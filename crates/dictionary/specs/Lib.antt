@@ -4,5 +4,4 @@ pub mod Value
 pub mod Sound
 pub mod Stops
 pub mod Starts
-pub mod Samples
 pub mod Forming

@@ -4,7 +4,6 @@ ghost use Rattle.certs.specs.System.{limit_on};
 ghost use Rattle.certs.specs.Tableau.{limits_at};
 ghost use Rattle.certs.specs.Turns.{CanPivot, limited};
 ghost use Rattle.dictionary.specs.Layouts.{side_of};
-ghost use Rattle.dictionary.specs.Samples.{sample, sample_limits, sample_sides, sample_terms};
 ghost use Rattle.dictionary.specs.Value.{tableau_of};
 
 use super::*;
@@ -19,9 +18,7 @@ use std::test::Fail;
 const ROW: u32 = 2;
 
 // The terms of the row.
-fn terms(alloc: Global) -> Result<Terms, AllocError>
-    ensures { IfOk result (λ t. t ≡ sample_terms) }
-{
+fn terms(alloc: Global) -> Result<Terms, AllocError> {
     let mut items = Vec::new(alloc);
     items.push(Term {
         column: 0,
@@ -35,9 +32,7 @@ fn terms(alloc: Global) -> Result<Terms, AllocError>
 }
 
 // The system.
-fn system(alloc: Global) -> Result<System, AllocError>
-    ensures { IfOk result (λ s. s ≡ sample) }
-{
+fn system(alloc: Global) -> Result<System, AllocError> {
     let limits = Limits {
         lo: Some(Frac::whole(0)),
         up: Some(Frac::whole(4)),
@@ -65,6 +60,9 @@ fn started(alloc: Global) -> Result<Dictionary<Frac>, AllocError>
     ensures { IfOk result (λ d. d.usable ≡ true) }
 {
     let system = system(alloc)?;
+    if !is_formed(&system) {
+        return Err(AllocError);
+    }
     Dictionary::<Frac>::start(alloc, &system)
 }
 
@@ -176,63 +174,99 @@ fn flip(dictionary: &mut Dictionary<Frac>, variable: u32) -> bool
     true
 }
 
-// A half, so many times.
-fn halves(count: i128) -> Option<Frac> {
-    Frac::new(count, 2).ok()
+// What is done to the dictionary.
+#[derive(Clone, Copy)]
+enum Turn {
+    Stay,
+    Flip(u32),
+    Pivot(u32, bool, u32),
 }
 
-// A whole number.
-fn whole(number: i64) -> Option<Frac> {
-    Some(Frac::whole(number))
+// Does it where it can be done; whether it is done.
+fn make_turn(dictionary: &mut Dictionary<Frac>, turn: Turn) -> bool
+    requires usable { dictionary.old.usable ≡ true }
+    ensures { result ≡ true → dictionary.new.usable ≡ true }
+{
+    match turn {
+        Turn::Stay => true,
+        Turn::Flip(variable) => flip(dictionary, variable),
+        Turn::Pivot(leaving, upper, entering) => pivot(dictionary, leaving, upper, entering),
+    }
 }
 
-// At the start the row is basic, and its entries are its factors.
+// A number of the dictionary.
+#[derive(Clone, Copy)]
+enum Number {
+    Entry(u32, u32),
+    Value(u32),
+}
+
+// A number of the dictionary after two turns, where they can be made.
+fn number_after(
+    alloc: Global,
+    first: Turn,
+    second: Turn,
+    number: Number,
+) -> Result<Option<Frac>, AllocError> {
+    let mut dictionary = started(alloc)?;
+    if !make_turn(&mut dictionary, first) {
+        return Ok(None);
+    }
+    if !make_turn(&mut dictionary, second) {
+        return Ok(None);
+    }
+    match number {
+        Number::Entry(basic, nonbasic) => Ok(entry(&dictionary, basic, nonbasic)),
+        Number::Value(variable) => Ok(value(&dictionary, variable)),
+    }
+}
+
+// Whether a number is so many halves, or is not there.
+fn is_halves(number: Option<Frac>, halves: Option<i128>) -> bool {
+    match halves {
+        Some(count) => number.is_some() && number == Frac::new(count, 2).ok(),
+        None => number.is_none(),
+    }
+}
+
 #[test]
-fn a_start(rt: HostRuntime) -> Result<(), Fail> {
-    let dictionary = started(rt.alloc())?;
-    assert_eq!(rt; dictionary.variables(), 3);
-    assert_eq!(rt; dictionary.columns(), 2);
-    assert!(rt; entry(&dictionary, ROW, 0) == whole(1));
-    assert!(rt; entry(&dictionary, ROW, 1) == whole(2));
-    assert!(rt; entry(&dictionary, 0, 1).is_none());
-    assert!(rt; value(&dictionary, 0) == whole(0));
-    assert!(rt; value(&dictionary, ROW) == whole(0));
-    Ok(())
-}
-
-// The first column goes to 4, and back.
-#[test]
-fn a_flip(rt: HostRuntime) -> Result<(), Fail> {
-    let mut dictionary = started(rt.alloc())?;
-    assert!(rt; flip(&mut dictionary, 0));
-    assert!(rt; value(&dictionary, 0) == whole(4));
-    assert!(rt; value(&dictionary, ROW) == whole(4));
-    assert!(rt; flip(&mut dictionary, 0));
-    assert!(rt; value(&dictionary, ROW) == whole(0));
-    assert!(rt; !flip(&mut dictionary, ROW));
-    Ok(())
-}
-
-// The row leaves to 3, and the second column enters: it is half of what the first one leaves of that.
-#[test]
-fn a_pivot(rt: HostRuntime) -> Result<(), Fail> {
-    let mut dictionary = started(rt.alloc())?;
-    assert!(rt; pivot(&mut dictionary, ROW, false, 1));
-    assert!(rt; entry(&dictionary, 1, ROW) == halves(1));
-    assert!(rt; entry(&dictionary, 1, 0) == halves(-1));
-    assert!(rt; value(&dictionary, ROW) == whole(3));
-    assert!(rt; value(&dictionary, 1) == halves(3));
-    assert!(rt; flip(&mut dictionary, 0));
-    assert!(rt; value(&dictionary, 1) == halves(-1));
-    Ok(())
-}
-
-// The row has no upper limit to leave to, and a nonbasic variable does not leave.
-#[test]
-fn no_pivot(rt: HostRuntime) -> Result<(), Fail> {
-    let dictionary = started(rt.alloc())?;
-    assert!(rt; !can_pivot(&dictionary, ROW, true, 1));
-    assert!(rt; !can_pivot(&dictionary, 0, false, 1));
-    assert!(rt; can_pivot(&dictionary, ROW, false, 0));
+fn turns(rt: HostRuntime) -> Result<(), Fail> {
+    let (flip, pivot) = (Turn::Flip(0), Turn::Pivot(ROW, false, 1));
+    let table = [
+        // At the start the row is basic, and its entries are its factors.
+        (Turn::Stay, Turn::Stay, Number::Entry(ROW, 0), Some(2)),
+        (Turn::Stay, Turn::Stay, Number::Entry(ROW, 1), Some(4)),
+        (Turn::Stay, Turn::Stay, Number::Entry(0, 1), None),
+        (Turn::Stay, Turn::Stay, Number::Value(0), Some(0)),
+        (Turn::Stay, Turn::Stay, Number::Value(ROW), Some(0)),
+        // The first column goes to 4, and back; the row cannot go so.
+        (flip, Turn::Stay, Number::Value(0), Some(8)),
+        (flip, Turn::Stay, Number::Value(ROW), Some(8)),
+        (flip, flip, Number::Value(ROW), Some(0)),
+        (flip, Turn::Flip(ROW), Number::Value(ROW), None),
+        // The row leaves to 3, and the second column enters: it is half of what the first one leaves of that.
+        (pivot, Turn::Stay, Number::Entry(1, ROW), Some(1)),
+        (pivot, Turn::Stay, Number::Entry(1, 0), Some(-1)),
+        (pivot, Turn::Stay, Number::Value(ROW), Some(6)),
+        (pivot, Turn::Stay, Number::Value(1), Some(3)),
+        (pivot, flip, Number::Value(1), Some(-1)),
+        // The row has no upper limit to leave to, and a nonbasic variable does not leave.
+        (
+            Turn::Pivot(ROW, true, 1),
+            Turn::Stay,
+            Number::Value(0),
+            None,
+        ),
+        (Turn::Pivot(0, false, 1), Turn::Stay, Number::Value(0), None),
+        (
+            Turn::Pivot(ROW, false, 0),
+            Turn::Stay,
+            Number::Value(0),
+            Some(6),
+        ),
+    ];
+    for (first, second, number, halves) in table {
+        assert!(rt; is_halves(number_after(rt.alloc(), first, second, number)?, halves));
+    }
     Ok(())
 }
