@@ -1,4 +1,3 @@
 pub mod Firsts
 pub mod Narrow
-pub mod SampleForms
 pub mod Combining

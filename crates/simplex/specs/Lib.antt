@@ -1,5 +1,4 @@
 pub mod Chosen
 pub mod Ends
 pub mod Points
-pub mod Samples
 pub mod Combined

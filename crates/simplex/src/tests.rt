@@ -1,20 +1,14 @@
 //! The settle run of a column from 0 to 4 with a row that asks for more or less of it.
-ghost use Rattle.std.specs.Prelude.{◌≡◌, ◌+◌, ◌<◌, ◌^◌, IfOk, pos};
-ghost use Rattle.rational.specs.Rational.{whole};
-ghost use Rattle.simplex.specs.Samples.{sample, sample_limits, sample_terms};
-
 use super::*;
 use certs::{Limits, Share, Shares, Source, System};
-use dictionary::Dictionary;
-use frac128::{Exact, Frac};
+use dictionary::{Dictionary, is_formed};
+use frac128::Frac;
 use lp_model::{Member, Row, Side, Term, Terms, Weight};
 use std::alloc::{AllocError, Global};
 use std::test::Fail;
 
 // The column, once.
-fn terms(alloc: Global) -> Result<Terms, AllocError>
-    ensures { IfOk result (λ t. t ≡ sample_terms) }
-{
+fn terms(alloc: Global) -> Result<Terms, AllocError> {
     let mut items = Vec::new(alloc);
     items.push(Term {
         column: 0,
@@ -24,9 +18,7 @@ fn terms(alloc: Global) -> Result<Terms, AllocError>
 }
 
 // The system.
-fn system(alloc: Global, least: Frac) -> Result<System, AllocError>
-    ensures { IfOk result (λ s. s ≡ sample least) }
-{
+fn system(alloc: Global, least: Frac) -> Result<System, AllocError> {
     let mut columns = Vec::new(alloc);
     columns.push(Limits {
         lo: Some(Frac::whole(0)),
@@ -58,7 +50,9 @@ enum End {
 // The end of the run with so many pivots, with those left and the turns made.
 fn run_to_end(alloc: Global, least: Frac, pivots: u32) -> Result<(End, u64, u64), AllocError> {
     let system = system(alloc, least)?;
-    let _fits = least.widen();
+    if !is_formed(&system) {
+        return Err(AllocError);
+    }
     let mut dictionary = Dictionary::<Frac>::start(alloc, &system)?;
     let mut left = pivots as u64;
     let mut turn = 0;
@@ -75,52 +69,60 @@ fn run_to_end(alloc: Global, least: Frac, pivots: u32) -> Result<(End, u64, u64)
     Ok((end, left, turn))
 }
 
-#[test]
-fn a_row_is_met(rt: HostRuntime) -> Result<(), Fail> {
-    let (end, left, turns) = run_to_end(rt.alloc(), Frac::whole(3), 5)?;
-    assert!(rt; matches!(end, End::Point(Some(value)) if value == Frac::whole(3)));
-    assert_eq!(rt; left, 4);
-    assert_eq!(rt; turns, 2);
-    Ok(())
+// How a run is to end: with this value of the column, with a combination, or for want of pivots.
+#[derive(Clone, Copy)]
+enum Want {
+    Point(i64),
+    Combination,
+    Spent,
 }
 
-// The column would pass its upper limit.
-#[test]
-fn a_row_asks_too_much(rt: HostRuntime) -> Result<(), Fail> {
-    let (end, left, turns) = run_to_end(rt.alloc(), Frac::whole(5), 5)?;
-    let least = Share {
-        source: Source::Member(Member::Row(0)),
-        side: Side::Lo,
-        weight: Frac::whole(1),
-    };
-    let greatest = Share {
-        source: Source::Member(Member::Upper(0)),
-        side: Side::Up,
-        weight: Frac::whole(1),
-    };
-    assert!(rt;
-        matches!(&end, End::Combination(shares) if shares.as_slice() == [least, greatest].as_slice())
-    );
-    assert_eq!(rt; left, 4);
-    assert_eq!(rt; turns, 2);
-    Ok(())
+// Whether a share is this side of this member, once.
+fn is_share(share: &Share, member: Member, side: Side) -> bool {
+    share.source == Source::Member(member) && share.side == side && share.weight == Frac::whole(1)
 }
 
-// The start is feasible, so no pivot is due.
-#[test]
-fn no_pivot_is_due(rt: HostRuntime) -> Result<(), Fail> {
-    let (end, left, turns) = run_to_end(rt.alloc(), Frac::whole(-1), 0)?;
-    assert!(rt; matches!(end, End::Point(Some(value)) if value == Frac::whole(0)));
-    assert_eq!(rt; left, 0);
-    assert_eq!(rt; turns, 1);
-    Ok(())
+// Whether shares are the row's lower side, and the column's upper limit.
+fn contradict(shares: &[Share]) -> bool {
+    match shares {
+        [row, limit] => {
+            is_share(row, Member::Row(0), Side::Lo) && is_share(limit, Member::Upper(0), Side::Up)
+        }
+        _ => false,
+    }
+}
+
+// Whether a run ends as it is to.
+fn is_wanted(end: &End, want: Want) -> bool {
+    match want {
+        Want::Point(number) => is_point(end, Frac::whole(number)),
+        Want::Combination =>
+            matches!(end, End::Combination(shares) if contradict(shares.as_slice())),
+        Want::Spent => matches!(end, End::Stop(RunStop::Pivots)),
+    }
+}
+
+// Whether a run ends with this value of the column.
+fn is_point(end: &End, number: Frac) -> bool {
+    matches!(end, End::Point(Some(value)) if *value == number)
 }
 
 #[test]
-fn no_pivot_is_left(rt: HostRuntime) -> Result<(), Fail> {
-    let (end, left, turns) = run_to_end(rt.alloc(), Frac::whole(3), 0)?;
-    assert!(rt; matches!(end, End::Stop(RunStop::Pivots)));
-    assert_eq!(rt; left, 0);
-    assert_eq!(rt; turns, 1);
+fn runs(rt: HostRuntime) -> Result<(), Fail> {
+    let table = [
+        // The row is met.
+        (3, 5, Want::Point(3), (4, 2)),
+        // The column would pass its upper limit.
+        (5, 5, Want::Combination, (4, 2)),
+        // The start is feasible, so no pivot is due.
+        (-1, 0, Want::Point(0), (0, 1)),
+        // A pivot is due, and none is left.
+        (3, 0, Want::Spent, (0, 1)),
+    ];
+    for (least, pivots, want, counts) in table {
+        let (end, left, turns) = run_to_end(rt.alloc(), Frac::whole(least), pivots)?;
+        assert!(rt; is_wanted(&end, want));
+        assert_eq!(rt; (left, turns), counts);
+    }
     Ok(())
 }
