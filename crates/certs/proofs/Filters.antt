@@ -12,7 +12,7 @@ pub nil_apart : {X : Type 0} (f : List X) (x : X) (b : List X) → [] ≡ f ++ x
 nil_apart f x b e = let l : 0 ≡ length f + suc (length b) = ap length e ∙ length-append f (x ∷ b) in omega arith
 
 -- the last element is the one, or stands behind it
-last_apart : {X : Type 0} (k f : List X) (y x : X) (b : List X) → k ++ y ∷ [] ≡ f ++ x ∷ b
+pub last_apart : {X : Type 0} (k f : List X) (y x : X) (b : List X) → k ++ y ∷ [] ≡ f ++ x ∷ b
     → ((b ≡ []) × (k ≡ f)) ⊎ ((c : List X) × (b ≡ c ++ y ∷ []) × (k ≡ f ++ x ∷ c))
 last_apart [] [] y x b e = inl (let p : b ≡ [] = cc in p, refl)
 last_apart (z ∷ k) [] y x b e = inr (k, (let p : b ≡ k ++ y ∷ [] = cc in p), (let p : z ≡ x = cc in ap (λ a. a ∷ k) p))
@@ -25,7 +25,7 @@ last_apart (z ∷ k) (w ∷ f) y x b e =
       | inr h ↦ inr (h.0, h.1, let p : k ≡ f ++ x ∷ h.0 = h.2 in cc)
     ]
 
-push_apart : {X : Type 0} (k f : List X) (y x : X) → k ++ y ∷ [] ≡ f ++ x ∷ [] → (k ≡ f) × (y ≡ x)
+pub push_apart : {X : Type 0} (k f : List X) (y x : X) → k ++ y ∷ [] ≡ f ++ x ∷ [] → (k ≡ f) × (y ≡ x)
 push_apart [] [] y x e = (refl, let p : y ≡ x = cc in p)
 push_apart (z ∷ k) [] y x e = absurd (nil_apart k y [] (let p : [] ≡ k ++ y ∷ [] = cc in p))
 push_apart [] (w ∷ f) y x e = absurd (nil_apart f x [] (let p : [] ≡ f ++ x ∷ [] = cc in p))

@@ -1,9 +1,9 @@
 -- What the filters give, by satisfiability alone. `Can` says of a list that some point satisfies it: of members, or of groups of members.
-use Rattle.std.specs.Prelude.{◌≡◌, ℕ, suc, ◌≤◌, false, ◌||◌, List, [], ◌∷◌, ◌++◌, length, filter, All}
+use Rattle.std.specs.Prelude.{◌≡◌, ℕ, suc, ◌≤◌, true, false, ◌||◌, ◌↔◌, List, [], ◌∷◌, ◌++◌, length, filter, All}
 use Rattle.rational.specs.Rational.{◌≤ℚ◌}
 use Rattle.lp_model.specs.declared.members.Member.{Member}
 use Rattle.lp_model.specs.Program.{Program}
-use Rattle.lp_model.specs.Members.{has, is_mark}
+use Rattle.lp_model.specs.Members.{has, is_mark, IsInOrder}
 use Rattle.lp_model.specs.Satisfaction.{Point, coordinate, Satisfies, IsSatisfiable, IsUnsatisfiable, IsIrreducible, IsIrreducibleFor, IsPart}
 use Rattle.certs.specs.Violation.{total_violation, is_violated}
 
@@ -115,6 +115,16 @@ EarlyLaw = (model : Program) (set k : List Member) → IsUnsatisfiable model set
 abbrev pub RoundsLaw : Type 0
 RoundsLaw = (model : Program) (set : List Member) (n : ℕ) (last part : List Member) → Rounds model set n last
     → IsPart part set → All (λ m. is_mark m ≡ false) part → IsUnsatisfiable model part → n ≤ suc (length part)
+
+-- what "late" means: a member stays exactly where the kept members before it, with all after it, can be satisfied
+abbrev pub LateMeansLaw : Type 0
+LateMeansLaw = (model : Program) (front : List Member) (m : Member) (back kept : List Member) → IsInOrder (front ++ m ∷ back) → Late model (front ++ m ∷ back) kept
+    → (has kept m ≡ true) ↔ IsSatisfiable model (filter (has kept) front ++ back)
+
+-- what "early" means: a member stays exactly where all before it, with the kept members after it, can be satisfied
+abbrev pub EarlyMeansLaw : Type 0
+EarlyMeansLaw = (model : Program) (front : List Member) (m : Member) (back kept : List Member) → IsInOrder (front ++ m ∷ back) → Early model (front ++ m ∷ back) kept
+    → (has kept m ≡ true) ↔ IsSatisfiable model (front ++ filter (has kept) back)
 
 -- of unsatisfiable groups too
 abbrev pub LateGroupsLaw : Type 0

@@ -10,3 +10,4 @@ mod NoWeighting
 mod Outcomes
 mod PlainPaths
 mod Examples
+mod Meaning

@@ -3,7 +3,7 @@ ghost use Rattle.certs.specs.Alternative.{PriceLaw, SupportLaw};
 ghost use Rattle.certs.specs.Bound.{BoundLaw, RayLaw, ValidBoundLaw};
 ghost use Rattle.certs.specs.Checks.{BoundCheckLaw, BoundNoLaw, CombinationCheckLaw, CombinationNoLaw, LeastCheckLaw, LeastNoLaw, PointCheckLaw, PointNoLaw, PriceCheckLaw, PriceNoLaw, RayCheckLaw, RayNoLaw, RefutedLaw, SatisfiableLaw, UnsatisfiableLaw, WideLaw, YesLaw};
 ghost use Rattle.certs.specs.Combination.{CombinationLaw, FurtherColumnsLaw};
-ghost use Rattle.certs.specs.Filter.{EarlyLaw, EarlyTestLaw, LateGroupsLaw, LateLaw, LateTestLaw, OneEarlyLaw, OneLateLaw, RoundsLaw};
+ghost use Rattle.certs.specs.Filter.{EarlyLaw, EarlyMeansLaw, EarlyTestLaw, LateGroupsLaw, LateLaw, LateMeansLaw, LateTestLaw, OneEarlyLaw, OneLateLaw, RoundsLaw};
 ghost use Rattle.certs.specs.Proof.{OneTreeLaw, ProofLaw};
 ghost use Rattle.certs.specs.System.{CheapestLaw, LastTableLaw, NoWeightingLaw};
 ghost use Rattle.certs.specs.Violation.{LeastLaw, LeastPointLaw};
@@ -201,4 +201,14 @@ pub fn early_tests()
 /// Rounds are at most one more than the members of an unsatisfiable part.
 pub fn rounds_are_few()
     ensures { RoundsLaw }
+{}
+
+/// What is late: a member stays exactly where the kept members before it, with all after it, can be satisfied.
+pub fn late_means()
+    ensures { LateMeansLaw }
+{}
+
+/// What is early: a member stays exactly where all before it, with the kept members after it, can be satisfied.
+pub fn early_means()
+    ensures { EarlyMeansLaw }
 {}
