@@ -40,10 +40,10 @@ below_all test (suc n) =
     (λ e. All-nil (λ (k : ℕ). (k < suc n) × (test k ≡ true))))
 
 -- ---- the parts of a choice
-record Exchanged (t : Tableau) (i : ℕ) (side : Side) (j : ℕ) : Type 0 where
-  first : find (is_outside t) (limited_basics t) ≡ Some i
-  missed : missed_by t i ≡ Some side
-  enters : entering t side i ≡ Some j
+pub record Exchanged (t : Tableau) (i : ℕ) (side : Side) (j : ℕ) : Type 0 where
+  pub first : find (is_outside t) (limited_basics t) ≡ Some i
+  pub missed : missed_by t i ≡ Some side
+  pub enters : entering t side i ≡ Some j
 
 pub record IsStuck (t : Tableau) (i : ℕ) (side : Side) : Type 0 where
   pub first : find (is_outside t) (limited_basics t) ≡ Some i
@@ -87,7 +87,7 @@ is_blocked Settled = false
 is_blocked (Blocked i s) = true
 is_blocked (Exchange i s j) = false
 
-exchange_parts : (t : Tableau) (i : ℕ) (side : Side) (j : ℕ) → settle_choice t ≡ Exchange i side j → Exchanged t i side j
+pub exchange_parts : (t : Tableau) (i : ℕ) (side : Side) (j : ℕ) → settle_choice t ≡ Exchange i side j → Exchanged t i side j
 unfolding is_exchange
 exchange_parts t i side j e = by (find (is_outside t) (limited_basics t)) refl e
   where

@@ -89,11 +89,11 @@ listed test (suc n) k l e =
     ]
 
 -- ---- within the limits
-not_under : (o : Option ℚ) (v : ℚ) → is_under o v ≡ false → IfSome o (λ l. l ≤ℚ v)
+pub not_under : (o : Option ℚ) (v : ℚ) → is_under o v ≡ false → IfSome o (λ l. l ≤ℚ v)
 not_under None v e = tt
 not_under (Some b) v e = lt_q-false v b e
 
-not_over : (o : Option ℚ) (v : ℚ) → is_over o v ≡ false → IfSome o (λ u. v ≤ℚ u)
+pub not_over : (o : Option ℚ) (v : ℚ) → is_over o v ≡ false → IfSome o (λ u. v ≤ℚ u)
 not_over None v e = tt
 not_over (Some b) v e = lt_q-false b v e
 
@@ -141,9 +141,9 @@ module _ (system : LinearSystem) (t : Tableau) (of : IsTableauOf system t) where
       by true e = ap (λ z. cond z (length t.basis - 1) (length t.basis)) (of.objective ∙ e) ∙ ap (λ z. z - 1) (of.size ∙ ap (λ z. length system.columns + length system.rows + cond z 1 0) e) ∙ (let q : length system.columns + length system.rows + 1 - 1 ≡ length system.columns + length system.rows = omega arith in q)
       by false e = ap (λ z. cond z (length t.basis - 1) (length t.basis)) (of.objective ∙ e) ∙ of.size ∙ ap (λ z. length system.columns + length system.rows + cond z 1 0) e ∙ (let q : length system.columns + length system.rows + 0 ≡ length system.columns + length system.rows = omega arith in q)
 
-module _ (system : LinearSystem) (t : Tableau) (formed : IsWellFormedSystem system) (of : IsTableauOf system t) (settled : settle_choice t ≡ Settled) where
+module _ (system : LinearSystem) (t : Tableau) (formed : IsWellFormedSystem system) (of : IsTableauOf system t) where
   -- the values solve the table
-  solves : Solves t (value_of t)
+  pub solves : Solves t (value_of t)
   solves i b =
       cond-true (is_basic t.basis i) (basic_value t i) (place_value t i) b
       ∙ sum_nonbasic t.basis (λ k. t.factor i k *ℚ place_value t k) (λ k. t.factor i k *ℚ value_of t k) (λ k l n. ap (λ z. t.factor i k *ℚ z) (sym (cond-false (is_basic t.basis k) (basic_value t k) (place_value t k) n)))
@@ -154,8 +154,13 @@ module _ (system : LinearSystem) (t : Tableau) (formed : IsWellFormedSystem syst
       subst (λ z. IfSome (get_or z v no_limits).lower (λ a. IfSome (get_or z v no_limits).upper (λ c. a ≤ℚ c))) (sym of.limits)
       (All-get_or (λ limits. IfSome limits.lower (λ a. IfSome limits.upper (λ c. a ≤ℚ c))) (all_limits system) v no_limits (subst (λ n. v < n) (sym (length_limits system)) (omega arith)) formed.ordered)
 
-  within : (v : ℕ) → v < length system.columns + length system.rows → IsWithin (limits_at t v) (value_of t v)
+  -- a nonbasic variable is within its limits
+  pub placed_inside : (v : ℕ) → v < length system.columns + length system.rows → is_basic t.basis v ≡ false → IsWithin (limits_at t v) (place_value t v)
   unfolding place_basic
+  placed_inside v l b = placed_within (limits_at t v) (place_of t v) (of.placed v) b (ordered_at v l)
+
+module _ (system : LinearSystem) (t : Tableau) (formed : IsWellFormedSystem system) (of : IsTableauOf system t) (settled : settle_choice t ≡ Settled) where
+  within : (v : ℕ) → v < length system.columns + length system.rows → IsWithin (limits_at t v) (value_of t v)
   within v l =
       elim (cases_Bool (is_basic t.basis v)) [
         | inl b ↦
@@ -165,12 +170,12 @@ module _ (system : LinearSystem) (t : Tableau) (formed : IsWellFormedSystem syst
             (record { lower = not_under (limits_at t v).lower (basic_value t v) parts.0; upper = not_over (limits_at t v).upper (basic_value t v) parts.1 }))
         | inr b ↦
             subst (IsWithin (limits_at t v)) (sym (cond-false (is_basic t.basis v) (basic_value t v) (place_value t v) b))
-            (placed_within (limits_at t v) (place_of t v) (of.placed v) b (ordered_at v l))
+            (placed_inside system t formed of v l b)
       ]
 
   pub solution_of : IsSolution system (value_of t)
   solution_of = record {
-    rows = (of.table (value_of t)).1 solves;
+    rows = (of.table (value_of t)).1 (solves system t formed of);
     limits = λ v l. subst (λ z. IsWithin z (value_of t v)) (limits_are system t of v l) (within v l);
   }
 

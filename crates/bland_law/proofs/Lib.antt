@@ -1,0 +1,4 @@
+mod Falling
+mod Returns
+mod Counts
+mod Endings

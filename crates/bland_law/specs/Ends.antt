@@ -1,0 +1,17 @@
+-- That settle runs end, whatever the budget.
+use Rattle.std.specs.Prelude.{ℕ, ◌+◌, ◌<◌, ◌^◌, suc, List, length}
+use Rattle.certs.specs.System.{LinearSystem, Place}
+use Rattle.certs.specs.Tableau.{IsWellFormedSystem}
+use Rattle.certs.specs.Runs.{Reaches}
+
+-- how many variables have limits: the columns and the rows
+abbrev pub limited_count : LinearSystem → ℕ
+limited_count system = length system.columns + length system.rows
+
+-- as many pivots as 3 to the number of these variables are never made
+abbrev pub FewPivotsLaw : Type 0
+FewPivotsLaw = (most : ℕ) (system : LinearSystem) (made : ℕ) (basis last : List Place) → IsWellFormedSystem system → Reaches most system made basis last → made < 3 ^ limited_count system
+
+-- no basis is reached from itself by one pivot or more
+abbrev pub NoBasisTwiceLaw : Type 0
+NoBasisTwiceLaw = (most : ℕ) (system : LinearSystem) (k : ℕ) (basis : List Place) → IsWellFormedSystem system → ¬ (Reaches most system (suc k) basis basis)

@@ -1,0 +1,14 @@
+//! The smallest-index rule ends: laws of settle runs, each the contract of a function that does nothing.
+#![tactic(auto)]
+
+ghost use Rattle.bland_law.specs.Ends.{FewPivotsLaw, NoBasisTwiceLaw};
+
+/// A settle run makes fewer pivots than 3 to the number of the system's columns and rows (Bland 1977).
+pub fn few_pivots()
+    ensures { FewPivotsLaw }
+{}
+
+/// No basis comes twice in a settle run.
+pub fn no_basis_twice()
+    ensures { NoBasisTwiceLaw }
+{}
