@@ -5,7 +5,7 @@ use Rattle.certs.specs.System.{LinearSystem, Place, is_basic}
 use Rattle.certs.specs.Tableau.{IsWellFormedSystem}
 use Rattle.certs.specs.Turns.{exchanged}
 use Rattle.certs.specs.Runs.{IsPivotTurn, Reaches}
-use Rattle.bland_law.specs.Ends.{limited_count, FewPivotsLaw, NoBasisTwiceLaw}
+use Rattle.bland_law.specs.Ends.{limited_count, FewPivotsLaw, NoBasisTwiceLaw, NeverSpentLaw}
 use Rattle.bland_law.proofs.Returns.{next}
 use Rattle.bland_law.proofs.Counts.{Counted, Lowered, lowered, weight, weight_below}
 
@@ -91,4 +91,11 @@ no_basis_twice_law most system k basis formed r =
     let n : ℕ = 3 ^ limited_count system in
     let few : rounds k n < 3 ^ limited_count system = few_pivots_law most system (rounds k n) basis basis formed (gone_round most system k basis r n) in
     let many : n ≤ rounds k n = rounds_enough k n in
+    omega arith
+
+pub never_spent_law : NeverSpentLaw
+never_spent_law most system basis budget begun last left turns formed run =
+    let few : run.made < 3 ^ limited_count system = few_pivots_law most system run.made basis last formed run.reaches in
+    let whole : run.made + left ≡ budget = run.budget_is in
+    let none : left ≡ 0 = run.ends.0 in
     omega arith

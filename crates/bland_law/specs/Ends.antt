@@ -2,7 +2,8 @@
 use Rattle.std.specs.Prelude.{ℕ, ◌+◌, ◌<◌, ◌^◌, suc, List, length}
 use Rattle.certs.specs.System.{LinearSystem, Place}
 use Rattle.certs.specs.Tableau.{IsWellFormedSystem}
-use Rattle.certs.specs.Runs.{Reaches}
+use Rattle.certs.specs.Runs.{End, Reaches, SettleRun}
+use Rattle.certs.specs.Runs.End.{Spent}
 
 -- how many variables have limits: the columns and the rows
 abbrev pub limited_count : LinearSystem → ℕ
@@ -15,3 +16,8 @@ FewPivotsLaw = (most : ℕ) (system : LinearSystem) (made : ℕ) (basis last : L
 -- no basis is reached from itself by one pivot or more
 abbrev pub NoBasisTwiceLaw : Type 0
 NoBasisTwiceLaw = (most : ℕ) (system : LinearSystem) (k : ℕ) (basis : List Place) → IsWellFormedSystem system → ¬ (Reaches most system (suc k) basis basis)
+
+-- so a run with a budget of as many pivots never stops for want of one
+abbrev pub NeverSpentLaw : Type 0
+NeverSpentLaw = (most : ℕ) (system : LinearSystem) (basis : List Place) (budget begun : ℕ) (last : List Place) (left turns : ℕ) → IsWellFormedSystem system
+    → SettleRun most system basis budget begun Spent last left turns → budget < 3 ^ limited_count system

@@ -1,7 +1,12 @@
-//! The smallest-index rule ends: laws of settle runs, each the contract of a function that does nothing.
+//! The smallest-index rule ends: laws of settle runs, each the contract of a function that does nothing, and a budget that
+//! is never spent.
 #![tactic(auto)]
 
-ghost use Rattle.bland_law.specs.Ends.{FewPivotsLaw, NoBasisTwiceLaw};
+ghost use Rattle.bland_law.specs.Ends.{FewPivotsLaw, NeverSpentLaw, NoBasisTwiceLaw};
+
+mod bounds;
+
+pub use bounds::basis_bound;
 
 /// A settle run makes fewer pivots than 3 to the number of the system's columns and rows (Bland 1977).
 pub fn few_pivots()
@@ -11,4 +16,9 @@ pub fn few_pivots()
 /// No basis comes twice in a settle run.
 pub fn no_basis_twice()
     ensures { NoBasisTwiceLaw }
+{}
+
+/// A settle run with a budget of 3 to the number of the system's columns and rows never stops for want of a pivot.
+pub fn never_spent()
+    ensures { NeverSpentLaw }
 {}
