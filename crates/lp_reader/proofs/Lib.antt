@@ -1,4 +1,3 @@
-pub mod Huge
 pub mod NewColumns
 pub mod Sums
 pub mod Terms

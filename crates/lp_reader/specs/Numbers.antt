@@ -1,7 +1,7 @@
 -- The numbers of terms, bounds and sides, and what is wrong with them.
-use Rattle.std.specs.Prelude.{ℕ, pos, ◌^◌, ◌||◌, Bool, true, false, cond, List, filter, Option, Some, None}
+use Rattle.std.specs.Prelude.{ℕ, Bool, true, false, cond, List, filter, Option, Some, None, option_map}
 use Rattle.std.specs.Str.{bytes_eq}
-use Rattle.rational.specs.Rational.{ℚ, whole, zero_ℚ, one_ℚ, neg_ℚ, le_q}
+use Rattle.rational.specs.Rational.{ℚ, zero_ℚ, one_ℚ, neg_ℚ}
 use Rattle.rational.specs.Sum.{sum_over}
 use Rattle.frac128.specs.Limit.{limit}
 use Rattle.frac128.specs.Width.{operation, is_wide}
@@ -11,7 +11,7 @@ use Rattle.frac128.specs.declared.literal.Literal.TheVariants.{Fits, TooWide}
 use Rattle.text_fields.specs.declared.faults.ReadStop.{ReadStop}
 use Rattle.text_fields.specs.declared.faults.ReadKind.TheVariants.{Text, SumWide}
 use Rattle.text_fields.specs.declared.faults.TextKind.TheVariants.{BadNumber, NumberWide}
-use Rattle.text_fields.specs.Numbers.{literal_in}
+use Rattle.text_fields.specs.Numbers.{literal_in, bound_of, is_wide_bound}
 use Rattle.lp_statements.specs.Items.{Written, stop_at}
 use Rattle.lp_statements.specs.Statements.{Constant, Term}
 
@@ -19,15 +19,6 @@ use Rattle.lp_statements.specs.Statements.{Constant, Term}
 abbrev pub signed : Bool → ℚ → ℚ
 signed true value = neg_ℚ value
 signed false value = value
-
--- 10^20
-abbrev pub far : ℚ
-far = whole (pos (10 ^ 20))
-
--- a literal of magnitude 10^20 or more
-unfoldable pub is_huge : Literal → Bool
-is_huge (Fits value) = le_q far value || le_q far (neg_ℚ value)
-is_huge (TooWide huge negative) = huge
 
 -- ---- factors
 -- a number that is used has to fit
@@ -71,7 +62,7 @@ sum_fault before term = cond (is_wide limit (operation Plus (sum_of term.name.te
 -- a number that is huge need not fit
 abbrev pub side_fault : ℕ → Option Literal → Option ReadStop
 side_fault line None = number_fault line None
-side_fault line (Some literal) = cond (is_huge literal) None (number_fault line (Some literal))
+side_fault line (Some literal) = cond (is_wide_bound literal) (Some (stop_at line (Text NumberWide))) None
 
 -- what is wrong with a constant
 unfoldable pub constant_fault : Constant → Option ReadStop
@@ -85,7 +76,7 @@ constant_fault_in None = None
 -- a huge number is no side
 abbrev pub side_in : Bool → Option Literal → Option ℚ
 side_in negative None = None
-side_in negative (Some literal) = cond (is_huge literal) None (Some (signed negative (value_in (Some literal))))
+side_in negative (Some literal) = option_map (signed negative) (bound_of literal)
 
 -- the side or bound that a constant is; infinity is none
 unfoldable pub side_of : Constant → Option ℚ

@@ -4,12 +4,12 @@ ghost use Rattle.std.specs.Option.{option_map};
 ghost use Rattle.text_fields.specs.Numbers.{literal_in};
 ghost use Rattle.lp_statements.specs.Items.{stop_at as stop_of};
 ghost use Rattle.lp_statements.specs.Statements.{shown_text, shown_constant, shown_term};
-ghost use Rattle.lp_reader.specs.Numbers.{is_huge as is_huge_by, signed as signed_by, number_fault, value_in, factor_fault, factor as factor_by, term_value as term_value_by, side_fault, constant_fault, side_in as side_by, side_of};
+ghost use Rattle.lp_reader.specs.Numbers.{signed as signed_by, number_fault, value_in, factor_fault, factor as factor_by, term_value as term_value_by, side_fault, constant_fault, side_in as side_by, side_of};
 ghost use Rattle.lp_reader.specs.Told.{IsFault};
 
 use frac128::{Frac, Literal, read_decimal};
 use lp_statements::{Constant, Term, Text};
-use text_fields::{ReadFault, ReadKind, ReadStop, TextKind};
+use text_fields::{ReadFault, ReadKind, ReadStop, TextKind, bound, is_wide_limit};
 
 /// The fault of a kind at a line.
 pub(crate) fn stop_at(line: u32, kind: ReadKind) -> ReadFault
@@ -36,13 +36,6 @@ fn literal(text: Text<'_>) -> Option<Literal>
         return None;
     };
     Some(literal)
-}
-
-// Whether the magnitude of a literal is 10^20 or more.
-fn is_huge(literal: Literal) -> bool
-    ensures { result ≡ is_huge_by literal }
-{
-    text_fields::is_huge(literal)
 }
 
 // The value of a number that has to fit.
@@ -85,22 +78,31 @@ pub(crate) fn term_value(term: Term<'_>) -> Result<Frac, ReadFault>
     }
 }
 
-// The side that a number is; a huge one is none, and need not fit.
+// The side that a literal is; a huge one is none, and need not fit.
+fn literal_side(line: u32, negative: bool, literal: Literal) -> Result<Option<Frac>, ReadFault>
+    ensures { MatchResult result
+        (λ side. (side_fault line (Some literal) ≡ None) × (side ≡ side_by negative (Some literal)))
+        (IsFault (side_fault line (Some literal))) }
+{
+    if is_wide_limit(&literal) {
+        return Err(stop_at(line, ReadKind::Text(TextKind::NumberWide)));
+    }
+    let Some(value) = bound(&literal) else {
+        return Ok(None);
+    };
+    Ok(Some(signed(negative, value)))
+}
+
+// The side that a number is.
 fn number_side(negative: bool, text: Text<'_>) -> Result<Option<Frac>, ReadFault>
     ensures { MatchResult result
         (λ side. (side_fault text.entry.line (literal_in text.entry.bytes.now) ≡ None) × (side ≡ side_by negative (literal_in text.entry.bytes.now)))
         (IsFault (side_fault text.entry.line (literal_in text.entry.bytes.now))) }
 {
-    let Some(found) = literal(text) else {
+    let Some(literal) = literal(text) else {
         return Err(stop_at(text.line, ReadKind::Text(TextKind::BadNumber)));
     };
-    if is_huge(found) {
-        return Ok(None);
-    }
-    match number(text.line, literal(text)) {
-        Ok(value) => Ok(Some(signed(negative, value))),
-        Err(fault) => Err(fault),
-    }
+    literal_side(text.line, negative, literal)
 }
 
 /// The side or bound that a constant is; infinity is none.

@@ -13,7 +13,7 @@ use Rattle.text_fields.specs.Numbers.{literal_in}
 use Rattle.text_fields.specs.declared.faults.TextKind.TheVariants.{BadNumber, NumberWide}
 use Rattle.text_fields.specs.declared.faults.ReadKind.{ReadKind}
 use Rattle.text_fields.specs.declared.faults.ReadKind.TheVariants.{Text, UnknownName, DuplicateEntry, SumWide}
-use Rattle.bound_numbers.specs.Bounds.{bound_of, is_wide_bound}
+use Rattle.text_fields.specs.Numbers.{bound_of, is_wide_bound}
 use Rattle.mps_lines.specs.declared.shapes.RowKind.{RowKind}
 use Rattle.mps_lines.specs.Shapes.{Figure}
 use Rattle.mps_lines.specs.Steps.{Step, ToSide, ToRange}

@@ -13,7 +13,7 @@ use Rattle.text_fields.specs.declared.faults.ReadStop.{ReadStop}
 use Rattle.text_fields.specs.declared.faults.ReadFault.{ReadFault}
 use Rattle.text_fields.specs.declared.faults.ReadFault.TheVariants.{Stop, Memory}
 use Rattle.lp_model.specs.Shown.{is_named, longest_name, most_rows, most_columns}
-use Rattle.bound_numbers.specs.Bounds.{is_wide_bound}
+use Rattle.text_fields.specs.Numbers.{is_wide_bound}
 use Rattle.mps_lines.specs.declared.shapes.RowKind.{RowKind}
 use Rattle.mps_lines.specs.Shapes.{Figure, Bounded}
 use Rattle.mps_lines.specs.Steps.{Step, Placed, Refused, ToSense, ToRow, ToColumn, ToEntry, ToSide, ToRange, ToBound, all_steps}

@@ -9,7 +9,7 @@ use Rattle.frac128.specs.Limit.{limit}
 use Rattle.frac128.specs.Width.{operation, is_wide}
 use Rattle.frac128.specs.declared.literal.Literal.{Literal}
 use Rattle.frac128.specs.declared.literal.Literal.TheVariants.{Fits, TooWide}
-use Rattle.bound_numbers.specs.Bounds.{bound_of}
+use Rattle.text_fields.specs.Numbers.{bound_of}
 use Rattle.mps_lines.specs.declared.shapes.RowKind.{RowKind}
 use Rattle.mps_lines.specs.declared.shapes.RowKind.TheVariants.{Free, AtMost, AtLeast, Equal}
 use Rattle.mps_lines.specs.declared.shapes.BoundKind.{BoundKind}

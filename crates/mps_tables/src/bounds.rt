@@ -10,13 +10,12 @@ ghost use Rattle.mps_tables.specs.Tables.{sets_lower, sets_upper, makes_whole};
 ghost use Rattle.mps_tables.specs.Sides.{is_binary, number_of as bound_number};
 ghost use Rattle.mps_tables.specs.Held.{Holds, Takes, GivesNumber, is_set_held, put_where, column_names_held};
 
-use crate::numbers::{is_wide, limit_of};
 use crate::tables::{Reader, literal_of, place_of, refusal};
 use frac128::Frac;
 use indexmap::IndexMap;
 use mps_lines::{BoundKind, Bounded};
 use std::alloc::AllocError;
-use text_fields::{ReadFault, ReadKind, TextKind};
+use text_fields::{ReadFault, ReadKind, TextKind, bound, is_wide_limit};
 
 /// Whether a kind sets the lower bound, be it that it takes it away.
 fn is_lower(kind: BoundKind) -> bool
@@ -89,10 +88,10 @@ fn number_of(text: Option<&[u8]>) -> Result<Option<Frac>, TextKind>
     let Some(literal) = literal_of(number) else {
         return Err(TextKind::BadNumber);
     };
-    if is_wide(&literal) {
+    if is_wide_limit(&literal) {
         return Err(TextKind::NumberWide);
     }
-    Ok(limit_of(&literal))
+    Ok(bound(&literal))
 }
 
 // Whether a bound of a column sets what this kind sets.

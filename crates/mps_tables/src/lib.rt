@@ -16,6 +16,3 @@ pub use program::make_program;
 pub use rows::{take_row, take_sense};
 pub use sides::{take_range, take_side};
 pub use tables::{Reader, refusal, start};
-
-#[cfg(test)]
-mod tests;

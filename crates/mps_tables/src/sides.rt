@@ -8,13 +8,13 @@ ghost use Rattle.mps_tables.specs.Sides.{move_of, moved_sides, is_move_wide, pla
 ghost use Rattle.mps_tables.specs.Sides.Move.{Down, Up};
 ghost use Rattle.mps_tables.specs.Held.{Takes, right_held, Moves};
 
-use crate::numbers::{is_negative, is_positive, is_wide, limit_of, magnitude};
+use crate::numbers::{is_negative, is_positive, magnitude};
 use crate::tables::{Reader, is_free_kind, kind_at, literal_of, place_of, refusal};
 use frac128::{Frac, Literal};
 use indexmap::IndexMap;
 use mps_lines::{Figure, RowKind};
 use std::alloc::AllocError;
-use text_fields::{ReadFault, ReadKind, TextKind};
+use text_fields::{ReadFault, ReadKind, TextKind, bound, is_wide_limit};
 
 /// Takes the right side of a row in.
 ///
@@ -32,13 +32,13 @@ pub fn take_side(reader: &mut Reader, line: u32, figure: Figure) -> Result<(), R
     if is_free_kind(kind_at(reader, row)) {
         return Ok(());
     }
-    if is_wide(&literal) {
+    if is_wide_limit(&literal) {
         return Err(refusal(line, ReadKind::Text(TextKind::NumberWide)));
     }
     if reader.rights.contains_key(&row) {
         return Err(refusal(line, ReadKind::DuplicateEntry));
     }
-    reader.rights.insert(row, limit_of(&literal))?;
+    reader.rights.insert(row, bound(&literal))?;
     Ok(())
 }
 
@@ -58,7 +58,7 @@ pub fn take_range(reader: &mut Reader, line: u32, figure: Figure) -> Result<(), 
     if is_free_kind(kind) {
         return Ok(());
     }
-    if is_wide(&literal) {
+    if is_wide_limit(&literal) {
         return Err(refusal(line, ReadKind::Text(TextKind::NumberWide)));
     }
     if reader.ranges.contains_key(&row) {
@@ -164,7 +164,7 @@ pub fn sides_with(kind: RowKind, right: Option<Frac>, range: &Literal) -> Option
             upper: None,
         });
     };
-    let far = limit_of(range);
+    let far = bound(range);
     match side_moved(kind, range) {
         Direction::Stays => Some(plain(kind, value)),
         Direction::Down => below(value, far),

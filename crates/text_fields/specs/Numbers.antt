@@ -1,6 +1,6 @@
 -- Decimal literals in a text.
-use Rattle.std.specs.Prelude.{◌≡◌, ◌⊎◌, ◌^◌, pos, true, ℕ, List, Option, None, option_map}
-use Rattle.rational.specs.Rational.{ℚ, whole, neg_ℚ, ◌≤ℚ◌}
+use Rattle.std.specs.Prelude.{◌≡◌, ◌^◌, pos, ℕ, Bool, false, ◌||◌, not, cond, List, Option, Some, None, option_map}
+use Rattle.rational.specs.Rational.{ℚ, whole, neg_ℚ, le_q}
 use Rattle.frac128.specs.Literal.{spelling_of, reading}
 use Rattle.frac128.specs.declared.literal.Literal.{Literal}
 use Rattle.frac128.specs.declared.literal.Literal.TheVariants.{Fits, TooWide}
@@ -28,11 +28,25 @@ pub record IsWideAt (line : ℕ) (literal : Literal) (fault : TextFault) : Type 
   pub line_is : fault.line ≡ line
   pub kind_is : fault.kind ≡ NumberWide
 
--- a value that is at least 10^20
-abbrev pub IsFar : ℚ → Type 0
-IsFar value = whole (pos (10 ^ 20)) ≤ℚ value
+-- 10^20
+abbrev pub far : ℚ
+far = whole (pos (10 ^ 20))
 
--- a literal whose magnitude is at least 10^20: its value or the opposite is, or it says so of one that does not fit
-abbrev pub IsHuge : Literal → Type 0
-IsHuge (Fits value) = IsFar value ⊎ IsFar (neg_ℚ value)
-IsHuge (TooWide huge negative) = huge ≡ true
+-- a value whose magnitude is at least 10^20
+unfoldable pub is_far : ℚ → Bool
+is_far value = le_q far value || le_q far (neg_ℚ value)
+
+-- a literal whose magnitude is at least 10^20, which one that does not fit tells of itself
+abbrev pub is_huge_literal : Literal → Bool
+is_huge_literal (Fits value) = is_far value
+is_huge_literal (TooWide huge negative) = huge
+
+-- the bound or the side that a literal says: a huge one says that there is none
+abbrev pub bound_of : Literal → Option ℚ
+bound_of (Fits value) = cond (is_far value) None (Some value)
+bound_of (TooWide huge negative) = None
+
+-- a literal that is no bound: it is not huge, and does not fit
+abbrev pub is_wide_bound : Literal → Bool
+is_wide_bound (Fits value) = false
+is_wide_bound (TooWide huge negative) = not huge

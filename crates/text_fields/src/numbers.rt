@@ -1,8 +1,8 @@
 //! Decimal literals in a text.
-ghost use Rattle.std.specs.Prelude.{◌≡◌, ◌≤◌, length, ◌↔◌, ◌≤ℤ◌, pos, IsTrue, MatchResult, Some, None};
-ghost use Rattle.rational.specs.Rational.{floor};
+ghost use Rattle.std.specs.Prelude.{◌≡◌, ◌≤◌, length, MatchResult, Some, None};
+ghost use Rattle.rational.specs.Rational.{le_q};
 ghost use Rattle.text_fields.specs.Lines.{text_of};
-ghost use Rattle.text_fields.specs.Numbers.{literal_in, IsWideAt, IsBadAt, IsHuge, IsFar};
+ghost use Rattle.text_fields.specs.Numbers.{literal_in, IsWideAt, IsBadAt, far, is_far, is_huge_literal, bound_of, is_wide_bound};
 
 use crate::{Span, TextFault, TextKind};
 use frac128::{Frac, Literal, read_decimal};
@@ -41,18 +41,58 @@ pub fn fitting(literal: Literal, line: u32) -> Result<Frac, TextFault>
 const FAR: i128 = 100_000_000_000_000_000_000;
 
 // Whether a value is at least 10^20.
-fn is_far(value: Frac) -> bool
-    ensures { IsTrue result ↔ IsFar value }
+fn is_above(value: Frac) -> bool
+    ensures { result ≡ le_q far value }
 {
     value.floor() >= FAR
 }
 
+// Whether the magnitude of a value is at least 10^20.
+#[tactic(auto, unfolding(crate::specs::Numbers::is_far))]
+fn is_far_value(value: Frac) -> bool
+    ensures { result ≡ is_far value }
+{
+    is_above(value) || is_above(value.negate())
+}
+
 /// Whether the magnitude of a literal is at least 10^20: as a bound or a side it is none.
 pub fn is_huge(literal: Literal) -> bool
-    ensures { IsTrue result ↔ IsHuge literal }
+    ensures { result ≡ is_huge_literal literal }
 {
     match literal {
-        Literal::Fits(value) => is_far(value) || is_far(value.negate()),
+        Literal::Fits(value) => is_far_value(value),
         Literal::TooWide { huge, .. } => huge,
+    }
+}
+
+// The value, unless it is huge.
+fn near(value: Frac) -> Option<Frac>
+    ensures { result ≡ bound_of (Literal.Fits value) }
+{
+    if is_far_value(value) {
+        return None;
+    }
+    Some(value)
+}
+
+/// The bound or the side that a literal says: `None` where its magnitude is at least 10^20, so that there is none.
+///
+/// One that does not fit and is not huge gives `None` too; `is_wide_limit` tells it.
+pub fn bound(literal: &Literal) -> Option<Frac>
+    ensures { result ≡ bound_of literal.now }
+{
+    match *literal {
+        Literal::Fits(value) => near(value),
+        Literal::TooWide { .. } => None,
+    }
+}
+
+/// Whether a literal is no bound: it does not fit, and is not huge.
+pub fn is_wide_limit(literal: &Literal) -> bool
+    ensures { result ≡ is_wide_bound literal.now }
+{
+    match *literal {
+        Literal::Fits(_) => false,
+        Literal::TooWide { huge, .. } => !huge,
     }
 }

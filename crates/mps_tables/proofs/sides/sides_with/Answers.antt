@@ -14,7 +14,7 @@ pub returns-in-Stays : goal.returns-in-Stays
 returns-in-Stays c = sides_stay c.args.kind c.args.right c.in-Some.value c.args.range.now c.plain.result c.in-Some.is c.in-Stays.ensures c.plain.ensures
 
 pub returns-in-Down : goal.returns-in-Down
-returns-in-Down c = sides_moved c.args.kind c.args.right c.in-Some.value c.args.range.now c.limit_of-far.result c.below.result Down c.in-Some.is c.limit_of-far.ensures c.in-Down.ensures (c.below.ensures c.args.kind)
+returns-in-Down c = sides_moved c.args.kind c.args.right c.in-Some.value c.args.range.now c.bound-far.result c.below.result Down c.in-Some.is c.bound-far.ensures c.in-Down.ensures (c.below.ensures c.args.kind)
 
 pub returns-in-Up : goal.returns-in-Up
-returns-in-Up c = sides_moved c.args.kind c.args.right c.in-Some.value c.args.range.now c.limit_of-far.result c.above.result Up c.in-Some.is c.limit_of-far.ensures c.in-Up.ensures (c.above.ensures c.args.kind)
+returns-in-Up c = sides_moved c.args.kind c.args.right c.in-Some.value c.args.range.now c.bound-far.result c.above.result Up c.in-Some.is c.bound-far.ensures c.in-Up.ensures (c.above.ensures c.args.kind)

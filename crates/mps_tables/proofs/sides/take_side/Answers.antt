@@ -29,12 +29,12 @@ returns-then-is_free_kind c = λ steps h.
       side_passed c.args.reader.now steps figure h c.in-Some.row c.in-Some.ensures c.in-Some-literal_of.literal (sym c.in-Some-literal_of.ensures) free,
     )
 
-pub returns-then-is_wide : goal.returns-then-is_wide
-returns-then-is_wide c = λ steps h.
+pub returns-then-is_wide_limit : goal.returns-then-is_wide_limit
+returns-then-is_wide_limit c = λ steps h.
     let figure = figure_shown c.args.figure in
     let free = ap is_free (sym c.kind_at.ensures) ∙ sym c.is_free_kind.ensures ∙ c.if-is_free_kind.false in
-    stops c.args.line _ (Text NumberWide) c.refusal-then-is_wide.result c.refusal-then-is_wide.ensures
-    (fault_side steps figure ∙ figure_wide c.args.reader.now steps (sides_of steps) figure [] h c.in-Some.row c.in-Some.ensures c.in-Some-literal_of.literal (sym c.in-Some-literal_of.ensures) free (sym c.is_wide.ensures ∙ c.if-is_wide.true))
+    stops c.args.line _ (Text NumberWide) c.refusal-then-is_wide_limit.result c.refusal-then-is_wide_limit.ensures
+    (fault_side steps figure ∙ figure_wide c.args.reader.now steps (sides_of steps) figure [] h c.in-Some.row c.in-Some.ensures c.in-Some-literal_of.literal (sym c.in-Some-literal_of.ensures) free (sym c.is_wide_limit.ensures ∙ c.if-is_wide_limit.true))
 
 pub returns-then-contains_key : goal.returns-then-contains_key
 returns-then-contains_key c = λ steps h.
@@ -42,7 +42,7 @@ returns-then-contains_key c = λ steps h.
     let free = ap is_free (sym c.kind_at.ensures) ∙ sym c.is_free_kind.ensures ∙ c.if-is_free_kind.false in
     stops c.args.line _ DuplicateEntry c.refusal-then-contains_key.result c.refusal-then-contains_key.ensures
     (fault_side steps figure ∙ figure_twice c.args.reader.now steps (sides_of steps) figure [] h c.in-Some.row c.in-Some.ensures c.in-Some-literal_of.literal (sym c.in-Some-literal_of.ensures)
-    bound_in (λ v. v) c.args.reader.now.rights.entries h.rights free (sym c.is_wide.ensures ∙ c.if-is_wide.false) (sym c.contains_key.ensures ∙ c.if-contains_key.true))
+    bound_in (λ v. v) c.args.reader.now.rights.entries h.rights free (sym c.is_wide_limit.ensures ∙ c.if-is_wide_limit.false) (sym c.contains_key.ensures ∙ c.if-contains_key.true))
 
 pub returns : goal.returns
 returns c = λ steps h.
@@ -50,7 +50,7 @@ returns c = λ steps h.
     let free = ap is_free (sym c.kind_at.ensures) ∙ sym c.is_free_kind.ensures ∙ c.if-is_free_kind.false in
     let absent = sym c.contains_key.ensures ∙ c.if-contains_key.false in (
       fault_side steps figure ∙ figure_once c.args.reader.now steps (sides_of steps) figure [] h c.in-Some.row c.in-Some.ensures c.in-Some-literal_of.literal (sym c.in-Some-literal_of.ensures)
-          bound_in (λ v. v) c.args.reader.now.rights.entries h.rights free (sym c.is_wide.ensures ∙ c.if-is_wide.false) absent ends,
+          bound_in (λ v. v) c.args.reader.now.rights.entries h.rights free (sym c.is_wide_limit.ensures ∙ c.if-is_wide_limit.false) absent ends,
       side_taken c.args.reader.now steps figure h c.in-Some.row c.in-Some.ensures c.in-Some-literal_of.literal (sym c.in-Some-literal_of.ensures) (record c.args.reader.now { rights = c.insert.new.self })
-          (c.in_ok-insert.ensures.entries ∙ ap (insert_entry nat_eq c.args.reader.now.rights.entries c.in-Some.row) c.limit_of.ensures) absent,
+          (c.in_ok-insert.ensures.entries ∙ ap (insert_entry nat_eq c.args.reader.now.rights.entries c.in-Some.row) c.bound.ensures) absent,
     )
