@@ -1,9 +1,9 @@
 //! Texts with what is expected of them.
 
-use mps_reader::read_mps;
+use crate::formats::Format;
+use crate::told::model_line;
 use std::alloc::{AllocError, Global};
 use text_fields::ReadFault;
-use told_models::model_line;
 
 /// How many texts and cuts were read, how many answers differ, and the number of the first text that differs.
 #[derive(Clone, Copy)]
@@ -30,10 +30,10 @@ fn past_line(bytes: &[u8], at: usize) -> usize {
 }
 
 // Where the next text begins, from the begin of a line on.
-fn next_text(bytes: &[u8], at: usize) -> usize {
+fn next_text(bytes: &[u8], at: usize, mark: u8) -> usize {
     let mut is_begin = true;
     for index in at..bytes.len() {
-        if is_begin && bytes[index] == b'>' {
+        if is_begin && bytes[index] == mark {
             return index;
         }
         is_begin = bytes[index] == b'\n';
@@ -42,11 +42,8 @@ fn next_text(bytes: &[u8], at: usize) -> usize {
 }
 
 // What is read of a text, in words, and the line of its fault, or 0.
-fn answer(alloc: Global, text: &[u8]) -> Result<(String, u32), AllocError> {
-    if text.len() >= 2_147_483_648 {
-        return Ok((String::new(alloc), 0));
-    }
-    match read_mps(alloc, text) {
+fn answer(alloc: Global, format: Format, text: &[u8]) -> Result<(String, u32), AllocError> {
+    match format.read(alloc, text) {
         Ok(model) => Ok((model_line(alloc, &model)?, 0)),
         Err(ReadFault::Stop(stop)) => Ok((format!(in alloc; "{stop}")?, stop.line)),
         Err(ReadFault::Memory) => Err(AllocError),
@@ -58,7 +55,7 @@ fn is_expected(answer: &String, expected: &[u8]) -> bool {
     answer.as_str().as_bytes() == expected
 }
 
-// How many cuts of a text at the lines before its fault are not truncated at their last line, of how many.
+// How many cuts of a text in the MPS format at the lines before its fault are not truncated at their last line, of how many.
 fn cuts_that_differ(alloc: Global, text: &[u8], fault: u32) -> Result<(u32, u32), AllocError> {
     let mut cuts: u32 = 0;
     let mut differ: u32 = 0;
@@ -69,7 +66,7 @@ fn cuts_that_differ(alloc: Global, text: &[u8], fault: u32) -> Result<(u32, u32)
         if line >= fault || at >= text.len() {
             return Ok((cuts, differ));
         }
-        let found = answer(alloc, &text[..at])?;
+        let found = answer(alloc, Format::Mps, &text[..at])?;
         let expected = format!(in alloc; "line {line}: truncated")?;
         if !is_expected(&found.0, expected.as_str().as_bytes()) {
             differ = differ.wrapping_add(1);
@@ -80,36 +77,51 @@ fn cuts_that_differ(alloc: Global, text: &[u8], fault: u32) -> Result<(u32, u32)
     Ok((cuts, differ))
 }
 
-/// Reads each text, and each of its cuts.
-pub fn try_cases(alloc: Global, bytes: &[u8]) -> Result<Found, AllocError> {
+// Reads a text, and each of its cuts where it has any.
+fn try_case(
+    alloc: Global,
+    format: Format,
+    expected: &[u8],
+    text: &[u8],
+    found: &mut Found,
+) -> Result<(), AllocError> {
+    let told = answer(alloc, format, text)?;
+    let cuts = match format {
+        Format::Mps => cuts_that_differ(alloc, text, told.1)?,
+        Format::Lp => (0, 0),
+    };
+    found.texts = found.texts.wrapping_add(1);
+    found.cuts = found.cuts.wrapping_add(cuts.0);
+    if !is_expected(&told.0, expected) || cuts.1 > 0 {
+        found.differ = found.differ.wrapping_add(1);
+        if found.first == 0 {
+            found.first = found.texts;
+        }
+    }
+    Ok(())
+}
+
+/// Reads each text of a file.
+pub fn try_cases(alloc: Global, format: Format, bytes: &[u8]) -> Result<Found, AllocError> {
     let mut found = Found {
         texts: 0,
         cuts: 0,
         differ: 0,
         first: 0,
     };
-    let mut at = next_text(bytes, 0);
+    let mark = format.mark();
+    let mut at = next_text(bytes, 0, mark);
     for _ in 0..bytes.len() {
         if at >= bytes.len() {
             return Ok(found);
         }
         let begin = past_line(bytes, at);
-        let end = next_text(bytes, begin);
+        let end = next_text(bytes, begin, mark);
         if begin > end || end > bytes.len() || at + 1 > begin {
             return Ok(found);
         }
         let expected = bytes[at + 1..begin].trim_ascii_end();
-        let text = &bytes[begin..end];
-        let told = answer(alloc, text)?;
-        let cuts = cuts_that_differ(alloc, text, told.1)?;
-        found.texts = found.texts.wrapping_add(1);
-        found.cuts = found.cuts.wrapping_add(cuts.0);
-        if !is_expected(&told.0, expected) || cuts.1 > 0 {
-            found.differ = found.differ.wrapping_add(1);
-            if found.first == 0 {
-                found.first = found.texts;
-            }
-        }
+        try_case(alloc, format, expected, &bytes[begin..end], &mut found)?;
         at = end;
     }
     Ok(found)

@@ -1,5 +1,4 @@
 //! A model in one line, to compare with what a slow reader says of the same text.
-#![tactic(auto)]
 
 use frac128::Frac;
 use lp_model::{Model, Note, Term};
