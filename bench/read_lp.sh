@@ -39,8 +39,8 @@ BEGIN {
     print " >= 1\nEnd"
 }' >"$work/row.lp"
 
-build lp_bench
+build
 for file in limits comments row; do
-    read_text lp_bench "$file.lp"
+    read_text lp "$file.lp"
 done
 print_count limits.lp

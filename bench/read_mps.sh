@@ -44,8 +44,8 @@ BEGIN {
     print "ENDATA"
 }' >"$work/column.mps"
 
-build mps_bench
+build
 for file in limits comments column; do
-    read_text mps_bench "$file.mps"
+    read_text mps "$file.mps"
 done
 print_count limits.mps

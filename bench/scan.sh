@@ -23,9 +23,9 @@ awk 'BEGIN {
 }' >"$work/whole"
 head -c 16777216 "$work/whole" >"$work/model.mps"
 
-build scan_bench
+build
 words=$(wc -w <"$work/model.mps")
-(cd "$work" && /usr/bin/time -f '%e' -o proved.time "$top/crates/scan_bench/out/scan_bench" model.mps "$turns") >"$work/said"
+(cd "$work" && /usr/bin/time -f '%e' -o proved.time "$program" scan model.mps "$turns") >"$work/said"
 grep -q " fields $((words))$" "$work/said" || {
     echo "the words differ: $(cat "$work/said") $words" >&2
     exit 1
