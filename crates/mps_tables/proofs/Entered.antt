@@ -1,7 +1,7 @@
 -- Entries: their faults, and readers that have taken one more.
-use Rattle.std.proofs.Common.{◌≡◌, ℕ, ◌+◌, ◌<◌, ◌≤◌, Bool, true, false, cond, not, nat_eq, nat_le, nat_lt, ◌&&◌, ◌||◌, List, [], ◌∷◌, ◌++◌, Option, Some, None, is_some, length, map, refl, sym, ap, ◌∙◌, subst, arith, true≢false}
-use Rattle.std.specs.List.{list_any, find}
-use Rattle.std.specs.Option.{option_map, option_map_or}
+use Rattle.std.proofs.Common.{◌≡◌, ℕ, ◌+◌, ◌<◌, ◌≤◌, Bool, true, false, not, nat_eq, nat_le, ◌&&◌, List, [], ◌∷◌, ◌++◌, Option, Some, None, is_some, length, map, refl, sym, ap, ◌∙◌, subst, arith}
+use Rattle.std.specs.List.{list_any}
+use Rattle.std.specs.Option.{option_map_or}
 use Rattle.std.specs.Map.{lookup}
 use Rattle.std.specs.Str.{bytes_eq}
 use Rattle.std.proofs.lemmas.Bool.Decides.{nat_tests}
@@ -9,20 +9,19 @@ use Rattle.rational.specs.Rational.{ℚ}
 use Rattle.frac128.specs.declared.literal.Literal.{Literal}
 use Rattle.frac128.specs.declared.literal.Literal.TheVariants.{Fits, TooWide}
 use Rattle.indexmap.specs.IndexMap.{insert_entry}
-use Rattle.name_map.specs.Names.{StandsAt, name_at}
+use Rattle.name_map.specs.Names.{StandsAt}
 use Rattle.name_map.proofs.NameLists.{insert_new}
 use Rattle.text_fields.specs.Numbers.{literal_in}
 use Rattle.text_fields.specs.declared.faults.TextKind.TheVariants.{BadNumber, NumberWide}
-use Rattle.text_fields.specs.declared.faults.ReadKind.{ReadKind}
 use Rattle.text_fields.specs.declared.faults.ReadKind.TheVariants.{Text, UnknownName, DuplicateEntry, Limit}
 use Rattle.mps_lines.specs.Shapes.{Figure}
 use Rattle.mps_lines.specs.Steps.{Step, ToEntry}
 use Rattle.mps_tables.specs.declared.tables.Reader.{Reader}
 use Rattle.mps_tables.specs.Tables.{RowRecord, EntryRecord, rows_of, entries_of, is_free, is_entry_at, is_dropped, fitting_value}
 use Rattle.mps_tables.specs.Faults.{fault, is_no_number, is_wide_number, is_wide_literal}
-use Rattle.mps_tables.specs.Held.{Keeps, Holds, KeepsEntries, row_names_held, column_names_held, kind_held, entry_value, is_entry_kept, is_dropped_among, value_fitting}
+use Rattle.mps_tables.specs.Held.{Keeps, Holds, KeepsEntries, row_names_held, column_names_held, kind_held, entry_value, value_fitting}
 use Rattle.mps_tables.specs.Gathered.{is_same_pair}
-use Rattle.mps_tables.proofs.Looks.{any_find, any_lookup, entry_look, some_map}
+use Rattle.mps_tables.proofs.Looks.{any_find, any_lookup, entry_look}
 use Rattle.mps_tables.proofs.Tested.{hits, passes, ends, row_is_named, dropped_at}
 use Rattle.mps_tables.proofs.Grows.{tables_entry}
 use Rattle.mps_tables.proofs.Keeping.{entry_counted, entry_put}

@@ -1,11 +1,10 @@
 -- What is kept after one step more.
-use Rattle.std.proofs.Common.{◌≡◌, ◌≢◌, ℕ, ◌+◌, ◌<◌, ◌≤◌, Bool, true, false, cond, not, nat_eq, nat_le, nat_lt, ◌&&◌, ◌||◌, List, [], ◌∷◌, ◌++◌, Option, Some, None, IfSome, is_some, unwrap_or, length, map, get_or, slice_get, refl, sym, ap, ◌∙◌, subst, arith, true≢false, length-append, append-nil}
-use Rattle.std.specs.List.{All, find, filter, list_any}
+use Rattle.std.proofs.Common.{◌≡◌, ℕ, ◌+◌, ◌<◌, ◌≤◌, Bool, true, false, cond, not, nat_le, ◌&&◌, ◌||◌, List, [], ◌∷◌, ◌++◌, Option, Some, None, IfSome, unwrap_or, length, map, slice_get, refl, sym, ap, ◌∙◌, subst, arith, true≢false, length-append, append-nil}
+use Rattle.std.specs.List.{All, list_any}
 use Rattle.std.specs.Option.{option_map, option_map_or}
-use Rattle.std.specs.Map.{lookup}
 use Rattle.std.specs.Str.{bytes_eq}
 use Rattle.std.proofs.lemmas.Slice.Eq.{bytes_eq-Decides}
-use Rattle.std.proofs.lemmas.List.Elements.{All-push, All-nil, filter-append}
+use Rattle.std.proofs.lemmas.List.Elements.{All-push, filter-append}
 use Rattle.std.proofs.lemmas.List.Folds.{list_any-append}
 use Rattle.std.proofs.Math.Seq.{get_or-append_seam}
 use Rattle.rational.specs.Rational.{ℚ}
@@ -15,8 +14,8 @@ use Rattle.name_map.proofs.NameLists.{length_map, map_push}
 use Rattle.mps_lines.specs.declared.shapes.RowKind.{RowKind}
 use Rattle.mps_lines.specs.declared.shapes.BoundKind.{BoundKind}
 use Rattle.mps_lines.specs.Shapes.{Figure, Bounded}
-use Rattle.mps_tables.specs.Tables.{RowRecord, ColumnRecord, EntryRecord, is_free, is_entry_at, figure_of}
-use Rattle.mps_tables.specs.Held.{KeepsSense, KeepsRows, KeepsColumns, KeepsEntries, KeepsFigures, KeepsSettings, row_record, column_record, free_among, kept_among, is_free_among, objective_among, is_dropped_among, setting_among, is_at, kept_of, is_entry_kept, entry_value}
+use Rattle.mps_tables.specs.Tables.{RowRecord, ColumnRecord, EntryRecord, is_free, is_entry_at}
+use Rattle.mps_tables.specs.Held.{KeepsSense, KeepsRows, KeepsColumns, KeepsEntries, KeepsFigures, KeepsSettings, row_record, column_record, free_among, kept_among, is_free_among, is_dropped_among, is_at, is_entry_kept, entry_value}
 use Rattle.mps_tables.proofs.Looks.{both_push, find_same, kept_stays, entry_stays_rows, entry_stays_columns, name_stays}
 
 -- ---- the sense

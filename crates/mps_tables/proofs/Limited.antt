@@ -1,26 +1,24 @@
 -- Bounds: their faults, and readers that have taken one more.
-use Rattle.std.proofs.Common.{◌≡◌, ℕ, ◌+◌, ◌<◌, ◌≤◌, Bool, true, false, cond, not, nat_eq, ◌&&◌, ◌||◌, List, [], ◌∷◌, ◌++◌, Option, Some, None, Err, is_some, length, map, refl, sym, ap, ◌∙◌, subst, arith, true≢false}
-use Rattle.std.specs.List.{All, list_any, find}
+use Rattle.std.proofs.Common.{◌≡◌, ℕ, Bool, true, false, cond, not, nat_eq, ◌&&◌, ◌||◌, List, [], ◌∷◌, ◌++◌, Option, Some, None, Err, is_some, map, refl, sym, ap, ◌∙◌, subst, true≢false}
+use Rattle.std.specs.List.{list_any}
 use Rattle.std.specs.Option.{option_map, option_map_or, option_or}
 use Rattle.std.specs.Map.{lookup}
 use Rattle.std.specs.Str.{bytes_eq}
 use Rattle.std.proofs.lemmas.Slice.Eq.{bytes_eq-Decides}
 use Rattle.rational.specs.Rational.{ℚ, zero_ℚ, one_ℚ}
 use Rattle.indexmap.specs.IndexMap.{insert_entry}
-use Rattle.name_map.specs.Names.{StandsAt, name_at}
-use Rattle.name_map.proofs.NameLists.{insert_new}
+use Rattle.name_map.specs.Names.{StandsAt}
 use Rattle.text_fields.specs.declared.faults.TextKind.{TextKind}
 use Rattle.text_fields.specs.declared.faults.TextKind.TheVariants.{ForeignByte, LongLine, BadNumber, NumberWide}
-use Rattle.text_fields.specs.declared.faults.ReadKind.{ReadKind}
 use Rattle.text_fields.specs.declared.faults.ReadKind.TheVariants.{Text, UnknownName, DuplicateEntry}
 use Rattle.mps_lines.specs.declared.shapes.BoundKind.{BoundKind}
 use Rattle.mps_lines.specs.Shapes.{Bounded}
 use Rattle.mps_lines.specs.Steps.{Step, ToBound}
 use Rattle.mps_tables.specs.declared.tables.Reader.{Reader}
-use Rattle.mps_tables.specs.Tables.{ColumnRecord, columns_of, bounds_of, sets_lower, sets_upper, makes_whole, sets_same}
+use Rattle.mps_tables.specs.Tables.{ColumnRecord, columns_of, bounds_of, sets_lower, sets_upper, makes_whole}
 use Rattle.mps_tables.specs.Sides.{lower_set, upper_set, is_binary, number_of}
 use Rattle.mps_tables.specs.Faults.{fault, is_no_number, is_wide_side, is_set_twice}
-use Rattle.mps_tables.specs.Held.{Keeps, Holds, KeepsSettings, column_names_held, setting_among, is_at, kept_of, is_set_held, put_where, GivesNumber}
+use Rattle.mps_tables.specs.Held.{Keeps, Holds, KeepsSettings, column_names_held, setting_among, kept_of, is_set_held, put_where, GivesNumber}
 use Rattle.mps_tables.proofs.Looks.{any_find, any_lookup, place_look, find_push}
 use Rattle.mps_tables.proofs.Tested.{hits, passes, ends, column_is_named}
 use Rattle.mps_tables.proofs.Grows.{tables_bound}

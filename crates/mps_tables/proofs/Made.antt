@@ -1,5 +1,5 @@
 -- A program that is made by places: one column or one row more.
-use Rattle.std.proofs.Common.{◌≡◌, ◌≢◌, ℕ, zero, suc, ◌+◌, ◌<◌, ◌≤◌, Bool, true, false, cond, not, List, [], ◌∷◌, ◌++◌, Option, Some, None, IfSome, length, map, get_or, slice_get, refl, sym, ap, ◌∙◌, subst, arith, true≢false, append-nil, length-append}
+use Rattle.std.proofs.Common.{◌≡◌, ◌≢◌, ℕ, zero, suc, ◌+◌, ◌<◌, Bool, true, false, cond, List, [], ◌∷◌, ◌++◌, Option, Some, None, IfSome, length, get_or, slice_get, refl, sym, ap, ◌∙◌, subst, arith, true≢false, append-nil, length-append}
 use Rattle.std.specs.List.{All}
 use Rattle.std.specs.Option.{option_map_or}
 use Rattle.std.proofs.lemmas.Option.{get_or_from_slice_get}
@@ -11,17 +11,13 @@ use Rattle.rational.specs.Rational.{ℚ, zero_ℚ, one_ℚ, eq_ℚ, ◌<ℚ◌}
 use Rattle.rational.specs.Linear.{Term}
 use Rattle.rational.proofs.Compare.{eq-Decides}
 use Rattle.rational.proofs.Order.{positive_is, positive-one}
-use Rattle.lp_model.specs.declared.parts.Note.{Note}
 use Rattle.lp_model.specs.declared.parts.Note.TheVariants.{LowerRemoved}
 use Rattle.lp_model.specs.declared.parts.Weight.TheVariants.{Soft}
-use Rattle.lp_model.specs.declared.parts.Column.{Column}
-use Rattle.lp_model.specs.declared.parts.Row.{Row}
 use Rattle.lp_model.specs.Program.{Program, NamedRow, NamedColumn, IsForm, IsPositiveWeight, IsWellFormedColumn}
-use Rattle.lp_model.specs.Shown.{named_row, named_column, with_more_row, with_more_column}
+use Rattle.lp_model.specs.Shown.{with_more_row, with_more_column}
 use Rattle.mps_tables.specs.declared.tables.Reader.{Reader}
-use Rattle.mps_tables.specs.Meaning.{with_term}
 use Rattle.mps_tables.specs.Gathered.{terms_to, listed, listed_where}
-use Rattle.mps_tables.specs.Built.{column_held, columns_to, is_removed_held, rows_to, row_held, is_kept_held, terms_held, sides_held}
+use Rattle.mps_tables.specs.Built.{column_held, columns_to, is_removed_held, rows_to, row_held, is_kept_held, terms_held}
 
 pub positive_weight : zero_ℚ <ℚ one_ℚ
 positive_weight = positive_is.1 positive-one

@@ -1,5 +1,5 @@
 -- The program that is built by places is the one that the steps declare by names.
-use Rattle.std.proofs.Common.{◌≡◌, ◌≢◌, ℕ, zero, suc, ◌+◌, ◌<◌, ◌≤◌, Bool, true, false, cond, not, nat_eq, ◌&&◌, ◌||◌, List, [], ◌∷◌, ◌++◌, Option, Some, None, IfSome, MatchOption, is_some, unwrap_or, length, map, filter, take, get_or, slice_get, position, refl, sym, ap, ◌∙◌, subst, arith, true≢false, append-nil, append_assoc, eq-eqb}
+use Rattle.std.proofs.Common.{◌≡◌, ℕ, zero, suc, ◌+◌, ◌<◌, ◌≤◌, Bool, true, false, cond, not, nat_eq, ◌&&◌, ◌||◌, List, [], ◌∷◌, ◌++◌, Option, Some, None, IfSome, MatchOption, is_some, unwrap_or, length, map, filter, take, get_or, slice_get, position, refl, sym, ap, ◌∙◌, subst, arith, true≢false, append-nil, eq-eqb}
 use Rattle.std.specs.List.{All, IsDistinct, find, list_any}
 use Rattle.std.specs.Option.{option_map, option_map_or}
 use Rattle.std.specs.Map.{lookup}
@@ -10,7 +10,7 @@ use Rattle.std.proofs.lemmas.List.Elements.{filter-append}
 use Rattle.std.proofs.lemmas.Slice.Eq.{bytes_eq-Decides}
 use Rattle.std.proofs.lemmas.Bool.Decides.{nat_tests}
 use Rattle.std.proofs.lemmas.List.Folds.{list_any_at}
-use Rattle.rational.specs.Rational.{ℚ, zero_ℚ, one_ℚ, lt_q, eq_ℚ}
+use Rattle.rational.specs.Rational.{ℚ, zero_ℚ, one_ℚ, eq_ℚ}
 use Rattle.rational.specs.Linear.{Term}
 use Rattle.frac128.specs.declared.literal.Literal.{Literal}
 use Rattle.text_fields.specs.Numbers.{literal_in}
@@ -27,14 +27,14 @@ use Rattle.mps_lines.specs.declared.shapes.BoundKind.TheVariants.{Upper, Lower, 
 use Rattle.mps_lines.specs.Shapes.{Figure, Bounded}
 use Rattle.mps_lines.specs.Steps.{Step}
 use Rattle.mps_tables.specs.declared.tables.Reader.{Reader}
-use Rattle.mps_tables.specs.Tables.{RowRecord, ColumnRecord, EntryRecord, rows_of, columns_of, column_names, entries_of, bounds_of, ranges_of, senses_of, kept_rows, is_free, is_dropped, is_free_row, is_entry_at, objective_of, factor_in, fitting_value, figure_of, range_of, right_side, setting, sets_lower, sets_upper, makes_whole}
+use Rattle.mps_tables.specs.Tables.{RowRecord, ColumnRecord, rows_of, columns_of, column_names, entries_of, bounds_of, ranges_of, senses_of, kept_rows, is_free, is_dropped, is_free_row, is_entry_at, objective_of, factor_in, figure_of, range_of, right_side, setting, sets_lower, sets_upper, makes_whole}
 use Rattle.mps_tables.specs.Sides.{row_sides, lower_set, upper_set, lower_in, upper_in, whole_in, is_removed, is_below, is_binary, number_of}
 use Rattle.mps_tables.specs.Meaning.{with_term, terms_from, terms_of, named_row_of, named_column_of, notes_from, program_of}
-use Rattle.mps_tables.specs.Held.{Holds, KeepsSettings, KeepsSense, row_record, column_record, row_names_held, column_names_held, kind_held, right_held, kept_of, is_entry_kept, entry_value}
-use Rattle.mps_tables.specs.Gathered.{is_same_pair, factor_kept, terms_to, listed, listed_where}
-use Rattle.mps_tables.specs.Built.{column_held, lower_held, upper_held, whole_held, is_removed_held, is_negative_bound, terms_held, sides_held, row_held, is_kept_held, objective_held, program_held}
-use Rattle.mps_tables.proofs.Looks.{any_find, place_look, entry_look, some_map}
-use Rattle.mps_tables.proofs.Tested.{column_names_same, row_names_same, free_at, dropped_at}
+use Rattle.mps_tables.specs.Held.{Holds, KeepsSettings, row_record, column_record, row_names_held, column_names_held, kind_held, entry_value}
+use Rattle.mps_tables.specs.Gathered.{factor_kept, terms_to, listed, listed_where}
+use Rattle.mps_tables.specs.Built.{column_held, lower_held, upper_held, is_removed_held, is_negative_bound, terms_held, sides_held, row_held, is_kept_held, objective_held, program_held}
+use Rattle.mps_tables.proofs.Looks.{any_find, place_look, entry_look}
+use Rattle.mps_tables.proofs.Tested.{column_names_same, free_at, dropped_at}
 use Rattle.mps_tables.proofs.Sided.{right_is}
 
 -- ---- lists by number

@@ -1,5 +1,5 @@
 -- Right sides and ranges: their faults, and readers that have taken one more.
-use Rattle.std.proofs.Common.{◌≡◌, ℕ, ◌+◌, ◌<◌, ◌≤◌, Bool, true, false, cond, not, nat_eq, ◌&&◌, ◌||◌, List, [], ◌∷◌, ◌++◌, Option, Some, None, MatchOption, is_some, unwrap_or, length, map, refl, sym, ap, ◌∙◌, subst, arith, true≢false}
+use Rattle.std.proofs.Common.{◌≡◌, ℕ, Bool, true, false, not, nat_eq, ◌&&◌, List, [], ◌∷◌, ◌++◌, Option, Some, None, MatchOption, is_some, unwrap_or, map, refl, sym, ap, ◌∙◌, subst}
 use Rattle.std.specs.List.{list_any, find}
 use Rattle.std.specs.Option.{option_map, option_map_or}
 use Rattle.std.specs.Map.{lookup}
@@ -22,7 +22,7 @@ use Rattle.mps_tables.specs.Tables.{RowRecord, rows_of, sides_of, ranges_of, is_
 use Rattle.mps_tables.specs.declared.sides.Sides.{Sides}
 use Rattle.mps_tables.specs.Sides.{Move, move_of, moved_sides, plain_sides, row_sides, is_move_wide, is_range_wide}
 use Rattle.mps_tables.specs.Sides.Move.{Stays}
-use Rattle.mps_tables.specs.Faults.{fault, first_true, figure_tests, is_no_number, is_wide_side, is_sum_wide, kind_of}
+use Rattle.mps_tables.specs.Faults.{fault, first_true, figure_tests, is_no_number, is_wide_side, is_sum_wide}
 use Rattle.mps_tables.specs.Held.{Keeps, Holds, KeepsFigures, row_names_held, kind_held, right_held}
 use Rattle.mps_tables.proofs.Looks.{any_lookup, place_look, some_map}
 use Rattle.mps_tables.proofs.Tested.{hits, passes, ends, row_is_named, free_at, kind_at}

@@ -1,6 +1,6 @@
 -- Entries that go to their lists, and the terms of a row that come of them.
-use Rattle.std.proofs.Common.{◌≡◌, ◌≢◌, ℕ, zero, suc, ◌+◌, ◌<◌, Bool, true, false, cond, not, nat_eq, ◌&&◌, ◌||◌, List, [], ◌∷◌, ◌++◌, Option, Some, None, unwrap_or, length, map, get_or, set, take, refl, sym, ap, ◌∙◌, subst, arith, true≢false, append-nil, append_assoc, add-one, slice_get, get_or-set_other, get_or-set_same}
-use Rattle.std.specs.List.{All, AllByRecursion, IsDistinct, cons_option, filter_map}
+use Rattle.std.proofs.Common.{◌≡◌, ◌≢◌, ℕ, zero, suc, ◌+◌, ◌<◌, Bool, true, false, cond, not, nat_eq, ◌&&◌, List, [], ◌∷◌, ◌++◌, Some, None, unwrap_or, length, map, get_or, set, take, refl, sym, ap, ◌∙◌, subst, arith, true≢false, append-nil, append_assoc, add-one, slice_get, get_or-set_other, get_or-set_same}
+use Rattle.std.specs.List.{All, AllByRecursion, IsDistinct, cons_option}
 use Rattle.std.specs.Map.{lookup}
 use Rattle.std.proofs.lemmas.List.{map-set, take_more, get_or-map}
 use Rattle.std.proofs.lemmas.List.Elements.{filter_map-append, All-push, All-nil, All-cons, All-head, All-tail}

@@ -1,10 +1,8 @@
 -- What is kept before the first step.
-use Rattle.std.proofs.Common.{◌≡◌, ℕ, ◌<◌, ◌≤◌, Bool, List, [], ◌∷◌, Option, None, map, length, refl, sym, ap, subst, arith}
-use Rattle.std.specs.List.{All}
+use Rattle.std.proofs.Common.{◌≡◌, ℕ, ◌<◌, ◌≤◌, Bool, List, [], ◌∷◌, None, length, refl, sym, subst, arith}
 use Rattle.std.proofs.lemmas.List.Elements.{All-nil}
 use Rattle.rational.specs.Rational.{ℚ}
-use Rattle.lp_model.specs.Shown.{most_rows, most_columns, longest_name}
-use Rattle.name_map.specs.Names.{names_of}
+use Rattle.lp_model.specs.Shown.{longest_name}
 use Rattle.mps_lines.specs.declared.shapes.RowKind.{RowKind}
 use Rattle.mps_lines.specs.declared.shapes.BoundKind.{BoundKind}
 use Rattle.mps_lines.specs.Shapes.{Bounded}

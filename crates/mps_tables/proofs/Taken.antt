@@ -1,38 +1,32 @@
 -- Readers that have taken one step more.
 use Rattle.std.proofs.Common.{◌≡◌, ℕ, ◌+◌, ◌<◌, ◌≤◌, Bool, true, false, cond, not, nat_eq, nat_le, nat_lt, ◌&&◌, ◌||◌, List, [], ◌∷◌, ◌++◌, Option, Some, None, is_some, unwrap_or, length, map, refl, sym, ap, ◌∙◌, subst, arith, true≢false, ltb, eq-eqb, length-append}
-use Rattle.std.specs.List.{All, list_any, find}
+use Rattle.std.specs.List.{All, list_any}
 use Rattle.std.proofs.lemmas.List.Elements.{All-nil, All-cons}
 use Rattle.std.proofs.lemmas.List.Folds.{list_any-append}
 use Rattle.std.proofs.lemmas.Slice.Eq.{bytes_eq-Decides}
 use Rattle.std.proofs.lemmas.Bool.Decides.{nat_tests}
 use Rattle.std.proofs.Math.Seq.{get_or-append_seam}
-use Rattle.std.specs.Option.{option_map, option_map_or}
-use Rattle.std.specs.Map.{lookup}
 use Rattle.std.specs.Str.{bytes_eq}
 use Rattle.std.proofs.lemmas.Bool.{lt-ltb, ltb-true, ltb-false, ne_eqb}
-use Rattle.rational.specs.Rational.{ℚ, zero_ℚ, one_ℚ}
-use Rattle.frac128.specs.declared.literal.Literal.{Literal}
-use Rattle.indexmap.specs.IndexMap.{insert_entry}
 use Rattle.name_map.specs.Names.{StandsAt, name_at, names_of}
-use Rattle.name_map.proofs.NameLists.{length_map, map_push, any_map, insert_new}
+use Rattle.name_map.proofs.NameLists.{length_map, map_push, any_map}
 use Rattle.text_fields.specs.Numbers.{literal_in}
-use Rattle.text_fields.specs.declared.faults.TextKind.TheVariants.{BadNumber, NumberWide}
 use Rattle.text_fields.specs.declared.faults.ReadKind.{ReadKind}
-use Rattle.text_fields.specs.declared.faults.ReadKind.TheVariants.{Text, UnknownName, DuplicateName, DuplicateEntry, BadField, Limit, SumWide}
+use Rattle.text_fields.specs.declared.faults.ReadKind.TheVariants.{DuplicateName, BadField, Limit}
 use Rattle.text_fields.specs.declared.faults.ReadFault.{ReadFault}
 use Rattle.text_fields.specs.declared.faults.ReadFault.TheVariants.{Stop}
 use Rattle.mps_lines.specs.declared.shapes.RowKind.{RowKind}
 use Rattle.mps_lines.specs.declared.shapes.BoundKind.{BoundKind}
-use Rattle.mps_lines.specs.Shapes.{Figure, Bounded}
-use Rattle.mps_lines.specs.Steps.{Step, ToSense, ToRow, ToColumn, ToEntry, ToSide, ToRange, ToBound}
+use Rattle.mps_lines.specs.Shapes.{Bounded}
+use Rattle.mps_lines.specs.Steps.{Step, ToSense, ToRow, ToColumn}
 use Rattle.mps_tables.specs.declared.tables.Reader.{Reader}
-use Rattle.mps_tables.specs.Tables.{RowRecord, ColumnRecord, EntryRecord, senses_of, rows_of, columns_of, entries_of, sides_of, ranges_of, bounds_of, is_free, bound_in, sets_lower, sets_upper, makes_whole}
+use Rattle.mps_tables.specs.Tables.{RowRecord, ColumnRecord, senses_of, rows_of, columns_of, entries_of, sides_of, ranges_of, bounds_of, is_free, bound_in, sets_lower, sets_upper, makes_whole}
 use Rattle.mps_tables.specs.Sides.{lower_set, upper_set}
 use Rattle.mps_tables.specs.Faults.{fault, is_full, is_too_long}
-use Rattle.mps_tables.specs.Held.{Keeps, Holds, KeepsSense, KeepsEntries, KeepsFigures, KeepsSettings, tables, column_record, row_names_held, column_names_held, IsStepStop}
+use Rattle.mps_tables.specs.Held.{Keeps, Holds, KeepsSense, KeepsEntries, KeepsFigures, KeepsSettings, column_record, row_names_held, column_names_held, IsStepStop}
 use Rattle.mps_tables.proofs.Tested.{hits, passes, ends, row_is_named, column_is_named}
 use Rattle.mps_tables.proofs.Looks.{name_stays}
-use Rattle.mps_tables.proofs.Grows.{tables_sense, tables_row, tables_column, tables_entry, tables_side, tables_range, tables_bound}
+use Rattle.mps_tables.proofs.Grows.{tables_sense, tables_row, tables_column}
 use Rattle.mps_tables.proofs.Keeping.{sense_given, row_kept, row_freed, figures_stay, entries_stay_rows, column_put, entries_stay_columns, settings_stay}
 
 -- a refusal with the fault of a step

@@ -1,8 +1,7 @@
 -- What the tests of steps read, by names, and what the code reads, by places.
-use Rattle.std.proofs.Common.{◌≡◌, ◌≢◌, ℕ, ◌+◌, ◌<◌, ◌≤◌, Bool, true, false, cond, not, nat_eq, nat_le, nat_lt, ◌&&◌, ◌||◌, List, [], ◌∷◌, ◌++◌, Option, Some, None, IfSome, is_some, length, map, get_or, refl, sym, ap, ◌∙◌, subst, arith, true≢false}
-use Rattle.std.specs.List.{All, find, filter, list_any}
+use Rattle.std.proofs.Common.{◌≡◌, ◌≢◌, ℕ, ◌<◌, Bool, true, false, cond, not, nat_eq, ◌&&◌, List, [], ◌∷◌, Option, Some, None, IfSome, length, map, get_or, refl, sym, ap, ◌∙◌, subst}
+use Rattle.std.specs.List.{find, list_any}
 use Rattle.std.specs.Option.{option_map, option_map_or}
-use Rattle.std.specs.Map.{lookup}
 use Rattle.std.specs.Str.{bytes_eq}
 use Rattle.std.proofs.lemmas.List.{get_or-map}
 use Rattle.std.proofs.lemmas.Slice.Eq.{bytes_eq-Decides}
@@ -14,7 +13,7 @@ use Rattle.mps_lines.specs.declared.shapes.RowKind.{RowKind}
 use Rattle.mps_lines.specs.declared.shapes.RowKind.TheVariants.{Free}
 use Rattle.mps_tables.specs.Tables.{RowRecord, ColumnRecord, is_free}
 use Rattle.mps_tables.specs.Faults.{first_true}
-use Rattle.mps_tables.specs.Held.{KeepsRows, KeepsColumns, row_record, column_record, free_among, is_free_among, objective_among, is_dropped_among}
+use Rattle.mps_tables.specs.Held.{KeepsRows, KeepsColumns, row_record, column_record, is_free_among, objective_among, is_dropped_among}
 use Rattle.mps_tables.proofs.Looks.{any_at, find_at}
 
 -- ---- tests in order

@@ -1,5 +1,5 @@
 -- The program of a reader, by the places of rows and columns.
-use Rattle.std.specs.Prelude.{◌≡◌, ℕ, ◌<◌, ◌≤◌, ◌&&◌, ◌||◌, not, nat_eq, cond, Bool, true, false, is_some, unwrap_or, All, IfSome, List, [], ◌∷◌, ◌++◌, length, map, slice_index_or, Option, Some, None}
+use Rattle.std.specs.Prelude.{ℕ, ◌<◌, ◌≤◌, ◌&&◌, ◌||◌, not, nat_eq, cond, Bool, true, false, is_some, unwrap_or, All, IfSome, List, [], length, map, slice_index_or, Option, Some, None}
 use Rattle.std.specs.Option.{option_map_or}
 use Rattle.std.specs.Map.{lookup}
 use Rattle.rational.specs.Rational.{ℚ, zero_ℚ, one_ℚ, lt_q}

@@ -1,5 +1,5 @@
 -- The first fault of a model.
-use Rattle.std.specs.Prelude.{◌≡◌, ⊤, ℕ, nat_le, nat_lt, Bool, true, false, ◌&&◌, ◌||◌, not, is_some, cond, List, [], ◌∷◌, ◌++◌, length, map, find, Option, Some, None}
+use Rattle.std.specs.Prelude.{◌≡◌, ⊤, ℕ, nat_le, nat_lt, Bool, true, false, ◌&&◌, ◌||◌, not, is_some, cond, List, [], ◌∷◌, ◌++◌, length, find, Option, Some, None}
 use Rattle.std.specs.List.{list_any}
 use Rattle.std.specs.Option.{option_map, option_map_or}
 use Rattle.std.specs.Str.{bytes_eq}
@@ -17,7 +17,7 @@ use Rattle.text_fields.specs.Numbers.{is_wide_bound}
 use Rattle.mps_lines.specs.declared.shapes.RowKind.{RowKind}
 use Rattle.mps_lines.specs.Shapes.{Figure, Bounded}
 use Rattle.mps_lines.specs.Steps.{Step, Placed, Refused, ToSense, ToRow, ToColumn, ToEntry, ToSide, ToRange, ToBound, all_steps}
-use Rattle.mps_tables.specs.Tables.{RowRecord, row_names, rows_of, free_rows, kept_rows, is_free, is_free_row, is_dropped, column_names, columns_of, entries_of, is_entry_at, sides_of, ranges_of, figure_of, right_side, bounds_of, sets_same, senses_of}
+use Rattle.mps_tables.specs.Tables.{row_names, rows_of, free_rows, kept_rows, is_free, is_free_row, is_dropped, column_names, columns_of, entries_of, is_entry_at, sides_of, ranges_of, figure_of, right_side, bounds_of, sets_same, senses_of}
 use Rattle.mps_tables.specs.Sides.{is_range_wide}
 
 -- ---- tests

@@ -1,5 +1,5 @@
 -- The terms of rows, gathered from entries by places.
-use Rattle.std.specs.Prelude.{◌≡◌, ℕ, ◌<◌, ◌&&◌, nat_eq, not, cond, Bool, List, [], ◌∷◌, ◌++◌, map, unwrap_or, Option, Some, None}
+use Rattle.std.specs.Prelude.{ℕ, ◌&&◌, nat_eq, not, cond, Bool, List, [], ◌∷◌, ◌++◌, map, unwrap_or, Some, None}
 use Rattle.std.proofs.Common.{zero, suc}
 use Rattle.std.specs.Global.{Vec}
 use Rattle.std.specs.List.{filter_map}

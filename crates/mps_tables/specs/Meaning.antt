@@ -1,5 +1,5 @@
 -- The program that a model declares.
-use Rattle.std.specs.Prelude.{ℕ, ◌+◌, Bool, true, false, cond, List, [], ◌∷◌, map, slice_get, Option, Some, None}
+use Rattle.std.specs.Prelude.{ℕ, ◌+◌, true, false, cond, List, [], ◌∷◌, map, slice_get}
 use Rattle.std.specs.Option.{option_map_or}
 use Rattle.rational.specs.Rational.{ℚ, zero_ℚ, one_ℚ, eq_ℚ}
 use Rattle.rational.specs.Linear.{Term}
@@ -8,7 +8,7 @@ use Rattle.lp_model.specs.declared.parts.Note.TheVariants.{LowerRemoved}
 use Rattle.lp_model.specs.declared.parts.Weight.TheVariants.{Soft}
 use Rattle.lp_model.specs.Program.{Program, NamedRow, NamedColumn}
 use Rattle.mps_lines.specs.Steps.{Step, all_steps}
-use Rattle.mps_tables.specs.Tables.{RowRecord, ColumnRecord, rows_of, kept_rows, columns_of, column_names, objective_of, factor_in, right_side, range_of, senses_of}
+use Rattle.mps_tables.specs.Tables.{RowRecord, ColumnRecord, kept_rows, columns_of, column_names, objective_of, factor_in, right_side, range_of, senses_of}
 use Rattle.mps_tables.specs.Sides.{row_sides, lower_in, upper_in, whole_in, is_removed}
 
 -- the term of a column before others, where its factor is not 0

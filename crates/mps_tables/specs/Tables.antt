@@ -1,5 +1,5 @@
 -- What steps have declared so far, by look-ups in their list.
-use Rattle.std.specs.Prelude.{ℕ, Bool, true, false, ◌&&◌, ◌||◌, not, List, [], ◌∷◌, length, map, filter, find, slice_get, Option, Some, None}
+use Rattle.std.specs.Prelude.{ℕ, Bool, true, false, ◌&&◌, ◌||◌, not, List, [], ◌∷◌, map, filter, find, slice_get, Option, Some, None}
 use Rattle.std.specs.List.{filter_map, list_any}
 use Rattle.std.specs.Option.{option_map, option_map_or}
 use Rattle.std.specs.Str.{bytes_eq}
@@ -9,11 +9,11 @@ use Rattle.frac128.specs.declared.literal.Literal.TheVariants.{Fits, TooWide}
 use Rattle.text_fields.specs.Numbers.{literal_in}
 use Rattle.text_fields.specs.Numbers.{bound_of}
 use Rattle.mps_lines.specs.declared.shapes.RowKind.{RowKind}
-use Rattle.mps_lines.specs.declared.shapes.RowKind.TheVariants.{Free, AtMost, AtLeast, Equal}
+use Rattle.mps_lines.specs.declared.shapes.RowKind.TheVariants.{Free}
 use Rattle.mps_lines.specs.declared.shapes.BoundKind.{BoundKind}
 use Rattle.mps_lines.specs.declared.shapes.BoundKind.TheVariants.{Upper, Lower, Fixed, WholeLower, WholeUpper, Unbounded, NoLower, NoUpper, Binary}
 use Rattle.mps_lines.specs.Shapes.{Figure, Bounded}
-use Rattle.mps_lines.specs.Steps.{Step, Refused, ToSense, ToRow, ToColumn, ToEntry, ToSide, ToRange, ToBound}
+use Rattle.mps_lines.specs.Steps.{Step, ToSense, ToRow, ToColumn, ToEntry, ToSide, ToRange, ToBound}
 
 -- ---- the sense
 -- the sense that a step gives

@@ -103,24 +103,41 @@ mod tests {
     use super::*;
     use std::test::Fail;
 
+    // Puts a name last, unless it is there.
+    fn put(
+        alloc: Global,
+        map: &mut NameMap<u32>,
+        name: &[u8],
+        value: u32,
+    ) -> Result<(), AllocError> {
+        if map.contains(name) {
+            return Ok(());
+        }
+        map.push(alloc, name, value)
+    }
+
+    // The place of a name, with the value there.
+    fn found(map: &NameMap<u32>, name: &[u8]) -> Option<(usize, u32)> {
+        let place = map.place(name)?;
+        Some((place, *map.value(place)))
+    }
+
+    // Whether a name stands at a place.
+    fn is_named(map: &NameMap<u32>, place: usize, name: &[u8]) -> bool {
+        place < map.len() && map.name(place) == name
+    }
+
     #[test]
     fn names_in_order(rt: HostRuntime) -> Result<(), Fail> {
         let alloc = rt.alloc();
         let mut map = NameMap::new(alloc);
-        assert!(rt; map.is_empty());
-        for (name, value) in [("b", 7u32), ("a", 9)] {
-            assert!(rt; !map.contains(name.as_bytes()));
-            if !map.contains(name.as_bytes()) {
-                map.push(alloc, name.as_bytes(), value)?;
-            }
-        }
-        assert_eq!(rt; map.len(), 2);
-        assert_eq!(rt; map.place(b"a"), Some(1));
-        assert_eq!(rt; map.place(b"c"), None);
-        if map.len() == 2 {
-            assert_eq!(rt; map.name(0), b"b".as_slice());
-            assert_eq!(rt; *map.value(1), 9);
-        }
+        put(alloc, &mut map, b"b", 7)?;
+        put(alloc, &mut map, b"a", 9)?;
+        put(alloc, &mut map, b"b", 8)?;
+        assert_eq!(rt; found(&map, b"a"), Some((1, 9)));
+        assert_eq!(rt; found(&map, b"b"), Some((0, 7)));
+        assert_eq!(rt; found(&map, b"c"), None);
+        assert!(rt; is_named(&map, 1, b"a") && !map.is_empty());
         Ok(())
     }
 }

@@ -32,6 +32,37 @@ a!\"#$%&'(),/;?@_`{|}~9.Z:\tWa!\"#$%&'(),/;?@_`{|}~9.Z^ C: end\n\
 inf -infinity\tWinf^ S- Winfinity end\n\
 st.\tWst.^ end";
 
+// A text of several lines, each ended by `|`, with `~` for a tab; and its tokens, each line's after `/`.
+const LINES: &str = "max|| ~x + y \\ z\r|\\ all|st\tWmax^ / Wx^ S+ Wy / Wst^ end\n\
+a\\é\0|b\tWa^ / Wb^ end\n\
+a|b \x0b \\\tWa^ line 2: foreign byte\n\
+\tend";
+
+// The same, and the fields of the first line, each followed by `|`, or its fault.
+const FIELDS: &str = " UP  BND~x1 \r 4 \r|next\tUP|BND|x1|4|\n\
+ ~\r|\t\n\
+a\x0bb c\tline 7: foreign byte\n\
+* é\t*|é|";
+
+// The same, and the lines: the number of each and where it begins and ends.
+const PLACES: &str = "ab||cd|\t1 0-2, 2 3-3, 3 4-6, \n\
+ab\t1 0-2, ";
+
+// A text, its value as a number of line 3 or its fault, whether it is huge, and whether it is a bound.
+const NUMBERS: &str = "-2.50\t-5/2\n\
+1e99999999999999999999\tline 3: number wide, huge, none\n\
+-1e99999999999999999999\tline 3: number wide, huge, none\n\
+0e99999999999999999999\t0\n\
+.\tline 3: bad number\n\
+1e\tline 3: bad number\n\
+1e-38\t1/100000000000000000000000000000000000000\n\
+1e-39\tline 3: number wide, none, refused\n\
+1e20\t100000000000000000000, huge, none\n\
+-1e20\t-100000000000000000000, huge, none\n\
+99999999999999999999.5\t199999999999999999999/2\n\
+-99999999999999999999\t-99999999999999999999\n\
+-0\t0";
+
 fn letter(kind: TokenKind) -> &'static [u8] {
     match kind {
         TokenKind::Word => b"W",
@@ -79,52 +110,6 @@ fn told(alloc: Global, bytes: &[u8]) -> Result<Vec<u8>, AllocError> {
     }
 }
 
-fn token_row(alloc: Global, line: &str) -> Result<bool, AllocError> {
-    let mut parts = line.split('\t');
-    let (Some(text), Some(want)) = (parts.next(), parts.next()) else {
-        return Ok(false);
-    };
-    let found = told(alloc, text.as_bytes())?;
-    Ok(found.as_slice() == want.as_bytes())
-}
-
-#[test]
-fn tokens(rt: HostRuntime) -> Result<(), Fail> {
-    token_laws();
-    for line in TOKENS.lines() {
-        assert!(rt; token_row(rt.alloc(), line)?, "{line}");
-    }
-    Ok(())
-}
-
-fn tells(alloc: Global, bytes: &[u8], want: &[u8]) -> Result<bool, AllocError> {
-    let found = told(alloc, bytes)?;
-    Ok(found.as_slice() == want)
-}
-
-// Several lines, foreign bytes in and before comments, and lines of the most bytes and one more.
-#[test]
-fn lines_of_tokens(rt: HostRuntime) -> Result<(), Fail> {
-    let alloc = rt.alloc();
-    assert!(rt;
-        tells(
-            alloc,
-            b"max\n\n \tx + y \\ z\r\n\\ all\nst",
-            b"Wmax^ / Wx^ S+ Wy / Wst^ end"
-        )?
-    );
-    assert!(rt; tells(alloc, b"a\\\xff\x00\nb", b"Wa^ / Wb^ end")?);
-    assert!(rt; tells(alloc, b"a\nb \x0b \\", b"Wa^ line 2: foreign byte")?);
-    assert!(rt; tells(alloc, b"", b"end")?);
-    let mut bytes = Vec::new(alloc);
-    bytes.push(b'\\')?;
-    bytes.resize(65_536, b'x')?;
-    assert!(rt; tells(alloc, bytes.as_slice(), b"end")?);
-    bytes.push(b'x')?;
-    assert!(rt; tells(alloc, bytes.as_slice(), b"line 1: long line")?);
-    Ok(())
-}
-
 // The fields of the first line of a text, each followed by `|`, or its fault.
 fn told_fields(alloc: Global, bytes: &[u8]) -> Result<Vec<u8>, AllocError> {
     let mut told = Vec::new(alloc);
@@ -141,113 +126,156 @@ fn told_fields(alloc: Global, bytes: &[u8]) -> Result<Vec<u8>, AllocError> {
                 told.push(b'|')?;
             }
         }
-        Err(stop) => {
-            let end = format!(in alloc; "{stop}")?;
-            told.extend_from_slice(end.as_bytes())?;
-        }
+        Err(stop) => told.extend_from_slice(format!(in alloc; "{stop}")?.as_bytes())?,
     }
     Ok(told)
 }
 
-fn has_fields(alloc: Global, bytes: &[u8], want: &[u8]) -> Result<bool, AllocError> {
-    let found = told_fields(alloc, bytes)?;
+// Where the lines of a text begin and end.
+fn told_lines(alloc: Global, bytes: &[u8]) -> Result<Vec<u8>, AllocError> {
+    let mut told = Vec::new(alloc);
+    let mut at = 0;
+    for number in 1..10 {
+        if at > bytes.len() {
+            break;
+        }
+        let Some(line) = next_line(bytes, at, number) else {
+            break;
+        };
+        let place = format!(in alloc; "{} {}-{}, ", line.number, line.from, line.to)?;
+        told.extend_from_slice(place.as_bytes())?;
+        at = after_line(bytes, &line);
+    }
+    Ok(told)
+}
+
+// What a literal is as a number of line 3.
+fn put_literal(alloc: Global, literal: Literal, told: &mut Vec<u8>) -> Result<(), AllocError> {
+    match fitting(literal, 3) {
+        Ok(value) => value.print(told)?,
+        Err(fault) => told.extend_from_slice(format!(in alloc; "{fault}")?.as_bytes())?,
+    }
+    if is_huge(literal) {
+        told.extend_from_slice(b", huge")?;
+    }
+    if bound(&literal).is_none() {
+        told.extend_from_slice(b", none")?;
+    }
+    if is_wide_limit(&literal) {
+        told.extend_from_slice(b", refused")?;
+    }
+    Ok(())
+}
+
+fn told_number(alloc: Global, bytes: &[u8]) -> Result<Vec<u8>, AllocError> {
+    let mut told = Vec::new(alloc);
+    let span = Span {
+        from: 0,
+        to: bytes.len(),
+    };
+    match number(bytes, &span, 3) {
+        Ok(literal) => put_literal(alloc, literal, &mut told)?,
+        Err(fault) => told.extend_from_slice(format!(in alloc; "{fault}")?.as_bytes())?,
+    }
+    Ok(told)
+}
+
+// What is told of a text.
+#[derive(Clone, Copy)]
+enum Part {
+    Tokens,
+    Fields,
+    Places,
+    Number,
+}
+
+fn told_of(alloc: Global, part: Part, bytes: &[u8]) -> Result<Vec<u8>, AllocError> {
+    match part {
+        Part::Tokens => told(alloc, bytes),
+        Part::Fields => told_fields(alloc, bytes),
+        Part::Places => told_lines(alloc, bytes),
+        Part::Number => told_number(alloc, bytes),
+    }
+}
+
+// Whether a row of a table is so.
+fn agrees(alloc: Global, part: Part, row: &str, is_plain: bool) -> Result<bool, AllocError> {
+    let Some((text, want)) = row.split_once('\t') else {
+        return Ok(false);
+    };
+    let mut bytes = Vec::from_slice(alloc, text.as_bytes())?;
+    for byte in bytes.iter_mut() {
+        if !is_plain && *byte == b'|' {
+            *byte = b'\n';
+        }
+        if !is_plain && *byte == b'~' {
+            *byte = b'\t';
+        }
+    }
+    let found = told_of(alloc, part, bytes.as_slice())?;
+    Ok(found.as_slice() == want.as_bytes())
+}
+
+// The first row of a table that is not so.
+fn first_wrong(
+    alloc: Global,
+    part: Part,
+    table: &'static str,
+    is_plain: bool,
+) -> Result<Option<&'static str>, AllocError> {
+    for row in table.lines() {
+        if !agrees(alloc, part, row, is_plain)? {
+            return Ok(Some(row));
+        }
+    }
+    Ok(None)
+}
+
+// Laws do nothing when they run.
+fn call_laws() {
+    token_laws();
+    field_law();
+}
+
+#[test]
+fn tables(rt: HostRuntime) -> Result<(), Fail> {
+    let alloc = rt.alloc();
+    call_laws();
+    for (part, table) in [
+        (Part::Tokens, LINES),
+        (Part::Fields, FIELDS),
+        (Part::Places, PLACES),
+        (Part::Number, NUMBERS),
+    ] {
+        assert_eq!(rt; first_wrong(alloc, part, table, false)?, None);
+    }
+    assert_eq!(rt; first_wrong(alloc, Part::Tokens, TOKENS, true)?, None);
+    Ok(())
+}
+
+// Whether a line of so many bytes, of which one is the first, is told so.
+fn is_told(
+    alloc: Global,
+    part: Part,
+    first: u8,
+    count: usize,
+    want: &[u8],
+) -> Result<bool, AllocError> {
+    let mut bytes = Vec::new(alloc);
+    bytes.push(first)?;
+    bytes.resize(count, b' ')?;
+    bytes.push(b'\n')?;
+    let found = told_of(alloc, part, bytes.as_slice())?;
     Ok(found.as_slice() == want)
 }
 
+// Lines of the most bytes and of one more.
 #[test]
-fn fields_of_lines(rt: HostRuntime) -> Result<(), Fail> {
+fn lengths(rt: HostRuntime) -> Result<(), Fail> {
     let alloc = rt.alloc();
-    assert!(rt; has_fields(alloc, b" UP  BND\tx1 \r 4 \r\nnext", b"UP|BND|x1|4|")?);
-    assert!(rt; has_fields(alloc, b" \t\r\n", b"")?);
-    assert!(rt; has_fields(alloc, b"a\x0bb c", b"line 7: foreign byte")?);
-    assert!(rt; has_fields(alloc, b"* \xff", b"*|\xff|")?);
-    let mut bytes = Vec::new(alloc);
-    bytes.resize(65_536, b' ')?;
-    assert!(rt; has_fields(alloc, bytes.as_slice(), b"")?);
-    bytes.push(b'\n')?;
-    assert!(rt; has_fields(alloc, bytes.as_slice(), b"")?);
-    bytes.insert(0, b'*')?;
-    assert!(rt; has_fields(alloc, bytes.as_slice(), b"line 7: long line")?);
-    Ok(())
-}
-
-// Where the lines of a text begin and end.
-#[test]
-fn begins_and_ends(rt: HostRuntime) -> Result<(), Fail> {
-    let bytes = b"ab\n\ncd\n";
-    let mut at = 0;
-    for (number, from, to) in [(1, 0, 2), (2, 3, 3), (3, 4, 6)] {
-        if at > bytes.len() {
-            return Err(Fail::from("past the end"));
-        }
-        let line = Line { number, from, to };
-        assert!(rt; next_line(bytes, at, number) == Some(line));
-        at = 7.min(to + 1);
-    }
-    assert!(rt; next_line(bytes, 7, 4).is_none());
-    Ok(())
-}
-
-// What a text is as a number of line 3.
-fn reads(text: &[u8]) -> Result<Literal, TextFault> {
-    let span = Span {
-        from: 0,
-        to: text.len(),
-    };
-    number(text, &span, 3)
-}
-
-fn fits(text: &[u8], want: &[u8], alloc: Global) -> Result<bool, AllocError> {
-    let mut told = Vec::new(alloc);
-    match reads(text) {
-        Ok(literal) => match fitting(literal, 3) {
-            Ok(value) => value.print(&mut told)?,
-            Err(fault) => {
-                let end = format!(in alloc; "{fault}")?;
-                told.extend_from_slice(end.as_bytes())?;
-            }
-        },
-        Err(fault) => {
-            let end = format!(in alloc; "{fault}")?;
-            told.extend_from_slice(end.as_bytes())?;
-        }
-    }
-    Ok(told.as_slice() == want)
-}
-
-fn is_huge_text(text: &[u8]) -> bool {
-    match reads(text) {
-        Ok(literal) => is_huge(literal),
-        Err(_) => false,
-    }
-}
-
-#[test]
-fn huge_numbers(rt: HostRuntime) {
-    assert!(rt; is_huge_text(b"1e20"));
-    assert!(rt; is_huge_text(b"-1e20"));
-    assert!(rt; !is_huge_text(b"99999999999999999999.5"));
-    assert!(rt; !is_huge_text(b"-99999999999999999999"));
-    assert!(rt; is_huge_text(b"-1e99999999999999999999"));
-    assert!(rt; !is_huge_text(b"1e-39"));
-    assert!(rt; !is_huge_text(b"-0"));
-}
-
-#[test]
-fn numbers_of_fields(rt: HostRuntime) -> Result<(), Fail> {
-    let alloc = rt.alloc();
-    assert!(rt; fits(b"-2.50", b"-5/2", alloc)?);
-    assert!(rt; fits(b"1e99999999999999999999", b"line 3: number wide", alloc)?);
-    assert!(rt; fits(b"0e99999999999999999999", b"0", alloc)?);
-    assert!(rt; fits(b".", b"line 3: bad number", alloc)?);
-    assert!(rt; fits(b"1e", b"line 3: bad number", alloc)?);
-    assert!(rt;
-        fits(
-            b"1e-38",
-            b"1/100000000000000000000000000000000000000",
-            alloc
-        )?
-    );
-    assert!(rt; fits(b"1e-39", b"line 3: number wide", alloc)?);
+    assert!(rt; is_told(alloc, Part::Tokens, b'\\', 65_536, b"end")?);
+    assert!(rt; is_told(alloc, Part::Tokens, b'\\', 65_537, b"line 1: long line")?);
+    assert!(rt; is_told(alloc, Part::Fields, b' ', 65_536, b"")?);
+    assert!(rt; is_told(alloc, Part::Fields, b'*', 65_537, b"line 7: long line")?);
     Ok(())
 }

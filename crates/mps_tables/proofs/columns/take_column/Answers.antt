@@ -1,4 +1,4 @@
-use Rattle.std.proofs.Common.{sym, subst, ap, map, ◌∙◌, ◌≡◌, ◌++◌, ◌∷◌, [], ◌<◌, List, ℕ, length, arith}
+use Rattle.std.proofs.Common.{sym, subst, ap, ◌∙◌, ◌≡◌, ◌++◌, ◌∷◌, [], ◌<◌, List, ℕ, length, arith}
 use Rattle.text_fields.specs.declared.faults.ReadKind.TheVariants.{Limit}
 use Rattle.name_map.specs.Names.{StandsAt, names_of}
 use Rattle.name_map.proofs.NameLists.{length_map, map_push}

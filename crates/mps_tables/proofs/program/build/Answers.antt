@@ -1,4 +1,4 @@
-use Rattle.std.proofs.Common.{◌≡◌, ℕ, ◌<◌, List, [], sym, ap, map, subst, length, slice_index_or, ◌∙◌}
+use Rattle.std.proofs.Common.{◌≡◌, ℕ, ◌<◌, List, [], sym, ap, subst, length, slice_index_or, ◌∙◌}
 use Rattle.std.specs.Option.{option_map_or}
 use Rattle.lp_model.specs.Program.{Program, IsForm}
 use Rattle.rational.specs.Linear.{Term}

@@ -1,4 +1,4 @@
-use Rattle.std.proofs.Common.{◌≡◌, ℕ, List, sym, ap, subst, length, cond, [], ◌∷◌, ◌++◌, ◌∙◌}
+use Rattle.std.proofs.Common.{ℕ, List, sym, ap, subst, length, cond, [], ◌∷◌, ◌++◌, ◌∙◌}
 use Rattle.lp_model.specs.declared.parts.Note.TheVariants.{LowerRemoved}
 use Rattle.lp_model.specs.Program.{Program, IsWellFormedColumn}
 use Rattle.lp_model.specs.Shown.{named_column}

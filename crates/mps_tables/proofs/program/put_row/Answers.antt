@@ -1,10 +1,9 @@
-use Rattle.std.proofs.Common.{◌≡◌, ℕ, List, sym, ap, not, true, subst, ◌∙◌}
+use Rattle.std.proofs.Common.{sym, ap, not, true, subst, ◌∙◌}
 use Rattle.rational.specs.Rational.{ℚ, zero_ℚ, ◌<ℚ◌}
 use Rattle.lp_model.specs.declared.parts.Weight.TheVariants.{Soft}
 use Rattle.lp_model.specs.Program.{NamedRow}
 use Rattle.mps_tables.specs.Tables.{is_free}
 use Rattle.mps_tables.specs.Held.{row_names_held}
-use Rattle.mps_tables.specs.Built.{row_held}
 use Rattle.mps_tables.proofs.Made.{row_form, row_more, positive_weight, name_is}
 use Rattle.mps_tables.proofs.program.put_row.Goals as goal
 

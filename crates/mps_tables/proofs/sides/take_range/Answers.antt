@@ -1,16 +1,12 @@
-use Rattle.std.proofs.Common.{sym, ap, ◌∙◌, nat_eq, [], ◌∷◌, not, ◌&&◌, Some}
-use Rattle.indexmap.specs.IndexMap.{insert_entry}
+use Rattle.std.proofs.Common.{sym, ap, ◌∙◌, [], ◌∷◌, not, ◌&&◌, Some}
 use Rattle.mps_lines.specs.Said.{figure_shown}
-use Rattle.mps_lines.specs.Steps.{Step}
 use Rattle.text_fields.specs.declared.faults.TextKind.TheVariants.{BadNumber, NumberWide}
 use Rattle.text_fields.specs.declared.faults.ReadKind.TheVariants.{Text, UnknownName, DuplicateEntry, SumWide}
 use Rattle.text_fields.specs.Numbers.{literal_in}
 use Rattle.mps_tables.specs.Tables.{ranges_of, is_free, is_free_row}
 use Rattle.mps_tables.specs.Faults.{is_sum_wide}
 use Rattle.mps_tables.specs.Sides.{is_range_wide}
-use Rattle.mps_tables.specs.Held.{kind_held}
 use Rattle.mps_tables.proofs.Taken.{stops}
-use Rattle.mps_tables.proofs.Tested.{ends}
 use Rattle.mps_tables.proofs.Sided.{fault_range, figure_unknown, figure_bad, figure_free, figure_wide, figure_twice, figure_once, range_passed, range_taken, sum_wide, sum_fits, sum_free}
 use Rattle.mps_tables.proofs.sides.take_range.Goals as goal
 

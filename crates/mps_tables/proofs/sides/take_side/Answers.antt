@@ -1,7 +1,6 @@
 use Rattle.std.proofs.Common.{sym, ap, ◌∙◌, nat_eq, []}
 use Rattle.indexmap.specs.IndexMap.{insert_entry}
 use Rattle.mps_lines.specs.Said.{figure_shown}
-use Rattle.mps_lines.specs.Steps.{Step}
 use Rattle.text_fields.specs.declared.faults.TextKind.TheVariants.{BadNumber, NumberWide}
 use Rattle.text_fields.specs.declared.faults.ReadKind.TheVariants.{Text, UnknownName, DuplicateEntry}
 use Rattle.mps_tables.specs.Tables.{sides_of, bound_in, is_free}

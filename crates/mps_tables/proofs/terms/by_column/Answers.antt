@@ -1,4 +1,4 @@
-use Rattle.std.proofs.Common.{ℕ, List, cond, nat_eq, ◌<◌, length, [], ◌∷◌, ◌++◌, map, sym, ap, ◌∙◌, subst, arith, rules, length-set}
+use Rattle.std.proofs.Common.{ℕ, List, cond, nat_eq, ◌<◌, length, [], ◌∷◌, ◌++◌, map, sym, ap, ◌∙◌, subst, arith, length-set}
 use Rattle.std.proofs.lemmas.List.{take_all}
 use Rattle.std.proofs.lemmas.Option.{slice_get_within, get_or_from_slice_get}
 use Rattle.rational.specs.Rational.{ℚ}

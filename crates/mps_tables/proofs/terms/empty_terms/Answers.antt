@@ -1,5 +1,4 @@
-use Rattle.std.proofs.Common.{length, [], ap, map, arith, length-append, ◌∷◌}
-use Rattle.mps_tables.specs.Gathered.{cell_shown}
+use Rattle.std.proofs.Common.{length, [], ap, arith, length-append, ◌∷◌}
 use Rattle.mps_tables.proofs.Spread.{more_empty}
 use Rattle.mps_tables.proofs.terms.empty_terms.Goals as goal
 

@@ -2,7 +2,7 @@ use Rattle.std.proofs.Common.{sym, ap, ◌∙◌, ◌++◌, List, slice_index_or
 use Rattle.rational.specs.Rational.{eq_ℚ}
 use Rattle.rational.specs.Linear.{Term}
 use Rattle.mps_tables.specs.Gathered.{terms_shown}
-use Rattle.mps_tables.proofs.Spread.{put_one, zero_gives, cell_gives}
+use Rattle.mps_tables.proofs.Spread.{put_one, cell_gives}
 use Rattle.mps_tables.proofs.terms.put_term.Goals as goal
 
 pub returns-clause-each : goal.returns-clause-each

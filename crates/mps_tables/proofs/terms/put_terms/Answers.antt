@@ -1,7 +1,7 @@
-use Rattle.std.proofs.Common.{ℕ, ◌<◌, ◌≡◌, length, map, sym, ap, subst, ◌∙◌, arith, slice_index_or, [], List}
+use Rattle.std.proofs.Common.{ℕ, ◌<◌, length, map, sym, subst, ◌∙◌, arith}
 use Rattle.rational.specs.Rational.{ℚ}
 use Rattle.name_map.proofs.NameLists.{length_map}
-use Rattle.mps_tables.specs.Gathered.{cell_shown, terms_shown}
+use Rattle.mps_tables.specs.Gathered.{cell_shown}
 use Rattle.mps_tables.proofs.Spread.{item_shown, terms_put}
 use Rattle.mps_tables.proofs.terms.put_terms.Goals as goal
 

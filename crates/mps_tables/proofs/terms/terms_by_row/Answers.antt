@@ -4,7 +4,7 @@ use Rattle.std.specs.Global.{Vec}
 use Rattle.rational.specs.Rational.{ℚ}
 use Rattle.std.proofs.lemmas.List.{get_or-map}
 use Rattle.mps_tables.specs.declared.terms.Cell.{Cell}
-use Rattle.mps_tables.specs.Gathered.{cell_shown, cells_shown, cells_in, terms_shown}
+use Rattle.mps_tables.specs.Gathered.{cell_shown, cells_shown, cells_in}
 use Rattle.mps_tables.proofs.Spread.{cells_below, column_put}
 use Rattle.mps_tables.proofs.terms.terms_by_row.Goals as goal
 
