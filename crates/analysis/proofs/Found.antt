@@ -28,7 +28,7 @@ use Rattle.linear_oracle.specs.Value.{IsPlainCore, OracleValue}
 use Rattle.sensitivity_filter.specs.Cores.{IsFirstCoreOf, IsCoreTest as IsToldTest, IsLateOfCore as IsLateOfTold, whole as it_is_whole, within as it_is_within}
 use Rattle.report_text.specs.declared.report.Answer.{Answer}
 use Rattle.report_text.specs.declared.report.Core.{Core}
-use Rattle.report_text.specs.Printing.{IsKnownAnswer, IsKnownCore, IsKnownNode}
+use Rattle.report_printer.specs.Printing.{IsKnownAnswer, IsKnownCore, IsKnownNode}
 use Rattle.analysis.specs.Answers.{IsLeafProof, answer_of}
 use Rattle.analysis.specs.Right.{IsCore, IsCoreTest, IsIsolated, IsLateOfCore, IsRightCore}
 use Rattle.analysis.proofs.Refuting.{printed_nodes}

@@ -31,7 +31,7 @@ use Rattle.certs.specs.declared.solving.Verdict.TheVariants.{Infeasible}
 use Rattle.certs.proofs.Sides.{all_both}
 use Rattle.certs.proofs.PlainCuts.{plain_cut}
 use Rattle.linear_oracle.specs.Value.{IsPlainProof}
-use Rattle.report_text.specs.Printing.{IsKnownSource as IsPrintedSource, IsKnownNode as IsPrintedNode}
+use Rattle.report_printer.specs.Printing.{IsKnownSource as IsPrintedSource, IsKnownNode as IsPrintedNode}
 use Rattle.analysis.specs.Right.{IsRefutation}
 use Rattle.analysis.specs.Answers.{IsLeafProof}
 

@@ -9,7 +9,7 @@ use Rattle.report_text.specs.declared.report.Entry.{Entry}
 use Rattle.analysis.specs.declared.pieces.Want.{Want}
 use Rattle.analysis.specs.declared.pieces.Want.TheVariants.{Memory, Fault}
 use Rattle.report_text.specs.Grammar.{entry_lines}
-use Rattle.report_text.specs.Printing.{head_lines, foot_lines}
+use Rattle.report_printer.specs.Printing.{head_lines, foot_lines}
 use Rattle.std.specs.Prelude.{flat_map}
 use Rattle.analysis.specs.Puts.{PutWhole, PutFailed}
 use Rattle.analysis.specs.Right.{Right}

@@ -30,7 +30,7 @@ use Rattle.filter_steps.specs.Isolated.{IsStoppedAt}
 use Rattle.linear_oracle.specs.Value.{IsPlainStop, OracleValue}
 use Rattle.report_text.specs.declared.report.Answer.{Answer}
 use Rattle.report_text.specs.declared.report.Answer.TheVariants.{Feasible, Infeasible, Irreducible, Done, Stopped}
-use Rattle.report_text.specs.Printing.{IsKnownAnswer, IsKnownStop}
+use Rattle.report_printer.specs.Printing.{IsKnownAnswer, IsKnownStop}
 use Rattle.analysis.specs.Answers.{IsStopAnswer}
 use Rattle.analysis.specs.Right.{IsChecked, IsIsolated, IsRightStop, IsSiteOf, IsWhole}
 

@@ -8,7 +8,7 @@ use Rattle.report_text.specs.declared.report.Answer.{Answer}
 use Rattle.report_text.specs.declared.report.Answer.TheVariants.{Feasible, Infeasible, Irreducible, Done, Stopped}
 use Rattle.report_text.specs.declared.report.Entry.{Entry}
 use Rattle.report_text.specs.Grammar.{entry_lines, report_lines, text_of}
-use Rattle.report_text.specs.Printing.{head_lines, foot_lines}
+use Rattle.report_printer.specs.Printing.{head_lines, foot_lines}
 use Rattle.report_text.specs.Form.{AreNumbered}
 use Rattle.analysis.specs.Right.{AreRight, first_budgets}
 

@@ -9,9 +9,9 @@ ghost use Rattle.analysis.specs.Written.{IsAnalysis, head_text, foot_text, is_st
 
 use crate::answering::{Budgets, after, answer, first_budgets};
 use iis_edge::{PutFault, Sink};
-use iis_session::Script;
 use lp_model::Model;
-use report_text::{Answer, Command, print_entry, print_foot, print_head};
+use report_printer::{print_entry, print_foot, print_head};
+use report_text::{Answer, Command, Script};
 use std::alloc::{AllocError, Global};
 
 /// Why a piece was not put whole: for want of memory nothing of it was, or the put failed.

@@ -4,7 +4,7 @@ ghost use Rattle.lp_model.specs.Members.{active_members, is_mark};
 ghost use Rattle.lp_model.specs.Satisfaction.{IsPart};
 ghost use Rattle.lp_model.specs.declared.members.Member.{Member as OneMember};
 ghost use Rattle.certs.specs.Tales.{listed_stop};
-ghost use Rattle.report_text.specs.Printing.{IsKnownAnswer};
+ghost use Rattle.report_printer.specs.Printing.{IsKnownAnswer};
 ghost use Rattle.analysis.specs.Answers.{IsStopAnswer, answer_of, budgets_of};
 ghost use Rattle.analysis.specs.Right.{IsFound};
 

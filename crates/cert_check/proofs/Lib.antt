@@ -8,4 +8,3 @@ pub mod Ended
 pub mod Counted
 pub mod Believed
 mod Examples
-pub mod SampleForms

@@ -10,6 +10,3 @@ mod witnesses;
 
 pub use outcome::Outcome;
 pub use reports::verify;
-
-#[cfg(test)]
-mod tests;

@@ -4,9 +4,9 @@ use Rattle.std.specs.Prelude.{All}
 use Rattle.certs.specs.declared.evidence.Checked.{Checked as Found}
 use Rattle.certs.specs.declared.evidence.Checked.TheVariants.{Yes, No, Wide as TooWide}
 use Rattle.report_text.specs.declared.report.Report.{Report as Entries}
-use Rattle.report_text.specs.declared.report.ReportStop.{ReportStop}
-use Rattle.report_text.specs.declared.report.ReportStop.TheVariants.{BadLine, Truncated, Memory as NoMemory}
-use Rattle.report_text.specs.Reading.{Reads, IsReportStop}
+use Rattle.report_reader.specs.declared.reader.ReportStop.{ReportStop}
+use Rattle.report_reader.specs.declared.reader.ReportStop.TheVariants.{BadLine, Truncated, Memory as NoMemory}
+use Rattle.report_reader.specs.Reading.{Reads, IsReportStop}
 use Rattle.cert_check.specs.declared.outcome.Outcome.{Outcome}
 use Rattle.cert_check.specs.declared.outcome.Outcome.TheVariants.{Accepted, Rejected, Wide, Memory as Want}
 use Rattle.cert_check.specs.Trials.{Trial, trials, outcome_of, unless_failed, IsAccepted}

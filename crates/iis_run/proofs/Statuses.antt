@@ -12,7 +12,7 @@ use Rattle.lp_model.specs.Program.{Program}
 use Rattle.text_fields.specs.declared.faults.ReadStop.{ReadStop}
 use Rattle.model_files.specs.Formats.{Declares}
 use Rattle.report_text.specs.declared.report.Report.{Report as Entries}
-use Rattle.report_text.specs.Reading.{Reads}
+use Rattle.report_reader.specs.Reading.{Reads}
 use Rattle.iis_run.specs.declared.endings.Which.{Which}
 use Rattle.iis_run.specs.declared.endings.Which.TheVariants.{Model, Report, Script}
 use Rattle.iis_run.specs.declared.endings.Ending.{Ending}

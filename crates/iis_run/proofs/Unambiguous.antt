@@ -5,9 +5,9 @@ use Rattle.text_fields.specs.declared.faults.ReadStop.{ReadStop}
 use Rattle.model_files.specs.Formats.{Declares, format_of, model_fault}
 use Rattle.model_files.proofs.Meaning.{one_model, not_both, declared_well_formed}
 use Rattle.report_text.specs.declared.report.Report.{Report as Entries}
-use Rattle.report_text.specs.Reading.{Reads}
-use Rattle.report_text.proofs.OneReport.{one_report}
-use Rattle.report_text.proofs.OneEnding as endings
+use Rattle.report_reader.specs.Reading.{Reads}
+use Rattle.report_reader.proofs.OneReport.{one_report}
+use Rattle.report_reader.proofs.OneEnding as endings
 use Rattle.cert_check.specs.declared.outcome.Outcome.{Outcome}
 use Rattle.cert_check.specs.Trials.{trials, outcome_of}
 use Rattle.lp_model.specs.Program.{IsWellFormed}

@@ -4,13 +4,13 @@ use Rattle.lp_model.specs.Program.{Program}
 use Rattle.text_fields.specs.declared.faults.ReadStop.{ReadStop}
 use Rattle.model_files.specs.Formats.{Declares, format_of, model_fault}
 use Rattle.report_text.specs.declared.report.Report.{Report as Entries}
-use Rattle.report_text.specs.Reading.{Reads, IsBadLine, IsTruncated}
+use Rattle.report_reader.specs.Reading.{Reads, IsBadLine, IsTruncated}
 use Rattle.cert_check.specs.declared.outcome.Outcome.{Outcome}
 use Rattle.cert_check.specs.declared.outcome.Outcome.TheVariants.{Accepted, Rejected, Wide, Memory as Want}
 use Rattle.cert_check.specs.Trials.{trials, outcome_of, IsAccepted}
 use Rattle.cert_check.specs.Truth.{IsTrueOf}
-use Rattle.report_text.specs.declared.report.ReportStop.{ReportStop}
-use Rattle.report_text.specs.declared.report.ReportStop.TheVariants.{BadLine, Truncated, Memory as NoMemory}
+use Rattle.report_reader.specs.declared.reader.ReportStop.{ReportStop}
+use Rattle.report_reader.specs.declared.reader.ReportStop.TheVariants.{BadLine, Truncated, Memory as NoMemory}
 use Rattle.iis_run.specs.Limits.{limit_of}
 use Rattle.iis_run.specs.declared.endings.Which.TheVariants.{Model, Report}
 use Rattle.iis_run.specs.declared.endings.Ending.{Ending}

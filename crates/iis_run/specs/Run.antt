@@ -8,7 +8,7 @@ use Rattle.model_files.specs.Formats.{Declares}
 use Rattle.report_text.specs.declared.report.Command.{Command}
 use Rattle.report_text.specs.declared.report.Entry.{Entry}
 use Rattle.report_text.specs.declared.report.Report.{Report as Entries}
-use Rattle.report_text.specs.Reading.{Reads}
+use Rattle.report_reader.specs.Reading.{Reads}
 use Rattle.report_text.specs.Form.{AreNumbered}
 use Rattle.cert_check.specs.declared.outcome.Outcome.{Outcome}
 use Rattle.cert_check.specs.declared.outcome.Outcome.TheVariants.{Accepted, Rejected, Wide}

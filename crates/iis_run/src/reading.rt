@@ -10,10 +10,11 @@ use crate::endings::{Ending, Which};
 use crate::fetching::fetch_file;
 use cert_check::{Outcome, verify};
 use iis_edge::Shelf;
-use iis_session::{Script, ScriptStop, read_script};
+use iis_session::{ScriptStop, read_script};
 use lp_model::Model;
 use model_files::read_model;
-use report_text::{ReportStop, read_report};
+use report_reader::{ReportStop, read_report};
+use report_text::Script;
 use std::alloc::Global;
 use text_fields::ReadFault;
 

@@ -2,7 +2,5 @@
 #![tactic(auto)]
 
 mod scripts;
-#[cfg(test)]
-mod tests;
 
-pub use scripts::{Script, ScriptStop, read_script, script_law};
+pub use scripts::{ScriptStop, read_script, script_law};

@@ -3,13 +3,13 @@ ghost use Rattle.std.specs.Prelude.{◌≡◌, ◌<◌, ◌==◌, ◌||◌, All,
 ghost use Rattle.std.specs.List.{list_all};
 ghost use Rattle.text_fields.specs.Lines.{lines_of};
 ghost use Rattle.report_text.specs.Form.{IsCommand};
-ghost use Rattle.report_text.specs.Commands.{command_of, IsCommandStop};
+ghost use Rattle.report_reader.specs.Commands.{command_of, IsCommandStop};
 ghost use Rattle.iis_session.specs.Scripts.{is_remark, is_blank_line, said_by, saying_of, commands_of, first_bad, IsScriptStop, Takes, IsLineStop, ScriptLaw};
 ghost use Rattle.iis_session.specs.declared.scripts.ScriptStop.TheVariants.{Memory as ScriptMemory};
 
-use report_text::{Command, CommandStop, read_command};
+use report_reader::{CommandStop, read_command};
+use report_text::{Command, Script};
 use std::alloc::{AllocError, AllocFailed, Global};
-use std::marker::Model;
 use text_fields::{after_line, next_line};
 use thiserror::Error;
 
@@ -25,30 +25,6 @@ pub(crate) enum Saying {
     Nothing,
     Says(Command),
     Bad,
-}
-
-/// The commands of a script in order, as a list.
-#[derive(Drop)]
-pub struct Script {
-    commands: Vec<Command>,
-}
-
-impl Model for Script {
-    ghost use Rattle.std.specs.Prelude.{List};
-    ghost use Rattle.report_text.specs.declared.report.Command.{Command};
-
-    ghost Value = { List Command };
-
-    ghost view = { λ s. s.commands.items };
-}
-
-impl Script {
-    /// The commands.
-    pub fn as_slice(&self) -> &[Command]
-        ensures { result.now ≡ self.now }
-    {
-        self.commands.as_slice()
-    }
 }
 
 /// Why a text was not read as a script: its first bad line, by its number from 1, or want of memory.
@@ -167,7 +143,7 @@ pub fn read_script(alloc: Global, bytes: &[u8]) -> Result<Script, ScriptStop>
         at = after_line(bytes, &line);
         number += 1;
     }
-    Ok(Script { commands })
+    Ok(Script::new(commands))
 }
 
 /// Where no line is bad the lines are right; the first bad line is the first by which they are not; and each command of lines

@@ -1,7 +1,7 @@
 -- Which reports stand in the grammar: what is asked of their names, numbers and order.
 use Rattle.std.specs.Prelude.{◌≡◌, ◌≢◌, ℕ, ◌+◌, ◌^◌, ◌<◌, ◌≤◌, nat_lt, nat_le, Bool, true, false, ◌&&◌, ◌||◌, IsTrue, List, [], ◌∷◌, length, filter, All, AllPairs}
 use Rattle.std.specs.List.{list_all}
-use Rattle.lines.specs.Names.{is_shown}
+use Rattle.report_text.specs.Names.{is_shown}
 use Rattle.rational.specs.Rational.{ℚ, zero_ℚ, ◌<ℚ◌}
 use Rattle.frac128.specs.Limit.{limit}
 use Rattle.frac128.specs.Width.{is_too_wide}

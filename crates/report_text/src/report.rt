@@ -1,10 +1,9 @@
-//! What a report says: notes, and for each command its answer.
+//! What a script asks, and what a report says: notes, and for each command its answer.
 ghost use Rattle.std.specs.Prelude.{◌≡◌};
 
 use certs::{Point, Proof, Stop};
 use lp_model::{MemberSet, Note};
 use std::marker::Model;
-use thiserror::Error;
 
 /// How an irreducible set of members is looked for.
 #[derive(Clone, Copy, PartialEq, Eq, Debug)]
@@ -21,6 +20,37 @@ pub enum Command {
     Check,
     Iis(Method),
     Pivots(u64),
+}
+
+/// The commands of a script in order, as a list.
+#[derive(Drop)]
+pub struct Script {
+    commands: Vec<Command>,
+}
+
+impl Model for Script {
+    ghost use Rattle.std.specs.Prelude.{List};
+    ghost use Rattle.report_text.specs.declared.report.Command.{Command};
+
+    ghost Value = { List Command };
+
+    ghost view = { λ s. s.commands.items };
+}
+
+impl Script {
+    /// These commands.
+    pub fn new(commands: Vec<Command>) -> Script
+        ensures { result ≡ commands.items }
+    {
+        Script { commands }
+    }
+
+    /// The commands.
+    pub fn as_slice(&self) -> &[Command]
+        ensures { result.now ≡ self.now }
+    {
+        self.commands.as_slice()
+    }
 }
 
 /// Points, as a list.
@@ -171,18 +201,4 @@ impl Notes {
 pub struct Report {
     pub notes: Notes,
     pub entries: Entries,
-}
-
-/// Why a text was not read as a report.
-///
-/// `BadLine` has the number of the first whole line with which no report goes on. `Truncated` comes where every whole
-/// line is right and the bytes end before the report does. `Memory` comes where memory was refused.
-#[derive(Clone, Copy, PartialEq, Eq, Debug, Error)]
-pub enum ReportStop {
-    #[error("bad line {0}")]
-    BadLine(u64),
-    #[error("truncated")]
-    Truncated,
-    #[error("want of memory")]
-    Memory,
 }

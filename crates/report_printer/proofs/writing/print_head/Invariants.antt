@@ -1,0 +1,11 @@
+use Rattle.std.proofs.Common.{◌≡◌, ◌++◌, map, drop}
+use Rattle.report_text.specs.Grammar.{note_line, text_of}
+use Rattle.report_printer.specs.Printing.{Keeps}
+use Rattle.report_printer.proofs.writing.print_head.Given as goal
+
+-- what was there stays, and the lines that are left complete the text
+abbrev pub invariant-loop-note : goal.invariant-loop-note
+invariant-loop-note l = record {
+  kept : Keeps l.fn.into.items l.into.items;
+  left : l.into.items ++ text_of (map (note_line l.model) (drop l.note-index l.note-items)) ≡ l.initial.into.items ++ text_of (map (note_line l.model) l.note-items);
+}

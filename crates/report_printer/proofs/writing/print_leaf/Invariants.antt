@@ -1,0 +1,11 @@
+use Rattle.std.proofs.Common.{◌≡◌, ◌++◌, map, drop}
+use Rattle.report_text.specs.Grammar.{use_line, text_of}
+use Rattle.report_printer.specs.Printing.{Keeps}
+use Rattle.report_printer.proofs.writing.print_leaf.Given as goal
+
+-- what was there stays, and the lines that are left complete the text
+abbrev pub invariant-loop-share : goal.invariant-loop-share
+invariant-loop-share l = record {
+  kept : Keeps l.fn.into.items l.into.items;
+  left : l.into.items ++ text_of (map (use_line l.model) (drop l.share-index l.shares)) ≡ l.initial.into.items ++ text_of (map (use_line l.model) l.shares);
+}

@@ -1,0 +1,11 @@
+use Rattle.std.proofs.Common.{◌≡◌, ◌++◌, flat_map, drop}
+use Rattle.report_text.specs.Grammar.{node_lines, text_of}
+use Rattle.report_printer.specs.Printing.{Keeps}
+use Rattle.report_printer.proofs.writing.print_proof.Given as goal
+
+-- what was there stays, and the lines that are left complete the text
+abbrev pub invariant-loop-node : goal.invariant-loop-node
+invariant-loop-node l = record {
+  kept : Keeps l.fn.into.items l.into.items;
+  left : l.into.items ++ text_of (flat_map (node_lines l.model) (drop l.node-index l.node-items)) ≡ l.initial.into.items ++ text_of (flat_map (node_lines l.model) l.node-items);
+}

@@ -1,0 +1,99 @@
+-- What can be printed, and the parts of a printed report.
+use Rattle.std.specs.Prelude.{◌≡◌, ℕ, ◌<◌, ◌&&◌, not, List, [], ◌∷◌, ◌++◌, length, map, flat_map, filter, codes, All}
+use Rattle.lp_model.specs.declared.parts.Note.{Note}
+use Rattle.lp_model.specs.Program.{Program}
+use Rattle.lp_model.specs.declared.members.Member.{Member}
+use Rattle.lp_model.specs.Members.{is_active, has}
+use Rattle.lp_model.specs.MemberSets.{IsMemberFor}
+use Rattle.certs.specs.declared.evidence.Source.{Source}
+use Rattle.certs.specs.declared.evidence.Source.TheVariants.{Member as Of, Below, Above}
+use Rattle.certs.specs.declared.evidence.Point.{Point}
+use Rattle.certs.specs.declared.evidence.Node.{Node}
+use Rattle.certs.specs.declared.evidence.Node.TheVariants.{Split, Leaf}
+use Rattle.certs.specs.declared.evidence.Proof.{Proof}
+use Rattle.certs.specs.Checks.{IsSetOf}
+use Rattle.certs.specs.declared.solving.Stop.{Stop}
+use Rattle.certs.specs.declared.solving.Stop.TheVariants.{Wide as TooWide, Pivots as Spent, Nodes, Large, Memory}
+use Rattle.report_text.specs.declared.report.Core.{Core}
+use Rattle.report_text.specs.declared.report.Answer.{Answer}
+use Rattle.report_text.specs.declared.report.Answer.TheVariants.{Feasible, Infeasible, Irreducible, Done, Stopped}
+use Rattle.report_text.specs.declared.report.Report.{Report}
+use Rattle.report_text.specs.Grammar.{Line, without_line, entry_lines, note_line, report_lines, text_of}
+use Rattle.report_text.specs.Form.{IsAnswerFor}
+
+-- a line with the byte that ends it
+abbrev pub ended : Line → List ℕ
+ended line = line ++ 10 ∷ []
+
+-- what stands after a text was to follow: what stood there, and perhaps more
+pub record Keeps (old new : List ℕ) : Type 0 where
+  pub more : List ℕ
+  pub is : new ≡ old ++ more
+
+-- the text of the lines of those of some members that are active and not in a set
+abbrev pub missing_text : Program → List Member → List Member → List ℕ
+missing_text model set members = text_of (map (without_line model) (filter (λ m. is_active model m && not (has set m)) members))
+
+-- ---- what can be printed: what names rows and columns that there are
+-- a member whose row or column there is
+abbrev pub IsKnownMember : Program → Member → Type 0
+IsKnownMember model m = IsMemberFor (length model.rows) (length model.columns) m
+
+-- where a share comes from: such a member, or the branches on a column that there is
+abbrev pub IsKnownSource : Program → Source → Type 0
+IsKnownSource model (Of m) = IsKnownMember model m
+IsKnownSource model (Below j) = j < length model.columns
+IsKnownSource model (Above j) = j < length model.columns
+
+-- a node that names such columns and sources
+abbrev pub IsKnownNode : Program → Node → Type 0
+IsKnownNode model (Split j k) = j < length model.columns
+IsKnownNode model (Leaf combo) = All (λ s. IsKnownSource model s.source) combo.shares
+
+-- a proof of such nodes
+abbrev pub IsKnownProof : Program → Proof → Type 0
+IsKnownProof model proof = All (IsKnownNode model) proof.nodes
+
+-- a value for each column
+abbrev pub IsKnownPoint : Program → Point → Type 0
+IsKnownPoint model p = length p.values ≡ length model.columns
+
+-- members of the program, points and a proof
+pub record IsKnownCore (model : Program) (core : Core) : Type 0 where
+  pub members : IsSetOf model core.members
+  pub points : All (IsKnownPoint model) core.witnesses
+  pub proof : IsKnownProof model core.proof
+
+-- a set of members of the program; what has no site has none
+abbrev pub IsKnownStop : Program → Stop → Type 0
+IsKnownStop model (TooWide site k o) = IsSetOf model site.set
+IsKnownStop model (Spent site) = IsSetOf model site.set
+IsKnownStop model (Nodes site) = IsSetOf model site.set
+IsKnownStop model (Large size) = Unit {0}
+IsKnownStop model Memory = Unit {0}
+
+-- an answer of such parts
+abbrev pub IsKnownAnswer : Program → Answer → Type 0
+IsKnownAnswer model (Feasible p) = IsKnownPoint model p
+IsKnownAnswer model (Infeasible set proof) = IsSetOf model set × IsKnownProof model proof
+IsKnownAnswer model (Irreducible core) = IsKnownCore model core
+IsKnownAnswer model Done = Unit {0}
+IsKnownAnswer model (Stopped stop) = IsKnownStop model stop
+
+-- ---- the parts of a report
+-- the lines before the entries
+abbrev pub head_lines : Program → List Note → List Line
+head_lines model notes = codes "iisan report 1" ∷ map (note_line model) notes
+
+-- the line after them
+abbrev pub foot_lines : List Line
+foot_lines = codes "report end" ∷ []
+
+-- ---- laws
+-- what is in the form of an answer can be printed
+abbrev pub CanPrintLaw : Type 0
+CanPrintLaw = (model : Program) (answer : Answer) → IsAnswerFor model answer → IsKnownAnswer model answer
+
+-- the text of a report is the head, the entries one after another, and the foot
+abbrev pub PartsLaw : Type 0
+PartsLaw = (model : Program) (report : Report) → text_of (report_lines model report) ≡ text_of (head_lines model report.notes) ++ (flat_map (λ e. text_of (entry_lines model e)) report.entries ++ text_of foot_lines)

@@ -1,0 +1,674 @@
+//! The printed lines of commands, answers and reports.
+#![tactic(auto, using(crate::proofs::Kept::keeps_on, crate::proofs::Kept::keeps_more, crate::proofs::Kept::keeps_same))]
+
+ghost use Rattle.std.specs.Prelude.{◌≡◌, ◌++◌, ◌∷◌, [], ◌<◌, ◌≤◌, ◌&&◌, not, OnOk, codes, decimal, length, map, flat_map, zip, ℕ, All};
+ghost use Rattle.std.specs.Fmt.{signed_decimal};
+ghost use Rattle.frac128.specs.Printed.{printed};
+ghost use Rattle.certs.specs.Checks.{IsSetOf};
+ghost use Rattle.lp_model.specs.Program.{noted_column};
+ghost use Rattle.lp_model.specs.Members.{has, is_active as is_in_force};
+ghost use Rattle.report_text.specs.Grammar.{◌then◌, column_name, name_of, kind_word, member_line, value_line, value_lines, point_lines, side_word, source_text, use_line, node_lines, proof_lines, op_word, site_word, without_line, left_out, site_lines, step_line, operation_line, stop_lines, witness_lines, answer_lines, method_word, command_text, entry_lines, note_line, text_of};
+ghost use Rattle.report_printer.specs.Printing.{CanPrintLaw, PartsLaw, ended, head_lines, foot_lines, IsKnownMember, IsKnownSource, IsKnownNode, IsKnownProof, IsKnownPoint, IsKnownCore, IsKnownStop, IsKnownAnswer, Keeps, missing_text};
+
+use certs::{Node, Point, Proof, Share, Site, SiteKind, Source, Stop};
+use frac128::{Frac, Op, Wide};
+use itoa::Buffer;
+use lp_model::{Member, MemberSet, Model, Note, Side};
+use report_text::{Answer, Command, Core, Method};
+use std::alloc::AllocError;
+
+// Appends a word and a blank.
+fn push_word(word: &[u8], into: &mut Vec<u8>) -> Result<(), AllocError>
+    ensures text { OnOk result (into.new.items ≡ into.old.items ++ (word.now ++ 32 ∷ [])) }
+    ensures front { Keeps into.old.items into.new.items }
+{
+    into.extend_from_slice(word)?;
+    into.push(b' ')?;
+    Ok(())
+}
+
+// Appends the last word of a line.
+fn push_line(word: &[u8], into: &mut Vec<u8>) -> Result<(), AllocError>
+    ensures text { OnOk result (into.new.items ≡ into.old.items ++ ended word.now) }
+    ensures front { Keeps into.old.items into.new.items }
+{
+    into.extend_from_slice(word)?;
+    into.push(b'\n')?;
+    Ok(())
+}
+
+// Appends a fraction as the last word of a line.
+fn push_fraction(value: Frac, into: &mut Vec<u8>) -> Result<(), AllocError>
+    ensures text { OnOk result (into.new.items ≡ into.old.items ++ ended (printed value)) }
+    ensures front { Keeps into.old.items into.new.items }
+{
+    value.print(into)?;
+    into.push(b'\n')?;
+    Ok(())
+}
+
+// Appends a count.
+fn push_decimal(count: u64, into: &mut Vec<u8>) -> Result<(), AllocError>
+    ensures text { OnOk result (into.new.items ≡ into.old.items ++ decimal count) }
+    ensures front { Keeps into.old.items into.new.items }
+{
+    let mut buffer = Buffer::new();
+    into.extend_from_slice(buffer.format(count).as_bytes())
+}
+
+// Appends a count as the last word of a line.
+fn push_count(count: u64, into: &mut Vec<u8>) -> Result<(), AllocError>
+    ensures text { OnOk result (into.new.items ≡ into.old.items ++ ended (decimal count)) }
+    ensures front { Keeps into.old.items into.new.items }
+{
+    push_decimal(count, into)?;
+    into.push(b'\n')?;
+    Ok(())
+}
+
+// Appends a whole number as the last word of a line.
+fn push_whole(number: i128, into: &mut Vec<u8>) -> Result<(), AllocError>
+    ensures text { OnOk result (into.new.items ≡ into.old.items ++ ended (signed_decimal number)) }
+    ensures front { Keeps into.old.items into.new.items }
+{
+    let mut buffer = Buffer::new();
+    push_line(buffer.format(number).as_bytes(), into)
+}
+
+fn kind_name(member: Member) -> &'static str
+    ensures { result.now ≡ kind_word member }
+{
+    match member {
+        Member::Row(_) => "row",
+        Member::Lower(_) => "lower",
+        Member::Upper(_) => "upper",
+        Member::Whole(_) => "whole",
+    }
+}
+
+// The name that a member goes by.
+fn member_name(model: &Model, member: Member) -> &[u8]
+    requires { IsKnownMember model.now member }
+    ensures { result.now ≡ name_of model.now member }
+{
+    match member {
+        Member::Row(index) => model.row_name(index),
+        Member::Lower(index) => model.column_name(index),
+        Member::Upper(index) => model.column_name(index),
+        Member::Whole(index) => model.column_name(index),
+    }
+}
+
+// Appends the line of a member.
+fn print_member(model: &Model, member: Member, into: &mut Vec<u8>) -> Result<(), AllocError>
+    requires { IsKnownMember model.now member }
+    ensures text { OnOk result (into.new.items ≡ into.old.items ++ ended (member_line model.now member)) }
+    ensures front { Keeps into.old.items into.new.items }
+{
+    push_word(b"member", into)?;
+    push_word(kind_name(member).as_bytes(), into)?;
+    push_line(member_name(model, member), into)
+}
+
+// Appends the line of a column's value.
+fn print_value(
+    model: &Model,
+    column: u32,
+    value: Frac,
+    into: &mut Vec<u8>,
+) -> Result<(), AllocError>
+    requires { column < length model.now.columns }
+    ensures text { OnOk result (into.new.items ≡ into.old.items ++ ended (value_line model.now column value)) }
+    ensures front { Keeps into.old.items into.new.items }
+{
+    push_word(b"value", into)?;
+    push_word(model.column_name(column), into)?;
+    push_fraction(value, into)
+}
+
+// Appends the line of a column's value, where it is not 0.
+fn print_nonzero(
+    model: &Model,
+    column: u32,
+    value: Frac,
+    into: &mut Vec<u8>,
+) -> Result<(), AllocError>
+    requires { column < length model.now.columns }
+    ensures text { OnOk result (into.new.items ≡ into.old.items ++ text_of (value_lines model.now column (value ∷ []))) }
+    ensures front { Keeps into.old.items into.new.items }
+{
+    if value == Frac::whole(0) {
+        return Ok(());
+    }
+    print_value(model, column, value, into)
+}
+
+// Appends the lines of a point.
+fn print_point(model: &Model, point: &Point, into: &mut Vec<u8>) -> Result<(), AllocError>
+    requires { IsKnownPoint model.now point.now }
+    ensures text { OnOk result (into.new.items ≡ into.old.items ++ text_of (point_lines model.now point.now)) }
+    ensures front { Keeps into.old.items into.new.items }
+{
+    push_line(b"point", into)?;
+    let values = point.values.as_slice();
+    for column in 0..model.column_count() {
+        print_nonzero(model, column, values[column as usize], into)?;
+    }
+    Ok(())
+}
+
+fn side_name(side: Side) -> &'static str
+    ensures { result.now ≡ side_word side }
+{
+    match side {
+        Side::Lo => "lo",
+        Side::Up => "up",
+    }
+}
+
+// Appends a member with its side, and a blank.
+fn push_side(
+    model: &Model,
+    member: Member,
+    side: Side,
+    into: &mut Vec<u8>,
+) -> Result<(), AllocError>
+    requires { IsKnownMember model.now member }
+    ensures text { OnOk result (into.new.items ≡ into.old.items ++ (source_text model.now (Source.Member member) side ++ 32 ∷ [])) }
+    ensures front { Keeps into.old.items into.new.items }
+{
+    push_word(kind_name(member).as_bytes(), into)?;
+    push_word(member_name(model, member), into)?;
+    push_word(side_name(side).as_bytes(), into)
+}
+
+// Appends where a share comes from, and a blank.
+fn push_source(
+    model: &Model,
+    source: Source,
+    side: Side,
+    into: &mut Vec<u8>,
+) -> Result<(), AllocError>
+    requires { IsKnownSource model.now source }
+    ensures text { OnOk result (into.new.items ≡ into.old.items ++ (source_text model.now source side ++ 32 ∷ [])) }
+    ensures front { Keeps into.old.items into.new.items }
+{
+    match source {
+        Source::Member(member) => push_side(model, member, side, into),
+        Source::Below(column) => {
+            push_word(b"below", into)?;
+            push_word(model.column_name(column), into)
+        }
+        Source::Above(column) => {
+            push_word(b"above", into)?;
+            push_word(model.column_name(column), into)
+        }
+    }
+}
+
+// Appends the line of a share.
+fn print_use(model: &Model, share: &Share, into: &mut Vec<u8>) -> Result<(), AllocError>
+    requires { IsKnownSource model.now share.now.source }
+    ensures text { OnOk result (into.new.items ≡ into.old.items ++ ended (use_line model.now share.now)) }
+    ensures front { Keeps into.old.items into.new.items }
+{
+    push_word(b"use", into)?;
+    push_source(model, share.source, share.side, into)?;
+    push_fraction(share.weight, into)
+}
+
+// Appends the lines of a leaf.
+fn print_leaf(model: &Model, shares: &[Share], into: &mut Vec<u8>) -> Result<(), AllocError>
+    requires { All (λ s. IsKnownSource model.now s.source) shares.now }
+    ensures text { OnOk result (into.new.items ≡ into.old.items ++ text_of (codes "leaf" ∷ map (use_line model.now) shares.now)) }
+    ensures front { Keeps into.old.items into.new.items }
+{
+    push_line(b"leaf", into)?;
+    for share in shares {
+        print_use(model, share, into)?;
+    }
+    Ok(())
+}
+
+// Appends the line of a split.
+fn print_split(model: &Model, column: u32, at: i128, into: &mut Vec<u8>) -> Result<(), AllocError>
+    requires { column < length model.now.columns }
+    ensures text { OnOk result (into.new.items ≡ into.old.items ++ text_of (node_lines model.now (Node.Split column at))) }
+    ensures front { Keeps into.old.items into.new.items }
+{
+    push_word(b"split", into)?;
+    push_word(model.column_name(column), into)?;
+    push_whole(at, into)
+}
+
+// Appends the lines of a node.
+fn print_node(model: &Model, node: &Node, into: &mut Vec<u8>) -> Result<(), AllocError>
+    requires { IsKnownNode model.now node.now }
+    ensures text { OnOk result (into.new.items ≡ into.old.items ++ text_of (node_lines model.now node.now)) }
+    ensures front { Keeps into.old.items into.new.items }
+{
+    match node {
+        Node::Split { column, at } => print_split(model, *column, *at, into),
+        Node::Leaf(combo) => print_leaf(model, combo.shares.as_slice(), into),
+    }
+}
+
+// Appends the lines of a proof.
+fn print_proof(model: &Model, proof: &Proof, into: &mut Vec<u8>) -> Result<(), AllocError>
+    requires { IsKnownProof model.now proof.now }
+    ensures text { OnOk result (into.new.items ≡ into.old.items ++ text_of (proof_lines model.now proof.now)) }
+    ensures front { Keeps into.old.items into.new.items }
+{
+    push_line(b"proof", into)?;
+    for node in proof.nodes.as_slice() {
+        print_node(model, node, into)?;
+    }
+    Ok(())
+}
+
+fn op_name(op: Op) -> &'static str
+    ensures { result.now ≡ op_word op }
+{
+    match op {
+        Op::Plus => "plus",
+        Op::Minus => "minus",
+        Op::Times => "times",
+        Op::Over => "over",
+    }
+}
+
+fn site_name(kind: SiteKind) -> &'static str
+    ensures { result.now ≡ site_word kind }
+{
+    match kind {
+        SiteKind::Settle => "settle",
+        SiteKind::Improve => "improve",
+        SiteKind::Stretch => "stretch",
+        SiteKind::Relax => "relax",
+        SiteKind::Alternative => "alternative",
+    }
+}
+
+// Whether a member is active and not in the set.
+fn is_left_out(model: &Model, set: &MemberSet, member: Member) -> bool
+    requires set { IsSetOf model.now set.now }
+    requires member { IsKnownMember model.now member }
+    ensures { result ≡ (is_in_force model.now member && not (has set.now.members member)) }
+{
+    model.is_active(member) && !set.contains(member)
+}
+
+// Appends the line of a member that is not in a set.
+fn print_without(model: &Model, member: Member, into: &mut Vec<u8>) -> Result<(), AllocError>
+    requires { IsKnownMember model.now member }
+    ensures text { OnOk result (into.new.items ≡ into.old.items ++ ended (without_line model.now member)) }
+    ensures front { Keeps into.old.items into.new.items }
+{
+    push_word(b"without", into)?;
+    push_word(kind_name(member).as_bytes(), into)?;
+    push_line(member_name(model, member), into)
+}
+
+// Appends the line of a member, where it is active and not in the set.
+fn print_missing(
+    model: &Model,
+    set: &MemberSet,
+    member: Member,
+    into: &mut Vec<u8>,
+) -> Result<(), AllocError>
+    requires set { IsSetOf model.now set.now }
+    requires member { IsKnownMember model.now member }
+    ensures text { OnOk result (into.new.items ≡ into.old.items ++ missing_text model.now set.now.members (member ∷ [])) }
+    ensures front { Keeps into.old.items into.new.items }
+{
+    if !is_left_out(model, set, member) {
+        return Ok(());
+    }
+    print_without(model, member, into)
+}
+
+// Appends the lines of the active members that are not in the set.
+fn print_left_out(model: &Model, set: &MemberSet, into: &mut Vec<u8>) -> Result<(), AllocError>
+    requires { IsSetOf model.now set.now }
+    ensures text { OnOk result (into.new.items ≡ into.old.items ++ text_of (map (without_line model.now) (left_out model.now set.now.members))) }
+    ensures front { Keeps into.old.items into.new.items }
+{
+    'rows: for row in 0..model.row_count() {
+        print_missing(model, set, Member::Row(row), into)?;
+    }
+    'lowers: for column in 0..model.column_count() {
+        print_missing(model, set, Member::Lower(column), into)?;
+    }
+    'uppers: for column in 0..model.column_count() {
+        print_missing(model, set, Member::Upper(column), into)?;
+    }
+    'wholes: for column in 0..model.column_count() {
+        print_missing(model, set, Member::Whole(column), into)?;
+    }
+    Ok(())
+}
+
+// Appends the lines of a site: its kind, and the active members that are not in its set.
+fn print_site(model: &Model, site: &Site, into: &mut Vec<u8>) -> Result<(), AllocError>
+    requires { IsSetOf model.now site.now.set }
+    ensures text { OnOk result (into.new.items ≡ into.old.items ++ text_of (site_lines model.now site.now)) }
+    ensures front { Keeps into.old.items into.new.items }
+{
+    push_word(b"site", into)?;
+    push_line(site_name(site.kind).as_bytes(), into)?;
+    print_left_out(model, &site.set, into)
+}
+
+// Appends the line of a turn's number.
+fn print_step(step: u64, into: &mut Vec<u8>) -> Result<(), AllocError>
+    ensures text { OnOk result (into.new.items ≡ into.old.items ++ ended (step_line step)) }
+    ensures front { Keeps into.old.items into.new.items }
+{
+    push_word(b"step", into)?;
+    push_count(step, into)
+}
+
+// Appends the line of an operation.
+fn print_operation(operation: &Wide, into: &mut Vec<u8>) -> Result<(), AllocError>
+    ensures text { OnOk result (into.new.items ≡ into.old.items ++ ended (operation_line operation.now)) }
+    ensures front { Keeps into.old.items into.new.items }
+{
+    push_word(b"operation", into)?;
+    push_word(op_name(operation.op).as_bytes(), into)?;
+    operation.left.print(into)?;
+    into.push(b' ')?;
+    push_fraction(operation.right, into)
+}
+
+// Appends the lines of a stop at an operation.
+fn print_wide(
+    model: &Model,
+    site: &Site,
+    step: u64,
+    operation: &Wide,
+    into: &mut Vec<u8>,
+) -> Result<(), AllocError>
+    requires { IsSetOf model.now site.now.set }
+    ensures text { OnOk result (into.new.items ≡ into.old.items ++ text_of (stop_lines model.now (Stop.Wide site.now step operation.now))) }
+    ensures front { Keeps into.old.items into.new.items }
+{
+    push_line(b"too wide", into)?;
+    print_site(model, site, into)?;
+    print_step(step, into)?;
+    print_operation(operation, into)?;
+    push_line(b"end", into)?;
+    Ok(())
+}
+
+// Appends a line, those of a site, and the end.
+fn print_spent(
+    model: &Model,
+    what: &[u8],
+    site: &Site,
+    into: &mut Vec<u8>,
+) -> Result<(), AllocError>
+    requires { IsSetOf model.now site.now.set }
+    ensures text { OnOk result (into.new.items ≡ into.old.items ++ text_of (what.now ∷ (site_lines model.now site.now ++ codes "end" ∷ []))) }
+    ensures front { Keeps into.old.items into.new.items }
+{
+    push_line(what, into)?;
+    print_site(model, site, into)?;
+    push_line(b"end", into)
+}
+
+// Appends the lines of a stop at a size.
+fn print_large(size: u64, into: &mut Vec<u8>) -> Result<(), AllocError>
+    ensures text { OnOk result (into.new.items ≡ into.old.items ++ text_of ((codes "too large" then decimal size) ∷ codes "end" ∷ [])) }
+    ensures front { Keeps into.old.items into.new.items }
+{
+    push_word(b"too large", into)?;
+    push_count(size, into)?;
+    push_line(b"end", into)
+}
+
+// Appends the lines of a stop.
+fn print_stop(model: &Model, stop: &Stop, into: &mut Vec<u8>) -> Result<(), AllocError>
+    requires { IsKnownStop model.now stop.now }
+    ensures text { OnOk result (into.new.items ≡ into.old.items ++ text_of (stop_lines model.now stop.now)) }
+    ensures front { Keeps into.old.items into.new.items }
+{
+    match stop {
+        Stop::Wide(site, step, operation) => print_wide(model, site, *step, operation, into),
+        Stop::Pivots(site) => print_spent(model, b"pivots spent", site, into),
+        Stop::Nodes(site) => print_spent(model, b"nodes spent", site, into),
+        Stop::Large(size) => print_large(*size, into),
+        Stop::Memory => Ok(()),
+    }
+}
+
+// Appends the lines of members.
+fn print_members(model: &Model, set: &MemberSet, into: &mut Vec<u8>) -> Result<(), AllocError>
+    requires { IsSetOf model.now set.now }
+    ensures text { OnOk result (into.new.items ≡ into.old.items ++ text_of (map (member_line model.now) set.now.members)) }
+    ensures front { Keeps into.old.items into.new.items }
+{
+    // That the members stand in order is told with their count.
+    let _count = set.count();
+    let mut after = None;
+    while let Some(member) = set.next(after) {
+        print_member(model, member, into)?;
+        after = Some(member);
+    }
+    Ok(())
+}
+
+// Appends the lines of a member and its witness.
+fn print_witness(
+    model: &Model,
+    member: Member,
+    witness: &Point,
+    into: &mut Vec<u8>,
+) -> Result<(), AllocError>
+    requires member { IsKnownMember model.now member }
+    requires witness { IsKnownPoint model.now witness.now }
+    ensures text { OnOk result (into.new.items ≡ into.old.items ++ text_of (witness_lines model.now (member, witness.now))) }
+    ensures front { Keeps into.old.items into.new.items }
+{
+    print_member(model, member, into)?;
+    print_point(model, witness, into)
+}
+
+// Appends the lines of members with their witnesses, as far as there are both.
+fn print_witnesses(
+    model: &Model,
+    set: &MemberSet,
+    witnesses: &[Point],
+    into: &mut Vec<u8>,
+) -> Result<(), AllocError>
+    requires set { IsSetOf model.now set.now }
+    requires points { All (IsKnownPoint model.now) witnesses.now }
+    ensures text { OnOk result (into.new.items ≡ into.old.items ++ text_of (flat_map (witness_lines model.now) (zip set.now.members witnesses.now))) }
+    ensures front { Keeps into.old.items into.new.items }
+{
+    let _count = set.count();
+    let mut after = None;
+    for witness in witnesses {
+        let Some(member) = set.next(after) else {
+            return Ok(());
+        };
+        print_witness(model, member, witness, into)?;
+        after = Some(member);
+    }
+    Ok(())
+}
+
+// Appends the lines of an answer that a point is.
+fn print_feasible(model: &Model, point: &Point, into: &mut Vec<u8>) -> Result<(), AllocError>
+    requires { IsKnownPoint model.now point.now }
+    ensures text { OnOk result (into.new.items ≡ into.old.items ++ text_of (answer_lines model.now (Answer.Feasible point.now))) }
+    ensures front { Keeps into.old.items into.new.items }
+{
+    push_line(b"feasible", into)?;
+    print_point(model, point, into)?;
+    push_line(b"end", into)
+}
+
+// Appends the lines of an answer that members and a proof are.
+fn print_infeasible(
+    model: &Model,
+    set: &MemberSet,
+    proof: &Proof,
+    into: &mut Vec<u8>,
+) -> Result<(), AllocError>
+    requires set { IsSetOf model.now set.now }
+    requires proof { IsKnownProof model.now proof.now }
+    ensures text { OnOk result (into.new.items ≡ into.old.items ++ text_of (answer_lines model.now (Answer.Infeasible set.now proof.now))) }
+    ensures front { Keeps into.old.items into.new.items }
+{
+    push_line(b"infeasible", into)?;
+    print_members(model, set, into)?;
+    print_proof(model, proof, into)?;
+    push_line(b"end", into)?;
+    Ok(())
+}
+
+// Appends the lines of an answer that an irreducible set is.
+fn print_irreducible(model: &Model, core: &Core, into: &mut Vec<u8>) -> Result<(), AllocError>
+    requires { IsKnownCore model.now core.now }
+    ensures text { OnOk result (into.new.items ≡ into.old.items ++ text_of (answer_lines model.now (Answer.Irreducible core.now))) }
+    ensures front { Keeps into.old.items into.new.items }
+{
+    push_line(b"irreducible", into)?;
+    print_witnesses(model, &core.members, core.witnesses.as_slice(), into)?;
+    print_proof(model, &core.proof, into)?;
+    push_line(b"end", into)?;
+    Ok(())
+}
+
+/// Appends the lines of an answer.
+pub fn print_answer(model: &Model, answer: &Answer, into: &mut Vec<u8>) -> Result<(), AllocError>
+    requires { IsKnownAnswer model.now answer.now }
+    ensures text { OnOk result (into.new.items ≡ into.old.items ++ text_of (answer_lines model.now answer.now)) }
+    ensures front { Keeps into.old.items into.new.items }
+{
+    match answer {
+        Answer::Feasible(point) => print_feasible(model, point, into),
+        Answer::Infeasible(set, proof) => print_infeasible(model, set, proof, into),
+        Answer::Irreducible(core) => print_irreducible(model, core, into),
+        Answer::Done => push_line(b"done", into),
+        Answer::Stopped(stop) => print_stop(model, stop, into),
+    }
+}
+
+fn method_name(method: Method) -> &'static str
+    ensures { result.now ≡ method_word method }
+{
+    match method {
+        Method::Deletion => "deletion",
+        Method::Additive => "additive",
+        Method::Sensitivity => "sensitivity",
+    }
+}
+
+// Appends a command that looks for an irreducible set.
+fn print_iis(method: Method, into: &mut Vec<u8>) -> Result<(), AllocError>
+    ensures text { OnOk result (into.new.items ≡ into.old.items ++ command_text (Command.Iis method)) }
+    ensures front { Keeps into.old.items into.new.items }
+{
+    push_word(b"iis", into)?;
+    into.extend_from_slice(method_name(method).as_bytes())
+}
+
+// Appends a command that sets the budget of pivots.
+fn print_budget(most: u64, into: &mut Vec<u8>) -> Result<(), AllocError>
+    ensures text { OnOk result (into.new.items ≡ into.old.items ++ command_text (Command.Pivots most)) }
+    ensures front { Keeps into.old.items into.new.items }
+{
+    push_word(b"budget pivots", into)?;
+    push_decimal(most, into)?;
+    Ok(())
+}
+
+/// Appends a command.
+pub fn print_command(command: &Command, into: &mut Vec<u8>) -> Result<(), AllocError>
+    ensures text { OnOk result (into.new.items ≡ into.old.items ++ command_text command.now) }
+    ensures front { Keeps into.old.items into.new.items }
+{
+    match command {
+        Command::Check => into.extend_from_slice(b"check"),
+        Command::Iis(method) => print_iis(*method, into),
+        Command::Pivots(most) => print_budget(*most, into),
+    }
+}
+
+/// Appends the lines of a command and its answer.
+pub fn print_entry(
+    model: &Model,
+    command: &Command,
+    answer: &Answer,
+    into: &mut Vec<u8>,
+) -> Result<(), AllocError>
+    requires { IsKnownAnswer model.now answer.now }
+    ensures text { (line : ℕ) → OnOk result (into.new.items ≡ into.old.items ++ text_of (entry_lines model.now (record { command = command.now; answer = answer.now; line = line }))) }
+    ensures front { Keeps into.old.items into.new.items }
+{
+    push_word(b"command", into)?;
+    print_command(command, into)?;
+    into.push(b'\n')?;
+    print_answer(model, answer, into)
+}
+
+// Appends a note on a column.
+fn print_noted(
+    model: &Model,
+    column: u32,
+    what: &[u8],
+    into: &mut Vec<u8>,
+) -> Result<(), AllocError>
+    requires { column < length model.now.columns }
+    ensures text { OnOk result (into.new.items ≡ into.old.items ++ ended (codes "note" then column_name model.now column then what.now)) }
+    ensures front { Keeps into.old.items into.new.items }
+{
+    push_word(b"note", into)?;
+    push_word(model.column_name(column), into)?;
+    push_line(what, into)
+}
+
+// Appends the line of a note.
+fn print_note(model: &Model, note: Note, into: &mut Vec<u8>) -> Result<(), AllocError>
+    requires { noted_column note < length model.now.columns }
+    ensures text { OnOk result (into.new.items ≡ into.old.items ++ ended (note_line model.now note)) }
+    ensures front { Keeps into.old.items into.new.items }
+{
+    match note {
+        Note::LowerRemoved(column) => print_noted(model, column, b"lower removed", into),
+        Note::LowerKept(column) => print_noted(model, column, b"lower kept", into),
+    }
+}
+
+/// Appends the lines of a report that stand before its entries: the notes are those of the program's reader.
+pub fn print_head(model: &Model, into: &mut Vec<u8>) -> Result<(), AllocError>
+    ensures text { OnOk result (into.new.items ≡ into.old.items ++ text_of (head_lines model.now model.now.notes)) }
+    ensures front { Keeps into.old.items into.new.items }
+{
+    // That the notes name columns that there are is told with the count.
+    let _rows = model.row_count();
+    push_line(b"iisan report 1", into)?;
+    for note in model.notes() {
+        print_note(model, *note, into)?;
+    }
+    Ok(())
+}
+
+/// Appends the last line of a report.
+pub fn print_foot(into: &mut Vec<u8>) -> Result<(), AllocError>
+    ensures text { OnOk result (into.new.items ≡ into.old.items ++ text_of foot_lines) }
+    ensures front { Keeps into.old.items into.new.items }
+{
+    push_line(b"report end", into)
+}
+
+/// What is in the form of an answer can be printed.
+pub fn answers_can_be_printed()
+    ensures { CanPrintLaw }
+{}
+
+/// The text of a report is its head, its entries and its foot.
+pub fn report_has_parts()
+    ensures { PartsLaw }
+{}

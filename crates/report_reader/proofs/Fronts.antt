@@ -1,0 +1,601 @@
+-- Each phrase that is taken stands behind what is read, and what is read is the front of a report.
+use Rattle.std.proofs.Common.{◌≡◌, ◌≢◌, ◌<◌, ◌≤◌, refl, sym, ap, subst, ◌∙◌, ℕ, zero, suc, ◌+◌, ◌-◌, Bool, true, false, cond, ◌&&◌, List, [], ◌∷◌, ◌++◌, length, append_assoc, append-nil, Option, Some, None, arith, ◌⊎◌, inl, inr}
+use Rattle.std.specs.Prelude.{map, flat_map, zip, replicate, option_map, All, IsTrue, nat_le}
+use Rattle.std.specs.List.{list_all}
+use Rattle.std.proofs.lemmas.List.{length-append, length-replicate, length-map, map-append}
+use Rattle.std.proofs.lemmas.List.Elements.{All-nil, All-head, All-tail, All-append, All-push, All-replicate}
+use Rattle.std.proofs.lemmas.List.Quantifiers.{all_pairs_push}
+use Rattle.std.proofs.lemmas.List.Concat.{flat_map-append}
+use Rattle.std.proofs.lemmas.List.Sums.{AllPass-from_list_all}
+use Rattle.std.proofs.lemmas.Bool.{leb-true, and_parts}
+use Rattle.algebra.specs.Gcd.{gcd, gcd_within}
+use Rattle.rational.specs.Rational.{ℚ, frac, zero_ℚ, eq_ℚ}
+use Rattle.rational.proofs.Compare.{eq-Decides}
+use Rattle.lp_model.specs.Program.{Program, noted_column}
+use Rattle.lp_model.specs.declared.parts.Note.{Note}
+use Rattle.lp_model.specs.declared.members.Member.{Member}
+use Rattle.lp_model.specs.Members.{comes_before, is_active}
+use Rattle.lp_model.specs.Satisfaction.{values_at}
+use Rattle.certs.specs.declared.evidence.Share.{Share}
+use Rattle.certs.specs.declared.evidence.Point.{Point}
+use Rattle.certs.specs.declared.solving.SiteKind.TheVariants.{Settle}
+use Rattle.certs.specs.declared.solving.Stop.{Stop}
+use Rattle.certs.specs.declared.solving.Stop.TheVariants.{Wide as TooWide, Pivots as Spent}
+use Rattle.report_text.specs.declared.report.Command.{Command}
+use Rattle.report_text.specs.declared.report.Command.TheVariants.{Check, Iis, Pivots}
+use Rattle.report_text.specs.declared.report.Answer.{Answer}
+use Rattle.report_text.specs.declared.report.Entry.{Entry}
+use Rattle.report_reader.specs.declared.phrases.Phrase.{Phrase}
+use Rattle.report_reader.specs.declared.phrases.StopPhrase.{StopPhrase}
+use Rattle.report_reader.specs.declared.drafts.Found.{Found}
+use Rattle.report_reader.specs.declared.drafts.Question.{Question}
+use Rattle.report_reader.specs.declared.drafts.StopPart.{StopPart}
+use Rattle.report_reader.specs.declared.drafts.Part.{Part}
+use Rattle.report_reader.specs.declared.drafts.Next.{Next}
+use Rattle.report_reader.specs.declared.drafts.Stage.{Stage}
+use Rattle.report_reader.specs.declared.drafts.Draft.{Draft}
+use Rattle.report_text.specs.Grammar.{column_name, entry_lines}
+use Rattle.report_text.specs.Form.{is_word, IsNamedColumn, IsNamedMember, IsWithinLimit, IsUse, AreUses, IsListed, IsOneLeaf, IsPointFor, IsAnswerFor, IsEntryFor, AreNumbered, can_answer, share_before}
+use Rattle.report_reader.specs.Phrases.{IsPhraseFor, phrase_line}
+use Rattle.report_reader.specs.Drafts.{filled, point_of, leaf_of, set_of, answer_of, only_if, witnessed_with, site_without, with_left_out, left_out_next, at_site, stop_begun, stop_with, extended, placed, between, advanced, AreValues, AreMembers, AreWitnesses, IsFound, IsOneMore, AreLeftOut, IsStopPart, Asks, IsPartFor, IsDraftFor}
+use Rattle.report_reader.proofs.Said.{value_phrases, point_phrases, proof_phrases, witness_phrases, without_phrase, site_phrases, answer_front, answer_end, entry_phrases, body_phrases, entry_spelled}
+use Rattle.report_reader.proofs.LeftOut.{none_left, left_twice, site_in_form}
+
+-- ---- what is read, as phrases
+abbrev pub found_phrases : Found → List Phrase
+found_phrases (Found.Members members) = Phrase.Infeasible ∷ map Phrase.Member members
+found_phrases (Found.Witnessed members witnesses) = Phrase.Irreducible ∷ flat_map witness_phrases (zip members witnesses)
+
+-- the site of a whole run
+abbrev pub settle_phrase : Phrase
+settle_phrase = Phrase.Stop (StopPhrase.Site Settle)
+
+-- what a stop says first, the site of its run, and the members left out
+abbrev pub begun_phrases : StopPhrase → List Member → List Phrase
+begun_phrases s left = Phrase.Stop s ∷ settle_phrase ∷ map without_phrase left
+
+abbrev pub stop_part_phrases : StopPart → List Phrase
+stop_part_phrases StopPart.Wide = Phrase.Stop StopPhrase.Wide ∷ []
+stop_part_phrases (StopPart.WideSite left) = begun_phrases StopPhrase.Wide left
+stop_part_phrases (StopPart.WideStep left k) = begun_phrases StopPhrase.Wide left ++ Phrase.Stop (StopPhrase.Step k) ∷ []
+stop_part_phrases (StopPart.WideOperation left k o) = begun_phrases StopPhrase.Wide left ++ Phrase.Stop (StopPhrase.Step k) ∷ Phrase.Stop (StopPhrase.Operation o) ∷ []
+stop_part_phrases StopPart.Spent = Phrase.Stop StopPhrase.Spent ∷ []
+stop_part_phrases (StopPart.SpentSite left) = begun_phrases StopPhrase.Spent left
+
+abbrev pub part_phrases : Part → List Phrase
+part_phrases Part.Nothing = []
+part_phrases Part.Feasible = Phrase.Feasible ∷ []
+part_phrases (Part.Point values) = Phrase.Feasible ∷ Phrase.Point ∷ value_phrases 0 values
+part_phrases (Part.Listed found) = found_phrases found
+part_phrases (Part.Member members witnesses m) = found_phrases (Found.Witnessed members witnesses) ++ Phrase.Member m ∷ []
+part_phrases (Part.Witness members witnesses m values) = found_phrases (Found.Witnessed members witnesses) ++ Phrase.Member m ∷ Phrase.Point ∷ value_phrases 0 values
+part_phrases (Part.Proof found) = found_phrases found ++ Phrase.Proof ∷ []
+part_phrases (Part.Leaf found shares) = found_phrases found ++ Phrase.Proof ∷ Phrase.Leaf ∷ map Phrase.Use shares
+part_phrases (Part.Stop part) = stop_part_phrases part
+
+abbrev pub draft_phrases : Program → Draft → List Phrase
+draft_phrases model draft = by draft.stage
+  where
+    by : Stage → List Phrase
+    by Stage.Start = []
+    by Stage.Between = body_phrases model draft.notes draft.entries
+    by (Stage.Answering question part) = body_phrases model draft.notes draft.entries ++ Phrase.Command question.command ∷ part_phrases part
+    by Stage.Done = body_phrases model draft.notes draft.entries ++ Phrase.Foot ∷ []
+
+-- ---- what a condition told
+only_told : {X : Type 0} (b : Bool) (x y : X) → only_if b x ≡ Some y → (b ≡ true) × (x ≡ y)
+only_told true x y e = (refl, (let s : Some x ≡ Some y = e in cc))
+only_told false x y e = absurd (let s : None ≡ Some y = e in cc)
+
+mapped_told : {X Y : Type 0} (f : X → Y) (b : Bool) (x : X) (y : Y) → option_map f (only_if b x) ≡ Some y → (b ≡ true) × (f x ≡ y)
+mapped_told f true x y e = (refl, (let s : Some (f x) ≡ Some y = e in cc))
+mapped_told f false x y e = absurd (let s : None ≡ Some y = e in cc)
+
+-- ---- values
+value_phrases_append : (j : ℕ) (xs ys : List ℚ) → value_phrases j (xs ++ ys) ≡ value_phrases j xs ++ value_phrases (j + length xs) ys
+value_phrases_append j [] ys = ap (λ k. value_phrases k ys) (omega arith)
+value_phrases_append j (x ∷ xs) ys = by (eq_ℚ x zero_ℚ) (value_phrases_append (suc j) xs ys ∙ ap (λ k. value_phrases (suc j) xs ++ value_phrases k ys) (omega arith))
+  where
+    by : (b : Bool) → value_phrases (suc j) (xs ++ ys) ≡ value_phrases (suc j) xs ++ value_phrases (j + length (x ∷ xs)) ys
+        → cond b (value_phrases (suc j) (xs ++ ys)) (Phrase.Value j x ∷ value_phrases (suc j) (xs ++ ys)) ≡ cond b (value_phrases (suc j) xs) (Phrase.Value j x ∷ value_phrases (suc j) xs) ++ value_phrases (j + length (x ∷ xs)) ys
+    by true rest = rest
+    by false rest = ap (λ l. Phrase.Value j x ∷ l) rest
+
+zeros_say_nothing : (j n : ℕ) → value_phrases j (replicate n zero_ℚ) ≡ []
+zeros_say_nothing j zero = refl
+zeros_say_nothing j (suc n) =
+    ap (λ b. cond b (value_phrases (suc j) (replicate n zero_ℚ)) (Phrase.Value j zero_ℚ ∷ value_phrases (suc j) (replicate n zero_ℚ))) ((eq-Decides zero_ℚ zero_ℚ).1 refl) ∙ zeros_say_nothing (suc j) n
+
+-- zeros behind values say nothing
+filled_says : (n : ℕ) (values : List ℚ) → value_phrases 0 (filled n values) ≡ value_phrases 0 values
+filled_says n values = value_phrases_append 0 values (replicate (n - length values) zero_ℚ) ∙ ap (λ l. value_phrases 0 values ++ l) (zeros_say_nothing (0 + length values) (n - length values)) ∙ append-nil (value_phrases 0 values)
+
+filled_length : (n : ℕ) (values : List ℚ) → length values ≤ n → length (filled n values) ≡ n
+filled_length n values h = length-append values (replicate (n - length values) zero_ℚ) ∙ ap (λ k. length values + k) (length-replicate (n - length values) zero_ℚ) ∙ (omega arith)
+
+not_zero : (v : ℚ) → v ≢ zero_ℚ → eq_ℚ v zero_ℚ ≡ false
+not_zero v h = by (eq_ℚ v zero_ℚ) refl
+  where
+    by : (b : Bool) → eq_ℚ v zero_ℚ ≡ b → b ≡ false
+    by true e = absurd (h ((eq-Decides v zero_ℚ).0 e))
+    by false e = refl
+
+-- a value behind others
+value_said : (values : List ℚ) (j : ℕ) (v : ℚ) → length values ≤ j → v ≢ zero_ℚ → value_phrases 0 (filled j values ++ v ∷ []) ≡ value_phrases 0 values ++ Phrase.Value j v ∷ []
+value_said values j v h n =
+    value_phrases_append 0 (filled j values) (v ∷ [])
+    ∙ ap (λ l. l ++ value_phrases (0 + length (filled j values)) (v ∷ [])) (filled_says j values)
+    ∙ ap (λ k. value_phrases 0 values ++ value_phrases k (v ∷ [])) (let e = filled_length j values h in let f : 0 + length (filled j values) ≡ j = omega arith in f)
+    ∙ ap (λ b. value_phrases 0 values ++ cond b [] (Phrase.Value j v ∷ [])) (not_zero v n)
+
+-- a value of two lists that is not 0 is one of the first, or of the second
+in_one : (xs ys : List ℚ) (j : ℕ) → values_at (xs ++ ys) j ≢ zero_ℚ → (values_at xs j ≢ zero_ℚ) ⊎ ((i : ℕ) × (j ≡ length xs + i) × (values_at ys i ≢ zero_ℚ))
+in_one [] ys j h = inr (j, omega arith, h)
+in_one (x ∷ xs) ys zero h = inl h
+in_one (x ∷ xs) ys (suc j) h = elim (in_one xs ys j h) [
+  | inl k ↦ inl k
+  | inr k ↦ inr (k.0, (let e : j ≡ length xs + k.0 = k.1 in omega arith), k.2)
+]
+
+zeros_at : (n i : ℕ) → values_at (replicate n zero_ℚ) i ≡ zero_ℚ
+zeros_at zero i = refl
+zeros_at (suc n) zero = refl
+zeros_at (suc n) (suc i) = zeros_at n i
+
+zero_fits : IsWithinLimit zero_ℚ
+unfolding frac gcd gcd_within
+zero_fits = refl
+
+module _ (model : Program) where
+  Named : List ℚ → Type 0
+  Named values = (j : ℕ) → values_at values j ≢ zero_ℚ → is_word (column_name model j) ≡ true
+
+  filled_named : (n : ℕ) (values : List ℚ) → Named values → Named (filled n values)
+  unfolding Named
+  filled_named n values h j k = elim (in_one values (replicate (n - length values) zero_ℚ) j k) [
+    | inl e ↦ h j e
+    | inr e ↦ absurd (e.2 (zeros_at (n - length values) e.0))
+  ]
+
+  filled_fits : (n : ℕ) (values : List ℚ) → All IsWithinLimit values → All IsWithinLimit (filled n values)
+  filled_fits n values h = All-append IsWithinLimit values (replicate (n - length values) zero_ℚ) h (All-replicate IsWithinLimit (n - length values) zero_ℚ zero_fits)
+
+  no_values : AreValues model []
+  no_values = record { few = omega arith; fits = All-nil IsWithinLimit; named = λ j k. absurd (k refl) }
+
+  -- one value more
+  value_taken : (values : List ℚ) (j : ℕ) (v : ℚ) → AreValues model values → IsPhraseFor model (Phrase.Value j v) → length values ≤ j → AreValues model (filled j values ++ v ∷ [])
+  unfolding Named
+  value_taken values j v h p le = record {
+    few = (let f = filled_length j values le in let a : length (filled j values ++ v ∷ []) ≡ length (filled j values) + 1 = length-append (filled j values) (v ∷ []) in let k : j < length model.columns = p.0.known in omega arith);
+    fits = All-push IsWithinLimit (filled j values) v (filled_fits j values h.fits) p.1.0;
+    named = λ i k. elim (in_one (filled j values) (v ∷ []) i k) [
+      | inl e ↦ filled_named j values h.named i e
+      | inr e ↦ here i e.0 e.1 e.2
+    ];
+  }
+    where
+      here : (i n : ℕ) → i ≡ length (filled j values) + n → values_at (v ∷ []) n ≢ zero_ℚ → is_word (column_name model i) ≡ true
+      here i zero e k = subst (λ m. is_word (column_name model m) ≡ true) (let f = filled_length j values le in let g : j ≡ i = omega arith in g) p.0.word
+      here i (suc n) e k = absurd (k refl)
+
+  -- the point of values
+  point_taken : (values : List ℚ) → AreValues model values → IsPointFor model (point_of model values)
+  unfolding Named
+  point_taken values h = record { len = filled_length (length model.columns) values h.few; fits = filled_fits (length model.columns) values h.fits; named = filled_named (length model.columns) values h.named }
+
+  point_said : (values : List ℚ) → point_phrases (point_of model values) ≡ Phrase.Point ∷ value_phrases 0 values
+  point_said values = ap (λ l. Phrase.Point ∷ l) (filled_says (length model.columns) values)
+
+  -- ---- members, witnesses and shares
+  member_taken : (members : List Member) (m : Member) → AreMembers model members → IsNamedMember model m → list_all (λ n. comes_before n m) members ≡ true → AreMembers model (members ++ m ∷ [])
+  member_taken members m h named after = record {
+    named = All-push (IsNamedMember model) members m h.named named;
+    in_order = all_pairs_push (λ a b. IsTrue (comes_before a b)) members m h.in_order (AllPass-from_list_all (λ n. comes_before n m) members after);
+  }
+
+  witness_taken : (members : List Member) (witnesses : List Point) (m : Member) (p : Point) → AreWitnesses model members witnesses → IsPointFor model p → AreWitnesses model (members ++ m ∷ []) (witnesses ++ p ∷ [])
+  witness_taken members witnesses m p h k = record {
+    each = length-append witnesses (p ∷ []) ∙ ap (λ n. n + 1) h.each ∙ sym (length-append members (m ∷ []));
+    points = All-push (IsPointFor model) witnesses p h.points k;
+  }
+
+  share_taken : (shares : List Share) (s : Share) → AreUses model shares → IsUse model s → list_all (λ t. share_before t.source t.side s.source s.side) shares ≡ true → AreUses model (shares ++ s ∷ [])
+  share_taken shares s h k after = record {
+    each = All-push (IsUse model) shares s h.each k;
+    in_order = all_pairs_push (λ t u. IsTrue (share_before t.source t.side u.source u.side)) shares s h.in_order (AllPass-from_list_all (λ t. share_before t.source t.side s.source s.side) shares after);
+  }
+
+  zip_push : (members : List Member) (witnesses : List Point) (m : Member) (p : Point) → length witnesses ≡ length members → zip (members ++ m ∷ []) (witnesses ++ p ∷ []) ≡ zip members witnesses ++ (m, p) ∷ []
+  zip_push [] [] m p e = refl
+  zip_push [] (w ∷ witnesses) m p e = absurd (omega arith)
+  zip_push (n ∷ members) [] m p e = absurd (omega arith)
+  zip_push (n ∷ members) (w ∷ witnesses) m p e = ap (λ l. (n, w) ∷ l) (zip_push members witnesses m p (let f : length witnesses ≡ length members = omega arith in f))
+
+  -- one member more, with its witness
+  witnessed_said : (members : List Member) (witnesses : List Point) (m : Member) (values : List ℚ) → length witnesses ≡ length members
+      → found_phrases (Found.Witnessed (members ++ m ∷ []) (witnesses ++ point_of model values ∷ [])) ≡ part_phrases (Part.Witness members witnesses m values)
+  witnessed_said members witnesses m values e =
+      ap (λ l. Phrase.Irreducible ∷ flat_map witness_phrases l) (zip_push members witnesses m (point_of model values) e)
+      ∙ ap (λ l. Phrase.Irreducible ∷ l) (flat_map-append witness_phrases (zip members witnesses) ((m, point_of model values) ∷ []))
+      ∙ ap (λ l. Phrase.Irreducible ∷ (flat_map witness_phrases (zip members witnesses) ++ Phrase.Member m ∷ l)) (append-nil (point_phrases (point_of model values)) ∙ point_said values)
+
+  -- ---- parts
+  -- the part that a phrase makes of a part, and what is read then
+  Took : Command → Part → Phrase → Part → Type 0
+  Took c part p next = IsPartFor model c next × (part_phrases next ≡ part_phrases part ++ p ∷ [])
+
+  more_is : (a b : Part) → Some (Next.More a) ≡ Some (Next.More b) → a ≡ b
+  more_is a b e = cc
+
+  same_more : (a b : Part) → Next.More a ≡ Next.More b → a ≡ b
+  same_more a b e = cc
+
+  no_members : AreMembers model []
+  no_members = record { named = All-nil (IsNamedMember model); in_order = λ i j d l m. absurd (omega arith) }
+
+  no_witnesses : AreWitnesses model [] []
+  no_witnesses = record { each = refl; points = All-nil (IsPointFor model) }
+
+  no_uses : AreUses model []
+  no_uses = record { each = All-nil (IsUse model); in_order = λ i j d l m. absurd (omega arith) }
+
+  map_push : {X : Type 0} (f : X → Phrase) (xs : List X) (x : X) → map f (xs ++ x ∷ []) ≡ map f xs ++ f x ∷ []
+  map_push f xs x = map-append f xs (x ∷ [])
+
+  -- a list with witnesses, and a phrase
+  witnessed_taken : (c : Command) (members : List Member) (witnesses : List Point) (p : Phrase) (next : Part) → IsFound model c (Found.Witnessed members witnesses) → IsPhraseFor model p
+      → witnessed_with members witnesses p ≡ Some (Next.More next) → IsPartFor model c next × (part_phrases next ≡ found_phrases (Found.Witnessed members witnesses) ++ p ∷ [])
+  witnessed_taken Check members witnesses p next h k e = absurd h
+  witnessed_taken (Pivots n) members witnesses p next h k e = absurd h
+  witnessed_taken (Iis method) members witnesses (Phrase.Member m) next h k e =
+      let t = only_told (list_all (λ n. comes_before n m) members) (Next.More (Part.Member members witnesses m)) (Next.More next) e in
+      subst (λ q. IsPartFor model (Iis method) q × (part_phrases q ≡ found_phrases (Found.Witnessed members witnesses) ++ Phrase.Member m ∷ [])) (same_more (Part.Member members witnesses m) next t.1)
+      ((member_taken members m h.0 k t.0, h.1), refl)
+  witnessed_taken (Iis method) members witnesses Phrase.Proof next h k e =
+      subst (λ q. IsPartFor model (Iis method) q × (part_phrases q ≡ found_phrases (Found.Witnessed members witnesses) ++ Phrase.Proof ∷ [])) (more_is (Part.Proof (Found.Witnessed members witnesses)) next e) (h, refl)
+  witnessed_taken (Iis method) members witnesses _ next h k e = absurd (cc)
+
+  -- what is found with one member more
+  one_more_found : (c : Command) (members : List Member) (witnesses : List Point) (m : Member) (values : List ℚ) → IsOneMore model c members witnesses m → AreValues model values
+      → IsFound model c (Found.Witnessed (members ++ m ∷ []) (witnesses ++ point_of model values ∷ []))
+  one_more_found Check members witnesses m values h v = absurd h
+  one_more_found (Pivots n) members witnesses m values h v = absurd h
+  one_more_found (Iis method) members witnesses m values h v = (h.0, witness_taken members witnesses m (point_of model values) h.1 (point_taken values v))
+
+  one_more_each : (c : Command) (members : List Member) (witnesses : List Point) (m : Member) → IsOneMore model c members witnesses m → length witnesses ≡ length members
+  one_more_each Check members witnesses m h = absurd h
+  one_more_each (Pivots n) members witnesses m h = absurd h
+  one_more_each (Iis method) members witnesses m h = h.1.each
+
+  -- one active member more that is left out
+  left_taken : (left : List Member) (m : Member) → AreLeftOut model left → IsNamedMember model m → (is_active model m && list_all (λ n. comes_before n m) left) ≡ true → AreLeftOut model (left ++ m ∷ [])
+  left_taken left m h named may =
+      let both = and_parts (is_active model m) (list_all (λ n. comes_before n m) left) may in
+      record { members = member_taken left m h.members named both.1; active = All-push (λ n. IsTrue (is_active model n)) left m h.active both.0 }
+
+  -- a stop, and a phrase
+  begun_taken : (c : Command) (s : StopPhrase) (next : Part) → Asks c → stop_begun s ≡ Some (Next.More next) → Took c Part.Nothing (Phrase.Stop s) next
+  unfolding Took
+  begun_taken c StopPhrase.Wide next asks e = subst (Took c Part.Nothing (Phrase.Stop StopPhrase.Wide)) (more_is (Part.Stop StopPart.Wide) next e) ((asks, tt), refl)
+  begun_taken c StopPhrase.Spent next asks e = subst (Took c Part.Nothing (Phrase.Stop StopPhrase.Spent)) (more_is (Part.Stop StopPart.Spent) next e) ((asks, tt), refl)
+  begun_taken c _ next asks e = absurd (cc)
+
+  site_taken : (c : Command) (part then : StopPart) (p : Phrase) (next : Part) → Asks c × IsStopPart model then → stop_part_phrases then ≡ stop_part_phrases part ++ settle_phrase ∷ []
+      → at_site then p ≡ Some (Next.More next) → Took c (Part.Stop part) p next
+  unfolding Took
+  site_taken c part then (Phrase.Stop (StopPhrase.Site Settle)) next h k e = subst (Took c (Part.Stop part) settle_phrase) (more_is (Part.Stop then) next e) (h, k)
+  site_taken c part then (Phrase.Stop _) next h k e = absurd (cc)
+  site_taken c part then _ next h k e = absurd (cc)
+
+  without_taken : (c : Command) (s : StopPhrase) (make : List Member → StopPart) (left : List Member) (m : Member) (next : Part) → Asks c × AreLeftOut model left → IsNamedMember model m
+      → ((members : List Member) → AreLeftOut model members → IsStopPart model (make members)) → ((members : List Member) → stop_part_phrases (make members) ≡ begun_phrases s members)
+      → left_out_next make (with_left_out model left m) ≡ Some (Next.More next) → Took c (Part.Stop (make left)) (without_phrase m) next
+  unfolding Took
+  without_taken c s make left m next h named may said e =
+      let t = mapped_told (λ members. Next.More (Part.Stop (make members))) (is_active model m && list_all (λ n. comes_before n m) left) (left ++ m ∷ []) (Next.More next) e in
+      subst (Took c (Part.Stop (make left)) (without_phrase m)) (same_more (Part.Stop (make (left ++ m ∷ []))) next t.1) (
+        (h.0, may (left ++ m ∷ []) (left_taken left m h.1 named t.0)),
+        said (left ++ m ∷ []) ∙ ap (λ l. Phrase.Stop s ∷ settle_phrase ∷ l) (map_push without_phrase left m) ∙ ap (λ l. l ++ without_phrase m ∷ []) (sym (said left)),
+      )
+
+  stop_taken : (c : Command) (part : StopPart) (p : Phrase) (next : Part) → Asks c × IsStopPart model part → IsPhraseFor model p → stop_with model part p ≡ Some (Next.More next) → Took c (Part.Stop part) p next
+  unfolding Took
+  stop_taken c StopPart.Wide p next h k e = site_taken c StopPart.Wide (StopPart.WideSite []) p next (h.0, none_left model) refl e
+  stop_taken c (StopPart.WideSite left) (Phrase.Stop (StopPhrase.Without m)) next h k e = without_taken c StopPhrase.Wide (λ members. StopPart.WideSite members) left m next h k (λ members l. l) (λ members. refl) e
+  stop_taken c (StopPart.WideSite left) (Phrase.Stop (StopPhrase.Step n)) next h k e =
+      subst (Took c (Part.Stop (StopPart.WideSite left)) (Phrase.Stop (StopPhrase.Step n))) (more_is (Part.Stop (StopPart.WideStep left n)) next e) ((h.0, (h.1, k)), refl)
+  stop_taken c (StopPart.WideSite left) (Phrase.Stop _) next h k e = absurd (cc)
+  stop_taken c (StopPart.WideSite left) _ next h k e = absurd (cc)
+  stop_taken c (StopPart.WideStep left n) (Phrase.Stop (StopPhrase.Operation o)) next h k e =
+      subst (Took c (Part.Stop (StopPart.WideStep left n)) (Phrase.Stop (StopPhrase.Operation o))) (more_is (Part.Stop (StopPart.WideOperation left n o)) next e)
+      ((h.0, (h.1.0, (h.1.1, k))), sym (append_assoc (begun_phrases StopPhrase.Wide left) (Phrase.Stop (StopPhrase.Step n) ∷ []) (Phrase.Stop (StopPhrase.Operation o) ∷ [])))
+  stop_taken c (StopPart.WideStep left n) (Phrase.Stop _) next h k e = absurd (cc)
+  stop_taken c (StopPart.WideStep left n) _ next h k e = absurd (cc)
+  stop_taken c (StopPart.WideOperation left n o) Phrase.End next h k e = absurd (cc)
+  stop_taken c (StopPart.WideOperation left n o) _ next h k e = absurd (cc)
+  stop_taken c StopPart.Spent p next h k e = site_taken c StopPart.Spent (StopPart.SpentSite []) p next (h.0, none_left model) refl e
+  stop_taken c (StopPart.SpentSite left) (Phrase.Stop (StopPhrase.Without m)) next h k e = without_taken c StopPhrase.Spent (λ members. StopPart.SpentSite members) left m next h k (λ members l. l) (λ members. refl) e
+  stop_taken c (StopPart.SpentSite left) (Phrase.Stop _) next h k e = absurd (cc)
+  stop_taken c (StopPart.SpentSite left) Phrase.End next h k e = absurd (cc)
+  stop_taken c (StopPart.SpentSite left) _ next h k e = absurd (cc)
+
+  more_taken : (c : Command) (part : Part) (p : Phrase) (next : Part) → IsPartFor model c part → IsPhraseFor model p → extended model c part p ≡ Some (Next.More next) → Took c part p next
+  unfolding Took
+  more_taken Check Part.Nothing Phrase.Feasible next h k e = subst (Took Check Part.Nothing Phrase.Feasible) (more_is Part.Feasible next e) (tt, refl)
+  more_taken (Iis method) Part.Nothing Phrase.Feasible next h k e = subst (Took (Iis method) Part.Nothing Phrase.Feasible) (more_is Part.Feasible next e) (tt, refl)
+  more_taken Check Part.Nothing (Phrase.Stop s) next h k e = begun_taken Check s next tt e
+  more_taken (Iis method) Part.Nothing (Phrase.Stop s) next h k e = begun_taken (Iis method) s next tt e
+  more_taken (Pivots n) Part.Nothing Phrase.Done next h k e = absurd (cc)
+  more_taken (Pivots n) Part.Nothing _ next h k e = absurd (cc)
+  more_taken c (Part.Stop part) p next h k e = stop_taken c part p next h k e
+  more_taken Check Part.Nothing Phrase.Infeasible next h k e = subst (Took Check Part.Nothing Phrase.Infeasible) (more_is (Part.Listed (Found.Members [])) next e) (no_members, refl)
+  more_taken (Iis method) Part.Nothing Phrase.Irreducible next h k e = subst (Took (Iis method) Part.Nothing Phrase.Irreducible) (more_is (Part.Listed (Found.Witnessed [] [])) next e) ((no_members, no_witnesses), refl)
+  more_taken Check Part.Nothing _ next h k e = absurd (cc)
+  more_taken (Iis method) Part.Nothing _ next h k e = absurd (cc)
+  more_taken c Part.Feasible Phrase.Point next h k e = subst (Took c Part.Feasible Phrase.Point) (more_is (Part.Point []) next e) ((h, no_values), refl)
+  more_taken c Part.Feasible _ next h k e = absurd (cc)
+  more_taken c (Part.Point values) (Phrase.Value j v) next h k e =
+      let t = mapped_told (λ vs. Next.More (Part.Point vs)) (nat_le (length values) j) (filled j values ++ v ∷ []) (Next.More next) e in
+      let le : length values ≤ j = leb-true (length values) j t.0 in
+      subst (Took c (Part.Point values) (Phrase.Value j v)) (same_more (Part.Point (filled j values ++ v ∷ [])) next t.1)
+      ((h.0, value_taken values j v h.1 k le), ap (λ l. Phrase.Feasible ∷ Phrase.Point ∷ l) (value_said values j v le k.1.1))
+  more_taken c (Part.Point values) _ next h k e = absurd (cc)
+  more_taken Check (Part.Listed (Found.Members members)) (Phrase.Member m) next h k e =
+      let t = mapped_told (λ ms. Next.More (Part.Listed (Found.Members ms))) (list_all (λ n. comes_before n m) members) (members ++ m ∷ []) (Next.More next) e in
+      subst (Took Check (Part.Listed (Found.Members members)) (Phrase.Member m)) (same_more (Part.Listed (Found.Members (members ++ m ∷ []))) next t.1)
+      (member_taken members m h k t.0, ap (λ l. Phrase.Infeasible ∷ l) (map_push Phrase.Member members m))
+  more_taken (Iis method) (Part.Listed (Found.Members members)) p next h k e = absurd h
+  more_taken (Pivots n) (Part.Listed (Found.Members members)) p next h k e = absurd h
+  more_taken c (Part.Listed (Found.Members members)) Phrase.Proof next h k e = subst (Took c (Part.Listed (Found.Members members)) Phrase.Proof) (more_is (Part.Proof (Found.Members members)) next e) (h, refl)
+  more_taken c (Part.Listed (Found.Members members)) _ next h k e = absurd (cc)
+  more_taken c (Part.Listed (Found.Witnessed members witnesses)) p next h k e = witnessed_taken c members witnesses p next h k e
+  more_taken c (Part.Member members witnesses m) Phrase.Point next h k e =
+      subst (Took c (Part.Member members witnesses m) Phrase.Point) (more_is (Part.Witness members witnesses m []) next e)
+      ((h, no_values), sym (append_assoc (found_phrases (Found.Witnessed members witnesses)) (Phrase.Member m ∷ []) (Phrase.Point ∷ [])))
+  more_taken c (Part.Member members witnesses m) _ next h k e = absurd (cc)
+  more_taken c (Part.Witness members witnesses m values) (Phrase.Value j v) next h k e =
+      let t = mapped_told (λ vs. Next.More (Part.Witness members witnesses m vs)) (nat_le (length values) j) (filled j values ++ v ∷ []) (Next.More next) e in
+      let le : length values ≤ j = leb-true (length values) j t.0 in
+      subst (Took c (Part.Witness members witnesses m values) (Phrase.Value j v)) (same_more (Part.Witness members witnesses m (filled j values ++ v ∷ [])) next t.1) (
+        (h.0, value_taken values j v h.1 k le),
+        ap (λ l. found_phrases (Found.Witnessed members witnesses) ++ Phrase.Member m ∷ Phrase.Point ∷ l) (value_said values j v le k.1.1)
+            ∙ sym (append_assoc (found_phrases (Found.Witnessed members witnesses)) (Phrase.Member m ∷ Phrase.Point ∷ value_phrases 0 values) (Phrase.Value j v ∷ [])),
+      )
+  more_taken c (Part.Witness members witnesses m values) p next h k e =
+      let t = witnessed_taken c (members ++ m ∷ []) (witnesses ++ point_of model values ∷ []) p next (one_more_found c members witnesses m values h.0 h.1) k e in
+      (t.0, t.1 ∙ ap (λ l. l ++ p ∷ []) (witnessed_said members witnesses m values (one_more_each c members witnesses m h.0)))
+  more_taken c (Part.Proof found) Phrase.Leaf next h k e =
+      subst (Took c (Part.Proof found) Phrase.Leaf) (more_is (Part.Leaf found []) next e) ((h, no_uses), sym (append_assoc (found_phrases found) (Phrase.Proof ∷ []) (Phrase.Leaf ∷ [])))
+  more_taken c (Part.Proof found) _ next h k e = absurd (cc)
+  more_taken c (Part.Leaf found shares) (Phrase.Use s) next h k e =
+      let t = mapped_told (λ ss. Next.More (Part.Leaf found ss)) (list_all (λ u. share_before u.source u.side s.source s.side) shares) (shares ++ s ∷ []) (Next.More next) e in
+      subst (Took c (Part.Leaf found shares) (Phrase.Use s)) (same_more (Part.Leaf found (shares ++ s ∷ [])) next t.1) (
+        (h.0, share_taken shares s h.1 k t.0),
+        ap (λ l. found_phrases found ++ Phrase.Proof ∷ Phrase.Leaf ∷ l) (map_push Phrase.Use shares s)
+            ∙ sym (append_assoc (found_phrases found) (Phrase.Proof ∷ Phrase.Leaf ∷ map Phrase.Use shares) (Phrase.Use s ∷ [])),
+      )
+  more_taken c (Part.Leaf found shares) _ next h k e = absurd (cc)
+
+  -- ---- answers
+  -- what the last phrase of an answer makes of its part
+  record Ends (c : Command) (part : Part) (p : Phrase) (answer : Answer) : Type 0 where
+    ended : p ≡ answer_end answer
+    kind : can_answer c answer ≡ true
+    form : IsAnswerFor model answer
+    said : answer_front model answer ≡ part_phrases part
+
+  -- no answer ends with a site
+  no_site : (then : StopPart) (p : Phrase) (a : Answer) → at_site then p ≡ Some (Next.Whole a) → ⊥
+  no_site then (Phrase.Stop (StopPhrase.Site Settle)) a e = cc
+  no_site then (Phrase.Stop _) a e = cc
+  no_site then _ a e = cc
+
+  whole_is : (a b : Answer) → Some (Next.Whole a) ≡ Some (Next.Whole b) → a ≡ b
+  whole_is a b e = cc
+
+  listed_taken : (members : List Member) → AreMembers model members → IsListed model (set_of model members)
+  listed_taken members h = record { of_model = record { rows = refl; columns = refl }; named = h.named; in_order = h.in_order }
+
+  leaf_taken : (shares : List Share) → AreUses model shares → IsOneLeaf model (leaf_of shares)
+  leaf_taken shares h = record { combo = record { shares = shares }; one = refl; uses = h }
+
+  leaf_said : (front : List Phrase) (shares : List Share) → front ++ proof_phrases (leaf_of shares) ≡ front ++ Phrase.Proof ∷ Phrase.Leaf ∷ map Phrase.Use shares
+  leaf_said front shares = ap (λ l. front ++ Phrase.Proof ∷ Phrase.Leaf ∷ l) (append-nil (map Phrase.Use shares))
+
+  leaf_ends : (c : Command) (found : Found) (shares : List Share) → IsFound model c found → AreUses model shares → Ends c (Part.Leaf found shares) Phrase.End (answer_of model found shares)
+  leaf_ends Check (Found.Members members) shares h k =
+      record { ended = refl; kind = refl; form = (listed_taken members h, leaf_taken shares k); said = leaf_said (found_phrases (Found.Members members)) shares }
+  leaf_ends Check (Found.Witnessed members witnesses) shares h k = absurd h
+  leaf_ends (Iis method) (Found.Members members) shares h k = absurd h
+  leaf_ends (Pivots n) found shares h k = absurd h
+  leaf_ends (Iis method) (Found.Witnessed members witnesses) shares h k =
+      record { ended = refl; kind = refl; form = record { members = listed_taken members h.0; each = h.1.each; points = h.1.points; proof = leaf_taken shares k }; said = leaf_said (found_phrases (Found.Witnessed members witnesses)) shares }
+
+  point_ends : (c : Command) (values : List ℚ) → IsPartFor model c (Part.Point values) → Ends c (Part.Point values) Phrase.End (Answer.Feasible (point_of model values))
+  point_ends Check values h = record { ended = refl; kind = refl; form = point_taken values h.1; said = ap (λ l. Phrase.Feasible ∷ l) (point_said values) }
+  point_ends (Iis method) values h = record { ended = refl; kind = refl; form = point_taken values h.1; said = ap (λ l. Phrase.Feasible ∷ l) (point_said values) }
+  point_ends (Pivots n) values h = absurd h.0
+
+  begun_ends : (s : StopPhrase) (a : Answer) → stop_begun s ≡ Some (Next.Whole a) → ⊥
+  begun_ends StopPhrase.Wide a e = cc
+  begun_ends StopPhrase.Spent a e = cc
+  begun_ends _ a e = cc
+
+  not_whole : {X : Type 0} (make : X → Next) (b : Bool) (x : X) (a : Answer) → ((y : X) → Next.Whole a ≢ make y) → option_map make (only_if b x) ≡ Some (Next.Whole a) → ⊥
+  not_whole make b x a differ e = let t = mapped_told make b x (Next.Whole a) e in differ x (sym t.1)
+
+  -- nor with a member that is left out
+  no_left : (make : List Member → StopPart) (left : List Member) (m : Member) (a : Answer) → left_out_next make (with_left_out model left m) ≡ Some (Next.Whole a) → ⊥
+  no_left make left m a e = not_whole (λ members. Next.More (Part.Stop (make members))) (is_active model m && list_all (λ n. comes_before n m) left) (left ++ m ∷ []) a (λ y s. cc) e
+
+  -- a stop answers what asks for more than one line
+  can_stop : (c : Command) (stop : Stop) → Asks c → can_answer c (Answer.Stopped stop) ≡ true
+  can_stop Check stop h = refl
+  can_stop (Iis method) stop h = refl
+  can_stop (Pivots n) stop h = absurd h
+
+  -- the site of a stop is no more than what is read of it
+  site_said : (s : StopPhrase) (left : List Member) (rest : List Phrase) → AreLeftOut model left → Phrase.Stop s ∷ (site_phrases model (site_without model left) ++ rest) ≡ begun_phrases s left ++ rest
+  site_said s left rest h = ap (λ (l : List Member). Phrase.Stop s ∷ settle_phrase ∷ (map without_phrase l ++ rest)) (left_twice model left h)
+
+  stop_ends : (c : Command) (part : StopPart) (p : Phrase) (a : Answer) → Asks c × IsStopPart model part → stop_with model part p ≡ Some (Next.Whole a) → Ends c (Part.Stop part) p a
+  stop_ends c (StopPart.WideOperation left k o) Phrase.End a h e =
+      let stop = TooWide (site_without model left) k o in
+      subst (Ends c (Part.Stop (StopPart.WideOperation left k o)) Phrase.End) (whole_is (Answer.Stopped stop) a e)
+      (record {
+        ended = refl;
+        kind = can_stop c stop h.0;
+        form = (site_in_form model left h.1.0, h.1.1);
+        said = site_said StopPhrase.Wide left (Phrase.Stop (StopPhrase.Step k) ∷ Phrase.Stop (StopPhrase.Operation o) ∷ []) h.1.0;
+      })
+  stop_ends c (StopPart.WideOperation left k o) _ a h e = absurd (cc)
+  stop_ends c (StopPart.SpentSite left) Phrase.End a h e =
+      let stop = Spent (site_without model left) in
+      subst (Ends c (Part.Stop (StopPart.SpentSite left)) Phrase.End) (whole_is (Answer.Stopped stop) a e)
+      (record { ended = refl; kind = can_stop c stop h.0; form = site_in_form model left h.1; said = ap (λ (l : List Member). begun_phrases StopPhrase.Spent l) (left_twice model left h.1) })
+  stop_ends c (StopPart.SpentSite left) (Phrase.Stop (StopPhrase.Without m)) a h e = absurd (no_left (λ members. StopPart.SpentSite members) left m a e)
+  stop_ends c (StopPart.SpentSite left) (Phrase.Stop _) a h e = absurd (cc)
+  stop_ends c (StopPart.SpentSite left) _ a h e = absurd (cc)
+  stop_ends c StopPart.Wide p a h e = absurd (no_site (StopPart.WideSite []) p a e)
+  stop_ends c StopPart.Spent p a h e = absurd (no_site (StopPart.SpentSite []) p a e)
+  stop_ends c (StopPart.WideSite left) (Phrase.Stop (StopPhrase.Without m)) a h e = absurd (no_left (λ members. StopPart.WideSite members) left m a e)
+  stop_ends c (StopPart.WideSite left) (Phrase.Stop (StopPhrase.Step n)) a h e = absurd (cc)
+  stop_ends c (StopPart.WideSite left) (Phrase.Stop _) a h e = absurd (cc)
+  stop_ends c (StopPart.WideSite left) _ a h e = absurd (cc)
+  stop_ends c (StopPart.WideStep left n) (Phrase.Stop (StopPhrase.Operation o)) a h e = absurd (cc)
+  stop_ends c (StopPart.WideStep left n) (Phrase.Stop _) a h e = absurd (cc)
+  stop_ends c (StopPart.WideStep left n) _ a h e = absurd (cc)
+
+  no_answer : (members : List Member) (witnesses : List Point) (p : Phrase) (a : Answer) → witnessed_with members witnesses p ≡ Some (Next.Whole a) → ⊥
+  no_answer members witnesses (Phrase.Member m) a e =
+      let t = only_told (list_all (λ n. comes_before n m) members) (Next.More (Part.Member members witnesses m)) (Next.Whole a) e in
+      let s : Next.More (Part.Member members witnesses m) ≡ Next.Whole a = t.1 in cc
+  no_answer members witnesses _ a e = cc
+
+  whole_taken : (c : Command) (part : Part) (p : Phrase) (a : Answer) → IsPartFor model c part → extended model c part p ≡ Some (Next.Whole a) → Ends c part p a
+  whole_taken c (Part.Point values) Phrase.End a h e = subst (Ends c (Part.Point values) Phrase.End) (whole_is (Answer.Feasible (point_of model values)) a e) (point_ends c values h)
+  whole_taken c (Part.Leaf found shares) Phrase.End a h e = subst (Ends c (Part.Leaf found shares) Phrase.End) (whole_is (answer_of model found shares) a e) (leaf_ends c found shares h.0 h.1)
+  whole_taken c (Part.Point values) (Phrase.Value j v) a h e = absurd (not_whole (λ vs. Next.More (Part.Point vs)) (nat_le (length values) j) (filled j values ++ v ∷ []) a (λ y s. cc) e)
+  whole_taken c (Part.Leaf found shares) (Phrase.Use s) a h e =
+      absurd (not_whole (λ ss. Next.More (Part.Leaf found ss)) (list_all (λ u. share_before u.source u.side s.source s.side) shares) (shares ++ s ∷ []) a (λ y s. cc) e)
+  whole_taken c (Part.Listed (Found.Members members)) (Phrase.Member m) a h e =
+      absurd (not_whole (λ ms. Next.More (Part.Listed (Found.Members ms))) (list_all (λ n. comes_before n m) members) (members ++ m ∷ []) a (λ y s. cc) e)
+  whole_taken c (Part.Listed (Found.Witnessed members witnesses)) p a h e = absurd (no_answer members witnesses p a e)
+  whole_taken c (Part.Witness members witnesses m values) (Phrase.Value j v) a h e =
+      absurd (not_whole (λ vs. Next.More (Part.Witness members witnesses m vs)) (nat_le (length values) j) (filled j values ++ v ∷ []) a (λ y s. cc) e)
+  whole_taken c (Part.Witness members witnesses m values) p a h e = absurd (no_answer (members ++ m ∷ []) (witnesses ++ point_of model values ∷ []) p a e)
+  whole_taken c (Part.Stop part) p a h e = stop_ends c part p a h e
+  whole_taken (Pivots n) Part.Nothing Phrase.Done a h e = subst (Ends (Pivots n) Part.Nothing Phrase.Done) (whole_is Answer.Done a e) (record { ended = refl; kind = refl; form = tt; said = refl })
+  whole_taken (Pivots n) Part.Nothing _ a h e = absurd (cc)
+  whole_taken Check Part.Nothing (Phrase.Stop s) a h e = absurd (begun_ends s a e)
+  whole_taken (Iis method) Part.Nothing (Phrase.Stop s) a h e = absurd (begun_ends s a e)
+  whole_taken Check Part.Nothing Phrase.Feasible a h e = absurd (cc)
+  whole_taken Check Part.Nothing _ a h e = absurd (cc)
+  whole_taken (Iis method) Part.Nothing Phrase.Feasible a h e = absurd (cc)
+  whole_taken (Iis method) Part.Nothing _ a h e = absurd (cc)
+  whole_taken c Part.Feasible Phrase.Point a h e = absurd (cc)
+  whole_taken c Part.Feasible _ a h e = absurd (cc)
+  whole_taken c (Part.Point values) _ a h e = absurd (cc)
+  whole_taken c (Part.Listed (Found.Members members)) _ a h e = absurd (cc)
+  whole_taken c (Part.Member members witnesses m) Phrase.Point a h e = absurd (cc)
+  whole_taken c (Part.Member members witnesses m) _ a h e = absurd (cc)
+  whole_taken c (Part.Proof found) Phrase.Leaf a h e = absurd (cc)
+  whole_taken c (Part.Proof found) _ a h e = absurd (cc)
+  whole_taken c (Part.Leaf found shares) _ a h e = absurd (cc)
+
+  -- ---- drafts
+  -- one entry more on the line after those before it
+  numbered_push : (n : ℕ) (entries : List Entry) (e : Entry) → AreNumbered model n entries → e.line ≡ n + length (flat_map (entry_lines model) entries) → AreNumbered model n (entries ++ e ∷ [])
+  numbered_push n [] e h l = (l ∙ (omega arith), tt)
+  numbered_push n (f ∷ entries) e h l = (
+    h.0,
+    numbered_push (n + length (entry_lines model f)) entries e h.1
+        (l ∙ ap (λ k. n + k) (length-append (entry_lines model f) (flat_map (entry_lines model) entries)) ∙ (omega arith)),
+  )
+
+  entries_length : (entries : List Entry) → All (IsEntryFor model) entries → length (flat_map (entry_lines model) entries) ≡ length (flat_map (entry_phrases model) entries)
+  entries_length [] h = refl
+  entries_length (e ∷ entries) h =
+      let first = ap length (entry_spelled model e (All-head (IsEntryFor model) e entries h)) ∙ length-map (entry_phrases model e) (phrase_line model) in
+      let rest = entries_length entries (All-tail (IsEntryFor model) e entries h) in
+      length-append (entry_lines model e) (flat_map (entry_lines model) entries) ∙ ap (λ k. k + length (flat_map (entry_lines model) entries)) first ∙ ap (λ k. length (entry_phrases model e) + k) rest ∙ sym (length-append (entry_phrases model e) (flat_map (entry_phrases model) entries))
+
+  body_length : (notes : List Note) (entries : List Entry) → All (IsEntryFor model) entries → length (body_phrases model notes entries) ≡ suc (length notes + length (flat_map (entry_lines model) entries))
+  body_length notes entries h =
+      ap suc (length-append (map Phrase.Note notes) (flat_map (entry_phrases model) entries) ∙ ap (λ k. k + length (flat_map (entry_phrases model) entries)) (length-map notes Phrase.Note) ∙ ap (λ k. length notes + k) (sym (entries_length entries h)))
+
+  body_push : (notes : List Note) (entries : List Entry) (e : Entry) → body_phrases model notes (entries ++ e ∷ []) ≡ body_phrases model notes entries ++ entry_phrases model e
+  body_push notes entries e =
+      ap (λ l. Phrase.Head ∷ (map Phrase.Note notes ++ l)) (flat_map-append (entry_phrases model) entries (e ∷ []) ∙ ap (λ l. flat_map (entry_phrases model) entries ++ l) (append-nil (entry_phrases model e)))
+      ∙ ap (λ l. Phrase.Head ∷ l) (sym (append_assoc (map Phrase.Note notes) (flat_map (entry_phrases model) entries) (entry_phrases model e)))
+
+  -- what a phrase makes of a draft
+  abbrev Draws : Draft → Phrase → Draft → Type 0
+  Draws d p next = IsDraftFor model next × (draft_phrases model next ≡ draft_phrases model d ++ p ∷ [])
+
+  draft_is : (a b : Draft) → Some a ≡ Some b → a ≡ b
+  draft_is a b e = cc
+
+  drawn : (d : Draft) (p : Phrase) (a next : Draft) → Some a ≡ Some next → Draws d p a → Draws d p next
+  drawn d p a next e h = subst (Draws d p) (draft_is a next e) h
+
+  -- between entries
+  between_taken : (n : ℕ) (notes : List Note) (entries : List Entry) (p : Phrase) (next : Draft) → IsDraftFor model (record { notes = notes; entries = entries; stage = Stage.Between }) → IsPhraseFor model p
+      → n ≡ suc (length (body_phrases model notes entries)) → between n (record { notes = notes; entries = entries; stage = Stage.Between }) p ≡ Some next
+      → Draws (record { notes = notes; entries = entries; stage = Stage.Between }) p next
+  between_taken n notes [] (Phrase.Note note) next h k l e =
+      drawn (record { notes = notes; entries = []; stage = Stage.Between }) (Phrase.Note note) (record { notes = notes ++ note ∷ []; entries = []; stage = Stage.Between }) next e (
+        record { notes = All-push (λ x. IsNamedColumn model (noted_column x)) notes note h.notes k; entries = All-nil (IsEntryFor model); numbered = tt; stage = tt },
+        ap (λ m. Phrase.Head ∷ m) (append-nil (map Phrase.Note (notes ++ note ∷ [])) ∙ map_push Phrase.Note notes note ∙ ap (λ m. m ++ Phrase.Note note ∷ []) (sym (append-nil (map Phrase.Note notes)))),
+      )
+  between_taken n notes (f ∷ entries) (Phrase.Note note) next h k l e = absurd (cc)
+  between_taken n notes entries (Phrase.Command c) next h k l e =
+      drawn (record { notes = notes; entries = entries; stage = Stage.Between }) (Phrase.Command c) (record { notes = notes; entries = entries; stage = Stage.Answering (record { command = c; line = n }) Part.Nothing }) next e
+      (record { notes = h.notes; entries = h.entries; numbered = h.numbered; stage = (l ∙ ap suc (body_length notes entries h.entries) ∙ (omega arith), (k, tt)) }, refl)
+  between_taken n notes entries Phrase.Foot next h k l e =
+      drawn (record { notes = notes; entries = entries; stage = Stage.Between }) Phrase.Foot (record { notes = notes; entries = entries; stage = Stage.Done }) next e
+      (record { notes = h.notes; entries = h.entries; numbered = h.numbered; stage = tt }, refl)
+  between_taken n notes entries _ next h k l e = absurd (cc)
+
+  told : {X Y : Type 0} (f : X → Y) (o : Option X) (y : Y) → option_map f o ≡ Some y → (x : X) × ((o ≡ Some x) × (f x ≡ y))
+  told f None y e = absurd (let s : None ≡ Some y = e in cc)
+  told f (Some x) y e = (x, (refl, (let s : Some (f x) ≡ Some y = e in cc)))
+
+  -- within an answer
+  answering_taken : (notes : List Note) (entries : List Entry) (question : Question) (part : Part) (p : Phrase) (next : Next)
+      → IsDraftFor model (record { notes = notes; entries = entries; stage = Stage.Answering question part }) → IsPhraseFor model p → extended model question.command part p ≡ Some next
+      → Draws (record { notes = notes; entries = entries; stage = Stage.Answering question part }) p (placed (record { notes = notes; entries = entries; stage = Stage.Answering question part }) question next)
+  unfolding Took
+  answering_taken notes entries question part p (Next.More more) h k e =
+      let t = more_taken question.command part p more h.stage.1.1 k e in (
+        record { notes = h.notes; entries = h.entries; numbered = h.numbered; stage = (h.stage.0, (h.stage.1.0, t.0)) },
+        ap (λ l. body_phrases model notes entries ++ Phrase.Command question.command ∷ l) t.1 ∙ sym (append_assoc (body_phrases model notes entries) (Phrase.Command question.command ∷ part_phrases part) (p ∷ [])),
+      )
+  answering_taken notes entries question part p (Next.Whole answer) h k e =
+      let t = whole_taken question.command part p answer h.stage.1.1 e in
+      let entry : Entry = record { command = question.command; answer = answer; line = question.line } in (
+        record {
+          notes = h.notes;
+          entries = All-push (IsEntryFor model) entries entry h.entries (record { command = h.stage.1.0; kind = t.kind; answer = t.form });
+          numbered = numbered_push (2 + length notes) entries entry h.numbered (h.stage.0 ∙ (omega arith));
+          stage = tt;
+        },
+        body_push notes entries entry
+            ∙ ap (λ l. body_phrases model notes entries ++ Phrase.Command question.command ∷ (l ++ answer_end answer ∷ [])) t.said
+            ∙ ap (λ q. body_phrases model notes entries ++ Phrase.Command question.command ∷ (part_phrases part ++ q ∷ [])) (sym t.ended)
+            ∙ sym (append_assoc (body_phrases model notes entries) (Phrase.Command question.command ∷ part_phrases part) (p ∷ [])),
+      )
+
+  pub taken : (n : ℕ) (notes : List Note) (entries : List Entry) (stage : Stage) (p : Phrase) (next : Draft) → IsDraftFor model (record { notes = notes; entries = entries; stage = stage }) → IsPhraseFor model p
+      → n ≡ suc (length (draft_phrases model (record { notes = notes; entries = entries; stage = stage }))) → advanced model n (record { notes = notes; entries = entries; stage = stage }) p ≡ Some next
+      → Draws (record { notes = notes; entries = entries; stage = stage }) p next
+  taken n notes entries Stage.Start Phrase.Head next h k l e =
+      drawn (record { notes = notes; entries = entries; stage = Stage.Start }) Phrase.Head (record { notes = notes; entries = entries; stage = Stage.Between }) next e
+      (record { notes = h.notes; entries = h.entries; numbered = h.numbered; stage = tt }, ap (λ m. Phrase.Head ∷ (map Phrase.Note m ++ flat_map (entry_phrases model) entries)) h.stage.0 ∙ ap (λ m. Phrase.Head ∷ flat_map (entry_phrases model) m) h.stage.1)
+  taken n notes entries Stage.Start _ next h k l e = absurd (cc)
+  taken n notes entries Stage.Between p next h k l e = between_taken n notes entries p next h k l e
+  taken n notes entries (Stage.Answering question part) p next h k l e =
+      let t = told (placed (record { notes = notes; entries = entries; stage = Stage.Answering question part }) question) (extended model question.command part p) next e in
+      subst (Draws (record { notes = notes; entries = entries; stage = Stage.Answering question part }) p) t.1.1 (answering_taken notes entries question part p t.0 h k t.1.0)
+  taken n notes entries Stage.Done p next h k l e = absurd (cc)

@@ -1,0 +1,17 @@
+pub mod Cuts
+pub mod Endings
+pub mod Spelling
+pub mod OneEnding
+pub mod Examples
+pub mod Said
+pub mod Runs
+pub mod Fronts
+pub mod Progress
+pub mod Named
+pub mod Lexed
+pub mod Lasts
+pub mod Listed
+pub mod LeftOut
+pub mod OneReport
+pub mod Scripted
+pub mod WholeLines

@@ -1,0 +1,320 @@
+-- Bytes are those of one report: a line says one thing, and a list of phrases leads to one report.
+use Rattle.std.proofs.Common.{◌≡◌, refl, sym, ap, subst, ◌∙◌, ℕ, suc, ℤ, pos, negsuc, ◌≤◌, ◌<◌, ◌==◌, false, true≢false, List, [], ◌∷◌, decimal, unsigned_abs, Option, Some, arith, inl, inr}
+use Rattle.std.specs.Prelude.{map, All, nat_lt, codes}
+use Rattle.std.specs.Fmt.{signed_decimal}
+use Rattle.std.specs.List.{position_or_len}
+use Rattle.std.specs.Char.{digit_value}
+use Rattle.std.specs.Str.Parse.{AllDigits}
+use Rattle.std.proofs.lemmas.Fmt.{decimal_is_IsNumeral_wide, decimal_injective}
+use Rattle.std.proofs.lemmas.Bool.{cases_eq, or_parts, ltb-false}
+use Rattle.std.proofs.lemmas.List.Elements.{All-head, All-tail}
+use Rattle.std.proofs.lemmas.List.{append_cancel_right}
+use Rattle.rational.specs.Rational.{ℚ, frac}
+use Rattle.rational.proofs.Field.{frac-self}
+use Rattle.std.specs.Prelude.{option_map}
+use Rattle.std.specs.Option.{option_or}
+use Rattle.std.specs.Str.{bytes_eq}
+use Rattle.std.specs.Str.Parse.{digits_value}
+use Rattle.std.proofs.lemmas.Slice.Eq.{bytes_eq-Decides}
+use Rattle.frac128.specs.Limit.{limit}
+use Rattle.frac128.specs.Printed.{printed}
+use Rattle.frac128.proofs.Texts.{slash_num, slash_whole, slash_part}
+use Rattle.lp_model.specs.Program.{Program, NamedRow, NamedColumn, empty_row, empty_column, IsWellFormed}
+use Rattle.lp_model.specs.declared.parts.Note.{Note}
+use Rattle.lp_model.specs.declared.parts.Note.TheVariants.{LowerRemoved, LowerKept}
+use Rattle.lp_model.specs.declared.members.Member.{Member}
+use Rattle.lp_model.specs.declared.members.Member.TheVariants.{Row, Lower, Upper, Whole}
+use Rattle.lp_model.specs.declared.members.Side.{Side}
+use Rattle.lp_model.specs.declared.members.Side.TheVariants.{Lo, Up}
+use Rattle.certs.specs.declared.evidence.Source.{Source}
+use Rattle.certs.specs.declared.evidence.Source.TheVariants.{Member as Of, Below, Above}
+use Rattle.certs.specs.declared.evidence.Share.{Share}
+use Rattle.certs.specs.declared.solving.SiteKind.{SiteKind}
+use Rattle.certs.specs.declared.solving.SiteKind.TheVariants.{Settle, Improve, Stretch, Relax, Alternative}
+use Rattle.frac128.specs.declared.Op.{Op}
+use Rattle.frac128.specs.declared.Op.TheVariants.{Plus, Minus, Times, Over}
+use Rattle.frac128.specs.declared.Wide.{Wide as Operation}
+use Rattle.report_text.specs.declared.report.Method.{Method}
+use Rattle.report_text.specs.declared.report.Method.TheVariants.{Deletion, Additive, Sensitivity}
+use Rattle.report_text.specs.declared.report.Command.{Command}
+use Rattle.report_text.specs.declared.report.Command.TheVariants.{Check, Iis, Pivots}
+use Rattle.report_reader.specs.declared.phrases.Keyword.{Keyword}
+use Rattle.report_reader.specs.declared.phrases.Phrase.{Phrase}
+use Rattle.report_reader.specs.declared.phrases.StopPhrase.{StopPhrase}
+use Rattle.report_text.specs.Form.{IsNamedColumn, IsNamedMember, IsNamedSource, IsWithinLimit, IsUse, IsCommand, IsOperation}
+use Rattle.report_text.specs.Grammar.{Line, column_name, name_of, kind_word, side_word, method_word, site_word, op_word, report_lines}
+use Rattle.report_reader.specs.Reading.{OneReportLaw}
+use Rattle.report_reader.specs.Phrases.{keyword_text, keyword_of, source_words, stop_keyword, stop_details, details, phrase_line, IsStopPhrase, IsPhraseFor, Says}
+use Rattle.report_reader.specs.Words.{leading_said, lone_said}
+use Rattle.report_reader.specs.Drafts.{nothing_read}
+use Rattle.report_reader.specs.declared.drafts.Draft.{Draft}
+use Rattle.report_reader.proofs.Said.{report_phrases, report_spelled, report_for}
+use Rattle.report_reader.proofs.Spelling.{stop_apart, words_of_line, parts_of_read}
+use Rattle.report_reader.proofs.Named.{one_place}
+use Rattle.report_reader.proofs.Runs.{run, done, report_read}
+
+-- words that are known to differ
+apart : (a b : List ℕ) → bytes_eq a b ≡ false → a ≡ b → ⊥
+apart a b h e = true≢false (sym ((bytes_eq-Decides a b).1 e) ∙ h)
+
+-- ---- numbers
+decimal_one : (m n : ℕ) → m ≤ limit → n ≤ limit → decimal m ≡ decimal n → m ≡ n
+decimal_one m n h k e =
+    let a = decimal_is_IsNumeral_wide m (omega arith) in
+    let b = decimal_is_IsNumeral_wide n (omega arith) in
+    sym a.1 ∙ ap (digits_value 10) e ∙ b.1
+
+-- a decimal does not begin with a minus sign
+no_minus : (n : ℕ) (rest : List ℕ) → n ≤ limit → decimal n ≡ 45 ∷ rest → ⊥
+no_minus n rest h e = let d : AllDigits 10 (45 ∷ rest) = subst (AllDigits 10) e (decimal_is_IsNumeral_wide n (omega arith)).0.1 in let p : digit_value 45 < 10 = d.0 in omega arith
+
+signed_one : (y z : ℤ) → unsigned_abs y ≤ limit → unsigned_abs z ≤ limit → signed_decimal y ≡ signed_decimal z → y ≡ z
+signed_one (pos m) (pos n) h k e = ap pos (decimal_one m n h k e)
+signed_one (pos m) (negsuc n) h k e = absurd (no_minus m (decimal (suc n)) h e)
+signed_one (negsuc m) (pos n) h k e = absurd (no_minus n (decimal (suc m)) k (sym e))
+signed_one (negsuc m) (negsuc n) h k e = let s : suc m ≡ suc n = decimal_one (suc m) (suc n) h k (cc) in ap negsuc (let t : m ≡ n = omega arith in t)
+
+fraction_one : (q r : ℚ) → IsWithinLimit q → IsWithinLimit r → printed q ≡ printed r → q ≡ r
+fraction_one q r h k e =
+    let slash = position_or_len (λ (b : ℕ). b == 47) (printed q) in
+    let at : slash ≡ position_or_len (λ b. b == 47) (printed q) = refl in
+    let n : q.num ≡ r.num = signed_one q.num r.num (top q h) (top r k) (sym (slash_num q (top q h) (printed q) slash refl at) ∙ slash_num r (top r k) (printed q) slash e at) in
+    let d : q.den ≡ r.den = dens slash at in
+    sym (frac-self q) ∙ ap (λ z. frac z q.den) n ∙ ap (λ m. frac r.num m) d ∙ frac-self r
+  where
+    top : (p : ℚ) → IsWithinLimit p → unsigned_abs p.num ≤ limit
+    top p w = ltb-false limit (unsigned_abs p.num) (or_parts (nat_lt limit (unsigned_abs p.num)) (nat_lt limit p.den) w).0
+
+    bottom : (p : ℚ) → IsWithinLimit p → p.den ≤ limit
+    bottom p w = ltb-false limit p.den (or_parts (nat_lt limit (unsigned_abs p.num)) (nat_lt limit p.den) w).1
+
+    dens : (slash : ℕ) → slash ≡ position_or_len (λ b. b == 47) (printed q) → q.den ≡ r.den
+    dens slash at = elim (cases_eq q.den 1) [
+      | inl a ↦ elim (cases_eq r.den 1) [
+        | inl b ↦ a ∙ sym b
+        | inr b ↦ (let s = (slash_whole q (top q h) (printed q) slash refl at a).0 in let t = (slash_part r (top r k) (printed q) slash e at b).0 in absurd (omega arith))
+      ]
+      | inr a ↦ elim (cases_eq r.den 1) [
+        | inl b ↦ (let s = (slash_whole r (top r k) (printed q) slash e at b).0 in let t = (slash_part q (top q h) (printed q) slash refl at a).0 in absurd (omega arith))
+        | inr b ↦ decimal_one q.den r.den (bottom q h) (bottom r k) (sym (slash_part q (top q h) (printed q) slash refl at a).2 ∙ (slash_part r (top r k) (printed q) slash e at b).2)
+      ]
+    ]
+
+-- ---- stops
+site_one : (a b : SiteKind) → site_word a ≡ site_word b → a ≡ b
+site_one Settle Settle e = refl
+site_one Improve Improve e = refl
+site_one Stretch Stretch e = refl
+site_one Relax Relax e = refl
+site_one Alternative Alternative e = refl
+site_one Settle b e = absurd (apart (codes "settle") (site_word b) refl e)
+site_one Improve b e = absurd (apart (codes "improve") (site_word b) refl e)
+site_one Stretch b e = absurd (apart (codes "stretch") (site_word b) refl e)
+site_one Relax b e = absurd (apart (codes "relax") (site_word b) refl e)
+site_one Alternative b e = absurd (apart (codes "alternative") (site_word b) refl e)
+
+op_one : (a b : Op) → op_word a ≡ op_word b → a ≡ b
+op_one Plus Plus e = refl
+op_one Minus Minus e = refl
+op_one Times Times e = refl
+op_one Over Over e = refl
+op_one Plus b e = absurd (apart (codes "plus") (op_word b) refl e)
+op_one Minus b e = absurd (apart (codes "minus") (op_word b) refl e)
+op_one Times b e = absurd (apart (codes "times") (op_word b) refl e)
+op_one Over b e = absurd (apart (codes "over") (op_word b) refl e)
+
+operation_is : (a b : Op) (l m r s : ℚ) → a ≡ b → l ≡ m → r ≡ s → (let x : Operation = record { op = a; left = l; right = r } in x) ≡ record { op = b; left = m; right = s }
+operation_is a b l m r s e g h = ap (λ c. record { op = c; left = l; right = r }) e ∙ ap (λ c. record { op = b; left = c; right = r }) g ∙ ap (λ c. record { op = b; left = m; right = c }) h
+
+operation_one : (model : Program) (a b : Operation) → IsOperation a → IsOperation b → stop_details model (StopPhrase.Operation a) ≡ stop_details model (StopPhrase.Operation b) → a ≡ b
+operation_one model a b h k d =
+    let ops : op_word a.op ≡ op_word b.op = cc in
+    let lefts : printed a.left ≡ printed b.left = cc in
+    let rights : printed a.right ≡ printed b.right = cc in
+    operation_is a.op b.op a.left b.left a.right b.right (op_one a.op b.op ops) (fraction_one a.left b.left h.left k.left lefts) (fraction_one a.right b.right h.right k.right rights)
+
+-- ---- names
+module _ (model : Program) (f : IsWellFormed model) where
+  column_one : (i j : ℕ) → IsNamedColumn model i → IsNamedColumn model j → column_name model i ≡ column_name model j → i ≡ j
+  column_one i j h k e = one_place (λ (c : NamedColumn). c.name) model.columns empty_column f.column_names i j h.known k.known e
+
+  member_one : (m n : Member) → IsNamedMember model m → IsNamedMember model n → kind_word m ≡ kind_word n → name_of model m ≡ name_of model n → m ≡ n
+  member_one (Row i) (Row j) h k w e = ap Row (one_place (λ (r : NamedRow). r.name) model.rows empty_row f.row_names i j h.known k.known e)
+  member_one (Lower i) (Lower j) h k w e = ap Lower (one_place (λ (c : NamedColumn). c.name) model.columns empty_column f.column_names i j h.known k.known e)
+  member_one (Upper i) (Upper j) h k w e = ap Upper (one_place (λ (c : NamedColumn). c.name) model.columns empty_column f.column_names i j h.known k.known e)
+  member_one (Whole i) (Whole j) h k w e = ap Whole (one_place (λ (c : NamedColumn). c.name) model.columns empty_column f.column_names i j h.known k.known e)
+  member_one (Row i) n h k w e = absurd (apart (codes "row") (kind_word n) refl w)
+  member_one (Lower i) n h k w e = absurd (apart (codes "lower") (kind_word n) refl w)
+  member_one (Upper i) n h k w e = absurd (apart (codes "upper") (kind_word n) refl w)
+  member_one (Whole i) n h k w e = absurd (apart (codes "whole") (kind_word n) refl w)
+
+  -- what is said of a stop
+  stop_one : (a b : StopPhrase) → IsStopPhrase model a → IsStopPhrase model b → stop_keyword a ≡ stop_keyword b → stop_details model a ≡ stop_details model b → a ≡ b
+  stop_one StopPhrase.Wide StopPhrase.Wide h k e d = refl
+  stop_one StopPhrase.Spent StopPhrase.Spent h k e d = refl
+  stop_one (StopPhrase.Site a) (StopPhrase.Site b) h k e d = let words : site_word a ≡ site_word b = cc in ap StopPhrase.Site (site_one a b words)
+  stop_one (StopPhrase.Without m) (StopPhrase.Without n) h k e d = let kinds : kind_word m ≡ kind_word n = cc in let names : name_of model m ≡ name_of model n = cc in ap StopPhrase.Without (member_one m n h k kinds names)
+  stop_one (StopPhrase.Step m) (StopPhrase.Step n) h k e d = let words : decimal m ≡ decimal n = cc in ap StopPhrase.Step (decimal_injective m n h k words)
+  stop_one (StopPhrase.Operation a) (StopPhrase.Operation b) h k e d = ap StopPhrase.Operation (operation_one model a b h k d)
+  stop_one StopPhrase.Wide _ h k e d = absurd (cc)
+  stop_one StopPhrase.Spent _ h k e d = absurd (cc)
+  stop_one (StopPhrase.Site a) _ h k e d = absurd (cc)
+  stop_one (StopPhrase.Without m) _ h k e d = absurd (cc)
+  stop_one (StopPhrase.Step m) _ h k e d = absurd (cc)
+  stop_one (StopPhrase.Operation a) _ h k e d = absurd (cc)
+
+  side_one : (s t : Side) → side_word s ≡ side_word t → s ≡ t
+  side_one Lo Lo e = refl
+  side_one Up Up e = refl
+  side_one Lo Up e = absurd (apart (codes "lo") (codes "up") refl e)
+  side_one Up Lo e = absurd (apart (codes "up") (codes "lo") refl e)
+
+  method_one : (m n : Method) → method_word m ≡ method_word n → m ≡ n
+  method_one Deletion Deletion e = refl
+  method_one Additive Additive e = refl
+  method_one Sensitivity Sensitivity e = refl
+  method_one Deletion n e = absurd (apart (codes "deletion") (method_word n) refl e)
+  method_one Additive n e = absurd (apart (codes "additive") (method_word n) refl e)
+  method_one Sensitivity n e = absurd (apart (codes "sensitivity") (method_word n) refl e)
+
+  -- ---- shares
+  share_is : (a b : Source) (s t : Side) (v w : ℚ) → a ≡ b → s ≡ t → v ≡ w → (let x : Share = record { source = a; side = s; weight = v } in x) ≡ record { source = b; side = t; weight = w }
+  share_is a b s t v w e g h = ap (λ c. record { source = c; side = s; weight = v }) e ∙ ap (λ c. record { source = b; side = c; weight = v }) g ∙ ap (λ c. record { source = b; side = t; weight = c }) h
+
+  source_one : (a b : Source) (s t : Side) (v w : List ℕ) → IsNamedSource model a s → IsNamedSource model b t → source_words model a s (v ∷ []) ≡ source_words model b t (w ∷ []) → (a ≡ b) × ((s ≡ t) × (v ≡ w))
+  source_one (Of m) (Of n) s t v w h k e =
+      let kinds : kind_word m ≡ kind_word n = cc in
+      let names : name_of model m ≡ name_of model n = cc in
+      let sides : side_word s ≡ side_word t = cc in
+      (ap Of (member_one m n h k kinds names), (side_one s t sides, cc))
+  source_one (Below i) (Below j) s t v w h k e = let names : column_name model i ≡ column_name model j = cc in (ap Below (column_one i j h.0 k.0 names), (h.1 ∙ sym k.1, cc))
+  source_one (Above i) (Above j) s t v w h k e = let names : column_name model i ≡ column_name model j = cc in (ap Above (column_one i j h.0 k.0 names), (h.1 ∙ sym k.1, cc))
+  source_one (Below i) (Above j) s t v w h k e = let first : codes "below" ≡ codes "above" = cc in absurd (apart (codes "below") (codes "above") refl first)
+  source_one (Above i) (Below j) s t v w h k e = let first : codes "above" ≡ codes "below" = cc in absurd (apart (codes "above") (codes "below") refl first)
+  source_one (Of m) _ s t v w h k e = absurd (cc)
+  source_one (Below i) (Of n) s t v w h k e = absurd (cc)
+  source_one (Above i) (Of n) s t v w h k e = absurd (cc)
+
+  -- ---- phrases
+  use_one : (a b : Share) → IsUse model a → IsUse model b → source_words model a.source a.side (printed a.weight ∷ []) ≡ source_words model b.source b.side (printed b.weight ∷ []) → a ≡ b
+  use_one a b h k e =
+      let s = source_one a.source b.source a.side b.side (printed a.weight) (printed b.weight) h.named k.named e in
+      share_is a.source b.source a.side b.side a.weight b.weight s.0 s.1.0 (fraction_one a.weight b.weight h.fits k.fits s.1.1)
+
+  note_one : (a b : Note) → IsPhraseFor model (Phrase.Note a) → IsPhraseFor model (Phrase.Note b) → details model (Phrase.Note a) ≡ details model (Phrase.Note b) → a ≡ b
+  note_one (LowerRemoved i) (LowerRemoved j) h k e = let names : column_name model i ≡ column_name model j = cc in ap LowerRemoved (column_one i j h k names)
+  note_one (LowerKept i) (LowerKept j) h k e = let names : column_name model i ≡ column_name model j = cc in ap LowerKept (column_one i j h k names)
+  note_one (LowerRemoved i) (LowerKept j) h k e = let last : codes "removed" ≡ codes "kept" = cc in absurd (apart (codes "removed") (codes "kept") refl last)
+  note_one (LowerKept i) (LowerRemoved j) h k e = let last : codes "kept" ≡ codes "removed" = cc in absurd (apart (codes "kept") (codes "removed") refl last)
+
+  command_one : (a b : Command) → IsCommand a → IsCommand b → details model (Phrase.Command a) ≡ details model (Phrase.Command b) → a ≡ b
+  command_one Check Check h k e = refl
+  command_one (Iis m) (Iis n) h k e = let words : method_word m ≡ method_word n = cc in ap Iis (method_one m n words)
+  command_one (Pivots m) (Pivots n) h k e = let words : decimal m ≡ decimal n = cc in ap Pivots (decimal_injective m n (let l : m ≤ 1000000 = h in omega arith) (let l : n ≤ 1000000 = k in omega arith) words)
+  command_one Check _ h k e = absurd (cc)
+  command_one (Iis m) _ h k e = absurd (cc)
+  command_one (Pivots m) _ h k e = absurd (cc)
+
+  -- phrases of one keyword and one list of words behind it
+  behind_one : (p q : Phrase) → IsPhraseFor model p → IsPhraseFor model q → keyword_of p ≡ keyword_of q → details model p ≡ details model q → p ≡ q
+  behind_one Phrase.Head Phrase.Head h k e d = refl
+  behind_one Phrase.Feasible Phrase.Feasible h k e d = refl
+  behind_one Phrase.Infeasible Phrase.Infeasible h k e d = refl
+  behind_one Phrase.Irreducible Phrase.Irreducible h k e d = refl
+  behind_one Phrase.Point Phrase.Point h k e d = refl
+  behind_one Phrase.Proof Phrase.Proof h k e d = refl
+  behind_one Phrase.Leaf Phrase.Leaf h k e d = refl
+  behind_one Phrase.End Phrase.End h k e d = refl
+  behind_one Phrase.Foot Phrase.Foot h k e d = refl
+  behind_one (Phrase.Note a) (Phrase.Note b) h k e d = ap Phrase.Note (note_one a b h k d)
+  behind_one (Phrase.Command a) (Phrase.Command b) h k e d = ap Phrase.Command (command_one a b h k d)
+  behind_one Phrase.Done Phrase.Done h k e d = refl
+  behind_one (Phrase.Stop a) (Phrase.Stop b) h k e d = ap Phrase.Stop (stop_one a b h k e d)
+  behind_one (Phrase.Value i v) (Phrase.Value j w) h k e d = let names : column_name model i ≡ column_name model j = cc in let numbers : printed v ≡ printed w = cc in ap (λ n. Phrase.Value n v) (column_one i j h.0 k.0 names) ∙ ap (λ x. Phrase.Value j x) (fraction_one v w h.1.0 k.1.0 numbers)
+  behind_one (Phrase.Member m) (Phrase.Member n) h k e d = let kinds : kind_word m ≡ kind_word n = cc in let names : name_of model m ≡ name_of model n = cc in ap Phrase.Member (member_one m n h k kinds names)
+  behind_one (Phrase.Use a) (Phrase.Use b) h k e d = ap Phrase.Use (use_one a b h k d)
+  behind_one Phrase.Head (Phrase.Stop s) h k e d = absurd (stop_apart Keyword.Iisan s refl e)
+  behind_one Phrase.Feasible (Phrase.Stop s) h k e d = absurd (stop_apart Keyword.Feasible s refl e)
+  behind_one Phrase.Infeasible (Phrase.Stop s) h k e d = absurd (stop_apart Keyword.Infeasible s refl e)
+  behind_one Phrase.Irreducible (Phrase.Stop s) h k e d = absurd (stop_apart Keyword.Irreducible s refl e)
+  behind_one Phrase.Point (Phrase.Stop s) h k e d = absurd (stop_apart Keyword.Point s refl e)
+  behind_one Phrase.Proof (Phrase.Stop s) h k e d = absurd (stop_apart Keyword.Proof s refl e)
+  behind_one Phrase.Leaf (Phrase.Stop s) h k e d = absurd (stop_apart Keyword.Leaf s refl e)
+  behind_one Phrase.End (Phrase.Stop s) h k e d = absurd (stop_apart Keyword.End s refl e)
+  behind_one Phrase.Foot (Phrase.Stop s) h k e d = absurd (stop_apart Keyword.Report s refl e)
+  behind_one (Phrase.Note a) (Phrase.Stop s) h k e d = absurd (stop_apart Keyword.Note s refl e)
+  behind_one (Phrase.Command a) (Phrase.Stop s) h k e d = absurd (stop_apart Keyword.Command s refl e)
+  behind_one (Phrase.Value i v) (Phrase.Stop s) h k e d = absurd (stop_apart Keyword.Value s refl e)
+  behind_one (Phrase.Member m) (Phrase.Stop s) h k e d = absurd (stop_apart Keyword.Member s refl e)
+  behind_one (Phrase.Use a) (Phrase.Stop s) h k e d = absurd (stop_apart Keyword.Use s refl e)
+  behind_one Phrase.Done (Phrase.Stop s) h k e d = absurd (stop_apart Keyword.Done s refl e)
+  behind_one Phrase.Head _ h k e d = absurd (cc)
+  behind_one Phrase.Feasible _ h k e d = absurd (cc)
+  behind_one Phrase.Infeasible _ h k e d = absurd (cc)
+  behind_one Phrase.Irreducible _ h k e d = absurd (cc)
+  behind_one Phrase.Point _ h k e d = absurd (cc)
+  behind_one Phrase.Proof _ h k e d = absurd (cc)
+  behind_one Phrase.Leaf _ h k e d = absurd (cc)
+  behind_one Phrase.End _ h k e d = absurd (cc)
+  behind_one Phrase.Foot _ h k e d = absurd (cc)
+  behind_one (Phrase.Note a) _ h k e d = absurd (cc)
+  behind_one (Phrase.Command a) _ h k e d = absurd (cc)
+  behind_one Phrase.Done _ h k e d = absurd (cc)
+  behind_one (Phrase.Stop a) q h k e d = absurd (stop_apart (keyword_of q) a refl (sym e))
+  behind_one (Phrase.Value i v) _ h k e d = absurd (cc)
+  behind_one (Phrase.Member m) _ h k e d = absurd (cc)
+  behind_one (Phrase.Use a) _ h k e d = absurd (cc)
+
+  -- a keyword is spelled as no other
+  keyword_one : (k l : Keyword) → keyword_text k ≡ keyword_text l → k ≡ l
+  keyword_one k l e = let t : Some k ≡ Some l = sym (spelled_back k) ∙ ap keyword_back e ∙ spelled_back l in cc
+    where
+      keyword_back : List ℕ → Option Keyword
+      keyword_back word = option_or (leading_said word) (option_map keyword_of (lone_said word))
+
+      spelled_back : (k : Keyword) → keyword_back (keyword_text k) ≡ Some k
+      spelled_back Keyword.Iisan = refl
+      spelled_back Keyword.Note = refl
+      spelled_back Keyword.Command = refl
+      spelled_back Keyword.Feasible = refl
+      spelled_back Keyword.Infeasible = refl
+      spelled_back Keyword.Irreducible = refl
+      spelled_back Keyword.Done = refl
+      spelled_back Keyword.Point = refl
+      spelled_back Keyword.Value = refl
+      spelled_back Keyword.Member = refl
+      spelled_back Keyword.Proof = refl
+      spelled_back Keyword.Leaf = refl
+      spelled_back Keyword.Use = refl
+      spelled_back Keyword.Too = refl
+      spelled_back Keyword.Pivots = refl
+      spelled_back Keyword.Site = refl
+      spelled_back Keyword.Without = refl
+      spelled_back Keyword.Step = refl
+      spelled_back Keyword.Operation = refl
+      spelled_back Keyword.End = refl
+      spelled_back Keyword.Report = refl
+
+  phrase_one : (line : Line) (p q : Phrase) → Says model line p → Says model line q → p ≡ q
+  phrase_one line p q h k =
+      let e : keyword_text (keyword_of p) ∷ details model p ≡ keyword_text (keyword_of q) ∷ details model q = sym (words_of_line model line p h) ∙ words_of_line model line q k in
+      let first : keyword_text (keyword_of p) ≡ keyword_text (keyword_of q) = cc in
+      let rest : details model p ≡ details model q = cc in
+      behind_one p q h.form k.form (keyword_one (keyword_of p) (keyword_of q) first) rest
+
+  phrases_one : (ps qs : List Phrase) → All (IsPhraseFor model) ps → All (IsPhraseFor model) qs → map (phrase_line model) ps ≡ map (phrase_line model) qs → ps ≡ qs
+  phrases_one [] [] h k e = refl
+  phrases_one [] (q ∷ qs) h k e = absurd (cc)
+  phrases_one (p ∷ ps) [] h k e = absurd (cc)
+  phrases_one (p ∷ ps) (q ∷ qs) h k e =
+      ap (λ x. x ∷ ps) (phrase_one (phrase_line model p) p q (record { form = All-head (IsPhraseFor model) p ps h; text = refl }) (record { form = All-head (IsPhraseFor model) q qs k; text = cc }))
+      ∙ ap (λ l. q ∷ l) (phrases_one ps qs (All-tail (IsPhraseFor model) p ps h) (All-tail (IsPhraseFor model) q qs k) (let rest : map (phrase_line model) ps ≡ map (phrase_line model) qs = cc in rest))
+
+pub one_report : OneReportLaw
+unfolding done
+one_report model bytes r s f a b =
+    let lines : report_lines model r ≡ report_lines model s = append_cancel_right (report_lines model r) (report_lines model s) ([] ∷ []) (sym (parts_of_read model bytes r a) ∙ parts_of_read model bytes s b) in
+    let phrases = phrases_one model f (report_phrases model r) (report_phrases model s) (report_for model r a.form) (report_for model s b.form) (sym (report_spelled model r a.form) ∙ lines ∙ report_spelled model s b.form) in
+    let same : Some (done model r) ≡ Some (done model s) = sym (report_read model r a.form) ∙ ap (run model 1 nothing_read) phrases ∙ report_read model s b.form in
+    let d : done model r ≡ done model s = cc in
+    ap (λ (x : Draft). record { notes = x.notes; entries = x.entries }) d

@@ -1,0 +1,408 @@
+-- What the lines so far have led to, and what one line more, or the end, makes of it.
+use Rattle.std.proofs.Common.{◌≡◌, ◌≢◌, ◌<◌, ◌≤◌, refl, sym, ap, subst, ◌∙◌, ℕ, suc, ◌+◌, List, [], ◌∷◌, ◌++◌, length, append_assoc, append-nil, Some, None, arith, inl, inr}
+use Rattle.std.specs.Prelude.{map, All, option_and_then, option_map, Result, Ok, Err}
+use Rattle.std.proofs.lemmas.List.{length-append, length-map, map-append, append_cancel_left, append_cancel_right}
+use Rattle.std.proofs.lemmas.List.Elements.{All-nil, All-cons, All-head, All-tail}
+use Rattle.report_reader.specs.Parts.{parts}
+use Rattle.lp_model.specs.Program.{Program}
+use Rattle.lp_model.specs.declared.parts.Note.{Note}
+use Rattle.lp_model.specs.declared.members.Member.{Member}
+use Rattle.certs.specs.declared.evidence.Share.{Share}
+use Rattle.certs.specs.declared.evidence.Point.{Point}
+use Rattle.certs.specs.declared.solving.SiteKind.TheVariants.{Settle}
+use Rattle.certs.specs.declared.solving.Stop.TheVariants.{Wide as TooWide, Pivots as Spent}
+use Rattle.frac128.specs.declared.Op.TheVariants.{Plus}
+use Rattle.frac128.specs.declared.Wide.{Wide as Operation}
+use Rattle.algebra.specs.Gcd.{gcd, gcd_within}
+use Rattle.rational.specs.Rational.{ℚ, frac, zero_ℚ}
+use Rattle.report_text.specs.declared.report.Command.{Command}
+use Rattle.report_text.specs.declared.report.Command.TheVariants.{Check, Iis, Pivots}
+use Rattle.report_text.specs.declared.report.Answer.{Answer}
+use Rattle.report_text.specs.declared.report.Entry.{Entry}
+use Rattle.report_text.specs.declared.report.Report.{Report}
+use Rattle.report_reader.specs.declared.phrases.Phrase.{Phrase}
+use Rattle.report_reader.specs.declared.phrases.StopPhrase.{StopPhrase}
+use Rattle.report_reader.specs.declared.drafts.Found.{Found}
+use Rattle.report_reader.specs.declared.drafts.Question.{Question}
+use Rattle.report_reader.specs.declared.drafts.StopPart.{StopPart}
+use Rattle.report_reader.specs.declared.drafts.Part.{Part}
+use Rattle.report_reader.specs.declared.drafts.Next.{Next}
+use Rattle.report_reader.specs.declared.drafts.Stage.{Stage}
+use Rattle.report_reader.specs.declared.drafts.Draft.{Draft}
+use Rattle.report_text.specs.Grammar.{Line, text_of, report_lines}
+use Rattle.report_text.specs.Form.{IsReportFor, IsOperation}
+use Rattle.report_reader.specs.Reading.{Reads, IsFront, IsWhole, IsBadLine, IsTruncated, IsReportStop}
+use Rattle.report_reader.specs.Phrases.{IsPhraseFor, phrase_line, Says}
+use Rattle.report_reader.specs.Drafts.{point_of, answer_of, site_without, extended, placed, advanced, nothing_read, Takes, IsLineStop, ended, IsDraftFor}
+use Rattle.report_reader.proofs.Said.{report_phrases, report_spelled, report_for}
+use Rattle.report_reader.proofs.Spelling.{some_parts, parts_of_read, text_of_parts}
+use Rattle.report_reader.proofs.Runs.{run, run_append, run_step, done, report_read}
+use Rattle.report_reader.proofs.Fronts.{draft_phrases, taken}
+use Rattle.report_reader.specs.declared.reader.ReportStop.{ReportStop}
+use Rattle.report_reader.specs.declared.reader.ReportStop.TheVariants.{BadLine, Truncated, Memory}
+use Rattle.report_reader.proofs.Endings.{shorter_front, whole_ends}
+
+-- the lines of phrases
+abbrev lines_of : Program → List Phrase → List Line
+lines_of model ps = map (phrase_line model) ps
+
+-- a draft from its parts
+abbrev draft_of : List Note → List Entry → Stage → Draft
+draft_of notes entries stage = record { notes = notes; entries = entries; stage = stage }
+
+-- an operation that may stand in a stop
+abbrev zeros : Operation
+zeros = record { op = Plus; left = zero_ℚ; right = zero_ℚ }
+
+zeros_fit : IsOperation zeros
+unfolding frac gcd gcd_within
+zeros_fit = record { left = refl; right = refl }
+
+-- ---- what is read is the front of a report
+module _ (model : Program) where
+  -- the report that a whole draft is
+  whole_form : (notes : List Note) (entries : List Entry) → IsDraftFor model (draft_of notes entries Stage.Done) → IsReportFor model (record { notes = notes; entries = entries })
+  whole_form notes entries h = record { notes = h.notes; entries = h.entries; numbered = h.numbered }
+
+  whole_lines : (notes : List Note) (entries : List Entry) → IsDraftFor model (draft_of notes entries Stage.Done) → report_lines model (record { notes = notes; entries = entries }) ≡ lines_of model (draft_phrases model (draft_of notes entries Stage.Done))
+  whole_lines notes entries h = report_spelled model (record { notes = notes; entries = entries }) (whole_form notes entries h)
+
+  Front : Draft → Type 0
+  Front d = IsFront model (lines_of model (draft_phrases model d))
+
+  -- what a phrase leads to a front from is one
+  back : (notes : List Note) (entries : List Entry) (stage : Stage) (p : Phrase) (next : Draft) → IsDraftFor model (draft_of notes entries stage) → IsPhraseFor model p
+      → advanced model (suc (length (draft_phrases model (draft_of notes entries stage)))) (draft_of notes entries stage) p ≡ Some next → (IsDraftFor model next → Front next) → Front (draft_of notes entries stage)
+  unfolding Front
+  back notes entries stage p next h k e front =
+      let t = taken model (suc (length (draft_phrases model (draft_of notes entries stage)))) notes entries stage p next h k refl e in
+      let said : lines_of model (draft_phrases model next) ≡ lines_of model (draft_phrases model (draft_of notes entries stage)) ++ lines_of model (p ∷ []) = ap (lines_of model) t.1 ∙ map-append (phrase_line model) (draft_phrases model (draft_of notes entries stage)) (p ∷ []) in
+      shorter_front model (lines_of model (draft_phrases model (draft_of notes entries stage))) (lines_of model (p ∷ [])) (subst (IsFront model) said (front t.0))
+
+  front_done : (notes : List Note) (entries : List Entry) → IsDraftFor model (draft_of notes entries Stage.Done) → Front (draft_of notes entries Stage.Done)
+  unfolding Front
+  front_done notes entries h = ([], record { report = record { notes = notes; entries = entries }; form = whole_form notes entries h; lines = whole_lines notes entries h ∙ sym (append-nil (lines_of model (draft_phrases model (draft_of notes entries Stage.Done)))) })
+
+  front_between : (notes : List Note) (entries : List Entry) → IsDraftFor model (draft_of notes entries Stage.Between) → Front (draft_of notes entries Stage.Between)
+  front_between notes entries h = back notes entries Stage.Between Phrase.Foot (draft_of notes entries Stage.Done) h tt refl (front_done notes entries)
+
+  module _ (notes : List Note) (entries : List Entry) (question : Question) where
+    Within : Part → Type 0
+    Within part = IsDraftFor model (draft_of notes entries (Stage.Answering question part)) → Front (draft_of notes entries (Stage.Answering question part))
+
+    -- a phrase that makes more of a part
+    more_back : (part more : Part) (p : Phrase) → IsPhraseFor model p → extended model question.command part p ≡ Some (Next.More more) → Within more → Within part
+    unfolding Within
+    more_back part more p k e front h =
+        back notes entries (Stage.Answering question part) p (draft_of notes entries (Stage.Answering question more)) h k
+        (ap (option_map (placed (draft_of notes entries (Stage.Answering question part)) question)) e) front
+
+    -- the last line
+    last_back : (part : Part) (p : Phrase) (a : Answer) → IsPhraseFor model p → extended model question.command part p ≡ Some (Next.Whole a) → Within part
+    unfolding Within
+    last_back part p a k e h =
+        let more : List Entry = entries ++ (record { command = question.command; answer = a; line = question.line }) ∷ [] in
+        back notes entries (Stage.Answering question part) p (draft_of notes more Stage.Between) h k
+        (ap (option_map (placed (draft_of notes entries (Stage.Answering question part)) question)) e) (front_between notes more)
+
+    end_back : (part : Part) (a : Answer) → extended model question.command part Phrase.End ≡ Some (Next.Whole a) → Within part
+    end_back part a e = last_back part Phrase.End a tt e
+
+    front_point : (values : List ℚ) → Within (Part.Point values)
+    front_point values = end_back (Part.Point values) (Answer.Feasible (point_of model values)) refl
+
+    front_leaf : (found : Found) (shares : List Share) → Within (Part.Leaf found shares)
+    front_leaf found shares = end_back (Part.Leaf found shares) (answer_of model found shares) refl
+
+    front_proof : (found : Found) → Within (Part.Proof found)
+    front_proof found = more_back (Part.Proof found) (Part.Leaf found []) Phrase.Leaf tt refl (front_leaf found [])
+
+    front_witness : (members : List Member) (witnesses : List Point) (m : Member) (values : List ℚ) → Within (Part.Witness members witnesses m values)
+    front_witness members witnesses m values =
+        let found = Found.Witnessed (members ++ m ∷ []) (witnesses ++ point_of model values ∷ []) in
+        more_back (Part.Witness members witnesses m values) (Part.Proof found) Phrase.Proof tt refl (front_proof found)
+
+    front_feasible : Within Part.Feasible
+    front_feasible = more_back Part.Feasible (Part.Point []) Phrase.Point tt refl (front_point [])
+
+    -- by the command
+    front_nothing : (c : Command) → question.command ≡ c → Within Part.Nothing
+    front_nothing Check e = more_back Part.Nothing Part.Feasible Phrase.Feasible tt (ap (λ d. extended model d Part.Nothing Phrase.Feasible) e) front_feasible
+    front_nothing (Iis method) e = more_back Part.Nothing Part.Feasible Phrase.Feasible tt (ap (λ d. extended model d Part.Nothing Phrase.Feasible) e) front_feasible
+    front_nothing (Pivots n) e = last_back Part.Nothing Phrase.Done Answer.Done tt (ap (λ d. extended model d Part.Nothing Phrase.Done) e)
+
+    front_operation : (left : List Member) (k : ℕ) (o : Operation) → Within (Part.Stop (StopPart.WideOperation left k o))
+    front_operation left k o = end_back (Part.Stop (StopPart.WideOperation left k o)) (Answer.Stopped (TooWide (site_without model left) k o)) refl
+
+    front_step : (left : List Member) (k : ℕ) → Within (Part.Stop (StopPart.WideStep left k))
+    front_step left k = more_back (Part.Stop (StopPart.WideStep left k)) (Part.Stop (StopPart.WideOperation left k zeros)) (Phrase.Stop (StopPhrase.Operation zeros)) zeros_fit refl (front_operation left k zeros)
+
+    front_site : (left : List Member) → Within (Part.Stop (StopPart.WideSite left))
+    front_site left = more_back (Part.Stop (StopPart.WideSite left)) (Part.Stop (StopPart.WideStep left 0)) (Phrase.Stop (StopPhrase.Step 0)) (omega arith) refl (front_step left 0)
+
+    front_spent : (left : List Member) → Within (Part.Stop (StopPart.SpentSite left))
+    front_spent left = end_back (Part.Stop (StopPart.SpentSite left)) (Answer.Stopped (Spent (site_without model left))) refl
+
+    front_stop : (part : StopPart) → Within (Part.Stop part)
+    front_stop StopPart.Wide = more_back (Part.Stop StopPart.Wide) (Part.Stop (StopPart.WideSite [])) (Phrase.Stop (StopPhrase.Site Settle)) tt refl (front_site [])
+    front_stop (StopPart.WideSite left) = front_site left
+    front_stop (StopPart.WideStep left k) = front_step left k
+    front_stop (StopPart.WideOperation left k o) = front_operation left k o
+    front_stop StopPart.Spent = more_back (Part.Stop StopPart.Spent) (Part.Stop (StopPart.SpentSite [])) (Phrase.Stop (StopPhrase.Site Settle)) tt refl (front_spent [])
+    front_stop (StopPart.SpentSite left) = front_spent left
+
+    front_part : (part : Part) → Within part
+    front_part Part.Nothing = front_nothing question.command refl
+    front_part Part.Feasible = front_feasible
+    front_part (Part.Stop part) = front_stop part
+    front_part (Part.Point values) = front_point values
+    front_part (Part.Listed (Found.Members members)) = more_back (Part.Listed (Found.Members members)) (Part.Proof (Found.Members members)) Phrase.Proof tt refl (front_proof (Found.Members members))
+    front_part (Part.Listed (Found.Witnessed members witnesses)) = more_back (Part.Listed (Found.Witnessed members witnesses)) (Part.Proof (Found.Witnessed members witnesses)) Phrase.Proof tt refl (front_proof (Found.Witnessed members witnesses))
+    front_part (Part.Member members witnesses m) = more_back (Part.Member members witnesses m) (Part.Witness members witnesses m []) Phrase.Point tt refl (front_witness members witnesses m [])
+    front_part (Part.Witness members witnesses m values) = front_witness members witnesses m values
+    front_part (Part.Proof found) = front_proof found
+    front_part (Part.Leaf found shares) = front_leaf found shares
+
+  front_draft : (notes : List Note) (entries : List Entry) (stage : Stage) → IsDraftFor model (draft_of notes entries stage) → Front (draft_of notes entries stage)
+  unfolding Within
+  front_draft notes entries Stage.Start h = back notes entries Stage.Start Phrase.Head (draft_of notes entries Stage.Between) h tt refl (front_between notes entries)
+  front_draft notes entries Stage.Between h = front_between notes entries h
+  front_draft notes entries (Stage.Answering question part) h = front_part notes entries question part h
+  front_draft notes entries Stage.Done h = front_done notes entries h
+
+-- ---- what the lines so far have led to
+-- the draft says these lines, and whatever phrases say them lead to it
+pub record HasRead (model : Program) (front : List Line) (draft : Draft) : Type 0 where
+  pub form : IsDraftFor model draft
+  pub said : front ≡ map (phrase_line model) (draft_phrases model draft)
+  pub only : (ps : List Phrase) → All (IsPhraseFor model) ps → map (phrase_line model) ps ≡ front → run model 1 nothing_read ps ≡ Some draft
+
+-- phrases, cut where one says a line
+record CutAt (model : Program) (ps : List Phrase) (front : List Line) (line : Line) : Type 0 where
+  pub before : List Phrase
+  pub phrase : Phrase
+  pub behind : List Phrase
+  pub whole : ps ≡ before ++ phrase ∷ behind
+  pub said : map (phrase_line model) before ≡ front
+  pub spelled : phrase_line model phrase ≡ line
+
+-- the same cut behind one phrase more
+cut_behind : (model : Program) (p : Phrase) (ps : List Phrase) (l : Line) (front : List Line) (line : Line) → phrase_line model p ≡ l → CutAt model ps front line → CutAt model (p ∷ ps) (l ∷ front) line
+cut_behind model p ps l front line first t = record {
+  before = p ∷ t.before;
+  phrase = t.phrase;
+  behind = t.behind;
+  whole = ap (λ qs. p ∷ qs) t.whole;
+  said = ap (λ k. k ∷ map (phrase_line model) t.before) first ∙ ap (λ ls. l ∷ ls) t.said;
+  spelled = t.spelled;
+}
+
+-- phrases that say lines can be cut where one says a given one of these
+cut_at : (model : Program) (ps : List Phrase) (front : List Line) (line : Line) (rest : List Line) → map (phrase_line model) ps ≡ front ++ line ∷ rest → CutAt model ps front line
+cut_at model [] [] line rest e = absurd (cc)
+cut_at model [] (l ∷ front) line rest e = absurd (cc)
+cut_at model (p ∷ ps) [] line rest e = record { before = []; phrase = p; behind = ps; whole = refl; said = refl; spelled = cc }
+cut_at model (p ∷ ps) (l ∷ front) line rest e = cut_behind model p ps l front line (cc) (cut_at model ps front line rest (cc))
+
+module _ (model : Program) where
+  pub nothing_led : HasRead model [] nothing_read
+  nothing_led = record {
+    form = record { notes = λ k d l. absurd (omega arith); entries = λ k d l. absurd (omega arith); numbered = tt; stage = (refl, refl) };
+    said = refl;
+    only = λ ps h e. empty ps e;
+  }
+    where
+      empty : (ps : List Phrase) → map (phrase_line model) ps ≡ [] → run model 1 nothing_read ps ≡ Some nothing_read
+      empty [] e = refl
+      empty (p ∷ ps) e = absurd (cc)
+
+  -- the number of a line
+  counted : (front : List Line) (draft : Draft) → HasRead model front draft → length front ≡ length (draft_phrases model draft)
+  counted front draft h = ap length h.said ∙ length-map (draft_phrases model draft) (phrase_line model)
+
+  -- one phrase after those of the front
+  next_run : (front : List Line) (draft : Draft) (qs more : List Phrase) (p : Phrase) → HasRead model front draft → All (IsPhraseFor model) qs → map (phrase_line model) qs ≡ front
+      → run model 1 nothing_read (qs ++ p ∷ more) ≡ run model (suc (length front)) draft (p ∷ more)
+  next_run front draft qs more p h all e =
+      run_append model 1 nothing_read draft qs (p ∷ more) (h.only qs all e)
+      ∙ ap (λ n. run model n draft (p ∷ more)) (let l : length (map (phrase_line model) qs) ≡ length qs = length-map qs (phrase_line model) in let k : length (map (phrase_line model) qs) ≡ length front = ap length e in let g : 1 + length qs ≡ suc (length front) = omega arith in g)
+
+  all_front : (qs ps : List Phrase) → All (IsPhraseFor model) (qs ++ ps) → All (IsPhraseFor model) qs
+  all_front [] ps h = All-nil (IsPhraseFor model)
+  all_front (q ∷ qs) ps h = All-cons (IsPhraseFor model) q qs (All-head (IsPhraseFor model) q (qs ++ ps) h) (all_front qs ps (All-tail (IsPhraseFor model) q (qs ++ ps) h))
+
+  all_middle : (qs : List Phrase) (p : Phrase) (ps : List Phrase) → All (IsPhraseFor model) (qs ++ p ∷ ps) → IsPhraseFor model p
+  all_middle [] p ps h = All-head (IsPhraseFor model) p ps h
+  all_middle (q ∷ qs) p ps h = all_middle qs p ps (All-tail (IsPhraseFor model) q (qs ++ p ∷ ps) h)
+
+  -- one line more
+  pub one_line_more : (front : List Line) (line : Line) (draft next : Draft) → HasRead model front draft → Takes model (suc (length front)) draft line next → HasRead model (front ++ line ∷ []) next
+  one_line_more front line draft next h t =
+      let n : suc (length front) ≡ suc (length (draft_phrases model draft)) = ap suc (counted front draft h) in
+      let made = taken model (suc (length front)) draft.notes draft.entries draft.stage t.phrase next h.form t.says.form n (t.all t.phrase t.says) in
+      record {
+        form = made.0;
+        said = ap (λ l. l ++ line ∷ []) h.said ∙ ap (λ l. map (phrase_line model) (draft_phrases model draft) ++ l ∷ []) t.says.text ∙ sym (map-append (phrase_line model) (draft_phrases model draft) (t.phrase ∷ [])) ∙ ap (map (phrase_line model)) (sym made.1);
+        only = λ ps all e.
+            let c = cut_at model ps front line [] e in
+            let qs = c.before in let p = c.phrase in let more = c.behind in let is = c.whole in let spelled = c.said in
+            let same : All (IsPhraseFor model) (qs ++ p ∷ more) = subst (All (IsPhraseFor model)) is all in
+            let none : more ≡ [] = no_more qs p more spelled (ap (map (phrase_line model)) (sym is) ∙ e) in
+            ap (run model 1 nothing_read) (is ∙ ap (λ l. qs ++ p ∷ l) none)
+            ∙ next_run front draft qs [] p h (all_front qs (p ∷ more) same) spelled
+            ∙ run_step model (suc (length front)) draft next p [] (t.all p (record { form = all_middle qs p more same; text = sym c.spelled }));
+      }
+    where
+      no_more : (qs : List Phrase) (p : Phrase) (more : List Phrase) → map (phrase_line model) qs ≡ front → map (phrase_line model) (qs ++ p ∷ more) ≡ front ++ line ∷ [] → more ≡ []
+      no_more qs p more s e =
+          empty more (append_cancel_left (map (phrase_line model) qs) (map (phrase_line model) (p ∷ more)) (line ∷ []) (sym (map-append (phrase_line model) qs (p ∷ more)) ∙ e ∙ ap (λ f. f ++ line ∷ []) (sym s)))
+        where
+          empty : (ps : List Phrase) → map (phrase_line model) (p ∷ ps) ≡ line ∷ [] → ps ≡ []
+          empty [] e = refl
+          empty (q ∷ ps) e = absurd (cc)
+
+  -- a line that no phrase which may follow says
+  pub line_is_wrong : (front : List Line) (line : Line) (draft : Draft) → HasRead model front draft → ((p : Phrase) → Says model line p → advanced model (suc (length front)) draft p ≡ None) → ¬ (IsFront model (front ++ line ∷ []))
+  line_is_wrong front line draft h none goes =
+      let report = goes.1.report in
+      let all = report_for model report goes.1.form in
+      let c = cut_at model (report_phrases model report) front line goes.0 (sym (report_spelled model report goes.1.form) ∙ goes.1.lines ∙ append_assoc front (line ∷ []) goes.0) in
+      let qs = c.before in let p = c.phrase in let more = c.behind in
+      let same : All (IsPhraseFor model) (qs ++ p ∷ more) = subst (All (IsPhraseFor model)) c.whole all in
+      let ends : run model 1 nothing_read (qs ++ p ∷ more) ≡ Some (done model report) = ap (run model 1 nothing_read) (sym c.whole) ∙ report_read model report goes.1.form in
+      let stops : run model (suc (length front)) draft (p ∷ more) ≡ None = ap (option_and_then (λ d. run model (suc (suc (length front))) d more)) (none p (record { form = all_middle qs p more same; text = sym c.spelled })) in
+      let wrong : Some (done model report) ≡ None = sym ends ∙ next_run front draft qs more p h (all_front qs (p ∷ more) same) c.said ∙ stops in
+      cc
+
+  -- the report that the lines are, if they are one
+  led_to : (front : List Line) (draft : Draft) (report : Report) → HasRead model front draft → IsReportFor model report → report_lines model report ≡ front → draft ≡ done model report
+  led_to front draft report h form e =
+      let r : Some (done model report) ≡ Some draft = sym (report_read model report form) ∙ h.only (report_phrases model report) (report_for model report form) (sym (report_spelled model report form) ∙ e) in
+      cc
+
+  -- lines that did not lead to the last one are no report
+  pub is_unfinished : (front : List Line) (draft : Draft) → HasRead model front draft → draft.stage ≢ Stage.Done → ¬ (IsWhole model front)
+  unfolding done
+  is_unfinished front draft h n whole = n (ap (λ d. d.stage) (led_to front draft whole.report h whole.form (whole.lines ∙ append-nil front)))
+
+  -- lines that did are the report of the draft
+  pub is_whole : (front : List Line) (draft : Draft) → HasRead model front draft → draft.stage ≡ Stage.Done → IsWhole model front
+  is_whole front draft h e = by draft.stage e h.form h.said
+    where
+      by : (stage : Stage) → stage ≡ Stage.Done → IsDraftFor model (draft_of draft.notes draft.entries stage) → front ≡ map (phrase_line model) (draft_phrases model (draft_of draft.notes draft.entries stage)) → IsWhole model front
+      by Stage.Done e f said = record { report = record { notes = draft.notes; entries = draft.entries }; form = whole_form model draft.notes draft.entries f; lines = whole_lines model draft.notes draft.entries f ∙ sym said ∙ sym (append-nil front) }
+      by Stage.Start e f said = absurd (cc)
+      by Stage.Between e f said = absurd (cc)
+      by (Stage.Answering question part) e f said = absurd (cc)
+
+  pub is_front : (front : List Line) (draft : Draft) → HasRead model front draft → IsFront model front
+  unfolding Front
+  is_front front draft h = subst (IsFront model) (sym h.said) (front_draft model draft.notes draft.entries draft.stage h.form)
+
+  -- the report that bytes are read as
+  abbrev report_of : Draft → Report
+  report_of draft = record { notes = draft.notes; entries = draft.entries }
+
+  pub reads_whole : (bytes : List ℕ) (front : List Line) (draft : Draft) → HasRead model front draft → draft.stage ≡ Stage.Done → parts 10 bytes ≡ front ++ [] ∷ [] → Reads model bytes (report_of draft)
+  unfolding done
+  reads_whole bytes front draft h e cut =
+      let whole = is_whole front draft h e in
+      let lines : report_lines model whole.report ≡ front = whole.lines ∙ append-nil front in
+      let same : draft ≡ done model whole.report = led_to front draft whole.report h whole.form lines in
+      subst (Reads model bytes) (sym (ap report_of same)) (record { form = whole.form; text = text_of_parts bytes front cut ∙ ap text_of (sym lines) })
+
+  pub reads_once : (bytes : List ℕ) (front : List Line) (draft : Draft) (report : Report) → HasRead model front draft → parts 10 bytes ≡ front ++ [] ∷ [] → Reads model bytes report → report ≡ report_of draft
+  unfolding done
+  reads_once bytes front draft report h cut r =
+      let lines : report_lines model report ++ [] ∷ [] ≡ front ++ [] ∷ [] = sym (parts_of_read model bytes report r) ∙ cut in
+      let same : draft ≡ done model report = led_to front draft report h r.form (append_cancel_right (report_lines model report) front ([] ∷ []) lines) in
+      sym (ap report_of same)
+
+-- ---- the reader's loop
+-- so many lines are read, and these bytes are left
+pub record HasCome (model : Program) (bytes rest : List ℕ) (number : ℕ) (draft : Draft) : Type 0 where
+  pub front : List Line
+  pub cut : parts 10 bytes ≡ front ++ parts 10 rest
+  pub count : number ≡ length front
+  pub read : HasRead model front draft
+  pub within : number + length rest ≤ length bytes
+
+module _ (model : Program) (bytes : List ℕ) where
+  pub come_start : HasCome model bytes bytes 0 nothing_read
+  come_start = record { front = []; cut = refl; count = refl; read = nothing_led model; within = omega arith }
+
+  pub come_further : (rest after : List ℕ) (line : Line) (number : ℕ) (draft next : Draft) → HasCome model bytes rest number draft → parts 10 rest ≡ line ∷ parts 10 after → length after < length rest
+      → Takes model (number + 1) draft line next → HasCome model bytes after (number + 1) next
+  come_further rest after line number draft next h e short t = record {
+    front = h.front ++ line ∷ [];
+    cut = h.cut ∙ ap (λ l. h.front ++ l) e ∙ sym (append_assoc h.front (line ∷ []) (parts 10 after));
+    count = (let c = h.count in let l = length-append h.front (line ∷ []) in omega arith);
+    read = one_line_more model h.front line draft next h.read (subst (λ n. Takes model n draft line next) (let c = h.count in let g : number + 1 ≡ suc (length h.front) = omega arith in g) t);
+    within = (let w = h.within in omega arith);
+  }
+
+  pub come_wrong : (rest after : List ℕ) (line : Line) (number : ℕ) (draft : Draft) (stop : ReportStop) → HasCome model bytes rest number draft → parts 10 rest ≡ line ∷ parts 10 after
+      → IsLineStop model (number + 1) draft line stop → IsReportStop model bytes stop
+  come_wrong rest after line number draft (BadLine m) h e s =
+      let n : number + 1 ≡ suc (length h.front) = let c = h.count in omega arith in
+      record {
+        front = h.front;
+        line = line;
+        back = parts 10 after;
+        cut = h.cut ∙ ap (λ l. h.front ++ l) e;
+        number = s.0 ∙ n;
+        judged = inl (some_parts 10 after);
+        right = is_front model h.front draft h.read;
+        wrong = line_is_wrong model h.front line draft h.read (subst (λ (k : ℕ). (p : Phrase) → Says model line p → advanced model k draft p ≡ None) n s.1);
+      }
+  come_wrong rest after line number draft Truncated h e s = absurd s
+  come_wrong rest after line number draft Memory h e s = tt
+
+  module _ (rest : List ℕ) (number : ℕ) (draft : Draft) (h : HasCome model bytes rest number draft) (last : parts 10 rest ≡ rest ∷ []) where
+    cut_last : parts 10 bytes ≡ h.front ++ rest ∷ []
+    cut_last = h.cut ∙ ap (λ l. h.front ++ l) last
+
+    -- cut before the last line
+    truncated : draft.stage ≢ Stage.Done → IsTruncated model bytes
+    truncated n = record { lines = h.front; last = rest; cut = cut_last; right = is_front model h.front draft h.read; unfinished = is_unfinished model h.front draft h.read n }
+
+    -- a byte behind the last line
+    byte_behind : (b : ℕ) (more : List ℕ) → rest ≡ b ∷ more → draft.stage ≡ Stage.Done → IsBadLine model bytes (number + 1)
+    byte_behind b more e f =
+        let whole = is_whole model h.front draft h.read f in
+        record {
+          front = h.front;
+          line = rest;
+          back = [];
+          cut = cut_last;
+          number = (let c = h.count in omega arith);
+          judged = inr (whole, (λ z. absurd (cc)));
+          right = is_front model h.front draft h.read;
+          wrong = λ goes. (let z : rest ∷ [] ≡ [] = whole_ends model h.front (rest ∷ []) whole goes in absurd (cc));
+        }
+
+    pub end_reads : (r : Report) → ended number draft rest ≡ Ok r → Reads model bytes r × ((other : Report) → Reads model bytes other → other ≡ r)
+    end_reads r e = by draft.stage refl rest refl e
+      where
+        by : (stage : Stage) → draft.stage ≡ stage → (text : List ℕ) → rest ≡ text → ended number (draft_of draft.notes draft.entries stage) text ≡ Ok r → Reads model bytes r × ((other : Report) → Reads model bytes other → other ≡ r)
+        by Stage.Done f [] g k =
+            let same : report_of model draft ≡ r = cc in
+            let cut : parts 10 bytes ≡ h.front ++ [] ∷ [] = cut_last ∙ ap (λ t. h.front ++ t ∷ []) g in
+            (subst (Reads model bytes) same (reads_whole model bytes h.front draft h.read f cut), λ other reads. reads_once model bytes h.front draft other h.read cut reads ∙ same)
+        by Stage.Done f (b ∷ more) g k = absurd (cc)
+        by Stage.Start f text g k = absurd (cc)
+        by Stage.Between f text g k = absurd (cc)
+        by (Stage.Answering question part) f text g k = absurd (cc)
+
+    pub end_stops : (stop : ReportStop) → ended number draft rest ≡ Err stop → IsReportStop model bytes stop
+    end_stops stop e = by draft.stage refl rest refl e
+      where
+        same : (a b : ReportStop) → (let r : Result Report ReportStop = Err a in r) ≡ Err b → a ≡ b
+        same a b k = cc
+
+        by : (stage : Stage) → draft.stage ≡ stage → (text : List ℕ) → rest ≡ text → ended number (draft_of draft.notes draft.entries stage) text ≡ Err stop → IsReportStop model bytes stop
+        by Stage.Done f [] g k = absurd (cc)
+        by Stage.Done f (b ∷ more) g k = subst (IsReportStop model bytes) (same (BadLine (number + 1)) stop k) (byte_behind b more g f)
+        by Stage.Start f text g k = subst (IsReportStop model bytes) (same Truncated stop k) (truncated (λ d. absurd (let z : Stage.Start ≡ Stage.Done = sym f ∙ d in cc)))
+        by Stage.Between f text g k = subst (IsReportStop model bytes) (same Truncated stop k) (truncated (λ d. absurd (let z : Stage.Between ≡ Stage.Done = sym f ∙ d in cc)))
+        by (Stage.Answering question part) f text g k = subst (IsReportStop model bytes) (same Truncated stop k) (truncated (λ d. absurd (let z : Stage.Answering question part ≡ Stage.Done = sym f ∙ d in cc)))

@@ -1,0 +1,439 @@
+-- The phrases of a report lead from nothing to the whole report.
+use Rattle.std.proofs.Common.{◌≡◌, ◌≤◌, refl, sym, ap, subst, ◌∙◌, ℕ, suc, ◌+◌, ◌-◌, Bool, true, false, true≢false, cond, ◌&&◌, List, [], ◌∷◌, ◌++◌, length, append_assoc, append-nil, Option, Some, None, arith}
+use Rattle.std.specs.Prelude.{map, flat_map, zip, replicate, option_and_then, option_map, All, AllPairs, nat_le}
+use Rattle.std.specs.List.{list_all}
+use Rattle.std.proofs.lemmas.List.{replicate_more, length-append, length-map}
+use Rattle.report_reader.specs.Phrases.{phrase_line}
+use Rattle.report_reader.proofs.Said.{value_phrases, point_phrases, node_phrases, proof_phrases, witness_phrases, without_phrase, site_phrases, answer_front, answer_end, entry_phrases, report_phrases, entry_spelled}
+use Rattle.std.proofs.lemmas.List.Elements.{All-head, All-tail, All-contains, Contains-append_right}
+use Rattle.std.proofs.lemmas.Bool.{and_from, le-leb}
+use Rattle.rational.proofs.Compare.{eq-Decides}
+use Rattle.std.specs.Prelude.{IsTrue}
+use Rattle.rational.specs.Rational.{ℚ, zero_ℚ, eq_ℚ}
+use Rattle.lp_model.specs.Program.{Program}
+use Rattle.lp_model.specs.declared.parts.Note.{Note}
+use Rattle.lp_model.specs.declared.members.Member.{Member}
+use Rattle.lp_model.specs.Members.{comes_before, is_active, IsInOrder}
+use Rattle.certs.specs.declared.evidence.Point.{Point}
+use Rattle.certs.specs.declared.evidence.Proof.{Proof}
+use Rattle.certs.specs.declared.evidence.Branch.{Branch}
+use Rattle.certs.specs.declared.solving.SiteKind.{SiteKind}
+use Rattle.certs.specs.declared.solving.SiteKind.TheVariants.{Settle}
+use Rattle.certs.specs.declared.solving.Site.{Site}
+use Rattle.certs.specs.declared.solving.Stop.{Stop}
+use Rattle.certs.specs.declared.solving.Stop.TheVariants.{Wide as TooWide, Pivots as Spent, Nodes, Large, Memory}
+use Rattle.report_text.specs.declared.report.Command.{Command}
+use Rattle.report_text.specs.declared.report.Command.TheVariants.{Check, Iis, Pivots}
+use Rattle.report_text.specs.declared.report.Answer.{Answer}
+use Rattle.report_text.specs.declared.report.Answer.TheVariants.{Feasible, Infeasible, Irreducible, Done, Stopped}
+use Rattle.report_text.specs.declared.report.Entry.{Entry}
+use Rattle.report_text.specs.declared.report.Report.{Report}
+use Rattle.report_reader.specs.declared.phrases.Phrase.{Phrase}
+use Rattle.report_reader.specs.declared.phrases.StopPhrase.{StopPhrase}
+use Rattle.report_reader.specs.declared.drafts.Found.{Found}
+use Rattle.report_reader.specs.declared.drafts.Question.{Question}
+use Rattle.report_reader.specs.declared.drafts.StopPart.{StopPart}
+use Rattle.report_reader.specs.declared.drafts.Part.{Part}
+use Rattle.report_reader.specs.declared.drafts.Next.{Next}
+use Rattle.report_reader.specs.declared.drafts.Stage.{Stage}
+use Rattle.report_reader.specs.declared.drafts.Draft.{Draft}
+use Rattle.lp_model.specs.MemberSets.{SetValue, empty_set}
+use Rattle.report_text.specs.Grammar.{left_out}
+use Rattle.report_text.specs.Form.{IsListed, IsOneLeaf, IsPointFor, IsSettleSite, IsStopFor, IsAnswerFor, IsEntryFor, AreNumbered, IsReportFor, can_answer, share_before}
+use Rattle.report_reader.specs.Drafts.{filled, point_of, leaf_of, set_of, only_if, with_value, witnessed_with, site_without, with_left_out, left_out_next, at_site, stop_begun, extended, placed, advanced, nothing_read}
+use Rattle.report_reader.proofs.LeftOut.{left_in_order, left_active, set_twice}
+
+-- ---- runs
+-- the draft that phrases lead to, where the first is that of line number n
+abbrev pub run : Program → ℕ → Draft → List Phrase → Option Draft
+run model n draft [] = Some draft
+run model n draft (p ∷ ps) = option_and_then (λ d. run model (suc n) d ps) (advanced model n draft p)
+
+-- one phrase, and then the rest
+pub run_step : (model : Program) (n : ℕ) (d e : Draft) (p : Phrase) (ps : List Phrase) → advanced model n d p ≡ Some e → run model n d (p ∷ ps) ≡ run model (suc n) e ps
+run_step model n d e p ps h = ap (option_and_then (λ f. run model (suc n) f ps)) h
+
+-- what goes on from a middle that there is
+through : {X Y : Type 0} (f : X → Option Y) (o : Option X) (e : Y) → option_and_then f o ≡ Some e → (x : X) × ((o ≡ Some x) × (f x ≡ Some e))
+through f None e h = absurd (let s : None ≡ Some e = h in cc)
+through f (Some x) e h = (x, (refl, h))
+
+-- some phrases, and then others
+pub run_append : (model : Program) (n : ℕ) (d e : Draft) (ps qs : List Phrase) → run model n d ps ≡ Some e → run model n d (ps ++ qs) ≡ run model (n + length ps) e qs
+run_append model n d e [] qs h = ap (λ f. run model n f qs) (let s : Some d ≡ Some e = h in cc) ∙ ap (λ k. run model k e qs) (omega arith)
+run_append model n d e (p ∷ ps) qs h =
+    let t = through (λ f. run model (suc n) f ps) (advanced model n d p) e h in
+    run_step model n d t.0 p (ps ++ qs) t.1.0 ∙ run_append model (suc n) t.0 e ps qs t.1.1 ∙ ap (λ m. run model m e qs) (omega arith)
+
+-- ---- within an answer
+abbrev answering : Draft → Question → Part → Draft
+answering d q part = record d { stage = Stage.Answering q part }
+
+abbrev more_of : Next → Option Part
+more_of (Next.More part) = Some part
+more_of (Next.Whole answer) = None
+
+-- what a part grows to
+abbrev grown : Program → Command → Part → List Phrase → Option Part
+grown model c part [] = Some part
+grown model c part (p ∷ ps) = option_and_then (λ m. grown model c m ps) (option_and_then more_of (extended model c part p))
+
+grown_step : (model : Program) (c : Command) (part more : Part) (p : Phrase) (ps : List Phrase) → extended model c part p ≡ Some (Next.More more) → grown model c part (p ∷ ps) ≡ grown model c more ps
+grown_step model c part more p ps h = ap (λ o. option_and_then (λ m. grown model c m ps) (option_and_then more_of o)) h
+
+is_more : (next : Next) (part : Part) → more_of next ≡ Some part → next ≡ Next.More part
+is_more (Next.More m) part h = cc
+is_more (Next.Whole a) part h = absurd (let s : None ≡ Some part = h in cc)
+
+-- the first step of a growth
+first_step : (model : Program) (c : Command) (part end : Part) (p : Phrase) (ps : List Phrase) → grown model c part (p ∷ ps) ≡ Some end → (m : Part) × ((extended model c part p ≡ Some (Next.More m)) × (grown model c m ps ≡ Some end))
+first_step model c part end p ps h =
+    let t = through (λ m. grown model c m ps) (option_and_then more_of (extended model c part p)) end h in
+    let u = through more_of (extended model c part p) t.0 t.1.0 in
+    (t.0, (u.1.0 ∙ ap Some (is_more u.0 t.0 u.1.1), t.1.1))
+
+grown_append : (model : Program) (c : Command) (part more : Part) (ps qs : List Phrase) → grown model c part ps ≡ Some more → grown model c part (ps ++ qs) ≡ grown model c more qs
+grown_append model c part more [] qs h = ap (λ q. grown model c q qs) (let s : Some part ≡ Some more = h in cc)
+grown_append model c part more (p ∷ ps) qs h =
+    let t = first_step model c part more p ps h in
+    grown_step model c part t.0 p (ps ++ qs) t.1.0 ∙ grown_append model c t.0 more ps qs t.1.1
+
+-- a growth is a run
+grown_runs : (model : Program) (n : ℕ) (d : Draft) (q : Question) (part more : Part) (ps : List Phrase) → grown model q.command part ps ≡ Some more → run model n (answering d q part) ps ≡ Some (answering d q more)
+grown_runs model n d q part more [] h = ap (λ o. option_map (answering d q) o) h
+grown_runs model n d q part more (p ∷ ps) h =
+    let t = first_step model q.command part more p ps h in
+    run_step model n (answering d q part) (answering d q t.0) p ps (ap (option_map (placed (answering d q part) q)) t.1.0)
+    ∙ grown_runs model (suc n) d q t.0 more ps t.1.1
+
+-- ---- values
+-- the values so far, without the zeros behind them
+abbrev Fills : List ℚ → List ℚ → Type 0
+Fills values whole = (length values ≤ length whole) × (filled (length whole) values ≡ whole)
+
+pub filled_whole : (values : List ℚ) → filled (length values) values ≡ values
+filled_whole values = ap (λ k. values ++ replicate k zero_ℚ) (let e : length values - length values ≡ 0 = omega arith in e) ∙ append-nil values
+
+pub filled_more : (n : ℕ) (values : List ℚ) → length values ≤ n → filled (n + 1) values ≡ filled n values ++ zero_ℚ ∷ []
+filled_more n values h =
+    ap (λ k. values ++ replicate k zero_ℚ) (let e : (n + 1) - length values ≡ (n - length values) + 1 = omega arith in e)
+    ∙ ap (λ l. values ++ l) (sym (replicate_more (n - length values) zero_ℚ))
+    ∙ sym (append_assoc values (replicate (n - length values) zero_ℚ) (zero_ℚ ∷ []))
+
+pub only_true : {X : Type 0} (b : Bool) (x : X) → b ≡ true → only_if b x ≡ Some x
+only_true true x h = refl
+only_true false x h = absurd (true≢false (sym h))
+
+length_push : {X : Type 0} (xs : List X) (x : X) → length (xs ++ x ∷ []) ≡ length xs + 1
+length_push xs x = length-append xs (x ∷ [])
+
+-- where a part has values, further values are read into it
+module _ (model : Program) (c : Command) (make : List ℚ → Part)
+    (takes : (values : List ℚ) (j : ℕ) (v : ℚ) → extended model c (make values) (Phrase.Value j v) ≡ option_map (λ vs. Next.More (make vs)) (with_value values j v)) where
+  one_value : (values whole : List ℚ) (v : ℚ) → Fills values whole → extended model c (make values) (Phrase.Value (length whole) v) ≡ Some (Next.More (make (whole ++ v ∷ [])))
+  one_value values whole v h =
+      takes values (length whole) v
+      ∙ ap (option_map (λ vs. Next.More (make vs))) (only_true (nat_le (length values) (length whole)) (filled (length whole) values ++ v ∷ []) (le-leb _ _ h.0))
+      ∙ ap (λ l. Some (Next.More (make (l ++ v ∷ [])))) h.1
+
+  values_read : (values whole rest : List ℚ) → Fills values whole → (end : List ℚ) × ((grown model c (make values) (value_phrases (length whole) rest) ≡ Some (make end)) × Fills end (whole ++ rest))
+  values_read values whole [] h = (values, (refl, subst (Fills values) (sym (append-nil whole)) h))
+  values_read values whole (v ∷ rest) h = by (eq_ℚ v zero_ℚ) refl (values_read values (whole ++ v ∷ []) rest) (values_read (whole ++ v ∷ []) (whole ++ v ∷ []) rest (omega arith, filled_whole (whole ++ v ∷ [])))
+    where
+      Reads : List ℚ → ℕ → List ℚ → List ℚ → Type 0
+      Reads from j left all = (end : List ℚ) × ((grown model c (make from) (value_phrases j left) ≡ Some (make end)) × Fills end all)
+
+      moved : (from : List ℚ) → Reads from (length (whole ++ v ∷ [])) rest ((whole ++ v ∷ []) ++ rest) → Reads from (suc (length whole)) rest (whole ++ v ∷ rest)
+      moved from r = (r.0, (subst (λ j. grown model c (make from) (value_phrases j rest) ≡ Some (make r.0)) (length_push whole v ∙ (omega arith)) r.1.0, subst (Fills r.0) (append_assoc whole (v ∷ []) rest) r.1.1))
+
+      by : (b : Bool) → eq_ℚ v zero_ℚ ≡ b → (Fills values (whole ++ v ∷ []) → Reads values (length (whole ++ v ∷ [])) rest ((whole ++ v ∷ []) ++ rest)) → Reads (whole ++ v ∷ []) (length (whole ++ v ∷ [])) rest ((whole ++ v ∷ []) ++ rest) → Reads values (length whole) (v ∷ rest) (whole ++ v ∷ rest)
+      by true e skip take =
+          let zero : v ≡ zero_ℚ = (eq-Decides v zero_ℚ).0 e in
+          let l : length values ≤ length whole = h.0 in
+          let p = length_push whole v in
+          let f : Fills values (whole ++ v ∷ []) = (
+            (let q : length (whole ++ v ∷ []) ≡ length whole + 1 = p in omega arith),
+            ap (λ n. filled n values) p ∙ filled_more (length whole) values l ∙ ap (λ w. w ++ zero_ℚ ∷ []) h.1 ∙ ap (λ z. whole ++ z ∷ []) (sym zero),
+          ) in
+          let r = moved values (skip f) in
+          (r.0, (ap (λ b. grown model c (make values) (cond b (value_phrases (suc (length whole)) rest) (Phrase.Value (length whole) v ∷ value_phrases (suc (length whole)) rest))) e ∙ r.1.0, r.1.1))
+      by false e skip take =
+          let r = moved (whole ++ v ∷ []) take in (
+            r.0,
+            (
+              ap (λ b. grown model c (make values) (cond b (value_phrases (suc (length whole)) rest) (Phrase.Value (length whole) v ∷ value_phrases (suc (length whole)) rest))) e
+                  ∙ grown_step model c (make values) (make (whole ++ v ∷ [])) (Phrase.Value (length whole) v) (value_phrases (suc (length whole)) rest) (one_value values whole v h) ∙ r.1.0,
+              r.1.1,
+            ),
+          )
+
+  -- all the values of a point
+  point_read : (p : Point) → IsPointFor model p → (end : List ℚ) × ((grown model c (make []) (value_phrases 0 p.values) ≡ Some (make end)) × (point_of model end ≡ p))
+  point_read p h =
+      let r = values_read [] [] p.values (omega arith, refl) in
+      (r.0, (r.1.0, ap (λ vs. record { values = vs }) (ap (λ n. filled n r.0) (sym h.len) ∙ r.1.1.1)))
+
+-- ---- lists in order
+-- what stands before an element comes before it
+module _ {X : Type 0} (before : X → X → Bool) where
+  all_before : (xs : List X) (x : X) (rest : List X) → AllPairs (λ y z. IsTrue (before y z)) (xs ++ x ∷ rest) → list_all (λ y. before y x) xs ≡ true
+  all_before [] x rest h = refl
+  all_before (y ∷ xs) x rest h = and_from (before y x) (list_all (λ z. before z x) xs) (All-contains (λ z. IsTrue (before y z)) (xs ++ x ∷ rest) x (pairs_head y (xs ++ x ∷ rest) h) (Contains-append_right xs (x ∷ rest) x (0, omega arith, refl))) (all_before xs x rest (pairs_tail y (xs ++ x ∷ rest) h))
+    where
+      pairs_head : (y : X) (xs : List X) → AllPairs (λ y z. IsTrue (before y z)) (y ∷ xs) → All (λ z. IsTrue (before y z)) xs
+      pairs_head y xs h k d l = h 0 (suc k) d (omega arith) (omega arith)
+
+      pairs_tail : (y : X) (xs : List X) → AllPairs (λ y z. IsTrue (before y z)) (y ∷ xs) → AllPairs (λ y z. IsTrue (before y z)) xs
+      pairs_tail y xs h i j d l m = h (suc i) (suc j) d (omega arith) (omega arith)
+
+-- where a part has a list whose elements come one after another, further elements are read into it
+module _ (model : Program) (c : Command) {X : Type 0} (before : X → X → Bool) (make : List X → Part) (say : X → Phrase)
+    (takes : (xs : List X) (x : X) → list_all (λ y. before y x) xs ≡ true → extended model c (make xs) (say x) ≡ Some (Next.More (make (xs ++ x ∷ [])))) where
+  list_read : (xs rest : List X) → AllPairs (λ y z. IsTrue (before y z)) (xs ++ rest) → grown model c (make xs) (map say rest) ≡ Some (make (xs ++ rest))
+  list_read xs [] h = ap (λ l. Some (make l)) (sym (append-nil xs))
+  list_read xs (x ∷ rest) h =
+      grown_step model c (make xs) (make (xs ++ x ∷ [])) (say x) (map say rest) (takes xs x (all_before before xs x rest h))
+      ∙ list_read (xs ++ x ∷ []) rest (subst (AllPairs (λ y z. IsTrue (before y z))) (sym (append_assoc xs (x ∷ []) rest)) h)
+      ∙ ap (λ l. Some (make l)) (append_assoc xs (x ∷ []) rest)
+
+-- ---- members left out
+-- where a part has members left out, further active ones that come after them are read into it
+module _ (model : Program) (c : Command) (make : List Member → StopPart)
+    (takes : (left : List Member) (m : Member) → extended model c (Part.Stop (make left)) (without_phrase m) ≡ left_out_next make (with_left_out model left m)) where
+  left_out_read : (left rest : List Member) → IsInOrder (left ++ rest) → All (λ m. IsTrue (is_active model m)) rest → grown model c (Part.Stop (make left)) (map without_phrase rest) ≡ Some (Part.Stop (make (left ++ rest)))
+  left_out_read left [] order h = ap (λ l. Some (Part.Stop (make l))) (sym (append-nil left))
+  left_out_read left (m ∷ rest) order h =
+      let after = all_before comes_before left m rest order in
+      let may : (is_active model m && list_all (λ n. comes_before n m) left) ≡ true = and_from (is_active model m) (list_all (λ n. comes_before n m) left) (All-head (λ n. IsTrue (is_active model n)) m rest h) after in
+      grown_step model c (Part.Stop (make left)) (Part.Stop (make (left ++ m ∷ []))) (without_phrase m) (map without_phrase rest)
+      (takes left m ∙ ap (left_out_next make) (only_true (is_active model m && list_all (λ n. comes_before n m) left) (left ++ m ∷ []) may))
+      ∙ left_out_read (left ++ m ∷ []) rest (subst IsInOrder (sym (append_assoc left (m ∷ []) rest)) order) (All-tail (λ n. IsTrue (is_active model n)) m rest h)
+      ∙ ap (λ l. Some (Part.Stop (make l))) (append_assoc left (m ∷ []) rest)
+
+-- ---- sets with witnesses
+-- a part that takes a member, or the start of the proof, as the list of these members and witnesses does
+abbrev ActsAs : Program → Command → Part → List Member → List Point → Type 0
+ActsAs model c part members witnesses =
+    ((m : Member) → extended model c part (Phrase.Member m) ≡ witnessed_with members witnesses (Phrase.Member m))
+    × (extended model c part Phrase.Proof ≡ witnessed_with members witnesses Phrase.Proof)
+
+module _ (model : Program) (c : Command) where
+  witness_read : (part : Part) (members : List Member) (witnesses : List Point) (m : Member) (p : Point) → ActsAs model c part members witnesses
+      → list_all (λ n. comes_before n m) members ≡ true → IsPointFor model p
+      → (end : Part) × ((grown model c part (witness_phrases (m, p)) ≡ Some end) × ActsAs model c end (members ++ m ∷ []) (witnesses ++ p ∷ []))
+  witness_read part members witnesses m p acts after h =
+      let r = point_read model c (λ vs. Part.Witness members witnesses m vs) (λ values j v. refl) p h in (
+        Part.Witness members witnesses m r.0,
+        (
+          grown_step model c part (Part.Member members witnesses m) (Phrase.Member m) (point_phrases p) (acts.0 m ∙ only_true (list_all (λ n. comes_before n m) members) (Next.More (Part.Member members witnesses m)) after)
+              ∙ r.1.0,
+          subst (λ q. ActsAs model c (Part.Witness members witnesses m r.0) (members ++ m ∷ []) (witnesses ++ q ∷ [])) r.1.1 ((λ n. refl), refl),
+        ),
+      )
+
+  witnesses_read : (part : Part) (members rest : List Member) (witnesses more : List Point) → ActsAs model c part members witnesses → IsInOrder (members ++ rest)
+      → length more ≡ length rest → All (IsPointFor model) more
+      → (end : Part) × ((grown model c part (flat_map witness_phrases (zip rest more)) ≡ Some end) × ActsAs model c end (members ++ rest) (witnesses ++ more))
+  witnesses_read part members [] witnesses [] acts order e h = (part, (refl, subst (λ l. ActsAs model c part l (witnesses ++ [])) (sym (append-nil members)) (subst (ActsAs model c part members) (sym (append-nil witnesses)) acts)))
+  witnesses_read part members [] witnesses (p ∷ more) acts order e h = absurd (omega arith)
+  witnesses_read part members (m ∷ rest) witnesses [] acts order e h = absurd (omega arith)
+  witnesses_read part members (m ∷ rest) witnesses (p ∷ more) acts order e h =
+      let first = witness_read part members witnesses m p acts (all_before comes_before members m rest order) (All-head (IsPointFor model) p more h) in
+      let others = witnesses_read first.0 (members ++ m ∷ []) rest (witnesses ++ p ∷ []) more first.1.1 (subst IsInOrder (sym (append_assoc members (m ∷ []) rest)) order) (let l : length more ≡ length rest = omega arith in l) (All-tail (IsPointFor model) p more h) in (
+        others.0,
+        (
+          grown_append model c part first.0 (witness_phrases (m, p)) (flat_map witness_phrases (zip rest more)) first.1.0 ∙ others.1.0,
+          subst (λ l. ActsAs model c others.0 l (witnesses ++ p ∷ more)) (append_assoc members (m ∷ []) rest)
+              (subst (ActsAs model c others.0 ((members ++ m ∷ []) ++ rest)) (append_assoc witnesses (p ∷ []) more) others.1.1),
+        ),
+      )
+
+-- ---- answers
+-- the shares of a leaf, and before them its two lines
+leaf_read : (model : Program) (c : Command) (part : Part) (found : Found) (proof : Proof) (h : IsOneLeaf model proof) → extended model c part Phrase.Proof ≡ Some (Next.More (Part.Proof found))
+    → grown model c part (proof_phrases proof) ≡ Some (Part.Leaf found h.combo.shares)
+leaf_read model c part found proof h e =
+    let shares = h.combo.shares in
+    ap (λ nodes. grown model c part (Phrase.Proof ∷ flat_map node_phrases nodes)) h.one
+    ∙ grown_step model c part (Part.Proof found) Phrase.Proof (Phrase.Leaf ∷ (map Phrase.Use shares ++ [])) e
+    ∙ grown_step model c (Part.Proof found) (Part.Leaf found []) Phrase.Leaf (map Phrase.Use shares ++ []) refl
+    ∙ ap (grown model c (Part.Leaf found [])) (append-nil (map Phrase.Use shares))
+    ∙ list_read model c (λ s t. share_before s.source s.side t.source t.side) (λ ss. Part.Leaf found ss) Phrase.Use
+    (λ ss s t. ap (option_map (λ l. Next.More (Part.Leaf found l))) (only_true (list_all (λ u. share_before u.source u.side s.source s.side) ss) (ss ++ s ∷ []) t)) [] shares h.uses.in_order
+
+-- the proof that stands there
+same_proof : (model : Program) (proof : Proof) (h : IsOneLeaf model proof) → leaf_of h.combo.shares ≡ proof
+same_proof model proof h = ap (λ nodes. record { nodes = nodes }) (sym h.one)
+
+-- and the set
+same_set : (model : Program) (set : SetValue) → IsListed model set → set_of model set.members ≡ set
+same_set model set h = ap (λ r. record { rows = r; columns = length model.columns; members = set.members }) (sym h.of_model.rows) ∙ ap (λ c. record { rows = set.rows; columns = c; members = set.members }) (sym h.of_model.columns)
+
+-- the site of a stop
+same_site : (model : Program) (site : Site) → IsSettleSite model site → site_without model (left_out model site.set.members) ≡ site
+same_site model site h = by site.kind site.set site.enforced site.path h.kind set_is h.enforced_is h.path_is
+  where
+    members_of : left_out model (left_out model site.set.members) ≡ site.set.members
+    members_of = set_twice model site.set.members h.active
+
+    set_is : site.set ≡ set_of model (left_out model (left_out model site.set.members))
+    set_is =
+        ap (λ r. record { rows = r; columns = site.set.columns; members = site.set.members }) h.of_model.rows
+        ∙ ap (λ c. record { rows = length model.rows; columns = c; members = site.set.members }) h.of_model.columns
+        ∙ ap (set_of model) (sym members_of)
+
+    by : (kind : SiteKind) (set enforced : SetValue) (path : List Branch) → kind ≡ Settle → set ≡ set_of model (left_out model (left_out model site.set.members)) → enforced ≡ empty_set model → path ≡ []
+        → site_without model (left_out model site.set.members) ≡ record { kind = kind; set = set; enforced = enforced; path = path }
+    by kind set enforced path k s e p =
+        let own = set_of model (left_out model (left_out model site.set.members)) in
+        ap (λ x. record { kind = x; set = own; enforced = empty_set model; path = [] }) (sym k)
+        ∙ ap (λ x. record { kind = kind; set = x; enforced = empty_set model; path = [] }) (sym s)
+        ∙ ap (λ x. record { kind = kind; set = set; enforced = x; path = [] }) (sym e)
+        ∙ ap (λ x. record { kind = kind; set = set; enforced = enforced; path = x }) (sym p)
+
+-- an answer's front leads to a part that its last line makes the answer
+AnswerRead : Program → Command → Answer → Type 0
+AnswerRead model c a = (end : Part) × ((grown model c Part.Nothing (answer_front model a) ≡ Some end) × (extended model c end (answer_end a) ≡ Some (Next.Whole a)))
+
+-- the lines of a site
+site_read : (model : Program) (c : Command) (start : StopPart) (make : List Member → StopPart) (site : Site) → IsSettleSite model site
+    → ((p : Phrase) → extended model c (Part.Stop start) p ≡ at_site (make []) p)
+    → ((left : List Member) (m : Member) → extended model c (Part.Stop (make left)) (without_phrase m) ≡ left_out_next make (with_left_out model left m))
+    → grown model c (Part.Stop start) (site_phrases model site) ≡ Some (Part.Stop (make (left_out model site.set.members)))
+site_read model c start make site h opens takes =
+    let left = left_out model site.set.members in
+    grown_step model c (Part.Stop start) (Part.Stop (make [])) (Phrase.Stop (StopPhrase.Site site.kind)) (map without_phrase left)
+    (opens (Phrase.Stop (StopPhrase.Site site.kind)) ∙ ap (λ x. at_site (make []) (Phrase.Stop (StopPhrase.Site x))) h.kind)
+    ∙ left_out_read model c make takes [] left (left_in_order model site.set.members) (left_active model site.set.members)
+
+-- a stop
+stop_read : (model : Program) (c : Command) (stop : Stop) → IsStopFor model stop → ((s : StopPhrase) → extended model c Part.Nothing (Phrase.Stop s) ≡ stop_begun s) → AnswerRead model c (Stopped stop)
+unfolding AnswerRead
+stop_read model c (TooWide site k o) h begins =
+    let left = left_out model site.set.members in (
+      Part.Stop (StopPart.WideOperation left k o),
+      (
+        grown_step model c Part.Nothing (Part.Stop StopPart.Wide) (Phrase.Stop StopPhrase.Wide) (site_phrases model site ++ Phrase.Stop (StopPhrase.Step k) ∷ Phrase.Stop (StopPhrase.Operation o) ∷ []) (begins StopPhrase.Wide)
+            ∙ grown_append model c (Part.Stop StopPart.Wide) (Part.Stop (StopPart.WideSite left)) (site_phrases model site) (Phrase.Stop (StopPhrase.Step k) ∷ Phrase.Stop (StopPhrase.Operation o) ∷ [])
+            (site_read model c StopPart.Wide (λ members. StopPart.WideSite members) site h.0.settle (λ p. refl) (λ members m. refl))
+            ∙ grown_step model c (Part.Stop (StopPart.WideSite left)) (Part.Stop (StopPart.WideStep left k)) (Phrase.Stop (StopPhrase.Step k)) (Phrase.Stop (StopPhrase.Operation o) ∷ []) refl
+            ∙ grown_step model c (Part.Stop (StopPart.WideStep left k)) (Part.Stop (StopPart.WideOperation left k o)) (Phrase.Stop (StopPhrase.Operation o)) [] refl,
+        ap (λ s. Some (Next.Whole (Stopped (TooWide s k o)))) (same_site model site h.0.settle),
+      ),
+    )
+stop_read model c (Spent site) h begins =
+    let left = left_out model site.set.members in (
+      Part.Stop (StopPart.SpentSite left),
+      (
+        grown_step model c Part.Nothing (Part.Stop StopPart.Spent) (Phrase.Stop StopPhrase.Spent) (site_phrases model site) (begins StopPhrase.Spent)
+            ∙ site_read model c StopPart.Spent (λ members. StopPart.SpentSite members) site h.settle (λ p. refl) (λ members m. refl),
+        ap (λ s. Some (Next.Whole (Stopped (Spent s)))) (same_site model site h.settle),
+      ),
+    )
+stop_read model c (Nodes site) h begins = absurd h
+stop_read model c (Large size) h begins = absurd h
+stop_read model c Memory h begins = absurd h
+
+-- a point
+feasible_read : (model : Program) (c : Command) (p : Point) → IsPointFor model p → extended model c Part.Nothing Phrase.Feasible ≡ Some (Next.More Part.Feasible) → AnswerRead model c (Feasible p)
+unfolding AnswerRead
+feasible_read model c p h e =
+    let r = point_read model c (λ vs. Part.Point vs) (λ values j v. refl) p h in (
+      Part.Point r.0,
+      (
+        grown_step model c Part.Nothing Part.Feasible Phrase.Feasible (point_phrases p) e ∙ grown_step model c Part.Feasible (Part.Point []) Phrase.Point (value_phrases 0 p.values) refl ∙ r.1.0,
+        ap (λ q. Some (Next.Whole (Feasible q))) r.1.1,
+      ),
+    )
+
+answer_read : (model : Program) (c : Command) (a : Answer) → can_answer c a ≡ true → IsAnswerFor model a → AnswerRead model c a
+unfolding AnswerRead
+answer_read model Check (Feasible p) can h = feasible_read model Check p h refl
+answer_read model (Iis method) (Feasible p) can h = feasible_read model (Iis method) p h refl
+answer_read model (Pivots n) Done can h = (Part.Nothing, (refl, refl))
+answer_read model Check (Stopped stop) can h = stop_read model Check stop h (λ s. refl)
+answer_read model (Iis method) (Stopped stop) can h = stop_read model (Iis method) stop h (λ s. refl)
+answer_read model Check (Infeasible set proof) can h =
+    let members = set.members in
+    let found = Found.Members members in
+    let listed = list_read model Check comes_before (λ ms. Part.Listed (Found.Members ms)) Phrase.Member (λ ms n t. ap (option_map (λ l. Next.More (Part.Listed (Found.Members l)))) (only_true (list_all (λ k. comes_before k n) ms) (ms ++ n ∷ []) t)) [] members h.0.in_order in (
+      Part.Leaf found h.1.combo.shares,
+      (
+        grown_step model Check Part.Nothing (Part.Listed (Found.Members [])) Phrase.Infeasible (map Phrase.Member members ++ proof_phrases proof) refl
+            ∙ grown_append model Check (Part.Listed (Found.Members [])) (Part.Listed found) (map Phrase.Member members) (proof_phrases proof) listed
+            ∙ leaf_read model Check (Part.Listed found) found proof h.1 refl,
+        ap (λ s. Some (Next.Whole (Infeasible s (leaf_of h.1.combo.shares)))) (same_set model set h.0) ∙ ap (λ q. Some (Next.Whole (Infeasible set q))) (same_proof model proof h.1),
+      ),
+    )
+answer_read model (Iis method) (Irreducible core) can h =
+    let members = core.members.members in
+    let found = Found.Witnessed members core.witnesses in
+    let w = witnesses_read model (Iis method) (Part.Listed (Found.Witnessed [] [])) [] members [] core.witnesses ((λ m. refl), refl) h.members.in_order h.each h.points in (
+      Part.Leaf found h.proof.combo.shares,
+      (
+        grown_step model (Iis method) Part.Nothing (Part.Listed (Found.Witnessed [] [])) Phrase.Irreducible (flat_map witness_phrases (zip members core.witnesses) ++ proof_phrases core.proof) refl
+            ∙ grown_append model (Iis method) (Part.Listed (Found.Witnessed [] [])) w.0 (flat_map witness_phrases (zip members core.witnesses)) (proof_phrases core.proof) w.1.0
+            ∙ leaf_read model (Iis method) w.0 found core.proof h.proof w.1.1.1,
+        ap (λ s. Some (Next.Whole (Irreducible (record { members = s; witnesses = core.witnesses; proof = leaf_of h.proof.combo.shares })))) (same_set model core.members h.members)
+            ∙ ap (λ q. Some (Next.Whole (Irreducible (record { members = core.members; witnesses = core.witnesses; proof = q })))) (same_proof model core.proof h.proof),
+      ),
+    )
+answer_read model Check (Irreducible core) can h = absurd (true≢false (sym can))
+answer_read model (Iis method) (Infeasible set proof) can h = absurd (true≢false (sym can))
+answer_read model Check Done can h = absurd (true≢false (sym can))
+answer_read model (Iis method) Done can h = absurd (true≢false (sym can))
+answer_read model (Pivots n) _ can h = absurd (true≢false (sym can))
+
+-- ---- entries, notes and the whole
+module _ (model : Program) where
+  between : List Note → List Entry → Draft
+  between notes entries = record { notes = notes; entries = entries; stage = Stage.Between }
+
+  entry_read : (notes : List Note) (entries : List Entry) (e : Entry) → IsEntryFor model e → run model e.line (between notes entries) (entry_phrases model e) ≡ Some (between notes (entries ++ e ∷ []))
+  unfolding between AnswerRead
+  entry_read notes entries e h =
+      let last_phrase = answer_end e.answer in
+      let q : Question = record { command = e.command; line = e.line } in
+      let start = answering (between notes entries) q Part.Nothing in
+      let r = answer_read model e.command e.answer h.kind h.answer in
+      let last = answering (between notes entries) q r.0 in
+      run_step model e.line (between notes entries) start (Phrase.Command e.command) (answer_front model e.answer ++ last_phrase ∷ []) refl
+      ∙ run_append model (suc e.line) start last (answer_front model e.answer) (last_phrase ∷ []) (grown_runs model (suc e.line) (between notes entries) q Part.Nothing r.0 (answer_front model e.answer) r.1.0)
+      ∙ run_step model (suc e.line + length (answer_front model e.answer)) last (between notes (entries ++ e ∷ [])) last_phrase [] (ap (option_map (placed last q)) r.1.1)
+
+  entries_read : (n : ℕ) (notes : List Note) (entries more : List Entry) → All (IsEntryFor model) more → AreNumbered model n more
+      → run model n (between notes entries) (flat_map (entry_phrases model) more) ≡ Some (between notes (entries ++ more))
+  entries_read n notes entries [] h numbered = ap (λ l. Some (between notes l)) (sym (append-nil entries))
+  entries_read n notes entries (e ∷ more) h numbered =
+      let first = All-head (IsEntryFor model) e more h in
+      let next = n + length (entry_phrases model e) in
+      run_append model n (between notes entries) (between notes (entries ++ e ∷ [])) (entry_phrases model e) (flat_map (entry_phrases model) more)
+      (subst (λ l. run model l (between notes entries) (entry_phrases model e) ≡ Some (between notes (entries ++ e ∷ []))) numbered.0 (entry_read notes entries e first))
+      ∙ entries_read next notes (entries ++ e ∷ []) more (All-tail (IsEntryFor model) e more h) (subst (λ k. AreNumbered model (n + k) more) (ap length (entry_spelled model e first) ∙ length-map (entry_phrases model e) (phrase_line model)) numbered.1)
+      ∙ ap (λ l. Some (between notes l)) (append_assoc entries (e ∷ []) more)
+
+  notes_read : (n : ℕ) (notes more : List Note) → run model n (between notes []) (map Phrase.Note more) ≡ Some (between (notes ++ more) [])
+  unfolding between
+  notes_read n notes [] = ap (λ l. Some (between l [])) (sym (append-nil notes))
+  notes_read n notes (note ∷ more) =
+      run_step model n (between notes []) (between (notes ++ note ∷ []) []) (Phrase.Note note) (map Phrase.Note more) refl
+      ∙ notes_read (suc n) (notes ++ note ∷ []) more
+      ∙ ap (λ l. Some (between l [])) (append_assoc notes (note ∷ []) more)
+
+  -- the draft that a whole report is
+  unfoldable pub done : Report → Draft
+  done report = record { notes = report.notes; entries = report.entries; stage = Stage.Done }
+
+  pub report_read : (report : Report) → IsReportFor model report → run model 1 nothing_read (report_phrases model report) ≡ Some (done report)
+  unfolding between done
+  report_read report h =
+      let notes = map Phrase.Note report.notes in
+      let entries = flat_map (entry_phrases model) report.entries in
+      let middle = between report.notes report.entries in
+      let two : run model 2 (between [] []) (notes ++ entries) ≡ Some middle =
+      run_append model 2 (between [] []) (between report.notes []) notes entries (notes_read 2 [] report.notes)
+      ∙ ap (λ k. run model (2 + k) (between report.notes []) entries) (length-map report.notes Phrase.Note)
+      ∙ entries_read (2 + length report.notes) report.notes [] report.entries h.entries h.numbered in
+      run_step model 1 nothing_read (between [] []) Phrase.Head ((notes ++ entries) ++ Phrase.Foot ∷ []) refl
+      ∙ run_append model 2 (between [] []) middle (notes ++ entries) (Phrase.Foot ∷ []) two
+      ∙ run_step model (2 + length (notes ++ entries)) middle (done report) Phrase.Foot [] refl

@@ -1,0 +1,266 @@
+-- The words of a line: each has shown bytes alone, so the parts of a line are its words, and those of a text its lines.
+use Rattle.std.proofs.Common.{◌≡◌, ◌≢◌, refl, sym, ap, subst, ◌∙◌, ℕ, suc, ◌+◌, ◌^◌, ◌<◌, ◌≤◌, ◌==◌, Bool, true, false, true≢false, List, [], ◌∷◌, ◌++◌, append_assoc, append-nil, arith, eqb-true, ltb-false, length}
+use Rattle.std.specs.Prelude.{All, map, count_by, codes, decimal, nat_lt, unsigned_abs}
+use Rattle.std.specs.List.{list_all, join_with_byte}
+use Rattle.std.proofs.lemmas.Bool.{and_parts, or_parts, cond_both, false_from_ne_true}
+use Rattle.std.proofs.lemmas.Bool.Decides.{nat_tests}
+use Rattle.std.proofs.lemmas.Fmt.{decimal_is_IsNumeral, decimal_is_IsNumeral_wide}
+use Rattle.std.proofs.lemmas.List.Elements.{All-nil, All-cons, All-head, All-tail, All-append, All-weaker}
+use Rattle.std.proofs.lemmas.List.Splits.{length-slice_split, slice_split_at, slice_split_none, join_with_byte-slice_split}
+use Rattle.std.specs.Fmt.{signed_decimal}
+use Rattle.std.specs.Char.{digit_value}
+use Rattle.std.specs.Str.Parse.{AllDigits}
+use lib.IntN.{ℤ, pos, negsuc}
+use Rattle.rational.specs.Rational.{ℚ}
+use Rattle.frac128.specs.Limit.{limit}
+use Rattle.frac128.specs.Width.{is_too_wide}
+use Rattle.frac128.specs.Printed.{printed}
+use Rattle.report_text.specs.Names.{is_shown}
+use Rattle.report_reader.specs.Parts.{parts}
+use Rattle.lp_model.specs.Program.{Program}
+use Rattle.lp_model.specs.declared.parts.Note.TheVariants.{LowerRemoved, LowerKept}
+use Rattle.lp_model.specs.declared.members.Member.{Member}
+use Rattle.lp_model.specs.declared.members.Member.TheVariants.{Row, Lower, Upper, Whole}
+use Rattle.lp_model.specs.declared.members.Side.{Side}
+use Rattle.lp_model.specs.declared.members.Side.TheVariants.{Lo, Up}
+use Rattle.certs.specs.declared.evidence.Source.{Source}
+use Rattle.certs.specs.declared.evidence.Source.TheVariants.{Member as Of, Below, Above}
+use Rattle.certs.specs.declared.solving.SiteKind.{SiteKind}
+use Rattle.certs.specs.declared.solving.SiteKind.TheVariants.{Settle, Improve, Stretch, Relax, Alternative}
+use Rattle.frac128.specs.declared.Op.{Op}
+use Rattle.frac128.specs.declared.Op.TheVariants.{Plus, Minus, Times, Over}
+use Rattle.report_text.specs.declared.report.Command.TheVariants.{Check, Iis, Pivots}
+use Rattle.report_text.specs.declared.report.Method.TheVariants.{Deletion, Additive, Sensitivity}
+use Rattle.report_text.specs.declared.report.Report.{Report}
+use Rattle.report_reader.specs.declared.phrases.Keyword.{Keyword}
+use Rattle.report_reader.specs.declared.phrases.Phrase.{Phrase}
+use Rattle.report_reader.specs.declared.phrases.StopPhrase.{StopPhrase}
+use Rattle.report_text.specs.Form.{is_word, IsNamedSource}
+use Rattle.report_text.specs.Grammar.{Line, ◌then◌, text_of, column_name, name_of, kind_word, side_word, site_word, op_word, report_lines}
+use Rattle.report_reader.specs.Reading.{Reads}
+use Rattle.report_reader.specs.Phrases.{keyword_text, keyword_of, source_words, stop_keyword, stop_details, details, spelled, phrase_line, IsStopPhrase, IsPhraseFor, Says}
+use Rattle.report_reader.proofs.Said.{report_phrases, report_spelled, report_for}
+
+-- a text has a part
+pub some_parts : (mark : ℕ) (text : List ℕ) → parts mark text ≢ []
+some_parts mark text e = let l : length (parts mark text) ≡ count_by (λ b. b == mark) text + 1 = length-slice_split (λ b. b == mark) text in let k : length (parts mark text) ≡ 0 = ap length e in absurd (omega arith)
+
+-- each byte of the word may stand in a name
+abbrev pub Shown : List ℕ → Type 0
+Shown word = All (λ b. is_shown b ≡ true) word
+
+-- no byte of the text is the mark
+abbrev pub Without : ℕ → List ℕ → Type 0
+Without mark text = All (λ b. (b == mark) ≡ false) text
+
+-- a mark that is not shown stands in no word
+pub no_mark : (mark : ℕ) → is_shown mark ≡ false → (word : List ℕ) → Shown word → Without mark word
+no_mark mark h word shown = All-weaker (λ b. is_shown b ≡ true) (λ b. (b == mark) ≡ false) (λ b s. false_from_ne_true (b == mark) (λ e. true≢false (sym s ∙ ap is_shown (eqb-true b mark e) ∙ h))) word shown
+
+-- the same of bytes that are known
+pub plain : (word : List ℕ) → list_all is_shown word ≡ true → Shown word
+plain [] e = All-nil (λ b. is_shown b ≡ true)
+plain (b ∷ word) e = let both = and_parts (is_shown b) (list_all is_shown word) e in All-cons (λ b. is_shown b ≡ true) b word both.0 (plain word both.1)
+
+-- ---- numbers
+digit_shown : (c : ℕ) → digit_value c < 10 → is_shown c ≡ true
+digit_shown c h = grind (arith, nat_tests)
+
+digits_shown : (ds : List ℕ) → AllDigits 10 ds → Shown ds
+digits_shown [] h = All-nil (λ b. is_shown b ≡ true)
+digits_shown (c ∷ ds) h = All-cons (λ b. is_shown b ≡ true) c ds (digit_shown c h.0) (digits_shown ds h.1)
+
+decimal_shown : (n : ℕ) → nat_lt limit n ≡ false → Shown (decimal n)
+decimal_shown n h = let p : n ≤ limit = ltb-false limit n h in digits_shown (decimal n) (decimal_is_IsNumeral_wide n (omega arith)).0.1
+
+signed_shown : (z : ℤ) → nat_lt limit (unsigned_abs z) ≡ false → Shown (signed_decimal z)
+signed_shown (pos n) h = decimal_shown n h
+signed_shown (negsuc n) h = All-cons (λ b. is_shown b ≡ true) 45 (decimal (suc n)) refl (decimal_shown (suc n) h)
+
+-- a count
+count_shown : (n : ℕ) → n < 2 ^ 64 → Shown (decimal n)
+count_shown n h = digits_shown (decimal n) (decimal_is_IsNumeral n h).0.1
+
+-- a printed number
+printed_shown : (q : ℚ) → is_too_wide limit q ≡ false → Shown (printed q)
+printed_shown q h =
+    let both : (nat_lt limit (unsigned_abs q.num) ≡ false) × (nat_lt limit q.den ≡ false) = or_parts (nat_lt limit (unsigned_abs q.num)) (nat_lt limit q.den) h in
+    cond_both (q.den == 1) (signed_decimal q.num) (signed_decimal q.num ++ (47 ∷ decimal q.den)) Shown (λ _. signed_shown q.num both.0)
+    (λ _. All-append (λ b. is_shown b ≡ true) (signed_decimal q.num) (47 ∷ decimal q.den) (signed_shown q.num both.0) (All-cons (λ b. is_shown b ≡ true) 47 (decimal q.den) refl (decimal_shown q.den both.1)))
+
+-- ---- the words of a phrase
+word_shown : (name : List ℕ) → is_word name ≡ true → Shown name
+word_shown name h = plain name (and_parts (nat_lt 0 (length name)) (list_all is_shown name) h).1
+
+keyword_shown : (k : Keyword) → Shown (keyword_text k)
+keyword_shown Keyword.Iisan = plain (codes "iisan") refl
+keyword_shown Keyword.Note = plain (codes "note") refl
+keyword_shown Keyword.Command = plain (codes "command") refl
+keyword_shown Keyword.Feasible = plain (codes "feasible") refl
+keyword_shown Keyword.Infeasible = plain (codes "infeasible") refl
+keyword_shown Keyword.Irreducible = plain (codes "irreducible") refl
+keyword_shown Keyword.Done = plain (codes "done") refl
+keyword_shown Keyword.Point = plain (codes "point") refl
+keyword_shown Keyword.Value = plain (codes "value") refl
+keyword_shown Keyword.Member = plain (codes "member") refl
+keyword_shown Keyword.Proof = plain (codes "proof") refl
+keyword_shown Keyword.Leaf = plain (codes "leaf") refl
+keyword_shown Keyword.Use = plain (codes "use") refl
+keyword_shown Keyword.Too = plain (codes "too") refl
+keyword_shown Keyword.Pivots = plain (codes "pivots") refl
+keyword_shown Keyword.Site = plain (codes "site") refl
+keyword_shown Keyword.Without = plain (codes "without") refl
+keyword_shown Keyword.Step = plain (codes "step") refl
+keyword_shown Keyword.Operation = plain (codes "operation") refl
+keyword_shown Keyword.End = plain (codes "end") refl
+keyword_shown Keyword.Report = plain (codes "report") refl
+
+-- the keywords of stops are no others
+abbrev pub is_stop : Keyword → Bool
+is_stop Keyword.Too = true
+is_stop Keyword.Pivots = true
+is_stop Keyword.Site = true
+is_stop Keyword.Without = true
+is_stop Keyword.Step = true
+is_stop Keyword.Operation = true
+is_stop _ = false
+
+pub stop_apart : (k : Keyword) (s : StopPhrase) → is_stop k ≡ false → k ≡ stop_keyword s → ⊥
+stop_apart k s h e = true≢false (sym (by s) ∙ ap is_stop (sym e) ∙ h)
+  where
+    by : (s : StopPhrase) → is_stop (stop_keyword s) ≡ true
+    by StopPhrase.Wide = refl
+    by StopPhrase.Spent = refl
+    by (StopPhrase.Site kind) = refl
+    by (StopPhrase.Without m) = refl
+    by (StopPhrase.Step k) = refl
+    by (StopPhrase.Operation o) = refl
+
+-- lists of one, two and more words
+none_shown : All Shown []
+none_shown = All-nil Shown
+
+and_shown : (w : List ℕ) (ws : List (List ℕ)) → Shown w → All Shown ws → All Shown (w ∷ ws)
+and_shown w ws h rest = All-cons Shown w ws h rest
+
+-- ---- the words of a stop
+site_shown : (kind : SiteKind) → Shown (site_word kind)
+site_shown Settle = plain (codes "settle") refl
+site_shown Improve = plain (codes "improve") refl
+site_shown Stretch = plain (codes "stretch") refl
+site_shown Relax = plain (codes "relax") refl
+site_shown Alternative = plain (codes "alternative") refl
+
+op_shown : (op : Op) → Shown (op_word op)
+op_shown Plus = plain (codes "plus") refl
+op_shown Minus = plain (codes "minus") refl
+op_shown Times = plain (codes "times") refl
+op_shown Over = plain (codes "over") refl
+
+module _ (model : Program) where
+  kind_shown : (m : Member) → Shown (kind_word m)
+  kind_shown (Row i) = plain (codes "row") refl
+  kind_shown (Lower j) = plain (codes "lower") refl
+  kind_shown (Upper j) = plain (codes "upper") refl
+  kind_shown (Whole j) = plain (codes "whole") refl
+
+  stop_shown : (s : StopPhrase) → IsStopPhrase model s → All Shown (stop_details model s)
+  stop_shown StopPhrase.Wide h = and_shown (codes "wide") [] (plain (codes "wide") refl) none_shown
+  stop_shown StopPhrase.Spent h = and_shown (codes "spent") [] (plain (codes "spent") refl) none_shown
+  stop_shown (StopPhrase.Site kind) h = and_shown (site_word kind) [] (site_shown kind) none_shown
+  stop_shown (StopPhrase.Without m) h = and_shown (kind_word m) (name_of model m ∷ []) (kind_shown m) (and_shown (name_of model m) [] (word_shown (name_of model m) h.word) none_shown)
+  stop_shown (StopPhrase.Step k) h = and_shown (decimal k) [] (count_shown k h) none_shown
+  stop_shown (StopPhrase.Operation o) h =
+      and_shown (op_word o.op) (printed o.left ∷ printed o.right ∷ []) (op_shown o.op)
+      (and_shown (printed o.left) (printed o.right ∷ []) (printed_shown o.left h.left) (and_shown (printed o.right) [] (printed_shown o.right h.right) none_shown))
+
+  side_shown : (side : Side) → Shown (side_word side)
+  side_shown Lo = plain (codes "lo") refl
+  side_shown Up = plain (codes "up") refl
+
+  source_shown : (source : Source) (side : Side) (w : List ℕ) → IsNamedSource model source side → Shown w → All Shown (source_words model source side (w ∷ []))
+  source_shown (Of m) side w h s =
+      and_shown (kind_word m) (name_of model m ∷ side_word side ∷ w ∷ []) (kind_shown m) (and_shown (name_of model m) (side_word side ∷ w ∷ []) (word_shown (name_of model m) h.word) (and_shown (side_word side) (w ∷ []) (side_shown side) (and_shown w [] s none_shown)))
+  source_shown (Below j) side w h s = and_shown (codes "below") (column_name model j ∷ w ∷ []) (plain (codes "below") refl) (and_shown (column_name model j) (w ∷ []) (word_shown (column_name model j) h.0.word) (and_shown w [] s none_shown))
+  source_shown (Above j) side w h s = and_shown (codes "above") (column_name model j ∷ w ∷ []) (plain (codes "above") refl) (and_shown (column_name model j) (w ∷ []) (word_shown (column_name model j) h.0.word) (and_shown w [] s none_shown))
+
+  two_shown : (a b : List ℕ) → Shown a → Shown b → All Shown (a ∷ b ∷ [])
+  two_shown a b h k = and_shown a (b ∷ []) h (and_shown b [] k none_shown)
+
+  -- the words of a phrase that names words of the program and numbers that fit
+  details_shown : (p : Phrase) → IsPhraseFor model p → All Shown (details model p)
+  details_shown Phrase.Head h = two_shown (codes "report") (codes "1") (plain (codes "report") refl) (plain (codes "1") refl)
+  details_shown (Phrase.Note (LowerRemoved j)) h = and_shown (column_name model j) (codes "lower" ∷ codes "removed" ∷ []) (word_shown (column_name model j) h.word) (two_shown (codes "lower") (codes "removed") (plain (codes "lower") refl) (plain (codes "removed") refl))
+  details_shown (Phrase.Note (LowerKept j)) h = and_shown (column_name model j) (codes "lower" ∷ codes "kept" ∷ []) (word_shown (column_name model j) h.word) (two_shown (codes "lower") (codes "kept") (plain (codes "lower") refl) (plain (codes "kept") refl))
+  details_shown (Phrase.Command Check) h = and_shown (codes "check") [] (plain (codes "check") refl) none_shown
+  details_shown (Phrase.Command (Iis Deletion)) h = two_shown (codes "iis") (codes "deletion") (plain (codes "iis") refl) (plain (codes "deletion") refl)
+  details_shown (Phrase.Command (Iis Additive)) h = two_shown (codes "iis") (codes "additive") (plain (codes "iis") refl) (plain (codes "additive") refl)
+  details_shown (Phrase.Command (Iis Sensitivity)) h = two_shown (codes "iis") (codes "sensitivity") (plain (codes "iis") refl) (plain (codes "sensitivity") refl)
+  details_shown (Phrase.Command (Pivots n)) h = and_shown (codes "budget") (codes "pivots" ∷ decimal n ∷ []) (plain (codes "budget") refl) (two_shown (codes "pivots") (decimal n) (plain (codes "pivots") refl) (count_shown n (let l : n ≤ 1000000 = h in omega arith)))
+  details_shown (Phrase.Stop s) h = stop_shown s h
+  details_shown Phrase.Done h = none_shown
+  details_shown (Phrase.Value j v) h = two_shown (column_name model j) (printed v) (word_shown (column_name model j) h.0.word) (printed_shown v h.1.0)
+  details_shown (Phrase.Member m) h = two_shown (kind_word m) (name_of model m) (kind_shown m) (word_shown (name_of model m) h.word)
+  details_shown (Phrase.Use s) h = source_shown s.source s.side (printed s.weight) h.named (printed_shown s.weight h.fits)
+  details_shown Phrase.Foot h = and_shown (codes "end") [] (plain (codes "end") refl) none_shown
+  details_shown Phrase.Feasible h = none_shown
+  details_shown Phrase.Infeasible h = none_shown
+  details_shown Phrase.Irreducible h = none_shown
+  details_shown Phrase.Point h = none_shown
+  details_shown Phrase.Proof h = none_shown
+  details_shown Phrase.Leaf h = none_shown
+  details_shown Phrase.End h = none_shown
+
+-- ---- words and lines
+-- the parts of words between blanks are the words
+parts_of_words : (w : List ℕ) (ws : List (List ℕ)) → Shown w → All Shown ws → parts 32 (spelled w ws) ≡ w ∷ ws
+parts_of_words w [] h rest = slice_split_none (λ b. b == 32) w (no_mark 32 refl w h)
+parts_of_words w (v ∷ ws) h rest = slice_split_at (λ b. b == 32) w 32 (spelled v ws) (no_mark 32 refl w h) refl ∙ ap (λ l. w ∷ l) (parts_of_words v ws (All-head Shown v ws rest) (All-tail Shown v ws rest))
+
+joined_words : (w : List ℕ) (ws : List (List ℕ)) → join_with_byte 32 (w ∷ ws) ≡ spelled w ws
+joined_words w [] = refl
+joined_words w (v ∷ ws) = ap (λ l. w then l) (joined_words v ws)
+
+-- a line that says something has its words, and one that has its words says it
+pub words_of_line : (model : Program) (line : Line) (p : Phrase) → Says model line p → parts 32 line ≡ keyword_text (keyword_of p) ∷ details model p
+words_of_line model line p h = ap (parts 32) h.text ∙ parts_of_words (keyword_text (keyword_of p)) (details model p) (keyword_shown (keyword_of p)) (details_shown model p h.form)
+
+pub line_of_words : (model : Program) (line : Line) (p : Phrase) → IsPhraseFor model p → parts 32 line ≡ keyword_text (keyword_of p) ∷ details model p → Says model line p
+line_of_words model line p h e = record { form = h; text = sym (join_with_byte-slice_split 32 line) ∙ ap (join_with_byte 32) e ∙ joined_words (keyword_text (keyword_of p)) (details model p) }
+
+-- ---- lines and texts
+-- words and the blanks between them have no mark that ends lines
+spelled_no_mark : (w : List ℕ) (ws : List (List ℕ)) → Shown w → All Shown ws → Without 10 (spelled w ws)
+spelled_no_mark w [] h rest = no_mark 10 refl w h
+spelled_no_mark w (v ∷ ws) h rest =
+    All-append (λ b. (b == 10) ≡ false) w (32 ∷ spelled v ws) (no_mark 10 refl w h)
+    (All-cons (λ b. (b == 10) ≡ false) 32 (spelled v ws) refl (spelled_no_mark v ws (All-head Shown v ws rest) (All-tail Shown v ws rest)))
+
+pub lines_no_mark : (model : Program) (ps : List Phrase) → All (IsPhraseFor model) ps → All (Without 10) (map (phrase_line model) ps)
+lines_no_mark model [] h = All-nil (Without 10)
+lines_no_mark model (p ∷ ps) h =
+    All-cons (Without 10) (phrase_line model p) (map (phrase_line model) ps)
+    (spelled_no_mark (keyword_text (keyword_of p)) (details model p) (keyword_shown (keyword_of p)) (details_shown model p (All-head (IsPhraseFor model) p ps h))) (lines_no_mark model ps (All-tail (IsPhraseFor model) p ps h))
+
+-- the parts of a text are its lines, and an empty last one
+pub parts_of_text : (lines : List Line) → All (Without 10) lines → parts 10 (text_of lines) ≡ lines ++ [] ∷ []
+parts_of_text [] h = refl
+parts_of_text (line ∷ lines) h =
+    ap (parts 10) (append_assoc line (10 ∷ []) (text_of lines))
+    ∙ slice_split_at (λ b. b == 10) line 10 (text_of lines) (All-head (Without 10) line lines h) refl
+    ∙ ap (λ ls. line ∷ ls) (parts_of_text lines (All-tail (Without 10) line lines h))
+
+joined_lines : (lines : List Line) → join_with_byte 10 (lines ++ [] ∷ []) ≡ text_of lines
+joined_lines [] = refl
+joined_lines (line ∷ []) = sym (append-nil (line ++ 10 ∷ []))
+joined_lines (line ∷ next ∷ lines) = ap (λ l. line ++ (10 ∷ l)) (joined_lines (next ∷ lines)) ∙ sym (append_assoc line (10 ∷ []) (text_of (next ∷ lines)))
+
+-- and bytes with these parts are the text of the lines
+pub text_of_parts : (bytes : List ℕ) (lines : List Line) → parts 10 bytes ≡ lines ++ [] ∷ [] → bytes ≡ text_of lines
+text_of_parts bytes lines e = sym (join_with_byte-slice_split 10 bytes) ∙ ap (join_with_byte 10) e ∙ joined_lines lines
+
+-- the parts of bytes that are read are the report's lines
+pub parts_of_read : (model : Program) (bytes : List ℕ) (report : Report) → Reads model bytes report → parts 10 bytes ≡ report_lines model report ++ [] ∷ []
+parts_of_read model bytes report h =
+    ap (parts 10) h.text
+    ∙ parts_of_text (report_lines model report) (subst (All (Without 10)) (sym (report_spelled model report h.form)) (lines_no_mark model (report_phrases model report) (report_for model report h.form)))

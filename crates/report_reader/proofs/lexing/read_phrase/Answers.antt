@@ -1,0 +1,16 @@
+use Rattle.std.proofs.Common.{sym, ◌∙◌}
+use Rattle.report_reader.specs.Parts.{parts}
+use Rattle.report_reader.specs.Phrases.{keyword_of}
+use Rattle.report_reader.proofs.Lexed.{keyword_is, found_so}
+use Rattle.report_reader.proofs.lexing.read_phrase.Goals as goal
+
+pub returns-in_default-leading_keyword : goal.returns-in_default-leading_keyword
+returns-in_default-leading_keyword c = record {
+  found = tt;
+  all = λ p h. absurd (c.in_default-leading_keyword.not-Some (keyword_of p) (c.leading_keyword.ensures ∙ keyword_is c.args.model.now c.args.line.now c.in-Some.first.now c.in-Some.rest.now c.in-Some.ensures.parts p h));
+}
+
+pub returns : goal.returns
+returns c =
+    found_so c.args.model.now c.args.line.now c.in-Some.first.now c.in-Some.rest.now c.in-Some.ensures.parts c.in-Some-leading_keyword.keyword c.read_details.result (sym c.leading_keyword.ensures ∙ c.in-Some-leading_keyword.is)
+    (c.read_details.ensures (parts 32 c.in-Some.rest.now) c.split_words.ensures)

@@ -1,0 +1,274 @@
+-- What may follow in a report, line by line: the draft that a phrase makes of a draft.
+use Rattle.std.specs.Prelude.{◌≡◌, ◌≢◌, ⊤, ℕ, ◌+◌, ◌-◌, ◌≤◌, nat_le, Bool, true, false, ◌&&◌, IsTrue, List, [], ◌∷◌, ◌++◌, length, replicate, Option, Some, None, option_map, Result, Ok, Err, flat_map, All}
+use Rattle.std.specs.List.{list_all}
+use Rattle.rational.specs.Rational.{ℚ, zero_ℚ}
+use Rattle.lp_model.specs.Program.{Program, noted_column}
+use Rattle.lp_model.specs.declared.members.Member.{Member}
+use Rattle.lp_model.specs.Members.{comes_before, is_active, IsInOrder}
+use Rattle.lp_model.specs.MemberSets.{SetValue, empty_set}
+use Rattle.lp_model.specs.Satisfaction.{values_at}
+use Rattle.lp_model.specs.declared.parts.Note.{Note}
+use Rattle.certs.specs.declared.evidence.Share.{Share}
+use Rattle.certs.specs.declared.evidence.Point.{Point}
+use Rattle.certs.specs.declared.evidence.Node.TheVariants.{Leaf}
+use Rattle.certs.specs.declared.evidence.Proof.{Proof}
+use Rattle.certs.specs.declared.solving.SiteKind.TheVariants.{Settle}
+use Rattle.certs.specs.declared.solving.Site.{Site}
+use Rattle.certs.specs.declared.solving.Stop.{Stop}
+use Rattle.report_text.specs.declared.report.Command.{Command}
+use Rattle.report_text.specs.declared.report.Command.TheVariants.{Check, Iis, Pivots}
+use Rattle.report_text.specs.declared.report.Answer.{Answer}
+use Rattle.report_text.specs.declared.report.Entry.{Entry}
+use Rattle.report_reader.specs.declared.phrases.Phrase.{Phrase}
+use Rattle.report_reader.specs.declared.phrases.StopPhrase.{StopPhrase}
+use Rattle.report_reader.specs.declared.drafts.Found.{Found}
+use Rattle.report_reader.specs.declared.drafts.Question.{Question}
+use Rattle.report_reader.specs.declared.drafts.StopPart.{StopPart}
+use Rattle.report_reader.specs.declared.drafts.Part.{Part}
+use Rattle.report_reader.specs.declared.drafts.Next.{Next}
+use Rattle.report_reader.specs.declared.drafts.Stage.{Stage}
+use Rattle.report_reader.specs.declared.drafts.Draft.{Draft}
+use Rattle.report_text.specs.declared.report.Report.{Report}
+use Rattle.report_reader.specs.declared.reader.ReportStop.{ReportStop}
+use Rattle.report_reader.specs.declared.reader.ReportStop.TheVariants.{BadLine, Truncated, Memory}
+use Rattle.report_reader.specs.Phrases.{Says}
+use Rattle.report_text.specs.Grammar.{Line, column_name, left_out, entry_lines}
+use Rattle.report_text.specs.Form.{is_word, IsNamedColumn, IsNamedMember, IsWithinLimit, IsPointFor, IsEntryFor, IsCommand, IsCount, IsOperation, AreUses, AreNumbered, share_before}
+
+-- values with zeros behind them, up to so many
+abbrev pub filled : ℕ → List ℚ → List ℚ
+filled n values = values ++ replicate (n - length values) zero_ℚ
+
+-- the point of these values, with 0 for each further column
+abbrev pub point_of : Program → List ℚ → Point
+point_of model values = record { values = filled (length model.columns) values }
+
+-- the set of listed members
+abbrev pub set_of : Program → List Member → SetValue
+set_of model members = record { rows = length model.rows; columns = length model.columns; members = members }
+
+-- the proof of one leaf
+abbrev pub leaf_of : List Share → Proof
+leaf_of shares = record { nodes = Leaf (record { shares = shares }) ∷ [] }
+
+-- the members that are found
+abbrev pub members_of : Found → List Member
+members_of (Found.Members members) = members
+members_of (Found.Witnessed members witnesses) = members
+
+-- the answer that a set with its leaf is
+abbrev pub answer_of : Program → Found → List Share → Answer
+answer_of model (Found.Members members) shares = Answer.Infeasible (set_of model members) (leaf_of shares)
+answer_of model (Found.Witnessed members witnesses) shares =
+    Answer.Irreducible (record { members = set_of model members; witnesses = witnesses; proof = leaf_of shares })
+
+-- so far, if it may be
+abbrev pub only_if : {X : Type 0} → Bool → X → Option X
+only_if true x = Some x
+only_if false x = None
+
+-- the values with one more, where its column comes after theirs
+abbrev pub with_value : List ℚ → ℕ → ℚ → Option (List ℚ)
+with_value values j v = only_if (nat_le (length values) j) (filled j values ++ v ∷ [])
+
+-- the members with one more, where it comes after all of them
+abbrev pub with_member : List Member → Member → Option (List Member)
+with_member members m = only_if (list_all (λ n. comes_before n m) members) (members ++ m ∷ [])
+
+-- the shares with one more, where it comes after all of them
+abbrev pub with_share : List Share → Share → Option (List Share)
+with_share shares s = only_if (list_all (λ t. share_before t.source t.side s.source s.side) shares) (shares ++ s ∷ [])
+
+-- what a list with witnesses is with one phrase more: a member, or the start of the proof
+abbrev pub witnessed_with : List Member → List Point → Phrase → Option Next
+witnessed_with members witnesses (Phrase.Member m) = only_if (list_all (λ n. comes_before n m) members) (Next.More (Part.Member members witnesses m))
+witnessed_with members witnesses Phrase.Proof = Some (Next.More (Part.Proof (Found.Witnessed members witnesses)))
+witnessed_with members witnesses _ = None
+
+-- the settle run of the active members but these
+abbrev pub site_without : Program → List Member → Site
+site_without model left = record { kind = Settle; set = set_of model (left_out model left); enforced = empty_set model; path = [] }
+
+-- the active members left out, with one more, where it is active and comes after all of them
+abbrev pub with_left_out : Program → List Member → Member → Option (List Member)
+with_left_out model left m = only_if (is_active model m && list_all (λ n. comes_before n m) left) (left ++ m ∷ [])
+
+-- how a stop begins
+abbrev pub stop_begun : StopPhrase → Option Next
+stop_begun StopPhrase.Wide = Some (Next.More (Part.Stop StopPart.Wide))
+stop_begun StopPhrase.Spent = Some (Next.More (Part.Stop StopPart.Spent))
+stop_begun _ = None
+
+-- where the settle run stopped, no other run as yet
+abbrev pub at_site : StopPart → Phrase → Option Next
+at_site next (Phrase.Stop (StopPhrase.Site Settle)) = Some (Next.More (Part.Stop next))
+at_site next _ = None
+
+-- one active member more that is left out, if the next part may be
+abbrev pub left_out_next : (List Member → StopPart) → Option (List Member) → Option Next
+left_out_next next left = option_map (λ members. Next.More (Part.Stop (next members))) left
+
+-- what a part of a stop is with one phrase more
+abbrev pub stop_with : Program → StopPart → Phrase → Option Next
+stop_with model StopPart.Wide p = at_site (StopPart.WideSite []) p
+stop_with model (StopPart.WideSite left) (Phrase.Stop (StopPhrase.Without m)) = left_out_next StopPart.WideSite (with_left_out model left m)
+stop_with model (StopPart.WideSite left) (Phrase.Stop (StopPhrase.Step k)) = Some (Next.More (Part.Stop (StopPart.WideStep left k)))
+stop_with model (StopPart.WideStep left k) (Phrase.Stop (StopPhrase.Operation o)) = Some (Next.More (Part.Stop (StopPart.WideOperation left k o)))
+stop_with model (StopPart.WideOperation left k o) Phrase.End = Some (Next.Whole (Answer.Stopped (Stop.Wide (site_without model left) k o)))
+stop_with model StopPart.Spent p = at_site (StopPart.SpentSite []) p
+stop_with model (StopPart.SpentSite left) (Phrase.Stop (StopPhrase.Without m)) = left_out_next StopPart.SpentSite (with_left_out model left m)
+stop_with model (StopPart.SpentSite left) Phrase.End = Some (Next.Whole (Answer.Stopped (Stop.Pivots (site_without model left))))
+stop_with model _ _ = None
+
+-- the answer that a part of one becomes by a phrase, if it may follow
+abbrev pub extended : Program → Command → Part → Phrase → Option Next
+extended model command Part.Feasible Phrase.Point = Some (Next.More (Part.Point []))
+extended model Check Part.Nothing Phrase.Feasible = Some (Next.More Part.Feasible)
+extended model (Iis method) Part.Nothing Phrase.Feasible = Some (Next.More Part.Feasible)
+extended model Check Part.Nothing Phrase.Infeasible = Some (Next.More (Part.Listed (Found.Members [])))
+extended model (Iis method) Part.Nothing Phrase.Irreducible = Some (Next.More (Part.Listed (Found.Witnessed [] [])))
+extended model Check Part.Nothing (Phrase.Stop s) = stop_begun s
+extended model (Iis method) Part.Nothing (Phrase.Stop s) = stop_begun s
+extended model (Pivots n) Part.Nothing Phrase.Done = Some (Next.Whole Answer.Done)
+extended model command (Part.Point values) (Phrase.Value j v) = option_map (λ vs. Next.More (Part.Point vs)) (with_value values j v)
+extended model command (Part.Point values) Phrase.End = Some (Next.Whole (Answer.Feasible (point_of model values)))
+extended model command (Part.Listed (Found.Members members)) (Phrase.Member m) = option_map (λ ms. Next.More (Part.Listed (Found.Members ms))) (with_member members m)
+extended model command (Part.Listed (Found.Members members)) Phrase.Proof = Some (Next.More (Part.Proof (Found.Members members)))
+extended model command (Part.Listed (Found.Witnessed members witnesses)) p = witnessed_with members witnesses p
+extended model command (Part.Member members witnesses m) Phrase.Point = Some (Next.More (Part.Witness members witnesses m []))
+extended model command (Part.Witness members witnesses m values) (Phrase.Value j v) = option_map (λ vs. Next.More (Part.Witness members witnesses m vs)) (with_value values j v)
+extended model command (Part.Witness members witnesses m values) p = witnessed_with (members ++ m ∷ []) (witnesses ++ point_of model values ∷ []) p
+extended model command (Part.Proof found) Phrase.Leaf = Some (Next.More (Part.Leaf found []))
+extended model command (Part.Leaf found shares) (Phrase.Use s) = option_map (λ ss. Next.More (Part.Leaf found ss)) (with_share shares s)
+extended model command (Part.Leaf found shares) Phrase.End = Some (Next.Whole (answer_of model found shares))
+extended model command (Part.Stop part) p = stop_with model part p
+extended model command _ _ = None
+
+-- the draft that an answer, or more of it, makes
+abbrev pub placed : Draft → Question → Next → Draft
+placed draft question (Next.More part) = record draft { stage = Stage.Answering question part }
+placed draft question (Next.Whole answer) = record draft {
+  entries = draft.entries ++ (record { command = question.command; answer = answer; line = question.line }) ∷ [];
+  stage = Stage.Between;
+}
+
+-- what may stand between entries: a note before the first, a command, or the last line
+abbrev pub between : ℕ → Draft → Phrase → Option Draft
+between n draft (Phrase.Note note) = only_if (no_entries draft.entries) (record draft { notes = draft.notes ++ note ∷ [] })
+  where
+    no_entries : List Entry → Bool
+    no_entries [] = true
+    no_entries _ = false
+between n draft (Phrase.Command command) = Some (record draft { stage = Stage.Answering (record { command = command; line = n }) Part.Nothing })
+between n draft Phrase.Foot = Some (record draft { stage = Stage.Done })
+between n draft _ = None
+
+-- the draft that a draft becomes by the phrase of line number n, if it may follow
+abbrev pub advanced : Program → ℕ → Draft → Phrase → Option Draft
+advanced model n draft p = by draft.stage p
+  where
+    by : Stage → Phrase → Option Draft
+    by Stage.Start Phrase.Head = Some (record draft { stage = Stage.Between })
+    by Stage.Between q = between n draft q
+    by (Stage.Answering question part) q = option_map (placed draft question) (extended model question.command part q)
+    by _ _ = None
+
+-- a line is taken: some phrase says it, and each that says it leads to the next draft
+pub record Takes (model : Program) (n : ℕ) (draft : Draft) (line : Line) (next : Draft) : Type 0 where
+  pub phrase : Phrase
+  pub says : Says model line phrase
+  pub all : (p : Phrase) → Says model line p → advanced model n draft p ≡ Some next
+
+-- a line is not taken: no phrase that says it may follow, or memory was refused
+abbrev pub IsLineStop : Program → ℕ → Draft → Line → ReportStop → Type 0
+IsLineStop model n draft line (BadLine m) = (m ≡ n) × ((p : Phrase) → Says model line p → advanced model n draft p ≡ None)
+IsLineStop model n draft line Truncated = ⊥
+IsLineStop model n draft line Memory = ⊤
+
+-- what n lines and the bytes behind the last of them have come to: the report where the last line was read and nothing is behind it
+abbrev pub ended : ℕ → Draft → List ℕ → Result Report ReportStop
+ended n draft rest = by draft.stage rest
+  where
+    by : Stage → List ℕ → Result Report ReportStop
+    by Stage.Done [] = Ok (record { notes = draft.notes; entries = draft.entries })
+    by Stage.Done _ = Err (BadLine (n + 1))
+    by _ _ = Err Truncated
+
+-- nothing is read
+abbrev pub nothing_read : Draft
+nothing_read = record { notes = []; entries = []; stage = Stage.Start }
+
+-- ---- what is asked of a draft
+-- values of the first columns, as a point may have them
+pub record AreValues (model : Program) (values : List ℚ) : Type 0 where
+  pub few : length values ≤ length model.columns
+  pub fits : All IsWithinLimit values
+  pub named : (j : ℕ) → values_at values j ≢ zero_ℚ → is_word (column_name model j) ≡ true
+
+-- members in order, with words for names
+pub record AreMembers (model : Program) (members : List Member) : Type 0 where
+  pub named : All (IsNamedMember model) members
+  pub in_order : IsInOrder members
+
+-- so many witnesses as members
+pub record AreWitnesses (model : Program) (members : List Member) (witnesses : List Point) : Type 0 where
+  pub each : length witnesses ≡ length members
+  pub points : All (IsPointFor model) witnesses
+
+-- a set of the kind that the command may be answered with
+abbrev pub IsFound : Program → Command → Found → Type 0
+IsFound model Check (Found.Members members) = AreMembers model members
+IsFound model (Iis method) (Found.Witnessed members witnesses) = AreMembers model members × AreWitnesses model members witnesses
+IsFound model command _ = ⊥
+
+-- members with witnesses, and one member more
+abbrev pub IsOneMore : Program → Command → List Member → List Point → Member → Type 0
+IsOneMore model Check members witnesses m = ⊥
+IsOneMore model (Pivots n) members witnesses m = ⊥
+IsOneMore model (Iis method) members witnesses m = AreMembers model (members ++ m ∷ []) × AreWitnesses model members witnesses
+
+-- active members in order, with words for names
+pub record AreLeftOut (model : Program) (left : List Member) : Type 0 where
+  pub members : AreMembers model left
+  pub active : All (λ m. IsTrue (is_active model m)) left
+
+-- a part of a stop
+abbrev pub IsStopPart : Program → StopPart → Type 0
+IsStopPart model StopPart.Wide = ⊤
+IsStopPart model (StopPart.WideSite left) = AreLeftOut model left
+IsStopPart model (StopPart.WideStep left k) = AreLeftOut model left × IsCount k
+IsStopPart model (StopPart.WideOperation left k o) = AreLeftOut model left × (IsCount k × IsOperation o)
+IsStopPart model StopPart.Spent = ⊤
+IsStopPart model (StopPart.SpentSite left) = AreLeftOut model left
+
+-- only a check, or the search for an irreducible set, is answered by more than one line
+abbrev pub Asks : Command → Type 0
+Asks (Pivots n) = ⊥
+Asks command = ⊤
+
+-- a part of an answer to the command
+abbrev pub IsPartFor : Program → Command → Part → Type 0
+IsPartFor model command Part.Nothing = ⊤
+IsPartFor model command Part.Feasible = Asks command
+IsPartFor model command (Part.Point values) = Asks command × AreValues model values
+IsPartFor model command (Part.Listed found) = IsFound model command found
+IsPartFor model command (Part.Member members witnesses m) = IsOneMore model command members witnesses m
+IsPartFor model command (Part.Witness members witnesses m values) = IsOneMore model command members witnesses m × AreValues model values
+IsPartFor model command (Part.Proof found) = IsFound model command found
+IsPartFor model command (Part.Leaf found shares) = IsFound model command found × AreUses model shares
+IsPartFor model command (Part.Stop part) = Asks command × IsStopPart model part
+
+-- nothing is read at the start; a command stands on the line after what is read before it
+abbrev pub IsStageFor : Program → List Note → List Entry → Stage → Type 0
+IsStageFor model notes entries Stage.Start = (notes ≡ []) × (entries ≡ [])
+IsStageFor model notes entries Stage.Between = ⊤
+IsStageFor model notes entries Stage.Done = ⊤
+IsStageFor model notes entries (Stage.Answering question part) =
+    (question.line ≡ 2 + (length notes + length (flat_map (entry_lines model) entries))) × (IsCommand question.command × IsPartFor model question.command part)
+
+-- notes and entries as a report has them, and a part of one more
+pub record IsDraftFor (model : Program) (draft : Draft) : Type 0 where
+  pub notes : All (λ note. IsNamedColumn model (noted_column note)) draft.notes
+  pub entries : All (IsEntryFor model) draft.entries
+  pub numbered : AreNumbered model (2 + length draft.notes) draft.entries
+  pub stage : IsStageFor model draft.notes draft.entries draft.stage

@@ -1,0 +1,6 @@
+pub mod Parts
+pub mod Reading
+pub mod Phrases
+pub mod Drafts
+pub mod Words
+pub mod Commands

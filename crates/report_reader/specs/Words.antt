@@ -1,0 +1,63 @@
+-- What a word says, if it says something: the first of a list that is spelled so.
+use Rattle.std.specs.Prelude.{◌≡◌, ℕ, List, [], ◌∷◌, Option, Some, find, IfSome, decimal}
+use Rattle.std.specs.Str.{bytes_eq}
+use Rattle.report_reader.specs.declared.phrases.Keyword.{Keyword}
+use Rattle.report_reader.specs.declared.phrases.Phrase.{Phrase}
+use Rattle.rational.specs.Rational.{ℚ}
+use Rattle.frac128.specs.Printed.{printed}
+use Rattle.lp_model.specs.Program.{Program}
+use Rattle.lp_model.specs.declared.members.Member.{Member}
+use Rattle.lp_model.specs.declared.members.Side.{Side}
+use Rattle.report_text.specs.Grammar.{column_name, name_of, kind_word, side_word}
+use Rattle.report_text.specs.Form.{IsNamedColumn, IsNamedMember, IsWithinLimit, IsCount}
+use Rattle.report_reader.specs.Phrases.{keyword_text, keyword_of, details, IsPhraseFor}
+
+-- the phrases of one word
+abbrev pub lone_phrases : List Phrase
+lone_phrases = Phrase.Feasible ∷ Phrase.Infeasible ∷ Phrase.Irreducible ∷ Phrase.Done ∷ Phrase.Point ∷ Phrase.Proof ∷ Phrase.Leaf ∷ Phrase.End ∷ []
+
+-- the phrase of one word that a word says
+abbrev pub lone_said : List ℕ → Option Phrase
+lone_said word = find (λ p. bytes_eq word (keyword_text (keyword_of p))) lone_phrases
+
+-- the keywords with words behind them
+abbrev pub leading_keywords : List Keyword
+leading_keywords = Keyword.Value ∷ Keyword.Use ∷ Keyword.Member ∷ Keyword.Command ∷ Keyword.Too ∷ Keyword.Pivots ∷ Keyword.Site ∷ Keyword.Without ∷ Keyword.Step ∷ Keyword.Operation ∷ Keyword.Note ∷ Keyword.Iisan ∷ Keyword.Report ∷ []
+
+-- the keyword among these that a word is
+abbrev pub leading_said : List ℕ → Option Keyword
+leading_said word = find (λ k. bytes_eq word (keyword_text k)) leading_keywords
+
+-- ---- lines
+-- the phrase has this keyword and these words behind it
+pub record IsSpelled (model : Program) (k : Keyword) (words : List (List ℕ)) (p : Phrase) : Type 0 where
+  pub form : IsPhraseFor model p
+  pub keyword : keyword_of p ≡ k
+  pub behind : words ≡ details model p
+
+-- a result is the one element that something is said of, and none where there is no such element
+pub record Finds {X : Type 0} (Is : X → Type 0) (result : Option X) : Type 0 where
+  pub found : IfSome result Is
+  pub all : (x : X) → Is x → result ≡ Some x
+
+-- the member has this kind and this name
+pub record IsMemberSaid (model : Program) (word name : List ℕ) (m : Member) : Type 0 where
+  pub named : IsNamedMember model m
+  pub kind : word ≡ kind_word m
+  pub called : name ≡ name_of model m
+
+-- the column has this name
+abbrev pub IsColumnSaid : Program → List ℕ → ℕ → Type 0
+IsColumnSaid model name j = IsNamedColumn model j × (name ≡ column_name model j)
+
+-- the fraction is printed so
+abbrev pub IsFractionSaid : List ℕ → ℚ → Type 0
+IsFractionSaid text q = IsWithinLimit q × (text ≡ printed q)
+
+-- the count is printed so, in decimal without leading zeros
+abbrev pub IsCountSaid : List ℕ → ℕ → Type 0
+IsCountSaid text n = IsCount n × (text ≡ decimal n)
+
+-- the side is spelled so
+abbrev pub IsSideSaid : List ℕ → Side → Type 0
+IsSideSaid word side = word ≡ side_word side

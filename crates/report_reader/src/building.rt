@@ -1,0 +1,200 @@
+//! Lists with one element more, and the points, sets, proofs and answers that they are.
+ghost use Rattle.std.specs.Prelude.{◌≡◌, ◌≤◌, IfOk, All, AllPairs, IsTrue, length};
+ghost use Rattle.lp_model.specs.Members.{IsInOrder};
+ghost use Rattle.lp_model.specs.MemberSets.{IsMemberFor};
+ghost use Rattle.report_text.specs.Grammar.{left_out};
+ghost use Rattle.report_text.specs.Form.{share_before, IsNamedMember};
+ghost use Rattle.report_reader.specs.Drafts.{filled, point_of, leaf_of, set_of, answer_of, with_value, with_member, with_share, with_left_out, site_without, IsFound, AreLeftOut};
+ghost use Rattle.certs.specs.declared.solving.Stop.TheVariants.{Wide as TooWide, Pivots as Spent};
+
+use crate::drafts::{Found, Members};
+use crate::ordering::{member_follows, share_follows};
+use certs::{Combo, Node, Nodes, Path, Point, Proof, Share, Shares, Site, SiteKind, Stop, Values};
+use frac128::{Frac, Wide};
+use lp_model::{Member, MemberSet, Model};
+use report_text::{Answer, Command, Core};
+use std::alloc::{AllocError, Global};
+
+// Values with zeros behind them, up to so many.
+fn fill(mut values: Vec<Frac>, count: usize) -> Result<Vec<Frac>, AllocError>
+    requires { length values.items ≤ count }
+    ensures { IfOk result (λ v. v.items ≡ filled count values.items) }
+{
+    for _ in values.as_slice().len()..count {
+        values.push(Frac::whole(0))?;
+    }
+    Ok(values)
+}
+
+/// The values with one more, where its column comes after theirs.
+pub(crate) fn add_value(
+    values: Values,
+    column: u32,
+    value: Frac,
+) -> Result<Option<Values>, AllocError>
+    ensures { IfOk result (λ v. v ≡ with_value values column value) }
+{
+    let items = values.into_vec();
+    if items.as_slice().len() > column as usize {
+        return Ok(None);
+    }
+    let mut items = fill(items, column as usize)?;
+    items.push(value)?;
+    Ok(Some(Values::new(items)))
+}
+
+/// The point of the values, with 0 for each further column.
+pub(crate) fn make_point(model: &Model, values: Values) -> Result<Point, AllocError>
+    requires { length values ≤ length model.now.columns }
+    ensures { IfOk result (λ p. p ≡ point_of model.now values) }
+{
+    let items = fill(values.into_vec(), model.column_count() as usize)?;
+    Ok(Point {
+        values: Values::new(items),
+    })
+}
+
+/// The members with one more, where it comes after all of them.
+pub(crate) fn add_member(members: Members, member: Member) -> Result<Option<Members>, AllocError>
+    requires { IsInOrder members }
+    ensures { IfOk result (λ m. m ≡ with_member members member) }
+{
+    if !member_follows(members.as_slice(), member) {
+        return Ok(None);
+    }
+    let mut items = members.into_vec();
+    items.push(member)?;
+    Ok(Some(Members::new(items)))
+}
+
+/// The active members that are left out with one more, where it is active and comes after all of them.
+pub(crate) fn add_left_out(
+    model: &Model,
+    left: Members,
+    member: Member,
+) -> Result<Option<Members>, AllocError>
+    requires named { IsNamedMember model.now member }
+    requires in_order { IsInOrder left }
+    ensures { IfOk result (λ m. m ≡ with_left_out model.now left member) }
+{
+    if !model.is_active(member) {
+        return Ok(None);
+    }
+    add_member(left, member)
+}
+
+/// The shares with one more, where it comes after all of them.
+pub(crate) fn add_share(shares: Shares, share: Share) -> Result<Option<Shares>, AllocError>
+    requires { AllPairs (λ s t. IsTrue (share_before s.source s.side t.source t.side)) shares }
+    ensures { IfOk result (λ s. s ≡ with_share shares share) }
+{
+    if !share_follows(shares.as_slice(), share.source, share.side) {
+        return Ok(None);
+    }
+    let mut items = shares.into_vec();
+    items.push(share)?;
+    Ok(Some(Shares::new(items)))
+}
+
+// The set of the members.
+fn make_set(alloc: Global, model: &Model, members: &[Member]) -> Result<MemberSet, AllocError>
+    requires possible { All (IsMemberFor (length model.now.rows) (length model.now.columns)) members.now }
+    requires in_order { IsInOrder members.now }
+    ensures { IfOk result (λ s. s ≡ set_of model.now members.now) }
+{
+    let mut set = MemberSet::empty(alloc, model)?;
+    for member in members {
+        set.insert(*member);
+    }
+    Ok(set)
+}
+
+// The proof of one leaf.
+fn make_leaf(alloc: Global, shares: Shares) -> Result<Proof, AllocError>
+    ensures { IfOk result (λ p. p ≡ leaf_of shares) }
+{
+    let mut nodes = Vec::new(alloc);
+    nodes.push(Node::Leaf(Combo { shares }))?;
+    Ok(Proof {
+        nodes: Nodes::new(nodes),
+    })
+}
+
+/// The answer that a set with its leaf is.
+pub(crate) fn make_answer(
+    alloc: Global,
+    model: &Model,
+    command: Command,
+    found: Found,
+    shares: Shares,
+) -> Result<Answer, AllocError>
+    requires { IsFound model.now command found }
+    ensures { IfOk result (λ a. a ≡ answer_of model.now found shares) }
+{
+    let proof = make_leaf(alloc, shares)?;
+    match found {
+        Found::Members(members) => {
+            let set = make_set(alloc, model, members.as_slice())?;
+            Ok(Answer::Infeasible(set, proof))
+        }
+        Found::Witnessed(members, witnesses) => {
+            let members = make_set(alloc, model, members.as_slice())?;
+            Ok(Answer::Irreducible(Core {
+                members,
+                witnesses,
+                proof,
+            }))
+        }
+    }
+}
+
+// The set of the active members but these.
+fn make_others(alloc: Global, model: &Model, left: &[Member]) -> Result<MemberSet, AllocError>
+    requires { All (IsMemberFor (length model.now.rows) (length model.now.columns)) left.now }
+    ensures { IfOk result (λ s. s ≡ set_of model.now (left_out model.now left.now)) }
+{
+    let mut set = model.members(alloc)?;
+    for member in left {
+        set.remove(*member);
+    }
+    Ok(set)
+}
+
+// The settle run of the active members but these.
+fn make_site(alloc: Global, model: &Model, left: &Members) -> Result<Site, AllocError>
+    requires { AreLeftOut model.now left.now }
+    ensures { IfOk result (λ s. s ≡ site_without model.now left.now) }
+{
+    let set = make_others(alloc, model, left.as_slice())?;
+    let enforced = MemberSet::empty(alloc, model)?;
+    Ok(Site {
+        kind: SiteKind::Settle,
+        set,
+        enforced,
+        path: Path::new(Vec::new(alloc)),
+    })
+}
+
+/// The stop at an operation that is too wide, in the turn with this number.
+pub(crate) fn make_wide(
+    alloc: Global,
+    model: &Model,
+    left: &Members,
+    step: u64,
+    wide: Wide,
+) -> Result<Answer, AllocError>
+    requires { AreLeftOut model.now left.now }
+    ensures { IfOk result (λ a. a ≡ Answer.Stopped (TooWide (site_without model.now left.now) step wide)) }
+{
+    let site = make_site(alloc, model, left)?;
+    Ok(Answer::Stopped(Stop::Wide(site, step, wide)))
+}
+
+/// The stop where no pivot is left.
+pub(crate) fn make_spent(alloc: Global, model: &Model, left: &Members) -> Result<Answer, AllocError>
+    requires { AreLeftOut model.now left.now }
+    ensures { IfOk result (λ a. a ≡ Answer.Stopped (Spent (site_without model.now left.now))) }
+{
+    let site = make_site(alloc, model, left)?;
+    Ok(Answer::Stopped(Stop::Pivots(site)))
+}

@@ -1,0 +1,156 @@
+//! The commands of scripts.
+ghost use Rattle.std.specs.Prelude.{◌≡◌, ◌≤◌, All, length, map, IfOk, IfErr, IfSome, Some};
+ghost use Rattle.text_fields.specs.Lines.{text_of};
+ghost use Rattle.text_fields.specs.Fields.{IsInside};
+ghost use Rattle.report_text.specs.Form.{most_pivots, IsCommand};
+ghost use Rattle.report_reader.specs.Commands.{pivots_of, lone_command, method_of, iis_command, budget_command, command_said, command_of, command_stop, IsCommandStop, CommandLaw};
+ghost use Rattle.report_reader.specs.declared.commands.CommandStop.{CommandStop};
+
+use report_text::{Command, Method};
+use std::alloc::Global;
+use text_fields::{FieldStop, Line, Span, fields};
+use thiserror::Error;
+
+// The most pivots that a budget may be.
+const MOST_PIVOTS: u64 = 1_000_000;
+
+/// Why a line was not read as a command: it is none, or memory was refused.
+#[derive(Clone, Copy, PartialEq, Eq, Debug, Error)]
+pub enum CommandStop {
+    #[error("bad command")]
+    Bad,
+    #[error("want of memory")]
+    Memory,
+}
+
+impl From<FieldStop> for CommandStop {
+    ghost from_gives = { λ stop command. command ≡ command_stop stop };
+
+    fn from(stop: FieldStop) -> CommandStop {
+        match stop {
+            FieldStop::Text(_) => CommandStop::Bad,
+            FieldStop::Memory => CommandStop::Memory,
+        }
+    }
+}
+
+// The number of pivots that digits write.
+fn number_of_pivots(word: &[u8]) -> Option<u64>
+    ensures { result ≡ pivots_of word.now }
+{
+    if word.is_empty() {
+        return None;
+    }
+    let mut value: u64 = 0;
+    for b in word {
+        if *b < b'0' || *b > b'9' {
+            return None;
+        }
+        value = value * 10 + u64::from(*b - b'0');
+        if value > MOST_PIVOTS {
+            return None;
+        }
+    }
+    Some(value)
+}
+
+// `check`.
+fn read_lone(word: &[u8]) -> Option<Command>
+    ensures { result ≡ lone_command word.now }
+{
+    if word == b"check".as_slice() {
+        return Some(Command::Check);
+    }
+    None
+}
+
+// The method that a word names.
+fn read_method(word: &[u8]) -> Option<Method>
+    ensures { result ≡ method_of word.now }
+{
+    if word == b"deletion".as_slice() {
+        return Some(Method::Deletion);
+    }
+    if word == b"additive".as_slice() {
+        return Some(Method::Additive);
+    }
+    if word == b"sensitivity".as_slice() {
+        return Some(Method::Sensitivity);
+    }
+    None
+}
+
+// `iis`, and a method.
+fn read_search(first: &[u8], second: &[u8]) -> Option<Command>
+    ensures { result ≡ iis_command first.now second.now }
+{
+    if first != b"iis".as_slice() {
+        return None;
+    }
+    let Some(method) = read_method(second) else {
+        return None;
+    };
+    Some(Command::Iis(method))
+}
+
+// `budget pivots`, and a number.
+fn read_budget(first: &[u8], second: &[u8], third: &[u8]) -> Option<Command>
+    ensures { result ≡ budget_command first.now second.now third.now }
+{
+    if first != b"budget".as_slice() {
+        return None;
+    }
+    if second != b"pivots".as_slice() {
+        return None;
+    }
+    let Some(pivots) = number_of_pivots(third) else {
+        return None;
+    };
+    Some(Command::Pivots(pivots))
+}
+
+// What the fields say.
+fn read_fields(text: &[u8], spans: &[Span]) -> Option<Command>
+    requires { All (IsInside text.now) spans.now }
+    ensures { result ≡ command_said (map (text_of text.now) spans.now) }
+{
+    match spans {
+        [word] => read_lone(word.text(text)),
+        [first, second] => read_search(first.text(text), second.text(text)),
+        [first, second, third] => {
+            read_budget(first.text(text), second.text(text), third.text(text))
+        }
+        _ => None,
+    }
+}
+
+/// The command that a line is, which stands without its end.
+///
+/// Its fields, which blanks (32, 9 and 13) part, are `check`; or `iis` and `deletion`, `additive` or `sensitivity`; or
+/// `budget`, `pivots` and a number of at most 1,000,000 in one digit or more. Everything else is `Bad`, and so is a line
+/// of more than 65,536 bytes. `Memory` comes where memory was refused.
+pub fn read_command(alloc: Global, text: &[u8]) -> Result<Command, CommandStop>
+    // The line is the command.
+    ensures command { IfOk result (λ command. command_of text.now ≡ Some command) }
+    // A script may have it.
+    ensures built { IfOk result IsCommand }
+    // A line that is none is refused as such.
+    ensures stop { IfErr result (IsCommandStop text.now) }
+{
+    let line = Line {
+        number: 1,
+        from: 0,
+        to: text.len(),
+    };
+    let mut spans = Vec::new(alloc);
+    fields(text, &line, &mut spans)?;
+    let Some(command) = read_fields(text, spans.as_slice()) else {
+        return Err(CommandStop::Bad);
+    };
+    Ok(command)
+}
+
+/// A command of a script is read from its own text, and no other command is. It does nothing when it runs.
+pub fn command_law()
+    ensures { CommandLaw }
+{}

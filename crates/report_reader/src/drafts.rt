@@ -1,0 +1,128 @@
+//! How far a report is read.
+ghost use Rattle.std.specs.Prelude.{◌≡◌};
+
+use certs::{Shares, Values};
+use frac128::Wide;
+use lp_model::Member;
+use report_text::{Answer, Command, Entries, Notes, Witnesses};
+use std::marker::Model;
+
+/// Members, as a list.
+#[derive(Drop)]
+pub(crate) struct Members {
+    items: Vec<Member>,
+}
+
+impl Model for Members {
+    ghost use Rattle.std.specs.Prelude.{List};
+    ghost use Rattle.lp_model.specs.declared.members.Member.{Member};
+
+    ghost Value = { List Member };
+
+    ghost view = { λ m. m.items.items };
+}
+
+impl Members {
+    /// These members.
+    pub(crate) fn new(items: Vec<Member>) -> Members
+        ensures { result ≡ items.items }
+    {
+        Members { items }
+    }
+
+    /// The members.
+    pub(crate) fn as_slice(&self) -> &[Member]
+        ensures { result.now ≡ self.now }
+    {
+        self.items.as_slice()
+    }
+
+    /// The members, given back.
+    pub(crate) fn into_vec(self) -> Vec<Member>
+        ensures { result.items ≡ self }
+    {
+        self.items
+    }
+}
+
+/// What stands before a proof: members, or members with a witness for each.
+#[derive(Drop)]
+pub(crate) enum Found {
+    Members(Members),
+    Witnessed(Members, Witnesses),
+}
+
+/// The command that is being answered, and the number of its line.
+#[derive(Clone, Copy, PartialEq, Eq, Debug)]
+pub(crate) struct Question {
+    pub(crate) command: Command,
+    pub(crate) line: u64,
+}
+
+/// How far a stop is read.
+#[derive(Drop)]
+pub(crate) enum StopPart {
+    /// `too wide`.
+    Wide,
+    /// The same, the site, and the active members so far that are not in its set.
+    WideSite(Members),
+    /// The same, and the number of the turn.
+    WideStep(Members, u64),
+    /// The same, and the operation.
+    WideOperation(Members, u64, Wide),
+    /// `pivots spent`.
+    Spent,
+    /// The same, the site, and the active members so far that are not in its set.
+    SpentSite(Members),
+}
+
+/// How far an answer is read.
+#[derive(Drop)]
+pub(crate) enum Part {
+    /// The command alone.
+    Nothing,
+    /// `feasible`.
+    Feasible,
+    /// A point, up to its last value that is not 0.
+    Point(Values),
+    /// Members of an infeasible set, or of an irreducible one with their witnesses.
+    Listed(Found),
+    /// Members with their witnesses, and one member more.
+    Member(Members, Witnesses, Member),
+    /// The same, and a part of the last member's witness.
+    Witness(Members, Witnesses, Member, Values),
+    /// `proof`.
+    Proof(Found),
+    /// A leaf and its shares so far.
+    Leaf(Found, Shares),
+    /// A stop.
+    Stop(StopPart),
+}
+
+/// What an answer is after one line more.
+#[derive(Drop)]
+pub(crate) enum Next {
+    More(Part),
+    Whole(Answer),
+}
+
+/// Where the next line stands.
+#[derive(Drop)]
+pub(crate) enum Stage {
+    /// Nothing is read.
+    Start,
+    /// The head and whole entries are read.
+    Between,
+    /// An answer is begun.
+    Answering(Question, Part),
+    /// The last line is read.
+    Done,
+}
+
+/// The notes and whole entries that are read, and where the next line stands.
+#[derive(Drop)]
+pub(crate) struct Draft {
+    pub(crate) notes: Notes,
+    pub(crate) entries: Entries,
+    pub(crate) stage: Stage,
+}

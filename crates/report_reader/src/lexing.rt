@@ -1,0 +1,289 @@
+//! What a line says.
+ghost use Rattle.std.specs.Prelude.{◌≡◌, List, [], ◌∷◌, ℕ};
+ghost use Rattle.report_reader.specs.Parts.{parts, AreWords};
+ghost use Rattle.rational.specs.Rational.{zero_ℚ, ◌<ℚ◌};
+ghost use Rattle.lp_model.specs.Program.{Program};
+ghost use Rattle.report_text.specs.Grammar.{method_word};
+ghost use Rattle.report_reader.specs.Phrases.{Says};
+ghost use Rattle.report_reader.specs.Words.{Finds, IsSpelled, IsFractionSaid};
+
+use crate::keywords::{leading_keyword, lone_phrase};
+use crate::naming::{column_of, count_of, fraction_of, member_of, side_of};
+use crate::parts::{Words, cut, split_words};
+use crate::phrases::{Keyword, Phrase};
+use crate::stop_words::{
+    read_operation, read_pivots, read_site, read_step, read_too, read_without,
+};
+use certs::{Share, Source};
+use frac128::Frac;
+use lp_model::{Model, Note, Side};
+use report_text::{Command, Method};
+
+// The most pivots that a budget may be.
+const MOST_PIVOTS: u64 = 1_000_000;
+
+// A method.
+fn method_of(word: &[u8]) -> Option<Method>
+    ensures { Finds (λ m. word.now ≡ method_word m) result }
+{
+    if word == b"deletion".as_slice() {
+        return Some(Method::Deletion);
+    }
+    if word == b"additive".as_slice() {
+        return Some(Method::Additive);
+    }
+    if word == b"sensitivity".as_slice() {
+        return Some(Method::Sensitivity);
+    }
+    None
+}
+
+// `report end`.
+fn read_foot(word: &[u8]) -> Option<Phrase>
+    ensures { (model : Program) → Finds (IsSpelled model Keyword.Report (word.now ∷ [])) result }
+{
+    if word == b"end".as_slice() {
+        return Some(Phrase::Foot);
+    }
+    None
+}
+
+// `command check`.
+fn read_check(word: &[u8]) -> Option<Phrase>
+    ensures { (model : Program) → Finds (IsSpelled model Keyword.Command (word.now ∷ [])) result }
+{
+    if word == b"check".as_slice() {
+        return Some(Phrase::Command(Command::Check));
+    }
+    None
+}
+
+// What one word says behind a keyword.
+fn read_one(keyword: Keyword, word: &[u8]) -> Option<Phrase>
+    ensures { (model : Program) → Finds (IsSpelled model keyword (word.now ∷ [])) result }
+{
+    match keyword {
+        Keyword::Report => read_foot(word),
+        Keyword::Command => read_check(word),
+        Keyword::Too => read_too(word),
+        Keyword::Pivots => read_pivots(word),
+        Keyword::Site => read_site(word),
+        Keyword::Step => read_step(word),
+        _ => None,
+    }
+}
+
+// `iisan report 1`.
+fn read_head(first: &[u8], second: &[u8]) -> Option<Phrase>
+    ensures { (model : Program) → Finds (IsSpelled model Keyword.Iisan (first.now ∷ second.now ∷ [])) result }
+{
+    if first == b"report".as_slice() && second == b"1".as_slice() {
+        return Some(Phrase::Head);
+    }
+    None
+}
+
+// A command that looks for an irreducible set.
+fn read_command(first: &[u8], second: &[u8]) -> Option<Phrase>
+    ensures { (model : Program) → Finds (IsSpelled model Keyword.Command (first.now ∷ second.now ∷ [])) result }
+{
+    if first != b"iis".as_slice() {
+        return None;
+    }
+    let Some(method) = method_of(second) else {
+        return None;
+    };
+    Some(Phrase::Command(Command::Iis(method)))
+}
+
+// The value of a column, which is not 0.
+fn read_value(model: &Model, name: &[u8], number: &[u8]) -> Option<Phrase>
+    ensures { Finds (IsSpelled model.now Keyword.Value (name.now ∷ number.now ∷ [])) result }
+{
+    let Some(column) = column_of(model, name) else {
+        return None;
+    };
+    let Some(value) = fraction_of(number) else {
+        return None;
+    };
+    if value == Frac::whole(0) {
+        return None;
+    }
+    Some(Phrase::Value(column, value))
+}
+
+// A member.
+fn read_member(model: &Model, kind: &[u8], name: &[u8]) -> Option<Phrase>
+    ensures { Finds (IsSpelled model.now Keyword.Member (kind.now ∷ name.now ∷ [])) result }
+{
+    let Some(member) = member_of(model, kind, name) else {
+        return None;
+    };
+    Some(Phrase::Member(member))
+}
+
+// What two words say behind a keyword.
+fn read_two(model: &Model, keyword: Keyword, first: &[u8], second: &[u8]) -> Option<Phrase>
+    ensures { Finds (IsSpelled model.now keyword (first.now ∷ second.now ∷ [])) result }
+{
+    match keyword {
+        Keyword::Iisan => read_head(first, second),
+        Keyword::Command => read_command(first, second),
+        Keyword::Value => read_value(model, first, second),
+        Keyword::Member => read_member(model, first, second),
+        Keyword::Without => read_without(model, first, second),
+        _ => None,
+    }
+}
+
+// A note on a lower bound.
+fn read_note(model: &Model, name: &[u8], lower: &[u8], done: &[u8]) -> Option<Phrase>
+    ensures { Finds (IsSpelled model.now Keyword.Note (name.now ∷ lower.now ∷ done.now ∷ [])) result }
+{
+    let Some(column) = column_of(model, name) else {
+        return None;
+    };
+    if lower != b"lower".as_slice() {
+        return None;
+    }
+    if done == b"removed".as_slice() {
+        return Some(Phrase::Note(Note::LowerRemoved(column)));
+    }
+    if done == b"kept".as_slice() {
+        return Some(Phrase::Note(Note::LowerKept(column)));
+    }
+    None
+}
+
+// A weight above 0.
+fn weight_of(text: &[u8]) -> Option<Frac>
+    ensures { Finds (λ w. IsFractionSaid text.now w × (zero_ℚ <ℚ w)) result }
+{
+    let Some(weight) = fraction_of(text) else {
+        return None;
+    };
+    if Frac::whole(0) < weight {
+        return Some(weight);
+    }
+    None
+}
+
+// A share of the branches on a column.
+fn read_branch(model: &Model, which: &[u8], name: &[u8], number: &[u8]) -> Option<Phrase>
+    ensures { Finds (IsSpelled model.now Keyword.Use (which.now ∷ name.now ∷ number.now ∷ [])) result }
+{
+    let Some(column) = column_of(model, name) else {
+        return None;
+    };
+    let Some(weight) = weight_of(number) else {
+        return None;
+    };
+    if which == b"below".as_slice() {
+        return Some(Phrase::Use(Share {
+            source: Source::Below(column),
+            side: Side::Up,
+            weight,
+        }));
+    }
+    if which == b"above".as_slice() {
+        return Some(Phrase::Use(Share {
+            source: Source::Above(column),
+            side: Side::Lo,
+            weight,
+        }));
+    }
+    None
+}
+
+// A command that sets the budget of pivots.
+fn read_budget(first: &[u8], second: &[u8], third: &[u8]) -> Option<Phrase>
+    ensures { (model : Program) → Finds (IsSpelled model Keyword.Command (first.now ∷ second.now ∷ third.now ∷ [])) result }
+{
+    if first != b"budget".as_slice() || second != b"pivots".as_slice() {
+        return None;
+    }
+    let Some(count) = count_of(third) else {
+        return None;
+    };
+    if count > MOST_PIVOTS {
+        return None;
+    }
+    Some(Phrase::Command(Command::Pivots(count)))
+}
+
+// What three words say behind a keyword.
+fn read_three(
+    model: &Model,
+    keyword: Keyword,
+    first: &[u8],
+    second: &[u8],
+    third: &[u8],
+) -> Option<Phrase>
+    ensures { Finds (IsSpelled model.now keyword (first.now ∷ second.now ∷ third.now ∷ [])) result }
+{
+    match keyword {
+        Keyword::Command => read_budget(first, second, third),
+        Keyword::Note => read_note(model, first, second, third),
+        Keyword::Operation => read_operation(first, second, third),
+        Keyword::Use => read_branch(model, first, second, third),
+        _ => None,
+    }
+}
+
+// A share of a member: what four words say.
+fn read_share(
+    model: &Model,
+    keyword: Keyword,
+    kind: &[u8],
+    name: &[u8],
+    side: &[u8],
+    number: &[u8],
+) -> Option<Phrase>
+    ensures { Finds (IsSpelled model.now keyword (kind.now ∷ name.now ∷ side.now ∷ number.now ∷ [])) result }
+{
+    if keyword != Keyword::Use {
+        return None;
+    }
+    let Some(member) = member_of(model, kind, name) else {
+        return None;
+    };
+    let Some(side) = side_of(side) else {
+        return None;
+    };
+    let Some(weight) = weight_of(number) else {
+        return None;
+    };
+    Some(Phrase::Use(Share {
+        source: Source::Member(member),
+        side,
+        weight,
+    }))
+}
+
+// What words say behind a keyword.
+fn read_details(model: &Model, keyword: Keyword, words: Words<'_>) -> Option<Phrase>
+    ensures { (ws : List (List ℕ)) → AreWords words.entry ws → Finds (IsSpelled model.now keyword ws) result }
+{
+    match words {
+        Words::One(word) => read_one(keyword, word),
+        Words::Two(first, second) => read_two(model, keyword, first, second),
+        Words::Three(first, second, third) => read_three(model, keyword, first, second, third),
+        Words::Four(kind, name, side, number) => {
+            read_share(model, keyword, kind, name, side, number)
+        }
+        Words::More => None,
+    }
+}
+
+/// What a line says, by the names of the model.
+pub(crate) fn read_phrase(model: &Model, line: &[u8]) -> Option<Phrase>
+    ensures { Finds (Says model.now line.now) result }
+{
+    let Some((first, rest)) = cut(line, b' ') else {
+        return lone_phrase(line);
+    };
+    let Some(keyword) = leading_keyword(first) else {
+        return None;
+    };
+    read_details(model, keyword, split_words(rest))
+}

@@ -1,0 +1,130 @@
+//! Names, sides, fractions and counts of single words.
+ghost use Rattle.std.specs.Prelude.{◌≡◌, ◌<◌, ◌^◌, ℕ, Some, codes, decimal};
+ghost use Rattle.std.specs.List.{list_all};
+ghost use Rattle.report_text.specs.Names.{is_shown};
+ghost use Rattle.report_text.specs.Form.{is_word};
+ghost use Rattle.report_reader.specs.Words.{Finds, IsColumnSaid, IsCountSaid, IsMemberSaid, IsFractionSaid, IsSideSaid};
+
+use frac128::{Exact, Frac, read_fraction};
+use itoa::Buffer;
+use lp_model::{Member, Model, Side};
+
+// Whether each byte may stand in a name.
+fn all_shown(word: &[u8]) -> bool
+    ensures { result ≡ list_all is_shown word.now }
+{
+    word.iter().all(|b| *b >= 33 && *b <= 126)
+}
+
+// Whether a name is a word.
+fn is_plain(name: &[u8]) -> bool
+    ensures { result ≡ is_word name.now }
+{
+    !name.is_empty() && all_shown(name)
+}
+
+/// The column with the name, where the name is a word.
+pub(crate) fn column_of(model: &Model, name: &[u8]) -> Option<u32>
+    ensures { Finds (IsColumnSaid model.now name.now) result }
+{
+    // That no two columns have one name is told with the count.
+    let _rows = model.row_count();
+    if !is_plain(name) {
+        return None;
+    }
+    let Ok(column) = model.column_named(name) else {
+        return None;
+    };
+    Some(column)
+}
+
+// The row with the name, where the name is a word.
+fn row_of(model: &Model, name: &[u8]) -> Option<u32>
+    ensures { Finds (λ i. IsMemberSaid model.now (codes "row") name.now (Member.Row i)) result }
+{
+    let _rows = model.row_count();
+    if !is_plain(name) {
+        return None;
+    }
+    let Ok(row) = model.row_named(name) else {
+        return None;
+    };
+    Some(row)
+}
+
+/// The member of that kind with the name, where the name is a word.
+pub(crate) fn member_of(model: &Model, kind: &[u8], name: &[u8]) -> Option<Member>
+    ensures { Finds (IsMemberSaid model.now kind.now name.now) result }
+{
+    if kind == b"row".as_slice() {
+        let Some(row) = row_of(model, name) else {
+            return None;
+        };
+        return Some(Member::Row(row));
+    }
+    let Some(column) = column_of(model, name) else {
+        return None;
+    };
+    if kind == b"lower".as_slice() {
+        return Some(Member::Lower(column));
+    }
+    if kind == b"upper".as_slice() {
+        return Some(Member::Upper(column));
+    }
+    if kind == b"whole".as_slice() {
+        return Some(Member::Whole(column));
+    }
+    None
+}
+
+/// The side that a word is.
+pub(crate) fn side_of(word: &[u8]) -> Option<Side>
+    ensures { Finds (IsSideSaid word.now) result }
+{
+    if word == b"lo".as_slice() {
+        return Some(Side::Lo);
+    }
+    if word == b"up".as_slice() {
+        return Some(Side::Up);
+    }
+    None
+}
+
+/// The fraction that is printed so.
+pub(crate) fn fraction_of(text: &[u8]) -> Option<Frac>
+    ensures { Finds (IsFractionSaid text.now) result }
+{
+    let Some(value) = read_fraction(text) else {
+        return None;
+    };
+    // That the fraction fits is told with its widening.
+    let value = value.widen();
+    Some(value)
+}
+
+// The count that the text may be the printed form of: the only one, where it is that of any.
+fn read_count(text: &[u8]) -> Option<u64>
+    ensures { (n : ℕ) → n < 2 ^ 64 → text.now ≡ decimal n → result ≡ Some n }
+{
+    let Ok(digits) = str::from_utf8(text) else {
+        return None;
+    };
+    let Ok(count) = digits.parse::<u64>() else {
+        return None;
+    };
+    Some(count)
+}
+
+/// The count that is printed so.
+pub(crate) fn count_of(text: &[u8]) -> Option<u64>
+    ensures { Finds (IsCountSaid text.now) result }
+{
+    let Some(count) = read_count(text) else {
+        return None;
+    };
+    let mut buffer = Buffer::new();
+    if text != buffer.format(count).as_bytes() {
+        return None;
+    }
+    Some(count)
+}

@@ -1,0 +1,118 @@
+//! What the words of a stop say.
+ghost use Rattle.std.specs.Prelude.{◌≡◌, [], ◌∷◌};
+ghost use Rattle.lp_model.specs.Program.{Program};
+ghost use Rattle.report_text.specs.Grammar.{op_word, site_word};
+ghost use Rattle.report_reader.specs.Words.{Finds, IsSpelled};
+
+use crate::naming::{count_of, fraction_of, member_of};
+use crate::phrases::{Keyword, Phrase, StopPhrase};
+use certs::SiteKind;
+use frac128::{Op, Wide};
+use lp_model::Model;
+
+// The kind of a site.
+fn kind_of(word: &[u8]) -> Option<SiteKind>
+    ensures { Finds (λ k. word.now ≡ site_word k) result }
+{
+    if word == b"settle".as_slice() {
+        return Some(SiteKind::Settle);
+    }
+    if word == b"improve".as_slice() {
+        return Some(SiteKind::Improve);
+    }
+    if word == b"stretch".as_slice() {
+        return Some(SiteKind::Stretch);
+    }
+    if word == b"relax".as_slice() {
+        return Some(SiteKind::Relax);
+    }
+    if word == b"alternative".as_slice() {
+        return Some(SiteKind::Alternative);
+    }
+    None
+}
+
+// The kind of an operation.
+fn op_of(word: &[u8]) -> Option<Op>
+    ensures { Finds (λ o. word.now ≡ op_word o) result }
+{
+    if word == b"plus".as_slice() {
+        return Some(Op::Plus);
+    }
+    if word == b"minus".as_slice() {
+        return Some(Op::Minus);
+    }
+    if word == b"times".as_slice() {
+        return Some(Op::Times);
+    }
+    if word == b"over".as_slice() {
+        return Some(Op::Over);
+    }
+    None
+}
+
+/// `too wide`.
+pub(crate) fn read_too(word: &[u8]) -> Option<Phrase>
+    ensures { (model : Program) → Finds (IsSpelled model Keyword.Too (word.now ∷ [])) result }
+{
+    if word == b"wide".as_slice() {
+        return Some(Phrase::Stop(StopPhrase::Wide));
+    }
+    None
+}
+
+/// `pivots spent`.
+pub(crate) fn read_pivots(word: &[u8]) -> Option<Phrase>
+    ensures { (model : Program) → Finds (IsSpelled model Keyword.Pivots (word.now ∷ [])) result }
+{
+    if word == b"spent".as_slice() {
+        return Some(Phrase::Stop(StopPhrase::Spent));
+    }
+    None
+}
+
+/// The site of a stop.
+pub(crate) fn read_site(word: &[u8]) -> Option<Phrase>
+    ensures { (model : Program) → Finds (IsSpelled model Keyword.Site (word.now ∷ [])) result }
+{
+    let Some(kind) = kind_of(word) else {
+        return None;
+    };
+    Some(Phrase::Stop(StopPhrase::Site(kind)))
+}
+
+/// An active member that is not in the site's set.
+pub(crate) fn read_without(model: &Model, kind: &[u8], name: &[u8]) -> Option<Phrase>
+    ensures { Finds (IsSpelled model.now Keyword.Without (kind.now ∷ name.now ∷ [])) result }
+{
+    let Some(member) = member_of(model, kind, name) else {
+        return None;
+    };
+    Some(Phrase::Stop(StopPhrase::Without(member)))
+}
+
+/// The number of a turn.
+pub(crate) fn read_step(word: &[u8]) -> Option<Phrase>
+    ensures { (model : Program) → Finds (IsSpelled model Keyword.Step (word.now ∷ [])) result }
+{
+    let Some(step) = count_of(word) else {
+        return None;
+    };
+    Some(Phrase::Stop(StopPhrase::Step(step)))
+}
+
+/// An operation with its operands.
+pub(crate) fn read_operation(op: &[u8], left: &[u8], right: &[u8]) -> Option<Phrase>
+    ensures { (model : Program) → Finds (IsSpelled model Keyword.Operation (op.now ∷ left.now ∷ right.now ∷ [])) result }
+{
+    let Some(op) = op_of(op) else {
+        return None;
+    };
+    let Some(left) = fraction_of(left) else {
+        return None;
+    };
+    let Some(right) = fraction_of(right) else {
+        return None;
+    };
+    Some(Phrase::Stop(StopPhrase::Operation(Wide { op, left, right })))
+}

@@ -1,5 +1,0 @@
-use Rattle.report_text.proofs.OneEnding as ending
-use Rattle.report_text.proofs.laws.bad_is_not_truncated.Goals as goal
-
-pub returns : goal.returns
-returns c = ending.bad_is_not_truncated

@@ -1,5 +1,0 @@
-use Rattle.report_text.proofs.OneEnding as ending
-use Rattle.report_text.proofs.laws.one_bad_line.Goals as goal
-
-pub returns : goal.returns
-returns c = ending.one_bad_line

@@ -1,5 +1,0 @@
-use Rattle.report_text.proofs.OneReport as ending
-use Rattle.report_text.proofs.laws.one_report.Goals as goal
-
-pub returns : goal.returns
-returns c = ending.one_report
