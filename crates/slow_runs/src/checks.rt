@@ -6,15 +6,15 @@ ghost use Rattle.certs.specs.Turns.{settle_choice, settle_values};
 ghost use Rattle.dictionary.specs.Value.{tableau_of};
 ghost use Rattle.simplex.specs.Ends.{IsEnd};
 
-use super::*;
 use crate::plain::{Form, Plain, form, limited_variables, number, row, system};
+use crate::runs::slow_run;
+use crate::stops::SlowStop;
 use certs::{Share, Shares, Source, System};
 use dictionary::{Dictionary, is_formed};
 use frac128::{Frac, FracStop, Op, Wide};
 use lp_model::{Member, Side, Term, Terms};
 use simplex::{RunStop, Settled, combo_of, settle};
 use std::alloc::{AllocError, Global};
-use std::test::Fail;
 
 // The number 10^30.
 const HUGE: i128 = 1_000_000_000_000_000_000_000_000_000_000;
@@ -96,41 +96,82 @@ fn difference() -> Result<Wide, FracStop> {
     })
 }
 
-#[test]
-fn first_turn_too_wide(rt: HostRuntime) -> Result<(), Fail> {
-    let wide = difference()?;
+// Whether a settle run with so many pivots, after so many turns, stops in this turn, for want of pivots.
+fn spends(
+    alloc: Global,
+    system: &System,
+    budget: u32,
+    begun: u32,
+    turn: u64,
+) -> Result<bool, SlowStop> {
+    Ok(is_spent(stop_of(alloc, system, budget, begun)?, turn))
+}
+
+// Whether it stops in this turn with that difference, and the pivots but one for each turn before it are left.
+fn widens(
+    alloc: Global,
+    system: &System,
+    budget: u32,
+    begun: u32,
+    made: u32,
+) -> Result<bool, SlowStop> {
+    let Ok(wide) = difference() else {
+        return Ok(false);
+    };
+    let left = u64::from(budget.saturating_sub(made));
+    let turn = u64::from(begun)
+        .saturating_add(u64::from(made))
+        .saturating_add(1);
+    Ok(is_wide(stop_of(alloc, system, budget, begun)?, left, turn, wide))
+}
+
+// Whether the slow run itself is too wide.
+fn slow_widens(alloc: Global, system: &System, budget: u32) -> bool {
+    matches!(slow_run(alloc, system, budget), Err(SlowStop::TooWide))
+}
+
+// The plain system, with the two equations from this column on.
+fn wide_system(alloc: Global, plain: Plain<'_>, first: u32) -> Result<System, SlowStop> {
+    let mut system = system(alloc, plain)?;
+    let Ok(huge) = Frac::new(HUGE, 1) else {
+        return Err(SlowStop::TooWide);
+    };
+    add_wide_rows(alloc, &mut system, first, huge)?;
+    Ok(system)
+}
+
+/// Whether the first turn is too wide.
+pub(crate) fn first_turn_too_wide(alloc: Global) -> Result<bool, SlowStop> {
     let plain = Plain {
         columns: &[(Some(0), None), (Some(0), None)],
         rows: &[],
         objective: None,
     };
-    let mut system = system(rt.alloc(), plain)?;
-    add_wide_rows(rt.alloc(), &mut system, 0, wide.left)?;
-    assert!(rt; is_spent(stop_of(rt.alloc(), &system, 0, 0)?, 1));
-    for budget in 1..4 {
-        let stop = stop_of(rt.alloc(), &system, budget, 0)?;
-        assert!(rt; is_wide(stop, u64::from(budget), 1, wide));
-    }
-    assert!(rt; matches!(slow_run(rt.alloc(), &system, 1), Err(SlowStop::TooWide)));
-    Ok(())
+    let system = wide_system(alloc, plain, 0)?;
+    Ok(
+        spends(alloc, &system, 0, 0, 1)?
+            && widens(alloc, &system, 1, 0, 0)?
+            && widens(alloc, &system, 2, 0, 0)?
+            && widens(alloc, &system, 3, 0, 0)?
+            && slow_widens(alloc, &system, 1),
+    )
 }
 
-#[test]
-fn second_turn_too_wide(rt: HostRuntime) -> Result<(), Fail> {
-    let wide = difference()?;
+/// Whether the second turn is too wide.
+pub(crate) fn second_turn_too_wide(alloc: Global) -> Result<bool, SlowStop> {
     let plain = Plain {
         columns: &[(Some(0), None), (Some(0), None), (Some(0), None)],
         rows: &[(&[(0, 1)], Some(1), None)],
         objective: None,
     };
-    let mut system = system(rt.alloc(), plain)?;
-    add_wide_rows(rt.alloc(), &mut system, 1, wide.left)?;
-    assert!(rt; is_spent(stop_of(rt.alloc(), &system, 0, 0)?, 1));
-    assert!(rt; is_spent(stop_of(rt.alloc(), &system, 1, 5)?, 7));
-    assert!(rt; is_wide(stop_of(rt.alloc(), &system, 2, 0)?, 1, 2, wide));
-    assert!(rt; is_wide(stop_of(rt.alloc(), &system, 4, 5)?, 3, 7, wide));
-    assert!(rt; matches!(slow_run(rt.alloc(), &system, 2), Err(SlowStop::TooWide)));
-    Ok(())
+    let system = wide_system(alloc, plain, 1)?;
+    Ok(
+        spends(alloc, &system, 0, 0, 1)?
+            && spends(alloc, &system, 1, 5, 7)?
+            && widens(alloc, &system, 2, 0, 1)?
+            && widens(alloc, &system, 4, 5, 1)?
+            && slow_widens(alloc, &system, 2),
+    )
 }
 
 // The shares of the combination where a settle run with so many pivots ends infeasible.
@@ -168,18 +209,27 @@ fn shares_of(
     }
 }
 
-// A side of a row, so many times.
-fn share(row: u32, side: Side, weight: Frac) -> Share {
-    Share {
-        source: Source::Member(Member::Row(row)),
-        side,
-        weight,
+// Whether a share is this side of a row, so many times.
+fn is_share(share: &Share, row: u32, side: Side, weight: Option<Frac>) -> bool {
+    share.source == Source::Member(Member::Row(row))
+        && share.side == side
+        && Some(share.weight) == weight
+}
+
+// Whether shares are the upper side of the first row once, and the lower side of the second 3/2 times.
+fn are_two_rows(shares: &[Share]) -> bool {
+    match shares {
+        [first, second] => {
+            is_share(first, 0, Side::Up, Some(Frac::whole(1)))
+                && is_share(second, 1, Side::Lo, Frac::new(3, 2).ok())
+        }
+        _ => false,
     }
 }
 
-// The first row says that the sum of the columns is at most 1/3, and the second that it is at least 1/2.
-#[test]
-fn combination_of_two_rows(rt: HostRuntime) -> Result<(), Fail> {
+/// Whether two rows make a combination: the first says that the sum of the columns is at most 1/3, and the second that
+/// it is at least 1/2.
+pub(crate) fn combination_of_two_rows(alloc: Global) -> Result<bool, SlowStop> {
     let plain = Plain {
         columns: &[(Some(0), None), (Some(0), None)],
         rows: &[
@@ -188,12 +238,11 @@ fn combination_of_two_rows(rt: HostRuntime) -> Result<(), Fail> {
         ],
         objective: None,
     };
-    let system = system(rt.alloc(), plain)?;
-    let first = share(0, Side::Up, Frac::whole(1));
-    let second = share(1, Side::Lo, Frac::new(3, 2)?);
-    let shares = combination(rt.alloc(), &system, 1)?.ok_or("no combination")?;
-    assert!(rt; shares.as_slice() == [first, second].as_slice());
-    Ok(())
+    let system = system(alloc, plain)?;
+    match combination(alloc, &system, 1)? {
+        Some(shares) => Ok(are_two_rows(shares.as_slice())),
+        None => Ok(false),
+    }
 }
 
 // The value of a variable, where there is such a variable and it is not too wide.
@@ -246,22 +295,29 @@ fn values_along(
     Ok(values)
 }
 
-// The row is x + 3y, with x from 0 to 2 and y from 1 to 3.
-#[test]
-fn value_after_flips(rt: HostRuntime) -> Result<(), Fail> {
+/// Whether the row x + 3y, with x from 0 to 2 and y from 1 to 3, has the right values as x and y go to their other limits.
+pub(crate) fn value_after_flips(alloc: Global) -> Result<bool, SlowStop> {
     let plain = Plain {
         columns: &[(Some(0), Some(2)), (Some(1), Some(3))],
         rows: &[(&[(0, 1), (1, 3)], None, None)],
         objective: None,
     };
-    let system = system(rt.alloc(), plain)?;
-    let row = values_along(rt.alloc(), &system, 2, &[0, 1, 0])?;
-    let wanted = [3, 5, 11, 9];
-    assert_eq!(rt; row.len(), wanted.len());
-    for (value, number) in row.iter().zip(&wanted) {
-        assert!(rt; *value == Some(Frac::whole(*number)));
+    let system = system(alloc, plain)?;
+    let values = values_along(alloc, &system, 2, &[0, 1, 0])?;
+    Ok(are_whole(values.as_slice(), &[3, 5, 11, 9]))
+}
+
+// Whether values are these whole numbers.
+fn are_whole(values: &[Option<Frac>], wanted: &[i64]) -> bool {
+    if values.len() != wanted.len() {
+        return false;
     }
-    Ok(())
+    for (value, number) in values.iter().zip(wanted) {
+        if *value != Some(Frac::whole(*number)) {
+            return false;
+        }
+    }
+    true
 }
 
 // Whether a system with a column from 0 to 5 and another from 0 on, and this one row, is formed.
@@ -282,46 +338,41 @@ fn one_row_formed(
     Ok(is_formed(&system))
 }
 
-#[test]
-fn rows_that_are_formed(rt: HostRuntime) -> Result<(), Fail> {
-    assert!(rt; one_row_formed(rt.alloc(), &[(0, 2), (1, -1)], Some(1), Some(1))?);
-    assert!(rt;
-        !one_row_formed(rt.alloc(), &[(0, 2), (1, -1)], Some(2), Some(1))?,
-        "sides"
-    );
-    assert!(rt;
-        !one_row_formed(rt.alloc(), &[(0, 2), (1, 0)], Some(1), None)?,
-        "factor"
-    );
-    assert!(rt;
-        !one_row_formed(rt.alloc(), &[(0, 2), (2, 1)], Some(1), None)?,
-        "column"
-    );
-    assert!(rt;
-        !one_row_formed(rt.alloc(), &[(1, 2), (0, 1)], Some(1), None)?,
-        "order"
-    );
-    assert!(rt;
-        !one_row_formed(rt.alloc(), &[(1, 2), (1, 1)], Some(1), None)?,
-        "twice"
-    );
-    Ok(())
+/// A row with its sides, and whether a system with it is formed.
+type Formed = (Form<'static>, Option<i64>, Option<i64>, bool);
+
+// In order: a right row, and faults of sides, a factor, a column, an order, and a column that comes twice.
+static ROWS: [Formed; 6] = [
+    (&[(0, 2), (1, -1)], Some(1), Some(1), true),
+    (&[(0, 2), (1, -1)], Some(2), Some(1), false),
+    (&[(0, 2), (1, 0)], Some(1), None, false),
+    (&[(0, 2), (2, 1)], Some(1), None, false),
+    (&[(1, 2), (0, 1)], Some(1), None, false),
+    (&[(1, 2), (1, 1)], Some(1), None, false),
+];
+
+/// Whether right rows are taken as formed, and no others.
+pub(crate) fn rows_that_are_formed(alloc: Global) -> Result<bool, SlowStop> {
+    for (terms, lo, up, formed) in &ROWS {
+        if one_row_formed(alloc, *terms, *lo, *up)? != *formed {
+            return Ok(false);
+        }
+    }
+    Ok(true)
 }
 
-#[test]
-fn columns_and_objectives_that_are_not_formed(rt: HostRuntime) -> Result<(), Fail> {
+/// Whether a column whose limits cross, and an objective with a factor of 0, are not taken as formed.
+pub(crate) fn columns_and_objectives_that_are_not_formed(alloc: Global) -> Result<bool, SlowStop> {
     let crossed = Plain {
         columns: &[(Some(1), Some(0))],
         rows: &[],
         objective: None,
     };
-    assert!(rt; !is_formed(&system(rt.alloc(), crossed)?));
     let objective: Form<'_> = &[(0, 0)];
     let no_factor = Plain {
         columns: &[(Some(0), Some(1))],
         rows: &[],
         objective: Some(objective),
     };
-    assert!(rt; !is_formed(&system(rt.alloc(), no_factor)?));
-    Ok(())
+    Ok(!is_formed(&system(alloc, crossed)?) && !is_formed(&system(alloc, no_factor)?))
 }
