@@ -1,5 +1,5 @@
 -- The elastic system of a set: its members may be missed by what their elastic variables take, but for those that are enforced.
-use Rattle.std.specs.Prelude.{ℕ, ◌+◌, suc, cond, not, List, [], ◌∷◌, ◌++◌, map, length, filter, Option, Some, None}
+use Rattle.std.specs.Prelude.{ℕ, suc, cond, not, List, [], ◌∷◌, ◌++◌, map, length, filter, Option, Some, None}
 use Rattle.rational.specs.Rational.{ℚ, neg_ℚ, zero_ℚ, one_ℚ}
 use Rattle.rational.specs.Linear.{Term}
 use Rattle.lp_model.specs.declared.members.Member.{Member}

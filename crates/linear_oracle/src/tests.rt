@@ -3,28 +3,17 @@ ghost use Rattle.std.specs.Prelude.{◌≡◌, ◌≢◌, ◌<◌, ℕ, false, t
 ghost use Rattle.rational.specs.Rational.{zero_ℚ};
 ghost use Rattle.lp_model.specs.Program.{IsForm, IsWellFormedColumn};
 ghost use Rattle.lp_model.specs.Shown.{named_column};
-ghost use Rattle.lp_model.specs.Members.{is_mark};
-ghost use Rattle.lp_model.specs.MemberSets.{IsMemberFor};
 ghost use Rattle.certs.specs.Checks.{IsSetOf};
 ghost use Rattle.linear_oracle.specs.Value.{is_linear};
 
 use super::*;
 use certs::{
-    Branch, BranchAsk, MemberSet, Node, NodeEnd, Oracle, Proof, Share, Side, Site, SiteKind,
-    Source, Stop, Verdict,
+    Branch, BranchAsk, MemberSet, NodeEnd, Oracle, Share, Side, SiteKind, Source, Stop, Verdict,
 };
 use frac128::Frac;
 use lp_model::{Column, Member, Model, ModelStop, Row, Term, Terms, Weight};
 use std::alloc::{AllocError, Global};
 use std::test::Fail;
-
-const FIRST: Member = Member::Row(0);
-
-const SECOND: Member = Member::Row(1);
-
-const LOWER: Member = Member::Lower(0);
-
-const UPPER: Member = Member::Upper(0);
 
 // A column between these, without a mark.
 fn column(lo: i64, up: i64) -> Column
@@ -81,246 +70,245 @@ fn row(terms: Terms, lo: Option<Frac>, up: Option<Frac>) -> Row
     }
 }
 
-// The factors of a row, and its sides.
-#[derive(Clone, Copy)]
-struct Plain {
-    x: Frac,
-    y: Frac,
-    lo: Option<Frac>,
-    up: Option<Frac>,
+// Puts a column last.
+fn add_column(
+    model: &mut Model,
+    alloc: Global,
+    name: &[u8],
+    lo: i64,
+    up: i64,
+) -> Result<(), ModelStop> {
+    model.add_column(alloc, name, column(lo, up))?;
+    Ok(())
 }
 
-// Puts a row last.
-fn add_row(model: &mut Model, alloc: Global, name: &[u8], plain: Plain) -> Result<(), ModelStop> {
-    if is_zero(plain.x) {
-        return Err(ModelStop::Limit);
-    }
-    if is_zero(plain.y) {
+// Puts the row last that takes both columns so many times.
+fn add_row(
+    model: &mut Model,
+    alloc: Global,
+    name: &[u8],
+    factor: i64,
+    lo: Option<Frac>,
+    up: Option<Frac>,
+) -> Result<(), ModelStop> {
+    let factor = Frac::whole(factor);
+    if is_zero(factor) {
         return Err(ModelStop::Limit);
     }
     if model.column_count() < 2 {
         return Err(ModelStop::Limit);
     }
-    let Ok(terms) = form(alloc, plain.x, plain.y) else {
+    let Ok(terms) = form(alloc, factor, factor) else {
         return Err(ModelStop::Memory);
     };
-    model.add_row(alloc, name, row(terms, plain.lo, plain.up))?;
+    model.add_row(alloc, name, row(terms, lo, up))?;
     Ok(())
 }
 
-// The program of two rows, where x is at least 3 and at most 2, and y from 0 to 3.
-fn program(alloc: Global, first: Plain, second: Plain) -> Result<Model, ModelStop> {
+// The program of the rows 3x + 3y <= 1 and 2x + 2y >= 1, where x is at least 3 and at most 2, and y from 0 to 3.
+fn program(alloc: Global) -> Result<Model, ModelStop> {
     let mut model = Model::new(alloc, false);
-    model.add_column(alloc, b"x", column(3, 2))?;
-    model.add_column(alloc, b"y", column(0, 3))?;
-    add_row(&mut model, alloc, b"c1", first)?;
-    add_row(&mut model, alloc, b"c2", second)?;
+    let one = Frac::whole(1);
+    add_column(&mut model, alloc, b"x", 3, 2)?;
+    add_column(&mut model, alloc, b"y", 0, 3)?;
+    add_row(&mut model, alloc, b"c1", 3, None, Some(one))?;
+    add_row(&mut model, alloc, b"c2", 2, Some(one), None)?;
     Ok(model)
 }
 
-// A row of whole numbers.
-fn whole_row(x: i64, y: i64, lo: Option<i64>, up: Option<i64>) -> Plain {
-    Plain {
-        x: Frac::whole(x),
-        y: Frac::whole(y),
-        lo: number(lo),
-        up: number(up),
-    }
-}
-
-// A number, where it is there.
-fn number(plain: Option<i64>) -> Option<Frac> {
-    match plain {
-        Some(number) => Some(Frac::whole(number)),
-        None => None,
-    }
-}
-
-// The program of the rows 3x + 3y <= 1 and 2x + 2y >= 1.
-fn contradiction(alloc: Global) -> Result<Model, AllocError> {
-    let first = whole_row(3, 3, None, Some(1));
-    let second = whole_row(2, 2, Some(1), None);
-    match program(alloc, first, second) {
-        Ok(model) => Ok(model),
-        Err(_) => Err(AllocError),
-    }
-}
-
-// Puts a row or a bound into a set.
-fn put(model: &Model, set: &mut MemberSet, member: Member)
+// Puts a row into a set.
+fn insert(model: &Model, set: &mut MemberSet, index: u32)
     requires same { IsSetOf model.now set.old }
     requires linear { is_linear set.old.members ≡ true }
-    requires known { IsMemberFor (length model.now.rows) (length model.now.columns) member }
-    requires unmarked { is_mark member ≡ false }
+    requires known { index < length model.now.rows }
     ensures same { IsSetOf model.now set.new }
     ensures linear { is_linear set.new.members ≡ true }
 {
-    set.insert(member);
+    set.insert(Member::Row(index));
 }
 
-// The set of one member or of two, each a row or a bound.
-fn set_of(
-    alloc: Global,
-    model: &Model,
-    first: Member,
-    second: Member,
-) -> Result<MemberSet, AllocError>
-    requires first { is_mark first ≡ false }
-    requires second { is_mark second ≡ false }
-    requires first_known { IsMemberFor 2 2 first }
-    requires second_known { IsMemberFor 2 2 second }
+// Puts a row into a set, where there is such a row.
+fn put(model: &Model, set: &mut MemberSet, index: u32)
+    requires same { IsSetOf model.now set.old }
+    requires linear { is_linear set.old.members ≡ true }
+    ensures same { IsSetOf model.now set.new }
+    ensures linear { is_linear set.new.members ≡ true }
+{
+    if index < model.row_count() {
+        insert(model, set, index);
+    }
+}
+
+// The set of this row and the second.
+fn rows(alloc: Global, model: &Model, first: u32) -> Result<MemberSet, AllocError>
     ensures same { IfOk result (IsSetOf model.now) }
     ensures linear { IfOk result (λ set. is_linear set.members ≡ true) }
 {
-    if model.row_count() != 2 {
-        return Err(AllocError);
-    }
-    if model.column_count() != 2 {
-        return Err(AllocError);
-    }
     let mut set = MemberSet::empty(alloc, model)?;
     put(model, &mut set, first);
-    put(model, &mut set, second);
+    put(model, &mut set, 1);
     Ok(set)
 }
 
-// A side of a source, this many times.
-fn share(source: Source, side: Side, weight: Frac) -> Share {
-    Share {
-        source,
-        side,
-        weight,
-    }
+// How many members a set has.
+fn count(set: &MemberSet) -> u64 {
+    set.count()
 }
 
-// Whether a proof is one leaf of these shares.
-fn is_leaf(proof: &Proof, shares: [Share; 2]) -> bool {
-    match proof.nodes.as_slice() {
-        [Node::Leaf(combo)] => combo.shares.as_slice() == shares.as_slice(),
-        _ => false,
-    }
-}
-
-// Whether a verdict is a proof of one leaf of these shares.
-fn is_refuted(verdict: &Verdict, shares: [Share; 2]) -> bool {
-    match verdict {
-        Verdict::Infeasible(proof) => is_leaf(proof, shares),
-        Verdict::Feasible(_) => false,
-    }
-}
-
-// The shares of the two rows that contradict one another.
-fn row_shares() -> [Share; 2] {
-    let weight = Frac::new(3, 2).unwrap_or(Frac::whole(0));
-    [
-        share(Source::Member(FIRST), Side::Up, Frac::whole(1)),
-        share(Source::Member(SECOND), Side::Lo, weight),
-    ]
-}
-
-// The shares of the bounds that cross.
-fn bound_shares() -> [Share; 2] {
-    let one = Frac::whole(1);
-    [
-        share(Source::Member(LOWER), Side::Lo, one),
-        share(Source::Member(UPPER), Side::Up, one),
-    ]
-}
-
-// Whether a site is of the settle run of so many members on no path.
-fn is_site(site: &Site, count: u64) -> bool {
-    site.kind == SiteKind::Settle
-        && site.set.count() == count
-        && site.enforced.count() == 0
-        && site.path.as_slice().is_empty()
-}
-
-// Whether a stop is for want of pivots, at so many members.
-fn is_spent(stop: &Stop, count: u64) -> bool {
+// Whether a stop is for want of pivots, at two members on no path.
+fn is_spent(stop: &Stop) -> bool {
     match stop {
-        Stop::Pivots(site) => is_site(site, count),
+        Stop::Pivots(site) => {
+            site.kind == SiteKind::Settle
+                && count(&site.set) == 2
+                && count(&site.enforced) == 0
+                && site.path.as_slice().is_empty()
+        }
         _ => false,
     }
 }
 
-#[test]
-fn rows_that_contradict(rt: HostRuntime) -> Result<(), Fail> {
-    let alloc = rt.alloc();
-    let model = contradiction(alloc)?;
-    let mut oracle = LinearOracle::new(alloc, &model, 5);
-    let both = set_of(alloc, &model, FIRST, SECOND)?;
-    let Ok(verdict) = oracle.ask(alloc, &both) else {
-        return Err(Fail::from(AllocError));
+// Whether a point is x = 1/2 and y = 0.
+fn is_half(values: &[Frac]) -> bool {
+    match values {
+        [x, y] => Some(*x) == Frac::new(1, 2).ok() && *y == Frac::whole(0),
+        _ => false,
+    }
+}
+
+// How an ask ends.
+fn end_word(end: &Result<Verdict, Stop>) -> &'static str {
+    match end {
+        Ok(verdict) => verdict_word(verdict),
+        Err(stop) => stop_word(stop),
+    }
+}
+
+// What a verdict is.
+fn verdict_word(verdict: &Verdict) -> &'static str {
+    match verdict {
+        Verdict::Feasible(point) => point_word(point.values.as_slice()),
+        Verdict::Infeasible(_) => "infeasible",
+    }
+}
+
+// What a point is.
+fn point_word(values: &[Frac]) -> &'static str {
+    if is_half(values) {
+        "half"
+    } else {
+        "another point"
+    }
+}
+
+// What a stop is.
+fn stop_word(stop: &Stop) -> &'static str {
+    if is_spent(stop) {
+        "spent"
+    } else {
+        "another stop"
+    }
+}
+
+// The stops that an oracle tells.
+fn stops_word(stops: &[StopRecord]) -> &'static str {
+    match stops {
+        [] => "no stop",
+        [record] => record_word(record),
+        _ => "other stops",
+    }
+}
+
+// What a stop is that an oracle tells.
+fn record_word(record: &StopRecord) -> &'static str {
+    if is_spent(&record.stop) && count(&record.set) == 2 && count(&record.enforced) == 0 {
+        "this stop"
+    } else {
+        "another stop"
+    }
+}
+
+// The core that an oracle tells.
+fn core_word(core: Option<&CoreRecord>) -> &'static str {
+    match core {
+        None => "no core",
+        Some(record) => members_word(record),
+    }
+}
+
+// What a core is that an oracle tells.
+fn members_word(record: &CoreRecord) -> &'static str {
+    if count(&record.core) == 2 && count(&record.asked) == 2 {
+        "the core"
+    } else {
+        "another core"
+    }
+}
+
+// How an ask ends, and what the oracle tells.
+fn told(
+    alloc: Global,
+    end: &Result<Verdict, Stop>,
+    oracle: &LinearOracle<'_>,
+) -> Result<String, AllocError> {
+    let (word, asks, made) = (end_word(end), oracle.asks(), oracle.pivots_made());
+    let (stops, core) = (stops_word(oracle.stops()), core_word(oracle.first_core()));
+    format!(in alloc; "{word}, asks {asks}, pivots {made}, {stops}, {core}")
+}
+
+// How an ask for this row and the second ends, where so many pivots are left, and what is then told.
+fn said(alloc: Global, first: u32, pivots: u32) -> Result<String, AllocError> {
+    let Ok(model) = program(alloc) else {
+        return Err(AllocError);
     };
-    assert!(rt; is_refuted(&verdict, row_shares()));
-    assert_eq!(rt; oracle.asks(), 1);
-    assert_eq!(rt; oracle.pivots_made(), 1);
-    assert!(rt; oracle.stops().is_empty());
+    let set = rows(alloc, &model, first)?;
+    let mut oracle = LinearOracle::new(alloc, &model, pivots as u64);
+    let end = oracle.ask(alloc, &set);
+    told(alloc, &end, &oracle)
+}
+
+#[test]
+fn asks(rt: HostRuntime) -> Result<(), Fail> {
+    let table = [
+        (1, 5, "half, asks 1, pivots 1, no stop, no core"),
+        (0, 5, "infeasible, asks 1, pivots 1, no stop, the core"),
+        (0, 0, "spent, asks 1, pivots 0, this stop, no core"),
+    ];
+    for (first, pivots, text) in table {
+        assert_eq!(rt; said(rt.alloc(), first, pivots)?.as_str(), text);
+    }
     Ok(())
 }
 
-// Without one of the rows there is a point.
-#[test]
-fn one_row(rt: HostRuntime) -> Result<(), Fail> {
-    let alloc = rt.alloc();
-    let model = contradiction(alloc)?;
-    let mut oracle = LinearOracle::new(alloc, &model, 5);
-    let second = set_of(alloc, &model, SECOND, SECOND)?;
-    let Ok(Verdict::Feasible(point)) = oracle.ask(alloc, &second) else {
-        return Err(Fail::from(AllocError));
-    };
-    let Ok(half) = Frac::new(1, 2) else {
-        return Err(Fail::from(AllocError));
-    };
-    assert!(rt; point.values.as_slice() == [half, Frac::whole(0)].as_slice());
-    assert!(rt; oracle.first_core().is_none());
-    Ok(())
+// Whether a share is this side of this source, once.
+fn is_share(share: &Share, source: Source, side: Side) -> bool {
+    share.source == source && share.side == side && share.weight == Frac::whole(1)
 }
 
-#[test]
-fn no_pivots(rt: HostRuntime) -> Result<(), Fail> {
-    let alloc = rt.alloc();
-    let model = contradiction(alloc)?;
-    let mut oracle = LinearOracle::new(alloc, &model, 0);
-    let both = set_of(alloc, &model, FIRST, SECOND)?;
-    let Err(stop) = oracle.ask(alloc, &both) else {
-        return Err(Fail::from(AllocError));
-    };
-    assert!(rt; is_spent(&stop, 2));
-    assert_eq!(rt; oracle.asks(), 1);
-    assert_eq!(rt; oracle.pivots_made(), 0);
-    let [record] = oracle.stops() else {
-        return Err(Fail::from(AllocError));
-    };
-    assert!(rt; is_spent(&record.stop, 2));
-    assert!(rt; record.set.count() == 2);
-    assert!(rt; record.enforced.count() == 0);
-    Ok(())
+// Whether a path is cut by what it says of the first column.
+fn is_cut(end: &Result<NodeEnd, Stop>) -> bool {
+    match end {
+        Ok(NodeEnd::Cut(combo)) => match combo.shares.as_slice() {
+            [below, above] => {
+                is_share(below, Source::Below(0), Side::Up)
+                    && is_share(above, Source::Above(0), Side::Lo)
+            }
+            _ => false,
+        },
+        _ => false,
+    }
 }
 
-#[test]
-fn bounds_that_cross(rt: HostRuntime) -> Result<(), Fail> {
-    let alloc = rt.alloc();
-    let model = contradiction(alloc)?;
-    let mut oracle = LinearOracle::new(alloc, &model, 0);
-    let bounds = set_of(alloc, &model, LOWER, UPPER)?;
-    let Ok(verdict) = oracle.ask(alloc, &bounds) else {
-        return Err(Fail::from(AllocError));
+// Whether the rows on the path on which x is at most 0 and at least 1 are cut by it, and no ask is counted.
+fn cuts(alloc: Global) -> Result<bool, AllocError> {
+    let Ok(model) = program(alloc) else {
+        return Err(AllocError);
     };
-    assert!(rt; is_refuted(&verdict, bound_shares()));
-    Ok(())
-}
-
-// A path on which x is at most 0 and at least 1.
-#[test]
-fn a_path_that_cuts(rt: HostRuntime) -> Result<(), Fail> {
-    let alloc = rt.alloc();
-    let model = contradiction(alloc)?;
     if model.column_count() != 2 {
-        return Err(Fail::from(AllocError));
+        return Err(AllocError);
     }
     let mut oracle = LinearOracle::new(alloc, &model, 0);
-    let first = set_of(alloc, &model, FIRST, FIRST)?;
+    let set = rows(alloc, &model, 0)?;
     let path = [
         Branch {
             column: 0,
@@ -333,15 +321,12 @@ fn a_path_that_cuts(rt: HostRuntime) -> Result<(), Fail> {
             at: 1,
         },
     ];
-    let Ok(NodeEnd::Cut(combo)) = oracle.ask_with(alloc, &first, &path) else {
-        return Err(Fail::from(AllocError));
-    };
-    let one = Frac::whole(1);
-    let shares = [
-        share(Source::Below(0), Side::Up, one),
-        share(Source::Above(0), Side::Lo, one),
-    ];
-    assert!(rt; combo.shares.as_slice() == shares.as_slice());
-    assert_eq!(rt; oracle.asks(), 0);
+    let end = oracle.ask_with(alloc, &set, &path);
+    Ok(is_cut(&end) && oracle.asks() == 0)
+}
+
+#[test]
+fn a_path_that_cuts(rt: HostRuntime) -> Result<(), Fail> {
+    assert!(rt; cuts(rt.alloc())?);
     Ok(())
 }
