@@ -25,7 +25,7 @@ pub(crate) fn narrowed<N: Exact>(number: Frac) -> N
 {
     match N::narrow(number) {
         Some(narrow) => narrow,
-        None => N::zero(),
+        None => unreachable!(),
     }
 }
 

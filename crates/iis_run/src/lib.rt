@@ -14,6 +14,3 @@ mod words;
 pub use endings::{Ending, Which};
 pub use laws::one_ending;
 pub use running::run;
-
-#[cfg(test)]
-mod tests;

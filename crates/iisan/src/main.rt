@@ -1,4 +1,5 @@
-//! Checks a report against a model: the words, the files and standard output of the host.
+//! Analyses a model by a script, or checks a report against a model: `run` over the words, the files and the standard
+//! output of the host.
 #![tactic(auto)]
 
 use iis_edge::{HostShelf, HostSink};

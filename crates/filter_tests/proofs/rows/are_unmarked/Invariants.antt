@@ -1,7 +1,7 @@
 use Rattle.std.proofs.Common.{◌≡◌, false, take}
 use Rattle.std.specs.List.{list_any}
 use Rattle.lp_model.specs.Members.{is_mark}
-use Rattle.filter_tests.proofs.tests.are_unmarked.Given as goal
+use Rattle.filter_tests.proofs.rows.are_unmarked.Given as goal
 
 -- none of the members passed is a mark
 abbrev pub invariant-loop-member : goal.invariant-loop-member

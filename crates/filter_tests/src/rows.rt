@@ -1,4 +1,4 @@
-//! The filters over the rows A: x <= 0, B: x >= 1 and C: x <= 0, with answers from a list.
+//! What the filters answer over the rows A: x <= 0, B: x >= 1 and C: x <= 0, with answers from a list and by runs.
 ghost use Rattle.std.specs.Prelude.{◌≡◌, true, None, IfOk};
 ghost use Rattle.lp_model.specs.Members.{is_mark};
 ghost use Rattle.certs.specs.Checks.{IsSetOf};
@@ -11,21 +11,21 @@ use linear_oracle::LinearOracle;
 use lp_model::{Member, Model, Side};
 use mps_reader::read_mps;
 use std::alloc::{AllocError, Global};
-use std::test::Fail;
 use table_oracle::{TableAnswer, TableOracle};
 
 const ROWS: &str = "ROWS\n L A\n G B\n L C\nCOLUMNS\n x A 1\n x B 1\n x C 1\nRHS\n B 1\nENDATA\n";
 
 /// An answer: x at this value, this row with row B, or that no pivot is left.
 #[derive(Clone, Copy)]
-enum Plan {
+pub enum Plan {
     At(i64),
     WithB(u32),
     Spent,
 }
 
-#[derive(Clone, Copy)]
-enum Filter {
+/// The three filters.
+#[derive(Clone, Copy, Debug)]
+pub enum Filter {
     Deletion,
     Additive,
     Sensitivity,
@@ -156,8 +156,12 @@ fn say_answer(alloc: Global, answer: &Irreducible, text: &mut String) -> Result<
     }
 }
 
-// What a filter answers, and how often it asks.
-fn said(
+/// What a filter answers where its oracle has these answers, and how often it asks. Without row B there is a point.
+///
+/// # Errors
+///
+/// Where there is no memory for it.
+pub fn said(
     alloc: Global,
     filter: Filter,
     without_b: bool,
@@ -199,8 +203,12 @@ fn are_unmarked(members: &[Member]) -> bool
     true
 }
 
-// What a filter answers with runs of systems, and how often it asks.
-fn said_by_runs(alloc: Global, filter: Filter, without_b: bool) -> Result<String, AllocError> {
+/// What a filter answers with runs of systems, and how often it asks.
+///
+/// # Errors
+///
+/// Where there is no memory for it.
+pub fn said_by_runs(alloc: Global, filter: Filter, without_b: bool) -> Result<String, AllocError> {
     let model = program(alloc)?;
     let set = active(alloc, &model, without_b)?;
     if !are_unmarked(listed(alloc, &set)?.as_slice()) {
@@ -209,87 +217,4 @@ fn said_by_runs(alloc: Global, filter: Filter, without_b: bool) -> Result<String
     let mut oracle = LinearOracle::new(alloc, &model, 100);
     let result = isolated(alloc, filter, &mut oracle, &set);
     say(alloc, &result, oracle.asks())
-}
-
-// The oracle's first proof uses A and B.
-#[test]
-fn with_runs_of_systems(rt: HostRuntime) -> Result<(), Fail> {
-    let text = said_by_runs(rt.alloc(), Filter::Deletion, false)?;
-    assert_eq!(rt; text.as_str(), "set BC by 01, asks 4");
-    let text = said_by_runs(rt.alloc(), Filter::Additive, false)?;
-    assert_eq!(rt; text.as_str(), "set AB by 10, asks 3");
-    let text = said_by_runs(rt.alloc(), Filter::Sensitivity, false)?;
-    assert_eq!(rt; text.as_str(), "set AB by 10, asks 3");
-    let text = said_by_runs(rt.alloc(), Filter::Additive, true)?;
-    assert_eq!(rt; text.as_str(), "point, asks 1");
-    Ok(())
-}
-
-// Row A goes by an ask, and then B and C stay.
-#[test]
-fn deletion(rt: HostRuntime) -> Result<(), Fail> {
-    let plans = [Plan::WithB(0), Plan::WithB(2), Plan::At(0), Plan::At(1)];
-    let text = said(rt.alloc(), Filter::Deletion, false, &plans)?;
-    assert_eq!(rt; text.as_str(), "set BC by 01, asks 4");
-    Ok(())
-}
-
-// Row A goes without an ask, since the first proof does not use it.
-#[test]
-fn deletion_without_an_ask(rt: HostRuntime) -> Result<(), Fail> {
-    let plans = [Plan::WithB(2), Plan::At(0), Plan::At(1)];
-    let text = said(rt.alloc(), Filter::Deletion, false, &plans)?;
-    assert_eq!(rt; text.as_str(), "set BC by 01, asks 3");
-    Ok(())
-}
-
-#[test]
-fn additive(rt: HostRuntime) -> Result<(), Fail> {
-    let plans = [Plan::WithB(2), Plan::WithB(0), Plan::At(0), Plan::At(1)];
-    let text = said(rt.alloc(), Filter::Additive, false, &plans)?;
-    assert_eq!(rt; text.as_str(), "set AB by 10, asks 4");
-    Ok(())
-}
-
-// The first core is A and B.
-#[test]
-fn sensitivity(rt: HostRuntime) -> Result<(), Fail> {
-    let plans = [Plan::WithB(0), Plan::At(1), Plan::At(0)];
-    let text = said(rt.alloc(), Filter::Sensitivity, false, &plans)?;
-    assert_eq!(rt; text.as_str(), "set AB by 10, asks 3");
-    Ok(())
-}
-
-#[test]
-fn second_ask_stops(rt: HostRuntime) -> Result<(), Fail> {
-    let plans = [Plan::WithB(0), Plan::Spent];
-    let text = said(rt.alloc(), Filter::Deletion, false, &plans)?;
-    assert_eq!(rt; text.as_str(), "spent at BCl, asks 2");
-    let text = said(rt.alloc(), Filter::Additive, false, &plans)?;
-    assert_eq!(rt; text.as_str(), "spent at A, asks 2");
-    let text = said(rt.alloc(), Filter::Sensitivity, false, &plans)?;
-    assert_eq!(rt; text.as_str(), "spent at B, asks 2");
-    Ok(())
-}
-
-#[test]
-fn a_point(rt: HostRuntime) -> Result<(), Fail> {
-    let plans = [Plan::At(0)];
-    for filter in [Filter::Deletion, Filter::Additive, Filter::Sensitivity] {
-        let text = said(rt.alloc(), filter, true, &plans)?;
-        assert_eq!(rt; text.as_str(), "point, asks 1");
-    }
-    Ok(())
-}
-
-// The third ask is the last that the list answers; and a point that is not one of the set stops.
-#[test]
-fn stops_in_the_middle(rt: HostRuntime) -> Result<(), Fail> {
-    let plans = [Plan::WithB(0), Plan::WithB(2), Plan::At(0)];
-    let text = said(rt.alloc(), Filter::Deletion, false, &plans)?;
-    assert_eq!(rt; text.as_str(), "spent at Bl, asks 4");
-    let plans = [Plan::WithB(2), Plan::WithB(0), Plan::At(1)];
-    let text = said(rt.alloc(), Filter::Additive, false, &plans)?;
-    assert_eq!(rt; text.as_str(), "spent at A, asks 3");
-    Ok(())
 }

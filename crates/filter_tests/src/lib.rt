@@ -1,5 +1,0 @@
-//! Tests of the filters.
-#![tactic(auto)]
-
-#[cfg(test)]
-mod tests;
