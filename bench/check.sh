@@ -26,7 +26,7 @@ other() {
 # One line of the table.
 measure() {
     name=$1 file=$2 format=$3
-    /usr/bin/time -f '%e %M' -o figures "$top/iisan" analyse "$file" script >report || true
+    /usr/bin/time -f '%e %M' -o figures "$program" analyse "$file" script >report || true
     answer=$(sed -n 3p report)
     glpsol=$(other glpsol --exact "--$format" "$file")
     esolver=$(other esolver "$file")
@@ -35,6 +35,7 @@ measure() {
 }
 
 "$top/iisan" >/dev/null 2>&1 || true
+program=$top/.build/iisan
 echo "model | answer | seconds | megabytes | glpsol --exact | esolver"
 for periods in 10 60 200 500; do
     plan "$periods" >plan.lp

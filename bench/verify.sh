@@ -31,12 +31,13 @@ report() {
 }
 
 "$top/iisan" >/dev/null 2>&1 || true
+program=$top/.build/iisan
 echo "rows columns entries bytes seconds megabytes"
 for rows in 250 1000 2000; do
     model "$rows" >"$work/model.mps"
     report "$rows" >"$work/report"
     bytes=$(wc -c <"$work/model.mps")
-    (cd "$work" && /usr/bin/time -f '%e %M' -o figures "$top/iisan" verify model.mps report >said)
+    (cd "$work" && /usr/bin/time -f '%e %M' -o figures "$program" verify model.mps report >said)
     grep -q '^accepted settled 1 unsettled 0$' "$work/said" || {
         echo "not accepted: $(cat "$work/said")" >&2
         exit 1
