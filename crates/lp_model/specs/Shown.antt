@@ -5,6 +5,7 @@ use Rattle.std.specs.Str.{bytes_eq}
 use Rattle.lp_model.specs.declared.parts.Row.{Row}
 use Rattle.lp_model.specs.declared.parts.Column.{Column}
 use Rattle.lp_model.specs.Program.{Program, NamedRow, NamedColumn, IsWellFormed}
+use Rattle.lp_model.specs.declared.limits.TheConstants.{MOST_ROWS, MOST_COLUMNS, MOST_FREE_ROWS, MOST_ENTRIES, LONGEST_NAME}
 
 -- a row of the code, with a name
 abbrev pub named_row : List ℕ → Row → NamedRow
@@ -47,15 +48,23 @@ with_more_column model column = record model { columns = model.columns ++ column
 -- ---- limits
 -- the most rows
 abbrev pub most_rows : ℕ
-most_rows = 2000
+most_rows = MOST_ROWS
 
 -- the most columns
 abbrev pub most_columns : ℕ
-most_columns = 4000
+most_columns = MOST_COLUMNS
+
+-- the most rows without sides that a text may have
+abbrev pub most_free_rows : ℕ
+most_free_rows = MOST_FREE_ROWS
+
+-- the most numbers that a text may give
+abbrev pub most_entries : ℕ
+most_entries = MOST_ENTRIES
 
 -- the most bytes of a name
 abbrev pub longest_name : ℕ
-longest_name = 255
+longest_name = LONGEST_NAME
 
 -- whether a name is one of the names
 abbrev pub is_named : List (List ℕ) → List ℕ → Bool

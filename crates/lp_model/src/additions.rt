@@ -4,11 +4,10 @@ ghost use Rattle.name_map.specs.Names.{names_of};
 ghost use Rattle.lp_model.specs.Shown.{CanAdd};
 ghost use Rattle.lp_model.specs.Refusals.{IsAddRefusal};
 
+use crate::limits::LONGEST_NAME;
 use crate::models::ModelStop;
 use name_map::NameMap;
 use std::alloc::{AllocError, Global};
-
-const LONGEST_NAME: usize = 255;
 
 /// Puts a name last with its value, where it is new, there are fewer than `most`, and it is not too long.
 pub(crate) fn add_named<V: Drop>(

@@ -108,6 +108,14 @@ impl MemberSet {
         count
     }
 
+    /// Its members are possible members, and stand in order. This is for proofs, and does nothing.
+    pub fn stands_in_order(&self)
+        ensures possible { self.now.members ≡ filter (has self.now.members) (possible_in self.now) }
+        ensures in_order { IsInOrder self.now.members }
+    {
+        let _ = self.marks.len();
+    }
+
     /// The first member of the set that comes after the given one in member order, or its first member where none is
     /// given.
     pub fn next(&self, after: Option<Member>) -> Option<Member>

@@ -13,15 +13,12 @@ ghost use Rattle.lp_model.specs.Evaluation.{value_operations, member_operations,
 
 use crate::additions::add_named;
 use crate::evaluation::{is_at_least, is_at_most, value_of};
+use crate::limits::{MOST_COLUMNS, MOST_ROWS};
 use crate::members::Member;
 use crate::parts::{Column, Note, Row, Term, Terms};
 use frac128::{Frac, Wide};
 use name_map::NameMap;
 use std::alloc::{AllocError, Global};
-
-const MOST_ROWS: u32 = 2_000;
-
-const MOST_COLUMNS: u32 = 4_000;
 
 /// Why a part was not added or not found.
 #[derive(Clone, Copy, PartialEq, Eq, Debug)]
@@ -92,7 +89,7 @@ impl Model {
             (λ stop. IsAddRefusal (row_names self.old) most_rows name.now stop) }
         ensures unchanged { OnErr result (self.new ≡ self.old) }
     {
-        add_named(&mut self.rows, alloc, name, row, MOST_ROWS)
+        add_named(&mut self.rows, alloc, name, row, MOST_ROWS as u32)
     }
 
     /// Puts a column last, and gives its number.
@@ -114,7 +111,7 @@ impl Model {
         // The check wants the types of the column's parts named here.
         let _lower = column.lo;
         let _weight = column.lower_weight;
-        add_named(&mut self.columns, alloc, name, column, MOST_COLUMNS)
+        add_named(&mut self.columns, alloc, name, column, MOST_COLUMNS as u32)
     }
 
     /// Sets the objective and its sense.

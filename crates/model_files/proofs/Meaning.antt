@@ -12,11 +12,11 @@ use Rattle.model_files.proofs.MpsFormed.{mps-formed}
 use Rattle.model_files.proofs.LpFormed.{lp-formed}
 use Rattle.model_files.specs.declared.formats.Format.TheVariants.{Mps, Lp}
 use Rattle.model_files.specs.Formats.{Format, Declares, IsRefusal, OneMeaningLaw, format_fault, format_of, format_program, has_mark, mark_fault, model_fault}
-use Rattle.model_files.specs.Reading.{IsFormatStop}
+use Rattle.text_fields.specs.Faults.{IsFaultOf}
 
 module _ (name bytes : List ℕ) (format : Format) (named : format ≡ format_of name) where
   -- a fault of the format is that of the file
-  pub refused : (fault : ReadFault) → IsFormatStop format bytes fault → IsRefusal name bytes fault
+  pub refused : (fault : ReadFault) → IsFaultOf (format_fault format bytes) fault → IsRefusal name bytes fault
   unfolding model_fault
   refused (Stop stop) h = subst (λ f. model_fault f bytes ≡ Some stop) named (ap (λ o. option_or o (mark_fault (format_program format bytes))) h)
   refused Memory h = tt

@@ -18,10 +18,10 @@ use Rattle.lp_model.specs.Program.{Program, NamedRow, NamedColumn, IsForm, IsWel
 use Rattle.lp_model.specs.Shown.{is_named}
 use Rattle.mps_lines.specs.declared.shapes.RowKind.{RowKind}
 use Rattle.mps_lines.specs.Steps.{Step, Placed, Refused, ToSense, ToRow, ToColumn, ToEntry, ToSide, ToRange, ToBound, all_steps}
-use Rattle.mps_tables.specs.Tables.{RowRecord, ColumnRecord, row_in, rows_of, row_names, kept_rows, is_free, firsts, columns_of, column_names, column_in, objective_of}
-use Rattle.mps_tables.specs.Sides.{is_removed}
-use Rattle.mps_tables.specs.Faults.{first_true, fault, stop_or, first_fault, mps_fault}
-use Rattle.mps_tables.specs.Meaning.{terms_from, terms_of, named_row_of, named_column_of, notes_from, program_of, mps_program}
+use Rattle.mps_reader.specs.Tables.{RowRecord, ColumnRecord, row_in, rows_of, row_names, kept_rows, is_free, firsts, columns_of, column_names, column_in, objective_of}
+use Rattle.mps_reader.specs.Sides.{is_removed}
+use Rattle.mps_reader.specs.Faults.{first_true, fault, stop_or, first_fault, mps_fault}
+use Rattle.mps_reader.specs.Meaning.{terms_from, terms_of, named_row_of, named_column_of, notes_from, program_of, mps_program}
 use Rattle.model_files.proofs.Formed.{Apart, apart-more, apart-filter, pairs-apart, or-false, Ascends, ascends-form}
 use Rattle.model_files.proofs.Lists.{map-same, all-made, ascends-with, length-made}
 

@@ -1,15 +1,15 @@
 -- The model that a file declares, by the format of its name.
-use Rattle.std.specs.Prelude.{◌≡◌, ⊤, ℕ, ◌-◌, Bool, true, false, cond, List, [], length, drop, codes, Option, Some, None, All}
+use Rattle.std.specs.Prelude.{◌≡◌, ℕ, ◌-◌, Bool, true, false, cond, List, [], length, drop, codes, Option, Some, None, All}
 use Rattle.std.specs.List.{list_any}
 use Rattle.std.specs.Option.{option_or}
 use Rattle.std.specs.Str.{str_eq_ignore_ascii_case}
 use Rattle.text_fields.specs.declared.faults.ReadKind.TheVariants.{Unsupported}
 use Rattle.text_fields.specs.declared.faults.ReadStop.{ReadStop}
 use Rattle.text_fields.specs.declared.faults.ReadFault.{ReadFault}
-use Rattle.text_fields.specs.declared.faults.ReadFault.TheVariants.{Stop, Memory}
+use Rattle.text_fields.specs.Faults.{IsFaultOf}
 use Rattle.lp_model.specs.Program.{Program, IsWellFormed}
-use Rattle.mps_tables.specs.Faults.{mps_fault}
-use Rattle.mps_tables.specs.Meaning.{mps_program}
+use Rattle.mps_reader.specs.Faults.{mps_fault}
+use Rattle.mps_reader.specs.Meaning.{mps_program}
 use Rattle.lp_reader.specs.Meaning.{lp_fault, lp_program}
 pub use Rattle.model_files.specs.declared.formats.Format.{Format}
 pub use Rattle.model_files.specs.declared.formats.Format.TheVariants.{Mps, Lp}
@@ -47,8 +47,7 @@ pub record Declares (name bytes : List ℕ) (program : Program) : Type 0 where
 
 -- why they are refused; want of memory may come at any time
 abbrev pub IsRefusal : List ℕ → List ℕ → ReadFault → Type 0
-IsRefusal name bytes (Stop stop) = model_fault (format_of name) bytes ≡ Some stop
-IsRefusal name bytes Memory = ⊤
+IsRefusal name bytes fault = IsFaultOf (model_fault (format_of name) bytes) fault
 
 -- a file declares at most one program; then it has no fault, and the program is well formed
 pub record OneMeaningLaw : Type 0 where

@@ -2,7 +2,8 @@
 ghost use Rattle.std.specs.Str.{str_eq_ignore_ascii_case};
 ghost use Rattle.std.specs.Prelude.{◌≡◌, ◌<◌, ◌^◌, None, codes, length, IfErr, IfOk, MatchResult};
 ghost use Rattle.model_files.specs.Formats.{Declares, IsRefusal, format_fault, format_of, format_program, has_mark, model_fault};
-ghost use Rattle.model_files.specs.Reading.{IsFormatStop, IsMarkless};
+ghost use Rattle.model_files.specs.Reading.{IsMarkless};
+ghost use Rattle.text_fields.specs.Faults.{IsFaultOf};
 
 use lp_model::Model;
 use lp_reader::read_lp;
@@ -39,7 +40,7 @@ fn read_format(alloc: Global, format: Format, bytes: &[u8]) -> Result<Model, Rea
     requires { length bytes.now < 2 ^ 31 }
     ensures { MatchResult result
         (λ model. (format_fault format bytes.now ≡ None) × (model ≡ format_program format bytes.now))
-        (IsFormatStop format bytes.now) }
+        (IsFaultOf (format_fault format bytes.now)) }
 {
     match format {
         Format::Mps => read_mps(alloc, bytes),

@@ -9,10 +9,10 @@ use Rattle.mps_lines.specs.declared.shapes.Figure.{Figure as FigureRead}
 use Rattle.mps_lines.specs.Shapes.{Figure}
 use Rattle.mps_lines.specs.Said.{figure_shown, figures_said}
 use Rattle.mps_lines.specs.Steps.{Step, Placed, placed}
-use Rattle.mps_tables.specs.declared.tables.Reader.{Reader}
-use Rattle.mps_tables.specs.Faults.{fault, first_fault, stop_or}
-use Rattle.mps_tables.specs.Held.{Holds, IsStepStop}
-use Rattle.mps_reader.specs.Lines.{IsFirst}
+use Rattle.mps_reader.specs.declared.tables.Reader.{Reader}
+use Rattle.mps_reader.specs.Faults.{fault, first_fault, stop_or}
+use Rattle.mps_reader.specs.Held.{Holds, IsStepStop}
+use Rattle.text_fields.specs.Faults.{IsFaultOf}
 
 -- a step without a fault
 pub step_passes : (steps : List Step) (line : ℕ) (s : Step) (rest : List Placed) → fault steps s ≡ None → first_fault steps (placed line s ∷ rest) ≡ first_fault (steps ++ s ∷ []) rest
@@ -29,7 +29,7 @@ unfolding first_fault
 no_more steps = refl
 
 -- a step's fault is the first
-pub first_is : (steps : List Step) (line : ℕ) (s : Step) (rest : List Placed) (found : ReadFault) → IsStepStop line (fault steps s) found → IsFirst (first_fault steps (placed line s ∷ rest)) found
+pub first_is : (steps : List Step) (line : ℕ) (s : Step) (rest : List Placed) (found : ReadFault) → IsStepStop line (fault steps s) found → IsFaultOf (first_fault steps (placed line s ∷ rest)) found
 first_is steps line s rest (Stop stop) h = step_stops steps line s rest stop.kind h.0 ∙ ap (λ (n : ℕ). Some (let t : ReadStop = record { line = n; kind = stop.kind } in t)) (sym h.1)
 first_is steps line s rest Memory h = tt
 
@@ -65,15 +65,15 @@ module _ (line : ℕ) (new : Reader) where
   pub two_taken : (steps : List Step) (s t : Step) → fault steps s ≡ None → (fault (steps ++ s ∷ []) t ≡ None) × Holds new ((steps ++ s ∷ []) ++ t ∷ []) → (first_fault steps (map (placed line) (s ∷ t ∷ [])) ≡ None) × Holds new (steps ++ s ∷ t ∷ [])
   two_taken steps s t e h = all_then steps s (t ∷ []) e (one_taken (steps ++ s ∷ []) t h)
 
-pub stop_then : (line : ℕ) (steps : List Step) (s : Step) (more : List Step) (found : ReadFault) → fault steps s ≡ None → IsFirst (first_fault (steps ++ s ∷ []) (map (placed line) more)) found → IsFirst (first_fault steps (map (placed line) (s ∷ more))) found
-stop_then line steps s more found e h = subst (λ o. IsFirst o found) (sym (step_passes steps line s (map (placed line) more) e)) h
+pub stop_then : (line : ℕ) (steps : List Step) (s : Step) (more : List Step) (found : ReadFault) → fault steps s ≡ None → IsFaultOf (first_fault (steps ++ s ∷ []) (map (placed line) more)) found → IsFaultOf (first_fault steps (map (placed line) (s ∷ more))) found
+stop_then line steps s more found e h = subst (λ o. IsFaultOf o found) (sym (step_passes steps line s (map (placed line) more) e)) h
 
 -- ---- one figure or two
 module _ (to : Figure → Step) (line : ℕ) (steps : List Step) (first : FigureRead) where
   abbrev one : Step
   one = to (figure_shown first)
 
-  pub first_stops : (o : Option FigureRead) (found : ReadFault) → IsStepStop line (fault steps one) found → IsFirst (first_fault steps (map (placed line) (map to (figures_said first o)))) found
+  pub first_stops : (o : Option FigureRead) (found : ReadFault) → IsStepStop line (fault steps one) found → IsFaultOf (first_fault steps (map (placed line) (map to (figures_said first o)))) found
   first_stops None found h = first_is steps line one [] found h
   first_stops (Some second) found h = first_is steps line one (placed line (to (figure_shown second)) ∷ []) found h
 
@@ -81,8 +81,8 @@ module _ (to : Figure → Step) (line : ℕ) (steps : List Step) (first : Figure
   only_one o new is h = subst (λ (o : Option FigureRead). (first_fault steps (map (placed line) (map to (figures_said first o))) ≡ None) × Holds new (steps ++ map to (figures_said first o))) (sym is) (one_taken line new steps one h)
 
   module _ (second : FigureRead) (o : Option FigureRead) (is : o ≡ Some second) (passed : fault steps one ≡ None) where
-    pub second_stops : (found : ReadFault) → IsStepStop line (fault (steps ++ one ∷ []) (to (figure_shown second))) found → IsFirst (first_fault steps (map (placed line) (map to (figures_said first o)))) found
-    second_stops found h = subst (λ (o : Option FigureRead). IsFirst (first_fault steps (map (placed line) (map to (figures_said first o)))) found) (sym is)
+    pub second_stops : (found : ReadFault) → IsStepStop line (fault (steps ++ one ∷ []) (to (figure_shown second))) found → IsFaultOf (first_fault steps (map (placed line) (map to (figures_said first o)))) found
+    second_stops found h = subst (λ (o : Option FigureRead). IsFaultOf (first_fault steps (map (placed line) (map to (figures_said first o)))) found) (sym is)
         (stop_then line steps one (to (figure_shown second) ∷ []) found passed (first_is (steps ++ one ∷ []) line (to (figure_shown second)) [] found h))
 
     pub both_taken : (new : Reader) → (fault (steps ++ one ∷ []) (to (figure_shown second)) ≡ None) × Holds new ((steps ++ one ∷ []) ++ to (figure_shown second) ∷ []) → (first_fault steps (map (placed line) (map to (figures_said first o))) ≡ None) × Holds new (steps ++ map to (figures_said first o))

@@ -1,3 +1,16 @@
+pub mod Looks
+pub mod Grows
+pub mod Tested
+pub mod Keeping
+pub mod Started
+pub mod Taken
+pub mod Entered
+pub mod Sided
+pub mod Limited
+pub mod Spread
+pub mod Made
+pub mod Meant
 pub mod Firsts
 pub mod Said
 pub mod Runs
+pub mod Fits

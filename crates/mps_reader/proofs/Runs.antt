@@ -21,10 +21,10 @@ use Rattle.mps_lines.specs.declared.contexts.Context.{Context as ContextRead}
 use Rattle.mps_lines.specs.declared.lines.Said.{Said}
 use Rattle.mps_lines.specs.Said.{Says, IsRefusal, context_shown, record_at, steps_said}
 use Rattle.mps_lines.specs.Steps.{Step, Placed, Refused, placed, steps_of, steps_after, all_steps, ending}
-use Rattle.mps_tables.specs.declared.tables.Reader.{Reader}
-use Rattle.mps_tables.specs.Faults.{fault, first_fault, mps_fault, IsMpsStop}
-use Rattle.mps_tables.specs.Held.{Holds}
-use Rattle.mps_reader.specs.Lines.{IsFirst}
+use Rattle.mps_reader.specs.declared.tables.Reader.{Reader}
+use Rattle.mps_reader.specs.Faults.{fault, first_fault, mps_fault}
+use Rattle.mps_reader.specs.Held.{Holds}
+use Rattle.text_fields.specs.Faults.{IsFaultOf}
 use Rattle.mps_reader.proofs.Firsts.{first_append, steps_placed, step_stops, no_more}
 
 -- ---- sections
@@ -118,7 +118,7 @@ module _ (bytes : List ℕ) (at number : ℕ) (reader : Reader) (context : Conte
       ∙ append_assoc (map (placed number) (steps_of so_far.front r)) (steps_after more rest) (ending (lines_of bytes))
 
   -- a line that is refused
-  pub refused_stop : (found : ReadFault) → IsRefusal so_far.front r found → IsMpsStop bytes found
+  pub refused_stop : (found : ReadFault) → IsRefusal so_far.front r found → IsFaultOf (mps_fault bytes) found
   refused_stop (Stop stop) h =
       so_far.fault_is ∙ ap (first_fault so_far.steps) (left_is ∙ ap (λ ss. map (placed number) ss ++ (steps_after more rest ++ ending (lines_of bytes))) h.0)
       ∙ step_stops so_far.steps number (Refused stop.kind) (steps_after more rest ++ ending (lines_of bytes)) stop.kind (refused_is so_far.steps stop.kind)
@@ -130,7 +130,7 @@ module _ (bytes : List ℕ) (at number : ℕ) (reader : Reader) (context : Conte
     left_said = left_is ∙ ap (λ ss. map (placed number) ss ++ (steps_after more rest ++ ending (lines_of bytes))) said
 
     -- a line with a step that has a fault
-    pub step_stop : (found : ReadFault) → IsFirst (first_fault so_far.steps (map (placed number) ss)) found → IsMpsStop bytes found
+    pub step_stop : (found : ReadFault) → IsFaultOf (first_fault so_far.steps (map (placed number) ss)) found → IsFaultOf (mps_fault bytes) found
     step_stop (Stop stop) h =
         so_far.fault_is ∙ ap (first_fault so_far.steps) left_said ∙ first_append so_far.steps (map (placed number) ss) (steps_after more rest ++ ending (lines_of bytes))
         ∙ ap (λ o. option_or o (first_fault (so_far.steps ++ map (λ (p : Placed). p.step) (map (placed number) ss)) (steps_after more rest ++ ending (lines_of bytes)))) h
@@ -193,7 +193,7 @@ module _ (bytes : List ℕ) (at number : ℕ) (reader : Reader) (context : Conte
 
 -- ---- the end of the text
 pub cut_off : (bytes : List ℕ) (at number : ℕ) (reader : Reader) (context : ContextRead) (line : ℕ) (found : ReadFault) → Reading bytes at number reader context → at ≡ length bytes → line ≡ max 1 (number - 1)
-    → found ≡ Stop (record { line = line; kind = Truncated }) → IsMpsStop bytes found
+    → found ≡ Stop (record { line = line; kind = Truncated }) → IsFaultOf (mps_fault bytes) found
 unfolding records_after steps_after lines_of
 cut_off bytes at number reader context line found so_far done last is =
     let nothing : lines_of (drop at bytes) ≡ [] = ap lines_of (none_left (drop at bytes) (omega (arith, length-drop at bytes))) in
@@ -202,7 +202,7 @@ cut_off bytes at number reader context line found so_far done last is =
     let left_over : left bytes so_far.front at number ≡ placed (max 1 (length (lines_of bytes))) (Refused Truncated) ∷ [] =
     (λ i. steps_after so_far.front (records_after so_far.front number (nothing i)) ++ cond (unended i) [] (placed (max 1 (length (lines_of bytes))) (Refused Truncated) ∷ [])) in
     let same : max 1 (length (lines_of bytes)) ≡ line = ap (max 1) (omega arith) ∙ sym last in
-    subst (IsMpsStop bytes) (sym is) (
+    subst (IsFaultOf (mps_fault bytes)) (sym is) (
     so_far.fault_is ∙ ap (first_fault so_far.steps) left_over ∙ step_stops so_far.steps (max 1 (length (lines_of bytes))) (Refused Truncated) [] Truncated (refused_is so_far.steps Truncated)
     ∙ ap (λ (n : ℕ). Some (let t : ReadStop = record { line = n; kind = Truncated } in t)) same)
   where

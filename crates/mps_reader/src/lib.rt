@@ -1,15 +1,24 @@
-//! Models in the MPS format.
+//! Models in the MPS format: what the steps of a text say together, the tables that they fill, and the program.
 #![tactic(auto)]
 
 ghost use Rattle.std.specs.Prelude.{◌≡◌, ◌<◌, ◌^◌, None, length, MatchResult};
-ghost use Rattle.mps_tables.specs.Faults.{mps_fault, IsMpsStop};
-ghost use Rattle.mps_tables.specs.Meaning.{mps_program};
+ghost use Rattle.text_fields.specs.Faults.{IsFaultOf};
+ghost use Rattle.mps_reader.specs.Faults.{mps_fault};
+ghost use Rattle.mps_reader.specs.Meaning.{mps_program};
 
+mod bounds;
+mod columns;
+mod numbers;
+mod program;
 mod reading;
+mod rows;
+mod sides;
+mod tables;
+mod terms;
 
+use crate::program::make_program;
 use crate::reading::read_lines;
 use lp_model::Model;
-use mps_tables::make_program;
 use std::alloc::Global;
 use text_fields::ReadFault;
 
@@ -22,9 +31,9 @@ pub fn read_mps(alloc: Global, bytes: &[u8]) -> Result<Model, ReadFault>
     requires { length bytes.now < 2 ^ 31 }
     ensures { MatchResult result
         (λ model. (mps_fault bytes.now ≡ None) × (model ≡ mps_program bytes.now))
-        (IsMpsStop bytes.now) }
+        (IsFaultOf (mps_fault bytes.now)) }
 {
     let reader = read_lines(alloc, bytes)?;
-    let model = make_program(alloc, &reader)?;
+    let model = make_program(alloc, reader)?;
     Ok(model)
 }

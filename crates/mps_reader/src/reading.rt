@@ -3,15 +3,17 @@ ghost use Rattle.std.specs.Prelude.{◌≡◌, ◌<◌, ◌^◌, ◌-◌, ◌∷
 ghost use Rattle.mps_lines.specs.Sections.{is_section};
 ghost use Rattle.mps_lines.specs.Steps.{ToColumn, ToEntry, ToSide, ToRange, all_steps};
 ghost use Rattle.mps_lines.specs.Said.{figures_said, steps_said};
-ghost use Rattle.mps_tables.specs.Faults.{mps_fault, IsMpsStop};
-ghost use Rattle.mps_tables.specs.Held.{Holds};
+ghost use Rattle.text_fields.specs.Faults.{IsFaultOf};
+ghost use Rattle.mps_reader.specs.Faults.{mps_fault};
+ghost use Rattle.mps_reader.specs.Held.{Holds};
 ghost use Rattle.mps_reader.specs.Lines.{TakesAll};
 
+use crate::bounds::take_bound;
+use crate::columns::{take_column, take_entry};
+use crate::rows::{take_row, take_sense};
+use crate::sides::{take_range, take_side};
+use crate::tables::{Reader, refusal, start};
 use mps_lines::{Context, Figure, Said, Section, read_line};
-use mps_tables::{
-    Reader, refusal, start, take_bound, take_column, take_entry, take_range, take_row, take_sense,
-    take_side,
-};
 use std::alloc::Global;
 use text_fields::{ReadFault, ReadKind, after_line, next_line};
 
@@ -109,7 +111,7 @@ pub fn read_lines(alloc: Global, bytes: &[u8]) -> Result<Reader, ReadFault>
     requires { length bytes.now < 2 ^ 31 }
     ensures { MatchResult result
         (λ reader. (mps_fault bytes.now ≡ None) × Holds reader (map (λ p. p.step) (all_steps bytes.now)))
-        (IsMpsStop bytes.now) }
+        (IsFaultOf (mps_fault bytes.now)) }
 {
     let mut reader = start(alloc);
     let mut context = Context::start();

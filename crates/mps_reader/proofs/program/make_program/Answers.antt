@@ -1,0 +1,19 @@
+use Rattle.std.proofs.Common.{◌∙◌}
+use Rattle.mps_reader.proofs.Meant.{program_is, places_within, few_are}
+use Rattle.mps_reader.proofs.program.make_program.Goals as goal
+
+pub build-requires : goal.build-requires
+build-requires c =
+    let reader = c.args.reader in
+    let h = c.requires.holds in
+    record {
+      few = h.columns.few;
+      few_rows = few_are reader c.requires.steps h c.names_differ.ensures c.names_differ-2.ensures;
+      rows = record { apart = c.names_differ.ensures; short = h.rows.short };
+      columns = record { apart = c.names_differ-2.ensures; short = h.columns.short };
+      entries = places_within reader.rows reader.columns reader.entries.entries h.entries.within;
+      objective = h.rows.objective_within;
+    }
+
+pub returns : goal.returns
+returns c = λ steps h. c.in_ok-model.ensures ∙ program_is c.args.reader steps h c.names_differ.ensures c.names_differ-2.ensures

@@ -1,9 +1,0 @@
-use Rattle.std.proofs.Common.{length, [], ap, arith, length-append, ◌∷◌}
-use Rattle.mps_tables.proofs.Spread.{more_empty}
-use Rattle.mps_tables.proofs.terms.empty_terms.Goals as goal
-
-pub loop-preserved : goal.loop-preserved
-loop-preserved c = record {
-  len = omega (arith, ap length c.in_ok-push.ensures.items, length-append c.loop.lists.items (c.new.result ∷ []));
-  each = more_empty (λ v. v.items) c.loop.lists.items c.push.new.self.items c.new.result c.in_ok-push.ensures.items c.new.ensures.items c.loop.invariant.each;
-}
