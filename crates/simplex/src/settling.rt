@@ -33,7 +33,7 @@ pub enum RunStop {
 ///
 /// `pivots` is what is left of the budget, and `turn` counts the turns begun, this run's after those before it. `Wide` and
 /// `Pivots` come exactly where the run stops so. The turns and what is left of the budget are together at most one greater
-/// than before. After a pivot that was too wide the dictionary must not be used.
+/// than before. After a pivot that was too wide the dictionary must not be used; after a value that was, it may be.
 pub fn settle<N: Exact>(
     dictionary: &mut Dictionary<N>,
     pivots: &mut u64,

@@ -39,6 +39,7 @@ returns-in-Err-clause-run g c = λ system of.
         ends = (refl, record { here = record { tableau = tableau_of d; is_of = r.0; at = refl }; first = work-values g.N.Exact.most (tableau_of d) c.loop-choice.pivots c.in-Err.wide c.in-Err.ensures });
       };
       stands = λ u. (refl, r.0);
+      lost = λ u. absurd (true≢false (sym i.usable ∙ u));
     })
 
 pub returns-in-Settled-clause-run : goal.returns-in-Settled-clause-run
@@ -58,6 +59,7 @@ returns-in-Settled-clause-run g c = λ system of.
         ends = record { here = record { tableau = tableau_of d; is_of = r.0; at = refl }; chosen = chosen; narrow = c.in-Ok.ensures.0 };
       };
       stands = λ u. (refl, r.0);
+      lost = λ u. absurd (true≢false (sym i.usable ∙ u));
     })
 
 pub returns-in-Settled-clause-ended : goal.returns-in-Settled-clause-ended
@@ -80,6 +82,7 @@ returns-in-Blocked-clause-run g c = λ system of.
         ends = record { here = record { tableau = tableau_of d; is_of = r.0; at = refl }; side = chosen.0; chosen = chosen.1; narrow = c.in-Ok.ensures.0 };
       };
       stands = λ u. (refl, r.0);
+      lost = λ u. absurd (true≢false (sym i.usable ∙ u));
     })
 
 pub returns-in-Blocked-clause-ended : goal.returns-in-Blocked-clause-ended
@@ -102,6 +105,7 @@ returns-then-pivots-eq0-clause-run g c = λ system of.
         ends = (c.if-pivots-eq0.true, record { here = record { tableau = tableau_of d; is_of = r.0; at = refl }; leaving = _; side = _; entering = _; due = chosen; narrow = c.in-Ok.ensures.0 });
       };
       stands = λ u. (refl, r.0);
+      lost = λ u. absurd (true≢false (sym i.usable ∙ u));
     })
 
 pub pivot-requires-clause-can : goal.pivot-requires-clause-can
@@ -133,6 +137,7 @@ returns-in-Err-pivot-clause-run g c = λ system of.
         );
       };
       stands = λ u. absurd (true≢false (sym u ∙ c.in-Err-pivot.ensures.done.1));
+      lost = λ u. (record { tableau = tableau_of d; is_of = r.0; at = refl }, c.in-Ok.ensures.0);
     })
 
 pub returns-in-Err-clause-sum : goal.returns-in-Err-clause-sum
