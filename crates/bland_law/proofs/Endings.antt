@@ -1,85 +1,56 @@
 -- So a settle run makes fewer pivots than the digits of base 3 allow, and no basis comes twice.
-use Rattle.std.proofs.Common.{◌≡◌, ◌+◌, ◌^◌, ◌<◌, ◌≤◌, refl, sym, ◌∙◌, ap, subst, ℕ, zero, suc, cond, List, arith, inl, inr}
-use Rattle.std.proofs.lemmas.Bool.{cases_Bool, cond-true, cond-false}
-use Rattle.certs.specs.System.{LinearSystem, Place, is_basic}
-use Rattle.certs.specs.Tableau.{IsWellFormedSystem}
+use Rattle.std.proofs.Common.{◌≡◌, ◌+◌, ◌^◌, ◌<◌, ◌≤◌, refl, sym, ◌∙◌, ap, subst, ℕ, zero, suc, List, arith}
+use Rattle.certs.specs.System.{LinearSystem, Place}
+use Rattle.certs.specs.Tableau.{Tableau, IsTableauOf, IsWellFormedSystem}
 use Rattle.certs.specs.Turns.{exchanged}
 use Rattle.certs.specs.Runs.{IsPivotTurn, Reaches}
 use Rattle.bland_law.specs.Ends.{limited_count, FewPivotsLaw, NoBasisTwiceLaw, NeverSpentLaw}
-use Rattle.bland_law.proofs.Returns.{next}
-use Rattle.bland_law.proofs.Counts.{Counted, Lowered, lowered, weight, weight_below}
+use Rattle.bland_law.proofs.Returns.{Memory, next, leaves_basic, leaves_below, enters_nonbasic, enters_below, no_return, left_nonbasic, entered_basic, others_same, remembered, still_remembered}
+use Rattle.bland_law.proofs.Counts.{Exchanges, Fallen, nothing_fallen, fallen_more, fallen_few, rounds, rounds_enough}
 
--- the counts at the first basis: nothing has left yet
-first_count : List Place → ℕ → ℕ
-first_count basis j = cond (is_basic basis j) 1 2
+module _ (most : ℕ) (system : LinearSystem) (formed : IsWellFormedSystem system) (middle last : List Place) (turn : IsPivotTurn most system middle last) where
+  abbrev t : Tableau
+  t = turn.here.tableau
 
-first_counted : (system : LinearSystem) (basis : List Place) → Counted system basis (first_count basis)
-unfolding first_count
-first_counted system basis = record {
-  basic_one = λ j b. cond-true (is_basic basis j) 1 2 b;
-  nonbasic_cases = λ j b. inl (cond-false (is_basic basis j) 1 2 b);
-}
+  abbrev of : IsTableauOf system t
+  of = turn.here.is_of
 
-first_small : (basis : List Place) (n : ℕ) → weight n (first_count basis) < 3 ^ n
-unfolding first_count
-first_small basis n = weight_below n (first_count basis) (λ j l. small j)
-  where
-    small : (j : ℕ) → first_count basis j ≤ 2
-    small j =
-        elim (cases_Bool (is_basic basis j)) [
-          | inl b ↦ (let e : first_count basis j ≡ 1 = cond-true (is_basic basis j) 1 2 b in omega arith)
-          | inr b ↦ (let e : first_count basis j ≡ 2 = cond-false (is_basic basis j) 1 2 b in omega arith)
-        ]
+  after : next system formed t of turn.leaving turn.side turn.entering turn.due ≡ last
+  unfolding next
+  after = ap (λ b. exchanged b turn.leaving turn.side turn.entering) turn.here.at ∙ sym turn.next_is
 
--- after so many pivots the number has fallen as often
-record Fallen (system : LinearSystem) (first basis : List Place) (made : ℕ) : Type 0 where
-  count : ℕ → ℕ
-  counted : Counted system basis count
-  less : weight (limited_count system) count + made ≤ weight (limited_count system) (first_count first)
+  exchanges : Exchanges (limited_count system) (Memory system t.basis) (Memory system (next system formed t of turn.leaving turn.side turn.entering turn.due)) t.basis (next system formed t of turn.leaving turn.side turn.entering turn.due) turn.leaving turn.entering
+  exchanges = record {
+    leaves_below = leaves_below system formed t of turn.leaving turn.side turn.entering turn.due;
+    enters_below = enters_below system formed t of turn.leaving turn.side turn.entering turn.due;
+    leaves_basic = leaves_basic system formed t of turn.leaving turn.side turn.entering turn.due;
+    enters_nonbasic = enters_nonbasic system formed t of turn.leaving turn.side turn.entering turn.due;
+    left_nonbasic = left_nonbasic system formed t of turn.leaving turn.side turn.entering turn.due;
+    entered_basic = entered_basic system formed t of turn.leaving turn.side turn.entering turn.due;
+    others_same = others_same system formed t of turn.leaving turn.side turn.entering turn.due;
+    remembered = λ l. remembered system formed t of turn.leaving turn.side turn.entering turn.due;
+    still = still_remembered system formed t of turn.leaving turn.side turn.entering turn.due;
+    no_return = no_return system formed t of turn.leaving turn.side turn.entering turn.due;
+  }
 
-turned : (most : ℕ) (system : LinearSystem) (first middle last : List Place) (k : ℕ) → IsWellFormedSystem system → IsPivotTurn most system middle last → Fallen system first middle k → Fallen system first last (suc k)
-unfolding next
-turned most system first middle last k formed turn f = record {
-  count = l.count;
-  counted = subst (λ b. Counted system b l.count) after l.counted;
-  less = (let a : weight (limited_count system) l.count < weight (limited_count system) f.count = l.less in let b : weight (limited_count system) f.count + k ≤ weight (limited_count system) (first_count first) = f.less in omega arith);
-}
-  where
-    l : Lowered system (next system formed turn.here.tableau turn.here.is_of turn.leaving turn.side turn.entering turn.due) f.count
-    l = lowered system formed turn.here.tableau turn.here.is_of turn.leaving turn.side turn.entering turn.due f.count (subst (λ b. Counted system b f.count) (sym turn.here.at) f.counted)
+  turned : (first : List Place) (k : ℕ) → Fallen (limited_count system) (Memory system middle) first middle k → Fallen (limited_count system) (Memory system last) first last (suc k)
+  turned first k f =
+      subst (λ b. Fallen (limited_count system) (Memory system b) first b (suc k)) after
+      (fallen_more (limited_count system) (Memory system t.basis) (Memory system (next system formed t of turn.leaving turn.side turn.entering turn.due)) first t.basis (next system formed t of turn.leaving turn.side turn.entering turn.due) turn.leaving turn.entering k exchanges
+      (subst (λ b. Fallen (limited_count system) (Memory system b) first b k) (sym turn.here.at) f))
 
-    after : next system formed turn.here.tableau turn.here.is_of turn.leaving turn.side turn.entering turn.due ≡ last
-    after = ap (λ b. exchanged b turn.leaving turn.side turn.entering) turn.here.at ∙ sym turn.next_is
-
-fallen : (most : ℕ) (system : LinearSystem) (made : ℕ) (basis last : List Place) → IsWellFormedSystem system → Reaches most system made basis last → Fallen system basis last made
-fallen most system zero basis last formed e = record {
-  count = first_count basis;
-  counted = subst (λ b. Counted system b (first_count basis)) e (first_counted system basis);
-  less = omega arith;
-}
-fallen most system (suc k) basis last formed (middle, both) = turned most system basis middle last k formed both.1 (fallen most system k basis middle formed both.0)
+fallen : (most : ℕ) (system : LinearSystem) (made : ℕ) (basis last : List Place) → IsWellFormedSystem system → Reaches most system made basis last → Fallen (limited_count system) (Memory system last) basis last made
+fallen most system zero basis last formed e = subst (λ b. Fallen (limited_count system) (Memory system b) basis b 0) e (nothing_fallen (limited_count system) (Memory system basis) basis)
+fallen most system (suc k) basis last formed (middle, both) = turned most system formed middle last both.1 basis k (fallen most system k basis middle formed both.0)
 
 pub few_pivots_law : FewPivotsLaw
-few_pivots_law most system made basis last formed r =
-    let f : Fallen system basis last made = fallen most system made basis last formed r in
-    let a : weight (limited_count system) (first_count basis) < 3 ^ limited_count system = first_small basis (limited_count system) in
-    let b : weight (limited_count system) f.count + made ≤ weight (limited_count system) (first_count basis) = f.less in
-    omega arith
+few_pivots_law most system made basis last formed r = fallen_few (limited_count system) (Memory system last) basis last made (fallen most system made basis last formed r)
 
 -- ---- a way back to a basis can be gone as often as wanted
 joined : (most : ℕ) (system : LinearSystem) (a b c : List Place) (j k : ℕ) → Reaches most system j a b → Reaches most system k b c → Reaches most system (k + j) a c
 joined most system a b c j zero r e = subst (λ n. Reaches most system n a c) (let g : j ≡ zero + j = omega arith in g) (subst (λ z. Reaches most system j a z) e r)
 joined most system a b c j (suc k) r (middle, both) =
     subst (λ n. Reaches most system n a c) (let g : suc (k + j) ≡ suc k + j = omega arith in g) (middle, (joined most system a b middle j k r both.0, both.1))
-
-rounds : ℕ → ℕ → ℕ
-rounds k zero = 0
-rounds k (suc n) = suc k + rounds k n
-
-rounds_enough : (k n : ℕ) → n ≤ rounds k n
-unfolding rounds
-rounds_enough k zero = omega arith
-rounds_enough k (suc n) = (let r : n ≤ rounds k n = rounds_enough k n in omega arith)
 
 gone_round : (most : ℕ) (system : LinearSystem) (k : ℕ) (basis : List Place) → Reaches most system (suc k) basis basis → (n : ℕ) → Reaches most system (rounds k n) basis basis
 unfolding rounds

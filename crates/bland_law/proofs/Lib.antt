@@ -2,3 +2,7 @@ mod Falling
 mod Returns
 mod Counts
 mod Endings
+mod Nearest
+mod Moved
+mod Improving
+mod Climbs

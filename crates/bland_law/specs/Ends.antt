@@ -1,8 +1,9 @@
--- That settle runs end, whatever the budget.
-use Rattle.std.specs.Prelude.{ℕ, ◌+◌, ◌<◌, ◌^◌, suc, List, length}
+-- That runs end, whatever the budget.
+use Rattle.std.specs.Prelude.{ℕ, ◌+◌, ◌<◌, ◌^◌, suc, List, length, IsSome}
 use Rattle.certs.specs.System.{LinearSystem, Place}
 use Rattle.certs.specs.Tableau.{IsWellFormedSystem}
-use Rattle.certs.specs.Runs.{End, Reaches, SettleRun}
+use Rattle.certs.specs.Runs.{IsSettledAt, Reaches, SettleRun}
+use Rattle.certs.specs.Improves.{Improves}
 use Rattle.certs.specs.Runs.End.{Spent}
 
 -- how many variables have limits: the columns and the rows
@@ -21,3 +22,8 @@ NoBasisTwiceLaw = (most : ℕ) (system : LinearSystem) (k : ℕ) (basis : List P
 abbrev pub NeverSpentLaw : Type 0
 NeverSpentLaw = (most : ℕ) (system : LinearSystem) (basis : List Place) (budget begun : ℕ) (last : List Place) (left turns : ℕ) → IsWellFormedSystem system
     → SettleRun most system basis budget begun Spent last left turns → budget < 3 ^ limited_count system
+
+-- The same of an improve run that begins at a basis with no variable outside: no basis is reached from itself by one turn or more.
+abbrev pub ImproveNoBasisTwiceLaw : Type 0
+ImproveNoBasisTwiceLaw = (most : ℕ) (system : LinearSystem) (first basis : List Place) (m k : ℕ) → IsWellFormedSystem system → IsSome system.objective → IsSettledAt most system first
+    → Improves most system m first basis → ¬ (Improves most system (suc k) basis basis)

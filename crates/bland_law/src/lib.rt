@@ -1,8 +1,8 @@
-//! The smallest-index rule ends: laws of settle runs, each the contract of a function that does nothing, and a budget that
+//! The smallest-index rule ends: laws of settle and improve runs, each the contract of a function that does nothing, and a budget that
 //! is never spent.
 #![tactic(auto)]
 
-ghost use Rattle.bland_law.specs.Ends.{FewPivotsLaw, NeverSpentLaw, NoBasisTwiceLaw};
+ghost use Rattle.bland_law.specs.Ends.{FewPivotsLaw, ImproveNoBasisTwiceLaw, NeverSpentLaw, NoBasisTwiceLaw};
 
 mod bounds;
 
@@ -21,4 +21,9 @@ pub fn no_basis_twice()
 /// A settle run with a budget of 3 to the number of the system's columns and rows never stops for want of a pivot.
 pub fn never_spent()
     ensures { NeverSpentLaw }
+{}
+
+/// No basis comes twice in an improve run that begins at a basis with no variable outside its limits (Bland 1977).
+pub fn improve_no_basis_twice()
+    ensures { ImproveNoBasisTwiceLaw }
 {}
