@@ -81,7 +81,7 @@ module _ (most : ℕ) (system : LinearSystem) (formed : IsWellFormedSystem syste
   climbed (suc k) last values inside (middle, both) = step middle last k both.1 (climbed k middle values inside both.0)
 
 -- ---- round and round
-joined : (most : ℕ) (system : LinearSystem) (a b c : List Place) (j k : ℕ) → Improves most system j a b → Improves most system k b c → Improves most system (k + j) a c
+pub joined : (most : ℕ) (system : LinearSystem) (a b c : List Place) (j k : ℕ) → Improves most system j a b → Improves most system k b c → Improves most system (k + j) a c
 joined most system a b c j zero r e = subst (λ n. Improves most system n a c) (let g : j ≡ zero + j = omega arith in g) (subst (λ z. Improves most system j a z) e r)
 joined most system a b c j (suc k) r (middle, both) =
     subst (λ n. Improves most system n a c) (let g : suc (k + j) ≡ suc k + j = omega arith in g) (middle, (joined most system a b middle j k r both.0, both.1))

@@ -1,8 +1,9 @@
 mod Falling
 mod Returns
 mod Counts
-mod Endings
+pub mod Endings
 mod Nearest
 mod Moved
 mod Improving
 mod Climbs
+mod Bases

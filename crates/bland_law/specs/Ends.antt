@@ -3,7 +3,8 @@ use Rattle.std.specs.Prelude.{ℕ, ◌+◌, ◌<◌, ◌^◌, suc, List, length,
 use Rattle.certs.specs.System.{LinearSystem, Place}
 use Rattle.certs.specs.Tableau.{IsWellFormedSystem}
 use Rattle.certs.specs.Runs.{IsSettledAt, Reaches, SettleRun}
-use Rattle.certs.specs.Improves.{Improves}
+use Rattle.certs.specs.Improves.{ImproveRun, Improves}
+use Rattle.certs.specs.Improves.ImproveEnd.{Spent as ImproveSpent}
 use Rattle.certs.specs.Runs.End.{Spent}
 
 -- how many variables have limits: the columns and the rows
@@ -27,3 +28,8 @@ NeverSpentLaw = (most : ℕ) (system : LinearSystem) (basis : List Place) (budge
 abbrev pub ImproveNoBasisTwiceLaw : Type 0
 ImproveNoBasisTwiceLaw = (most : ℕ) (system : LinearSystem) (first basis : List Place) (m k : ℕ) → IsWellFormedSystem system → IsSome system.objective → IsSettledAt most system first
     → Improves most system m first basis → ¬ (Improves most system (suc k) basis basis)
+
+-- so with a budget of 3 to the number of columns and rows it never stops for want of a turn
+abbrev pub ImproveNeverSpentLaw : Type 0
+ImproveNeverSpentLaw = (most : ℕ) (system : LinearSystem) (first : List Place) (budget begun : ℕ) (last : List Place) (left turns : ℕ) → IsWellFormedSystem system → IsSome system.objective → IsSettledAt most system first
+    → ImproveRun most system first budget begun ImproveSpent last left turns → budget < 3 ^ limited_count system

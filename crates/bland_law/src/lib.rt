@@ -2,7 +2,13 @@
 //! is never spent.
 #![tactic(auto)]
 
-ghost use Rattle.bland_law.specs.Ends.{FewPivotsLaw, ImproveNoBasisTwiceLaw, NeverSpentLaw, NoBasisTwiceLaw};
+ghost use Rattle.bland_law.specs.Ends.{
+  FewPivotsLaw,
+  ImproveNeverSpentLaw,
+  ImproveNoBasisTwiceLaw,
+  NeverSpentLaw,
+  NoBasisTwiceLaw,
+};
 
 mod bounds;
 
@@ -26,4 +32,9 @@ pub fn never_spent()
 /// No basis comes twice in an improve run that begins at a basis with no variable outside its limits (Bland 1977).
 pub fn improve_no_basis_twice()
     ensures { ImproveNoBasisTwiceLaw }
+{}
+
+/// An improve run from there with a budget of 3 to the number of the system's columns and rows never stops for want of a turn.
+pub fn improve_never_spent()
+    ensures { ImproveNeverSpentLaw }
 {}

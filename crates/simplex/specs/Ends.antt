@@ -1,13 +1,14 @@
 -- How a settle run ends, in code.
-use Rattle.std.specs.Prelude.{◌≡◌, ℕ, true, false, List, None, Result, Ok, Err}
+use Rattle.std.specs.Prelude.{◌≡◌, ◌≤◌, ◌^◌, ℕ, true, false, List, None, Result, Ok, Err}
 use Rattle.lp_model.specs.declared.members.Side.{Side}
 use Rattle.frac128.specs.Calculation.{first_wide}
 use Rattle.certs.specs.System.{LinearSystem, Place}
-use Rattle.certs.specs.Tableau.{IsTableauOf}
+use Rattle.certs.specs.Tableau.{IsTableauOf, IsWellFormedSystem}
 use Rattle.certs.specs.Turns.{Choice, settle_values}
 use Rattle.certs.specs.Turns.Choice.{Settled as NoneOutside, Blocked}
 use Rattle.certs.specs.Runs.{End, SettleRun, TableauAt}
 use Rattle.certs.specs.Runs.End.{Feasible as IsFeasible, Infeasible as IsInfeasible, TooWide, Spent}
+use Rattle.bland_law.specs.Ends.{limited_count}
 use Rattle.dictionary.specs.Value.{DictionaryValue, tableau_of}
 use Rattle.simplex.specs.declared.settling.Settled.{Settled}
 use Rattle.simplex.specs.declared.settling.Settled.TheVariants.{Feasible, Infeasible}
@@ -40,3 +41,7 @@ abbrev pub IsSpent : Result Settled RunStop → Type 0
 IsSpent (Ok settled) = ⊥
 IsSpent (Err (Wide turn o)) = ⊥
 IsSpent (Err Pivots) = Unit {0}
+
+-- a system that is well formed, with a budget of 3 to the number of its columns and rows, never misses a pivot
+abbrev pub NeverSpent : LinearSystem → ℕ → Result Settled RunStop → Type 0
+NeverSpent system budget result = IsWellFormedSystem system → 3 ^ limited_count system ≤ budget → ¬ (IsSpent result)

@@ -6,7 +6,7 @@ ghost use Rattle.certs.specs.Tableau.{IsTableauOf};
 ghost use Rattle.certs.specs.Turns.{CanPivot, settle_choice, settle_values};
 ghost use Rattle.dictionary.specs.Layouts.{side_of};
 ghost use Rattle.dictionary.specs.Value.{tableau_of};
-ghost use Rattle.simplex.specs.Ends.{end_of, HasRun, IsEnd, IsSpent};
+ghost use Rattle.simplex.specs.Ends.{end_of, HasRun, IsEnd, IsSpent, NeverSpent};
 
 use crate::choices::{Choice, choose};
 use dictionary::Dictionary;
@@ -33,7 +33,8 @@ pub enum RunStop {
 ///
 /// `pivots` is what is left of the budget, and `turn` counts the turns begun, this run's after those before it. `Wide` and
 /// `Pivots` come exactly where the run stops so. The turns and what is left of the budget are together at most one greater
-/// than before. After a pivot that was too wide the dictionary must not be used; after a value that was, it may be.
+/// than before. With a budget of `bland_law::basis_bound` pivots, where that is a number, `Pivots` never comes (Bland 1977).
+/// After a pivot that was too wide the dictionary must not be used; after a value that was, it may be.
 pub fn settle<N: Exact>(
     dictionary: &mut Dictionary<N>,
     pivots: &mut u64,
@@ -44,6 +45,8 @@ pub fn settle<N: Exact>(
     ensures run { (system : LinearSystem) → IsTableauOf system (tableau_of dictionary.old) → HasRun N.most system dictionary.old.basis pivots.old turn.old (end_of result) dictionary.new pivots.new turn.new }
     ensures ended { IfOk result (λ settled. (dictionary.new.usable ≡ true) × (IsEnd settled (settle_choice (tableau_of dictionary.new)) × (first_wide N.most (settle_values (tableau_of dictionary.new)) ≡ None))) }
     ensures spent { IsSpent result → dictionary.new.usable ≡ true }
+    // With as many pivots as 3 to the number of the system's columns and rows none is ever missing.
+    ensures never_spent { (system : LinearSystem) → IsTableauOf system (tableau_of dictionary.old) → NeverSpent system pivots.old result }
     ensures columns { dictionary.new.columns ≡ dictionary.old.columns }
     ensures sum { turn.new + pivots.new ≤ turn.old + pivots.old + 1 }
 {

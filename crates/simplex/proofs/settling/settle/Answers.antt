@@ -1,8 +1,10 @@
-use Rattle.std.proofs.Common.{◌≡◌, ◌≢◌, ◌+◌, ◌-◌, ◌≤◌, ℕ, suc, true≢false, Some, refl, sym, ◌∙◌, ap, subst, arith}
+use Rattle.std.proofs.Common.{◌≡◌, ◌≢◌, ◌+◌, ◌-◌, ◌^◌, ◌<◌, ◌≤◌, ℕ, suc, true≢false, Some, refl, sym, ◌∙◌, ap, subst, arith}
 use Rattle.certs.specs.Turns.{settle_choice}
 use Rattle.dictionary.specs.Layouts.{side_of}
 use Rattle.dictionary.specs.Value.{tableau_of}
 use Rattle.simplex.specs.Chosen.{IsChosen}
+use Rattle.bland_law.specs.Ends.{limited_count}
+use Rattle.bland_law.proofs.Endings.{few_pivots_law}
 use Rattle.certs.proofs.Choices.{can_of, work-values, work-pivot}
 use Rattle.simplex.proofs.settling.settle.Goals as goal
 
@@ -107,6 +109,16 @@ returns-then-pivots-eq0-clause-run g c = λ system of.
       stands = λ u. (refl, r.0);
       lost = λ u. absurd (true≢false (sym i.usable ∙ u));
     })
+
+pub returns-then-pivots-eq0-clause-never_spent : goal.returns-then-pivots-eq0-clause-never_spent
+returns-then-pivots-eq0-clause-never_spent g c = λ system of formed enough spent.
+    (let i = c.loop-choice.invariant in
+    let d = c.loop-choice.dictionary in
+    let r = i.made.1.1.1 system of in
+    let few : i.made.0 < 3 ^ limited_count system = few_pivots_law g.N.Exact.most system i.made.0 c.args.dictionary.now.basis d.basis formed r.1 in
+    let whole : i.made.0 + c.loop-choice.pivots ≡ c.args.pivots.now = i.made.1.0 in
+    let none : c.loop-choice.pivots ≡ 0 = c.if-pivots-eq0.true in
+    absurd (omega arith))
 
 pub pivot-requires-clause-can : goal.pivot-requires-clause-can
 pivot-requires-clause-can g c =
