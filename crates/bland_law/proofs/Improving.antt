@@ -9,9 +9,9 @@ use Rattle.std.proofs.lemmas.List.Elements.{All-weaker}
 use Rattle.algebra.proofs.Ring.{x0, x1, x2, x3, ◌:+◌, ◌:-◌, ◌:*◌, minus, zero_of, unit_of}
 use Rattle.rational.specs.Rational.{ℚ, ◌+ℚ◌, ◌-ℚ◌, ◌*ℚ◌, inv_ℚ, neg_ℚ, zero_ℚ, one_ℚ, ◌≤ℚ◌, ◌<ℚ◌, lt_q}
 use Rattle.rational.specs.Sum.{sum_over}
-use Rattle.rational.proofs.Compare.{eq-Decides}
+use Rattle.rational.proofs.Compare.{eq-Decides, lt_q-Decides}
 use Rattle.rational.proofs.Field.{ring_ℚ, div_from_ℚ}
-use Rattle.rational.proofs.Order.{le_by, lt_by, le_refl_ℚ, le_trans_ℚ, trichotomy_ℚ, nonneg-mul, nonneg_of_le, nonneg_is, nonneg_of_positive, positive_of_lt, positive_is, positive-mul, positive-one, lt_q-true, lt_q-false, lt-le_clash_ℚ, lt_irrefl_ℚ}
+use Rattle.rational.proofs.Order.{le_by, lt_by, le_refl_ℚ, le_trans_ℚ, trichotomy_ℚ, nonneg-mul, nonneg_of_le, nonneg_is, nonneg_of_positive, positive_of_lt, positive_is, positive-mul, positive-one, lt_q-true, lt-le_clash_ℚ, lt_irrefl_ℚ}
 use Rattle.lp_model.specs.declared.members.Side.{Side}
 use Rattle.lp_model.specs.declared.members.Side.TheVariants.{Lo, Up}
 use Rattle.certs.specs.Combination.{number_or_zero}
@@ -119,20 +119,13 @@ no_gain : (limits : Limits) (f v a : ℚ) → ((lt_q zero_ℚ f && not (meets li
 no_gain limits f v a none up down =
     let parts = or_parts (lt_q zero_ℚ f && not (meets limits.upper v)) (lt_q f zero_ℚ && not (meets limits.lower v)) none in
     elim (trichotomy_ℚ zero_ℚ f) [
-      | inl h ↦ above h (up (met (lt_q zero_ℚ f) (meets limits.upper v) (test zero_ℚ f h) parts.0))
+      | inl h ↦ above h (up (met (lt_q zero_ℚ f) (meets limits.upper v) ((lt_q-Decides zero_ℚ f).1 h) parts.0))
       | inr r ↦ elim r [
         | inl e ↦ subst (λ z. z *ℚ a ≤ℚ z *ℚ v) e (le_by (a ∷ v ∷ []) (zero_of :* x0) (zero_of :* x1) zero_of (nonneg_is.0 (le_refl_ℚ zero_ℚ)) tt)
-        | inr h ↦ below h (down (met (lt_q f zero_ℚ) (meets limits.lower v) (test f zero_ℚ h) parts.1))
+        | inr h ↦ below h (down (met (lt_q f zero_ℚ) (meets limits.lower v) ((lt_q-Decides f zero_ℚ).1 h) parts.1))
       ]
     ]
   where
-    test : (a b : ℚ) → a <ℚ b → lt_q a b ≡ true
-    test a b h = by (lt_q a b) refl
-      where
-        by : (c : Bool) → lt_q a b ≡ c → c ≡ true
-        by true e = refl
-        by false e = lt-le_clash_ℚ h (lt_q-false a b e)
-
     met : (x m : Bool) → x ≡ true → (x && not m) ≡ false → m ≡ true
     met true true e h = refl
     met true false e h = absurd (true≢false h)

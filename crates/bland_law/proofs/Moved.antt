@@ -4,6 +4,7 @@ use Rattle.std.proofs.lemmas.Bool.{cond-true, cond-false, and_parts, or_cases}
 use Rattle.algebra.proofs.Ring.{x0, x1, x2, x3, ◌:+◌, ◌:-◌, ◌:*◌, minus, zero_of, unit_of}
 use Rattle.rational.specs.Rational.{ℚ, ◌+ℚ◌, ◌-ℚ◌, ◌*ℚ◌, ◌/ℚ◌, inv_ℚ, neg_ℚ, zero_ℚ, one_ℚ, ◌≤ℚ◌, ◌<ℚ◌, lt_q}
 use Rattle.rational.specs.Sum.{sum_over}
+use Rattle.rational.proofs.Compare.{lt_q-Decides}
 use Rattle.rational.proofs.Field.{ring_ℚ, mul-inv_ℚ}
 use Rattle.rational.proofs.Order.{le_by, lt_by, le_of_lt_ℚ, le_or_lt_ℚ, nonneg_of_le, positive_of_lt, positive_is, positive-mul, lt_q-true, lt_q-false, lt-le_clash_ℚ, lt_irrefl_ℚ}
 use Rattle.lp_model.specs.declared.members.Side.{Side}
@@ -153,14 +154,7 @@ falling q e = by (lt_q zero_ℚ q) (lt_q q zero_ℚ) refl refl e
     by false false f g h = absurd (no_side Lo h)
 
 pub goes_up : (q : ℚ) → zero_ℚ <ℚ q → towards q ≡ Some Up
-goes_up q h = ap (λ b. cond b (Some Up) (cond (lt_q q zero_ℚ) (Some Lo) None)) (test zero_ℚ q h)
-  where
-    test : (a b : ℚ) → a <ℚ b → lt_q a b ≡ true
-    test a b h = by (lt_q a b) refl
-      where
-        by : (c : Bool) → lt_q a b ≡ c → c ≡ true
-        by true e = refl
-        by false e = lt-le_clash_ℚ h (lt_q-false a b e)
+goes_up q h = ap (λ b. cond b (Some Up) (cond (lt_q q zero_ℚ) (Some Lo) None)) ((lt_q-Decides zero_ℚ q).1 h)
 
 pub goes_down : (q : ℚ) → q <ℚ zero_ℚ → towards q ≡ Some Lo
 goes_down q h = by (lt_q zero_ℚ q) (lt_q q zero_ℚ) refl refl
