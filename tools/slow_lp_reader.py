@@ -364,8 +364,8 @@ def objective_part_form(reading: Reading) -> list:
 
 def objective_form(reading: Reading, is_greatest: bool) -> Objective:
     label = label_form(reading)
-    if label is None and reading.sort() not in ("sign", "number", "word"):
-        return Objective(is_greatest, None, [])
+    if reading.sort() not in ("sign", "number", "word"):
+        return Objective(is_greatest, label, [])
     terms = objective_part_form(reading)
     while reading.sort() == "sign":
         terms += objective_part_form(reading)
@@ -379,10 +379,22 @@ def relation_form(reading: Reading) -> bytes:
     return b">=" if b">" in text else b"="
 
 
+TURNED = {b"<=": b">=", b">=": b"<=", b"=": b"="}
+
+
 def left_side_form(reading: Reading) -> Side:
     constant = constant_form(reading)
-    turned = {b"<=": b">=", b">=": b"<=", b"=": b"="}
-    return Side(turned[relation_form(reading)], constant)
+    return Side(TURNED[relation_form(reading)], constant)
+
+
+def row_left_side_form(reading: Reading) -> Side:
+    """A left side that does not make an equation."""
+    constant = constant_form(reading)
+    token = reading.token()
+    relation = relation_form(reading)
+    if relation == b"=":
+        raise refusal(token, "bad field")
+    return Side(TURNED[relation], constant)
 
 
 def right_side_form(reading: Reading, left: Optional[Side]) -> Side:
@@ -396,7 +408,7 @@ def right_side_form(reading: Reading, left: Optional[Side]) -> Side:
 
 def row_form(reading: Reading) -> Row:
     label = label_form(reading)
-    left = left_side_form(reading) if begins_constant(reading) else None
+    left = row_left_side_form(reading) if begins_constant(reading) else None
     terms = [term_form(reading)]
     while reading.sort() == "sign":
         terms.append(term_form(reading))
@@ -700,6 +712,7 @@ UNUSUAL_NUMBER = 0.12
 INFINITE_CONSTANT = 0.15
 UNUSUAL_GAP = 0.1
 WIDE_SUM = 0.02
+EQUATION_AHEAD = 0.03
 CUT_TEXT = 0.04
 SOMETHING_AFTER_END = 0.1
 
@@ -759,7 +772,7 @@ def made_left_side(chance: random.Random) -> tuple:
 
 def made_objective(chance: random.Random) -> list:
     if happens(chance, 0.1):
-        return []
+        return made_label(chance)
     words = made_label(chance) + made_terms(chance)
     return words + ([chance.choice("+-"), made_number(chance)] if happens(chance, 0.2) else [])
 
@@ -769,7 +782,7 @@ def made_row(chance: random.Random) -> list:
     relations = MADE_RELATIONS
     if happens(chance, 0.3):
         left, relations = made_left_side(chance)
-        words += left
+        words += left[:-1] + ["="] if happens(chance, EQUATION_AHEAD) else left
     return words + made_terms(chance) + [chance.choice(relations)] + made_constant(chance)
 
 

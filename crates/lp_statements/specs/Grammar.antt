@@ -63,16 +63,21 @@ abbrev pub relation_in : Item → Option Relation
 relation_in (Item.Relation relation) = Some relation
 relation_in _ = None
 
+-- a relation that may stand before a form
+abbrev pub inequality_in : Item → Option Relation
+inequality_in (Item.Relation Relation.AtMost) = Some Relation.AtMost
+inequality_in (Item.Relation Relation.AtLeast) = Some Relation.AtLeast
+inequality_in _ = None
+
 -- a keyword
 abbrev pub keyword_in : Item → Option Keyword
 keyword_in (Item.Keyword keyword) = Some keyword
 keyword_in _ = None
 
--- what a term or a constant may begin with
+-- what a term or a number may begin with
 abbrev pub begins_part : Item → Bool
 begins_part Item.Name = true
 begins_part Item.Number = true
-begins_part Item.Infinite = true
 begins_part (Item.Sign minus) = true
 begins_part _ = false
 
@@ -196,14 +201,13 @@ more_parts pieces = repeated part terms_in (length pieces) pieces
 unfoldable pub parts : List Piece → Parsed (List Term)
 parts pieces = then (part pieces) (λ first rest. then (more_parts rest) (λ terms last. Whole (terms_in first ++ terms) last))
 
--- parts, or, where no label stands before, nothing
-unfoldable pub form_after : Bool → List Piece → Parsed (List Term)
-form_after true pieces = parts pieces
-form_after false pieces = cond (is_first begins_part pieces) (parts pieces) (Whole [] pieces)
+-- parts, or nothing
+unfoldable pub form : List Piece → Parsed (List Term)
+form pieces = cond (is_first begins_part pieces) (parts pieces) (Whole [] pieces)
 
--- a label and a form, or nothing
+-- a label, if there is one, and a form
 unfoldable pub objective : Bool → List Piece → Parsed Statement
-objective maximise pieces = then (form_after (is_some (label pieces).0) (label pieces).1) (λ terms rest. Whole (Objective maximise (label pieces).0 terms) rest)
+objective maximise pieces = then (form (label pieces).1) (λ terms rest. Whole (Objective maximise (label pieces).0 terms) rest)
 
 -- the keyword of an objective, and whether it is to be made greatest
 abbrev pub sense_of : Item → Option Bool
@@ -236,6 +240,10 @@ subject_to pieces = with_first pieces (λ item text rest. subject_to_by text (ke
 unfoldable pub relation : List Piece → Parsed Relation
 relation pieces = with_first pieces (λ item text rest. or_bad text (relation_in item) rest)
 
+-- a relation that may stand before a form
+unfoldable pub inequality : List Piece → Parsed Relation
+inequality pieces = with_first pieces (λ item text rest. or_bad text (inequality_in item) rest)
+
 -- the second relation of a statement: both are at most, or both are at least
 abbrev pub agreed : Relation → Option Relation → Option Relation
 agreed Relation.AtMost (Some Relation.AtMost) = Some Relation.AtMost
@@ -261,7 +269,7 @@ pub record Opening : Type 0 where
 abbrev pub opening_from : Element → List Piece → Parsed Opening
 opening_from (OfTerm first) rest = Whole (record { left = None; before = None; first = first }) rest
 opening_from (OfConstant constant) rest =
-    then (relation rest) (λ before more. then (term more) (λ first last. Whole (record { left = Some constant; before = Some before; first = first }) last))
+    then (inequality rest) (λ before more. then (term more) (λ first last. Whole (record { left = Some constant; before = Some before; first = first }) last))
 
 -- the begin of a row
 unfoldable pub opening : List Piece → Parsed Opening

@@ -3,7 +3,7 @@ ghost use Rattle.std.specs.Prelude.{◌≡◌, Bool, false, ◌<◌, ◌^◌, �
 ghost use Rattle.std.specs.Option.{option_map};
 ghost use Rattle.lp_statements.specs.Items.{IsPlace, IsSeen, IsStopAt, StopsAt, Seen, pieces_at};
 ghost use Rattle.lp_statements.specs.Statements.{Term as TermOf, shown_text, shown_constant, shown_term};
-ghost use Rattle.lp_statements.specs.Grammar.{Element as ElementOf, OfTerm, OfConstant, Opening as OpeningOf, Parsed, wrong as wrong_at, is_name as is_name_by, is_colon as is_colon_by, minus_of as minus_by, infinite_of as infinite_by, relation_in as relation_by, begins_part as begins_by, is_sign as is_sign_by, is_relation as is_relation_by, is_first, text_first, label as label_by, turned, signs, constant_of as constant_by, constant as constant_at, factor_or_constant, amount as amount_by, term_in, element_of as element_by, element as element_at, term as term_at, more_terms as more_terms_at, part as part_at, more_parts as more_parts_at, parts as parts_at, terms_in, opening_from, relation as relation_at, agreed as agreed_by, agreed_with as agreed_with_by, agreeing as agreeing_at, opening as opening_at, name as name_at};
+ghost use Rattle.lp_statements.specs.Grammar.{Element as ElementOf, OfTerm, OfConstant, Opening as OpeningOf, Parsed, wrong as wrong_at, is_name as is_name_by, is_colon as is_colon_by, minus_of as minus_by, infinite_of as infinite_by, relation_in as relation_by, inequality_in as inequality_by, begins_part as begins_by, is_sign as is_sign_by, is_relation as is_relation_by, is_first, text_first, label as label_by, turned, signs, constant_of as constant_by, constant as constant_at, factor_or_constant, amount as amount_by, term_in, element_of as element_by, element as element_at, term as term_at, more_terms as more_terms_at, part as part_at, more_parts as more_parts_at, parts as parts_at, terms_in, opening_from, relation as relation_at, inequality as inequality_at, agreed as agreed_by, agreed_with as agreed_with_by, agreeing as agreeing_at, opening as opening_at, name as name_at};
 ghost use Rattle.lp_statements.specs.Script.{IsAfter, IsOnward, IsFirst, IsSignAt, MayStop, Takes, Passes, IsRefusal};
 ghost use Rattle.lp_statements.specs.Shapes.{shown_element, shown_opening, AddsTerms, TakesTerms};
 
@@ -72,11 +72,21 @@ fn relation_in(item: Item) -> Option<Relation>
     }
 }
 
+fn inequality_in(item: Item) -> Option<Relation>
+    ensures { result ≡ inequality_by item }
+{
+    match item {
+        Item::Relation(Relation::AtMost) => Some(Relation::AtMost),
+        Item::Relation(Relation::AtLeast) => Some(Relation::AtLeast),
+        _ => None,
+    }
+}
+
 fn begins_part(item: Item) -> bool
     ensures { result ≡ begins_by item }
 {
     match item {
-        Item::Name | Item::Number | Item::Infinite | Item::Sign { .. } => true,
+        Item::Name | Item::Number | Item::Sign { .. } => true,
         _ => false,
     }
 }
@@ -147,7 +157,7 @@ pub(crate) fn is_relation_first(bytes: &[u8], place: Place) -> bool
     relation_in(item).is_some()
 }
 
-// Whether a term or a constant begins.
+// Whether a term or a number begins.
 pub(crate) fn is_part_first(bytes: &[u8], place: Place) -> bool
     requires place { IsPlace bytes.now place }
     requires short { length bytes.now < 2 ^ 31 }
@@ -427,6 +437,24 @@ pub(crate) fn relation(bytes: &[u8], place: Place) -> Result<(Relation, Place), 
     Ok((relation, next))
 }
 
+// A relation that may stand before a form.
+fn inequality(bytes: &[u8], place: Place) -> Result<(Relation, Place), ReadFault>
+    requires place { IsPlace bytes.now place }
+    requires short { length bytes.now < 2 ^ 31 }
+    ensures { MatchResult result
+        (λ found. Takes bytes.now place (inequality_at (pieces_at bytes.now place)) found.0 found.1)
+        (IsRefusal (inequality_at (pieces_at bytes.now place))) }
+{
+    let (item, text, next) = match next_seen(bytes, place) {
+        Ok(seen) => seen,
+        Err(fault) => return Err(fault),
+    };
+    let Some(relation) = inequality_in(item) else {
+        return Err(stop_at(text.line, ReadKind::BadField));
+    };
+    Ok((relation, next))
+}
+
 /// A name.
 pub(crate) fn name(bytes: &[u8], place: Place) -> Result<(Text<'_>, Place), ReadFault>
     requires place { IsPlace bytes.now place }
@@ -585,7 +613,7 @@ fn opening_after<'a>(
         (λ found. Takes bytes.now place (opening_from (OfConstant (shown_constant constant.entry)) (pieces_at bytes.now place)) (shown_opening found.0) found.1)
         (IsRefusal (opening_from (OfConstant (shown_constant constant.entry)) (pieces_at bytes.now place))) }
 {
-    let (before, more) = match relation(bytes, place) {
+    let (before, more) = match inequality(bytes, place) {
         Ok(found) => found,
         Err(fault) => return Err(fault),
     };

@@ -3,7 +3,7 @@ ghost use Rattle.std.specs.Prelude.{◌≡◌, List, Bool, false, ◌<◌, ◌^�
 ghost use Rattle.std.specs.Option.{option_map};
 ghost use Rattle.lp_statements.specs.Items.{Piece, IsPlace, pieces_at, pieces_of};
 ghost use Rattle.lp_statements.specs.Statements.{Objective as ObjectiveOf, shown, shown_text, shown_constant, shown_term};
-ghost use Rattle.lp_statements.specs.Grammar.{sense_of as sense_by, keyword_in as keyword_by, form_after as form_after_by, objective as objective_at, objective_after as objective_after_by, begin as begin_at, subject_to_by, subject_to as subject_to_at, closing as closing_at, row_after as row_after_at, row as row_at, free_in, text_first, is_name as is_name_by, bound_after as bound_after_at, bound_end as bound_end_at, bound_from_constant as bound_from_constant_at, bound as bound_at, listed as listed_at, later_heading as later_heading_by, keyword_first as keyword_first_of, body as body_at, heading_or_body as heading_or_body_at, Whole, statement_of};
+ghost use Rattle.lp_statements.specs.Grammar.{sense_of as sense_by, keyword_in as keyword_by, form as form_at, objective as objective_at, objective_after as objective_after_by, begin as begin_at, subject_to_by, subject_to as subject_to_at, closing as closing_at, row_after as row_after_at, row as row_at, free_in, text_first, is_name as is_name_by, bound_after as bound_after_at, bound_end as bound_end_at, bound_from_constant as bound_from_constant_at, bound as bound_at, listed as listed_at, later_heading as later_heading_by, keyword_first as keyword_first_of, body as body_at, heading_or_body as heading_or_body_at, Whole, statement_of};
 ghost use Rattle.lp_statements.specs.Script.{IsAfter, IsOnward, Takes, Passes, IsRefusal};
 ghost use Rattle.lp_statements.specs.Shapes.{shown_opening, AddsTerms, IsFreeAt, IsKeywordAt};
 
@@ -37,21 +37,16 @@ fn keyword_in(item: Item) -> Option<Keyword>
     }
 }
 
-// The form after a label, or, without one, nothing.
-#[tactic(auto, unfolding(crate::specs::Grammar::form_after))]
-fn form_after<'a>(
-    bytes: &'a [u8],
-    place: Place,
-    has_label: bool,
-    terms: &mut Vec<Term<'a>>,
-) -> Result<Place, ReadFault>
+// The form of an objective: parts, or nothing.
+#[tactic(auto, unfolding(crate::specs::Grammar::form))]
+fn form<'a>(bytes: &'a [u8], place: Place, terms: &mut Vec<Term<'a>>) -> Result<Place, ReadFault>
     requires place { IsPlace bytes.now place }
     requires short { length bytes.now < 2 ^ 31 }
     ensures { MatchResult result
-        (AddsTerms bytes.now place (form_after_by has_label (pieces_at bytes.now place)) terms.old.items terms.new.items)
-        (IsRefusal (form_after_by has_label (pieces_at bytes.now place))) }
+        (AddsTerms bytes.now place (form_at (pieces_at bytes.now place)) terms.old.items terms.new.items)
+        (IsRefusal (form_at (pieces_at bytes.now place))) }
 {
-    if !has_label && !is_part_first(bytes, place) {
+    if !is_part_first(bytes, place) {
         return Ok(place);
     }
     match parts(bytes, place, terms) {
@@ -76,7 +71,7 @@ fn objective(
 {
     let (label, at) = label(bytes, place);
     let mut terms = Vec::new(alloc);
-    let next = match form_after(bytes, at, label.is_some(), &mut terms) {
+    let next = match form(bytes, at, &mut terms) {
         Ok(next) => next,
         Err(fault) => return Err(fault),
     };
