@@ -6,6 +6,7 @@ pub mod EndRows
 pub mod Fronts
 pub mod Holding
 pub mod Taking
+pub mod Kept
 pub mod Scripted
 pub mod Columned
 pub mod Built

@@ -8,17 +8,18 @@ use Rattle.text_fields.specs.Tokens.{Lexeme, scan_at}
 use Rattle.name_map.specs.Names.{names_of}
 use Rattle.lp_statements.specs.declared.parts.Section.{Section}
 use Rattle.lp_statements.specs.Items.{Piece, pieces, pieces_in, pieces_at, pieces_of, ending_of, IsPlace}
-use Rattle.lp_statements.specs.Statements.{Statement}
+use Rattle.lp_statements.specs.Statements.{Statement, IsKept}
 use Rattle.lp_statements.specs.Grammar.{Parsed, Whole, Fails, statement_of}
-use Rattle.lp_statements.specs.Script.{Script, section_after, with_statement, goes_on, script_by, script, script_of, Takes, IsRefusal}
+use Rattle.lp_statements.specs.Script.{Script, section_after, with_statement, goes_on, script_by, script, script_of, Takes, Reads, IsRefusal}
 use Rattle.lp_reader.specs.declared.reader.Reader.{Reader}
 use Rattle.lp_reader.specs.Names.{terms_of, with_names, names_from}
 use Rattle.lp_reader.specs.Bounds.{lower_of, upper_of, whole_of, is_lower_set}
 use Rattle.lp_reader.specs.Program.{form_from}
-use Rattle.lp_reader.specs.Faults.{statement_fault, first_fault}
+use Rattle.lp_reader.specs.Faults.{most_entries, statement_fault, first_fault}
 use Rattle.lp_reader.specs.Meaning.{lp_fault, IsLpStop}
 use Rattle.lp_reader.specs.Held.{Holds, HasRead}
 use Rattle.lp_reader.specs.Told.{IsFault}
+use Rattle.lp_reader.proofs.Kept.{kept_fault, kept_same}
 
 -- ---- nothing is read
 pub holds_nothing : (reader : Reader) → names_of reader.rows.names ≡ [] → reader.rows.items.items ≡ [] → names_of reader.columns.names ≡ [] → reader.columns.bounds.items ≡ [] → reader.columns.entries ≡ 0 → reader.objective ≡ [] → reader.maximise ≡ false → Holds reader []
@@ -158,6 +159,17 @@ module _ (bytes : List ℕ) (reader : Reader) (place : Place) (section : Section
         by : (m : ℕ) × (left.most ≡ suc m) → (after : Option Section) → section_after section statement ≡ after → Remains bytes (so_far.front ++ statement ∷ []) next after
         by m (Some after) is = some after m.0 m.1 is
         by m None is = none m.0 m.1 is
+
+  -- the same where terms past the limit are not kept
+  module _ (n : ℕ) (past : most_entries < n) (kept : Statement) (next : Place) (reads : Reads bytes place n (statement_of section (pieces_at bytes place)) kept next) where
+    pub kept_fails : (fault : ReadFault) → IsFault (statement_fault so_far.front kept) fault → IsLpStop bytes fault
+    kept_fails fault told = meaning_fails reads.statement next reads.takes fault (subst (λ o. IsFault o fault) (kept_fault n so_far.front past reads.statement kept reads.keeps) told)
+
+    pub kept_on : (new : Reader) (after : Option Section) → after ≡ section_after section kept → (statement_fault so_far.front kept ≡ None) × Holds new (so_far.front ++ kept ∷ []) → Reading bytes new next after
+    kept_on new after is done =
+        let same : kept ≡ reads.statement = kept_same n so_far.front past reads.statement kept reads.keeps done.0 in
+        reading_on reads.statement next reads.takes new after (is ∙ ap (section_after section) same)
+        (subst (λ (s : Statement). (statement_fault so_far.front s ≡ None) × Holds new (so_far.front ++ s ∷ [])) same done)
 
 -- all is read
 pub all_read : (bytes : List ℕ) (reader : Reader) (place : Place) → Reading bytes reader place None → HasRead bytes reader

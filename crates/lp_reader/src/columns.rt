@@ -28,6 +28,9 @@ use text_fields::{ReadFault, ReadKind};
 
 const MOST_ENTRIES: usize = 100_000;
 
+/// How many terms of a form are kept: those after them are past the limit.
+pub(crate) const MOST_TERMS: usize = MOST_ENTRIES + 1;
+
 const MOST_COLUMNS: usize = 4_000;
 
 const LONGEST_NAME: usize = 255;

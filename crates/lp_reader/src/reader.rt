@@ -9,7 +9,7 @@ ghost use Rattle.lp_reader.specs.Meaning.{IsLpStop};
 ghost use Rattle.lp_reader.specs.Told.{IsFault};
 
 use crate::bounds::{known_column, lower_said, set_bounds, upper_said};
-use crate::columns::{Columns, take_terms};
+use crate::columns::{Columns, MOST_TERMS, take_terms};
 use crate::rows::{Rows, check_label, check_objective_label, end_row, side_if};
 use frac128::Frac;
 use lp_model::Terms;
@@ -278,7 +278,7 @@ pub(crate) fn read_statements(alloc: Global, bytes: &[u8]) -> Result<Reader, Rea
     let mut place = start(bytes);
     let mut section = Some(Section::Begin);
     while let Some(here) = section {
-        let (statement, next) = match next_statement(alloc, bytes, here, place) {
+        let (statement, next) = match next_statement(alloc, bytes, here, place, MOST_TERMS) {
             Ok(found) => found,
             Err(fault) => return Err(fault),
         };

@@ -8,7 +8,10 @@ use Rattle.text_fields.specs.declared.faults.ReadFault.TheVariants.{Stop, Memory
 use Rattle.lp_statements.specs.declared.parts.Item.{Item}
 use Rattle.lp_statements.specs.Items.{Written, Piece, Seen, pieces_at, IsSeen, IsStopAt, StopsAt}
 use Rattle.lp_statements.specs.Grammar.{Parsed, Whole, Fails, then, with_first, signs, minus_of, turned}
-use Rattle.lp_statements.specs.Script.{IsAfter, IsOnward, IsSignAt, MayStop, Takes, Passes, IsRefusal}
+use Rattle.std.specs.Prelude.{Result, Ok, Err, MatchResult}
+use Rattle.lp_statements.specs.declared.parts.Statement.{Statement as CodeStatement}
+use Rattle.lp_statements.specs.Statements.{Statement, IsKept, Entire, shown}
+use Rattle.lp_statements.specs.Script.{IsAfter, IsOnward, IsSignAt, MayStop, Takes, Passes, Reads, ReadsOn, IsRefusal}
 
 module _ (bytes : List ℕ) (place : Place) where
   -- what stands first
@@ -83,6 +86,15 @@ module _ (bytes : List ℕ) (place : Place) where
   pub then_fails : {A B : Type 0} (p : Parsed A) (f : A → List Piece → Parsed B) (value : A) (next : Place) (fault : ReadFault) → Takes bytes place p value next → IsRefusal (f value (pieces_at bytes next)) fault → IsRefusal (then p f) fault
   then_fails p f value next (Stop stop) a b = ap (λ p. then p f) a.whole ∙ b
   then_fails p f value next Memory a b = tt
+
+-- a statement that is kept whole
+pub entire : (bytes : List ℕ) (place : Place) (n : ℕ) (parsed : Parsed Statement) (statement : Statement) (next : Place) → Takes bytes place parsed statement next → Reads bytes place n parsed statement next
+entire bytes place n parsed statement next takes = record { statement = statement; takes = takes; keeps = Entire refl }
+
+pub told_entire : (bytes : List ℕ) (place : Place) (n : ℕ) (parsed : Parsed Statement) (result : Result (CodeStatement × Place) ReadFault) → MatchResult result (λ found. Takes bytes place parsed (shown found.0) found.1) (IsRefusal parsed)
+    → MatchResult result (λ found. Reads bytes place n parsed (shown found.0) found.1) (IsRefusal parsed)
+told_entire bytes place n parsed (Ok found) takes = entire bytes place n parsed (shown found.0) found.1 takes
+told_entire bytes place n parsed (Err fault) refused = refused
 
 -- a part that is refused
 pub then_refused : {A B : Type 0} (p : Parsed A) (f : A → List Piece → Parsed B) (fault : ReadFault) → IsRefusal p fault → IsRefusal (then p f) fault

@@ -275,14 +275,14 @@ opening_from (OfConstant constant) rest =
 unfoldable pub opening : List Piece → Parsed Opening
 opening pieces = then (element pieces) opening_from
 
--- the end of a row: a relation and a constant
-unfoldable pub closing : Option Written → Opening → List Term → List Piece → Parsed Statement
-closing name start terms pieces =
-    then (agreeing start.before pieces) (λ relation rest. then (constant rest) (λ right last. Whole (Row name start.left terms relation right) last))
+-- the end of a row: a relation, which agrees with one before the form, and a constant
+unfoldable pub closing : Option Relation → List Piece → Parsed (Relation × Constant)
+closing before pieces = then (agreeing before pieces) (λ relation rest. then (constant rest) (λ right last. Whole (relation, right) last))
 
 -- a row after its label
 unfoldable pub row_after : Option Written → List Piece → Parsed Statement
-row_after name pieces = then (opening pieces) (λ start rest. then (more_terms rest) (λ terms last. closing name start (start.first ∷ terms) last))
+row_after name pieces =
+    then (opening pieces) (λ start rest. then (more_terms rest) (λ terms more. then (closing start.before more) (λ end last. Whole (Row name start.left (start.first ∷ terms) end.0 end.1) last)))
 
 -- a row with its label, if there is one
 unfoldable pub row : List Piece → Parsed Statement

@@ -8,7 +8,7 @@ use Rattle.lp_statements.specs.declared.parts.Keyword.{Keyword}
 use Rattle.lp_statements.specs.declared.parts.Section.{Section}
 use Rattle.lp_statements.specs.declared.parts.Item.{Item}
 use Rattle.lp_statements.specs.Items.{Written, Piece, pieces_of, pieces_at, IsPlace, StopsAt}
-use Rattle.lp_statements.specs.Statements.{Statement, Objective, Heading}
+use Rattle.lp_statements.specs.Statements.{Statement, Objective, Heading, IsKept}
 use Rattle.lp_statements.specs.Grammar.{Parsed, Whole, Fails, text_first, turned, signs as signs_of, statement_of}
 
 -- statements, and the fault of the form of the one after them, if there is one
@@ -69,6 +69,18 @@ pub record Takes {A : Type 0} (bytes : List ℕ) (place : Place) (parsed : Parse
 pub record Passes {A : Type 0} (bytes : List ℕ) (place : Place) (parsed : Parsed A) (value : A) (next : Place) : Type 0 where
   pub whole : parsed ≡ Whole value (pieces_at bytes next)
   pub onward : IsOnward bytes place next
+
+-- a statement is whole, and no less than n terms of its form are kept where there are so many
+pub record Reads (bytes : List ℕ) (place : Place) (n : ℕ) (parsed : Parsed Statement) (kept : Statement) (next : Place) : Type 0 where
+  pub statement : Statement
+  pub takes : Takes bytes place parsed statement next
+  pub keeps : IsKept n statement kept
+
+-- the same of a statement that may be empty
+pub record ReadsOn (bytes : List ℕ) (place : Place) (n : ℕ) (parsed : Parsed Statement) (kept : Statement) (next : Place) : Type 0 where
+  pub statement : Statement
+  pub passes : Passes bytes place parsed statement next
+  pub keeps : IsKept n statement kept
 
 -- the part fails so; want of memory may come at any time
 abbrev pub IsRefusal : {A : Type 0} → Parsed A → ReadFault → Type 0

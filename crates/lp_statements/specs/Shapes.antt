@@ -1,5 +1,5 @@
 -- Terms, constants and begins of rows in the code's types.
-use Rattle.std.specs.Prelude.{◌≡◌, ℕ, List, ◌++◌, Some, map}
+use Rattle.std.specs.Prelude.{◌≡◌, ℕ, List, ◌++◌, Some, map, take}
 use Rattle.std.specs.Option.{option_map}
 use Rattle.text_fields.specs.declared.tokens.Place.{Place}
 use Rattle.lp_statements.specs.declared.parts.Term.{Term as CodeTerm}
@@ -20,17 +20,17 @@ shown_element (CodeElement.OfConstant constant) = OfConstant (shown_constant con
 abbrev pub shown_opening : CodeOpening → Opening
 shown_opening o = record { left = option_map shown_constant o.left; before = o.before; first = shown_term o.first }
 
--- terms are put after those that were there, which are the terms of a part that may be empty
-pub record AddsTerms (bytes : List ℕ) (place : Place) (parsed : Parsed (List Term)) (old new : List CodeTerm) (next : Place) : Type 0 where
+-- terms are put after those that were there, which are the terms of a part that may be empty; no more than n are kept
+pub record AddsTerms (bytes : List ℕ) (place : Place) (n : ℕ) (parsed : Parsed (List Term)) (old new : List CodeTerm) (next : Place) : Type 0 where
   pub terms : List Term
   pub passes : Passes bytes place parsed terms next
-  pub items : map shown_term new ≡ map shown_term old ++ terms
+  pub items : map shown_term new ≡ take n (map shown_term old ++ terms)
 
 -- the same of a part that is not empty
-pub record TakesTerms (bytes : List ℕ) (place : Place) (parsed : Parsed (List Term)) (old new : List CodeTerm) (next : Place) : Type 0 where
+pub record TakesTerms (bytes : List ℕ) (place : Place) (n : ℕ) (parsed : Parsed (List Term)) (old new : List CodeTerm) (next : Place) : Type 0 where
   pub terms : List Term
   pub takes : Takes bytes place parsed terms next
-  pub items : map shown_term new ≡ map shown_term old ++ terms
+  pub items : map shown_term new ≡ take n (map shown_term old ++ terms)
 
 -- the word `free` stands first
 pub record IsFreeAt (bytes : List ℕ) (place next : Place) : Type 0 where

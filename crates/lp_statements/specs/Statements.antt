@@ -1,5 +1,5 @@
 -- What a statement says, as it is written.
-use Rattle.std.specs.Prelude.{Bool, List, Option, map}
+use Rattle.std.specs.Prelude.{◌≡◌, ℕ, Bool, List, Option, map, take}
 use Rattle.std.specs.Option.{option_map}
 use Rattle.lp_statements.specs.Items.{Written}
 use Rattle.lp_statements.specs.declared.parts.Relation.{Relation}
@@ -35,6 +35,18 @@ pub data Statement : Type 0 where
   Bound : Option Constant → Written → Relation → Option Constant → Statement
   -- a name under Binary, or else under General
   Listed : Bool → Written → Statement
+
+-- ---- what is kept
+-- a statement with no more than the first n terms of its form
+abbrev pub shortened : ℕ → Statement → Statement
+shortened n (Objective maximise label terms) = Objective maximise label (take n terms)
+shortened n (Row label left terms relation right) = Row label left (take n terms) relation right
+shortened n statement = statement
+
+-- what is kept of a statement: all of it, or no more than the first n terms of its form
+pub data IsKept (n : ℕ) (statement kept : Statement) : Type 0 where
+  Entire : kept ≡ statement → IsKept n statement kept
+  Shortened : kept ≡ shortened n statement → IsKept n statement kept
 
 -- ---- the same in the code's types
 abbrev pub shown_text : Text → Written

@@ -1,5 +1,5 @@
 //! What statements are made of: labels, terms, constants and relations.
-ghost use Rattle.std.specs.Prelude.{◌≡◌, Bool, false, ◌<◌, ◌^◌, ◌++◌, ◌∷◌, [], List, Some, None, length, map, OnOk, IfErr, MatchOption, MatchResult};
+ghost use Rattle.std.specs.Prelude.{◌≡◌, Bool, false, ◌<◌, ◌≤◌, ◌^◌, ◌++◌, ◌∷◌, [], List, Some, None, length, map, take, OnOk, IfErr, MatchOption, MatchResult};
 ghost use Rattle.std.specs.Option.{option_map};
 ghost use Rattle.lp_statements.specs.Items.{IsPlace, IsSeen, IsStopAt, StopsAt, Seen, pieces_at};
 ghost use Rattle.lp_statements.specs.Statements.{Term as TermOf, shown_text, shown_constant, shown_term};
@@ -516,16 +516,34 @@ pub(crate) fn agreeing(
     Ok((relation, next))
 }
 
-/// Puts terms that each begin with a sign after those that are there, and gives the place after them.
+/// Puts a term last, unless there are so many already.
+pub(crate) fn put_term<'a>(
+    terms: &mut Vec<Term<'a>>,
+    most: usize,
+    term: Term<'a>,
+) -> Result<(), ReadFault>
+    requires { length terms.old.items ≤ most }
+    ensures ok { OnOk result (map shown_term terms.new.items ≡ take most (map shown_term terms.old.items ++ shown_term term.entry ∷ [])) }
+    ensures err { IfErr result (λ fault. fault ≡ ReadFault.Memory) }
+{
+    if terms.len() < most {
+        terms.push(term)?;
+    }
+    Ok(())
+}
+
+/// Puts terms that each begin with a sign after those that are there, and gives the place after them; so many are kept.
 pub(crate) fn more_terms<'a>(
     bytes: &'a [u8],
     place: Place,
+    most: usize,
     terms: &mut Vec<Term<'a>>,
 ) -> Result<Place, ReadFault>
     requires place { IsPlace bytes.now place }
     requires short { length bytes.now < 2 ^ 31 }
+    requires few { length terms.old.items ≤ most }
     ensures { MatchResult result
-        (AddsTerms bytes.now place (more_terms_at (pieces_at bytes.now place)) terms.old.items terms.new.items)
+        (AddsTerms bytes.now place most (more_terms_at (pieces_at bytes.now place)) terms.old.items terms.new.items)
         (IsRefusal (more_terms_at (pieces_at bytes.now place))) }
 {
     let mut at = place;
@@ -534,22 +552,24 @@ pub(crate) fn more_terms<'a>(
             Ok(found) => found,
             Err(fault) => return Err(fault),
         };
-        terms.push(term)?;
+        put_term(terms, most, term)?;
         at = next;
     }
     Ok(at)
 }
 
 // Puts the term of a part last, if there is one.
-fn put_part<'a>(terms: &mut Vec<Term<'a>>, part: Option<Term<'a>>) -> Result<(), ReadFault>
-    ensures ok { OnOk result (map shown_term terms.new.items ≡ map shown_term terms.old.items ++ terms_in (option_map shown_term part.entry)) }
+fn put_part<'a>(
+    terms: &mut Vec<Term<'a>>,
+    most: usize,
+    part: Option<Term<'a>>,
+) -> Result<(), ReadFault>
+    requires { length terms.old.items ≤ most }
+    ensures ok { OnOk result (map shown_term terms.new.items ≡ take most (map shown_term terms.old.items ++ terms_in (option_map shown_term part.entry))) }
     ensures err { IfErr result (λ fault. fault ≡ ReadFault.Memory) }
 {
     match part {
-        Some(term) => {
-            terms.push(term)?;
-            Ok(())
-        }
+        Some(term) => put_term(terms, most, term),
         None => Ok(()),
     }
 }
@@ -558,12 +578,14 @@ fn put_part<'a>(terms: &mut Vec<Term<'a>>, part: Option<Term<'a>>) -> Result<(),
 fn more_parts<'a>(
     bytes: &'a [u8],
     place: Place,
+    most: usize,
     terms: &mut Vec<Term<'a>>,
 ) -> Result<Place, ReadFault>
     requires place { IsPlace bytes.now place }
     requires short { length bytes.now < 2 ^ 31 }
+    requires few { length terms.old.items ≤ most }
     ensures { MatchResult result
-        (AddsTerms bytes.now place (more_parts_at (pieces_at bytes.now place)) terms.old.items terms.new.items)
+        (AddsTerms bytes.now place most (more_parts_at (pieces_at bytes.now place)) terms.old.items terms.new.items)
         (IsRefusal (more_parts_at (pieces_at bytes.now place))) }
 {
     let mut at = place;
@@ -572,7 +594,7 @@ fn more_parts<'a>(
             Ok(found) => found,
             Err(fault) => return Err(fault),
         };
-        put_part(terms, part)?;
+        put_part(terms, most, part)?;
         at = next;
     }
     Ok(at)
@@ -582,20 +604,22 @@ fn more_parts<'a>(
 pub(crate) fn parts<'a>(
     bytes: &'a [u8],
     place: Place,
+    most: usize,
     terms: &mut Vec<Term<'a>>,
 ) -> Result<Place, ReadFault>
     requires place { IsPlace bytes.now place }
     requires short { length bytes.now < 2 ^ 31 }
+    requires few { length terms.old.items ≤ most }
     ensures { MatchResult result
-        (TakesTerms bytes.now place (parts_at (pieces_at bytes.now place)) terms.old.items terms.new.items)
+        (TakesTerms bytes.now place most (parts_at (pieces_at bytes.now place)) terms.old.items terms.new.items)
         (IsRefusal (parts_at (pieces_at bytes.now place))) }
 {
     let (first, next) = match part(bytes, place) {
         Ok(found) => found,
         Err(fault) => return Err(fault),
     };
-    put_part(terms, first)?;
-    match more_parts(bytes, next, terms) {
+    put_part(terms, most, first)?;
+    match more_parts(bytes, next, most, terms) {
         Ok(last) => Ok(last),
         Err(fault) => Err(fault),
     }

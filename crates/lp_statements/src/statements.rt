@@ -1,15 +1,15 @@
 //! Statements, by the sections that they stand in.
-ghost use Rattle.std.specs.Prelude.{◌≡◌, List, Bool, false, ◌<◌, ◌^◌, ◌∷◌, [], Some, None, length, map, MatchOption, MatchResult};
+ghost use Rattle.std.specs.Prelude.{◌≡◌, List, Bool, false, ◌<◌, ◌≤◌, ◌^◌, ◌∷◌, [], Some, None, length, map, MatchOption, MatchResult};
 ghost use Rattle.std.specs.Option.{option_map};
 ghost use Rattle.lp_statements.specs.Items.{Piece, IsPlace, pieces_at, pieces_of};
 ghost use Rattle.lp_statements.specs.Statements.{Objective as ObjectiveOf, shown, shown_text, shown_constant, shown_term};
 ghost use Rattle.lp_statements.specs.Grammar.{sense_of as sense_by, keyword_in as keyword_by, form as form_at, objective as objective_at, objective_after as objective_after_by, begin as begin_at, subject_to_by, subject_to as subject_to_at, closing as closing_at, row_after as row_after_at, row as row_at, free_in, text_first, is_name as is_name_by, bound_after as bound_after_at, bound_end as bound_end_at, bound_from_constant as bound_from_constant_at, bound as bound_at, listed as listed_at, later_heading as later_heading_by, keyword_first as keyword_first_of, body as body_at, heading_or_body as heading_or_body_at, Whole, statement_of};
-ghost use Rattle.lp_statements.specs.Script.{IsAfter, IsOnward, Takes, Passes, IsRefusal};
-ghost use Rattle.lp_statements.specs.Shapes.{shown_opening, AddsTerms, IsFreeAt, IsKeywordAt};
+ghost use Rattle.lp_statements.specs.Script.{IsAfter, IsOnward, Takes, Passes, Reads, ReadsOn, IsRefusal};
+ghost use Rattle.lp_statements.specs.Shapes.{AddsTerms, IsFreeAt, IsKeywordAt};
 
 use crate::grammar::{
-    Opening, agreeing, constant, is_part_first, is_relation_first, label, more_terms, name,
-    name_first, parts, relation, take_opening,
+    agreeing, constant, is_part_first, is_relation_first, label, more_terms, name, name_first,
+    parts, put_term, relation, take_opening,
 };
 use crate::items::{next_seen, stop_at};
 use crate::parts::{Constant, Item, Keyword, Relation, Section, Statement, Term, Text};
@@ -39,17 +39,23 @@ fn keyword_in(item: Item) -> Option<Keyword>
 
 // The form of an objective: parts, or nothing.
 #[tactic(auto, unfolding(crate::specs::Grammar::form))]
-fn form<'a>(bytes: &'a [u8], place: Place, terms: &mut Vec<Term<'a>>) -> Result<Place, ReadFault>
+fn form<'a>(
+    bytes: &'a [u8],
+    place: Place,
+    most: usize,
+    terms: &mut Vec<Term<'a>>,
+) -> Result<Place, ReadFault>
     requires place { IsPlace bytes.now place }
     requires short { length bytes.now < 2 ^ 31 }
+    requires few { length terms.old.items ≤ most }
     ensures { MatchResult result
-        (AddsTerms bytes.now place (form_at (pieces_at bytes.now place)) terms.old.items terms.new.items)
+        (AddsTerms bytes.now place most (form_at (pieces_at bytes.now place)) terms.old.items terms.new.items)
         (IsRefusal (form_at (pieces_at bytes.now place))) }
 {
     if !is_part_first(bytes, place) {
         return Ok(place);
     }
-    match parts(bytes, place, terms) {
+    match parts(bytes, place, most, terms) {
         Ok(next) => Ok(next),
         Err(fault) => Err(fault),
     }
@@ -61,17 +67,18 @@ fn objective(
     alloc: Global,
     bytes: &[u8],
     place: Place,
+    most: usize,
     maximise: bool,
 ) -> Result<(Statement<'_>, Place), ReadFault>
     requires place { IsPlace bytes.now place }
     requires short { length bytes.now < 2 ^ 31 }
     ensures { MatchResult result
-        (λ found. Passes bytes.now place (objective_at maximise (pieces_at bytes.now place)) (shown found.0) found.1)
+        (λ found. ReadsOn bytes.now place most (objective_at maximise (pieces_at bytes.now place)) (shown found.0) found.1)
         (IsRefusal (objective_at maximise (pieces_at bytes.now place))) }
 {
     let (label, at) = label(bytes, place);
     let mut terms = Vec::new(alloc);
-    let next = match form(bytes, at, &mut terms) {
+    let next = match form(bytes, at, most, &mut terms) {
         Ok(next) => next,
         Err(fault) => return Err(fault),
     };
@@ -85,11 +92,16 @@ fn objective(
 
 // The keyword of the objective, and the objective.
 #[tactic(auto, unfolding(crate::specs::Grammar::begin))]
-fn begin(alloc: Global, bytes: &[u8], place: Place) -> Result<(Statement<'_>, Place), ReadFault>
+fn begin(
+    alloc: Global,
+    bytes: &[u8],
+    place: Place,
+    most: usize,
+) -> Result<(Statement<'_>, Place), ReadFault>
     requires place { IsPlace bytes.now place }
     requires short { length bytes.now < 2 ^ 31 }
     ensures { MatchResult result
-        (λ found. Takes bytes.now place (begin_at (pieces_at bytes.now place)) (shown found.0) found.1)
+        (λ found. Reads bytes.now place most (begin_at (pieces_at bytes.now place)) (shown found.0) found.1)
         (IsRefusal (begin_at (pieces_at bytes.now place))) }
 {
     let (item, text, next) = match next_seen(bytes, place) {
@@ -99,7 +111,7 @@ fn begin(alloc: Global, bytes: &[u8], place: Place) -> Result<(Statement<'_>, Pl
     let Some(maximise) = sense_of(item) else {
         return Err(stop_at(text.line, ReadKind::Order));
     };
-    match objective(alloc, bytes, next, maximise) {
+    match objective(alloc, bytes, next, most, maximise) {
         Ok((statement, last)) => Ok((statement, last)),
         Err(fault) => Err(fault),
     }
@@ -129,24 +141,54 @@ fn subject_to(bytes: &[u8], place: Place) -> Result<(Statement<'_>, Place), Read
 
 // The end of a row: a relation and a constant.
 #[tactic(auto, unfolding(crate::specs::Grammar::closing))]
-fn closing<'a>(
-    bytes: &'a [u8],
+fn closing(
+    bytes: &[u8],
     place: Place,
-    label: Option<Text<'a>>,
-    start: Opening<'a>,
-    terms: Vec<Term<'a>>,
-) -> Result<(Statement<'a>, Place), ReadFault>
+    before: Option<Relation>,
+) -> Result<((Relation, Constant<'_>), Place), ReadFault>
     requires place { IsPlace bytes.now place }
     requires short { length bytes.now < 2 ^ 31 }
     ensures { MatchResult result
-        (λ found. Takes bytes.now place (closing_at (option_map shown_text label.entry) (shown_opening start.entry) (map shown_term terms.entry.items) (pieces_at bytes.now place)) (shown found.0) found.1)
-        (IsRefusal (closing_at (option_map shown_text label.entry) (shown_opening start.entry) (map shown_term terms.entry.items) (pieces_at bytes.now place))) }
+        (λ found. Takes bytes.now place (closing_at before (pieces_at bytes.now place)) (found.0.0, shown_constant found.0.1) found.1)
+        (IsRefusal (closing_at before (pieces_at bytes.now place))) }
 {
-    let (relation, next) = match agreeing(bytes, place, start.before) {
+    let (relation, next) = match agreeing(bytes, place, before) {
         Ok(found) => found,
         Err(fault) => return Err(fault),
     };
     let (right, last) = match constant(bytes, next) {
+        Ok(found) => found,
+        Err(fault) => return Err(fault),
+    };
+    Ok(((relation, right), last))
+}
+
+// A row after its label.
+#[tactic(auto, unfolding(crate::specs::Grammar::row_after))]
+fn row_after<'a>(
+    alloc: Global,
+    bytes: &'a [u8],
+    place: Place,
+    most: usize,
+    label: Option<Text<'a>>,
+) -> Result<(Statement<'a>, Place), ReadFault>
+    requires place { IsPlace bytes.now place }
+    requires short { length bytes.now < 2 ^ 31 }
+    ensures { MatchResult result
+        (λ found. Reads bytes.now place most (row_after_at (option_map shown_text label.entry) (pieces_at bytes.now place)) (shown found.0) found.1)
+        (IsRefusal (row_after_at (option_map shown_text label.entry) (pieces_at bytes.now place))) }
+{
+    let (start, next) = match take_opening(bytes, place) {
+        Ok(found) => found,
+        Err(fault) => return Err(fault),
+    };
+    let mut terms = Vec::new(alloc);
+    put_term(&mut terms, most, start.first)?;
+    let more = match more_terms(bytes, next, most, &mut terms) {
+        Ok(more) => more,
+        Err(fault) => return Err(fault),
+    };
+    let ((relation, right), last) = match closing(bytes, more, start.before) {
         Ok(found) => found,
         Err(fault) => return Err(fault),
     };
@@ -161,47 +203,22 @@ fn closing<'a>(
     Ok((statement, last))
 }
 
-// A row after its label.
-#[tactic(auto, unfolding(crate::specs::Grammar::row_after))]
-fn row_after<'a>(
-    alloc: Global,
-    bytes: &'a [u8],
-    place: Place,
-    label: Option<Text<'a>>,
-) -> Result<(Statement<'a>, Place), ReadFault>
-    requires place { IsPlace bytes.now place }
-    requires short { length bytes.now < 2 ^ 31 }
-    ensures { MatchResult result
-        (λ found. Takes bytes.now place (row_after_at (option_map shown_text label.entry) (pieces_at bytes.now place)) (shown found.0) found.1)
-        (IsRefusal (row_after_at (option_map shown_text label.entry) (pieces_at bytes.now place))) }
-{
-    let (start, next) = match take_opening(bytes, place) {
-        Ok(found) => found,
-        Err(fault) => return Err(fault),
-    };
-    let mut terms = Vec::new(alloc);
-    terms.push(start.first)?;
-    let last = match more_terms(bytes, next, &mut terms) {
-        Ok(last) => last,
-        Err(fault) => return Err(fault),
-    };
-    match closing(bytes, last, label, start, terms) {
-        Ok((statement, end)) => Ok((statement, end)),
-        Err(fault) => Err(fault),
-    }
-}
-
 // A row.
 #[tactic(auto, unfolding(crate::specs::Grammar::row))]
-fn row(alloc: Global, bytes: &[u8], place: Place) -> Result<(Statement<'_>, Place), ReadFault>
+fn row(
+    alloc: Global,
+    bytes: &[u8],
+    place: Place,
+    most: usize,
+) -> Result<(Statement<'_>, Place), ReadFault>
     requires place { IsPlace bytes.now place }
     requires short { length bytes.now < 2 ^ 31 }
     ensures { MatchResult result
-        (λ found. Takes bytes.now place (row_at (pieces_at bytes.now place)) (shown found.0) found.1)
+        (λ found. Reads bytes.now place most (row_at (pieces_at bytes.now place)) (shown found.0) found.1)
         (IsRefusal (row_at (pieces_at bytes.now place))) }
 {
     let (label, at) = label(bytes, place);
-    match row_after(alloc, bytes, at, label) {
+    match row_after(alloc, bytes, at, most, label) {
         Ok((statement, next)) => Ok((statement, next)),
         Err(fault) => Err(fault),
     }
@@ -402,17 +419,18 @@ fn body(
     bytes: &[u8],
     section: Section,
     place: Place,
+    most: usize,
 ) -> Result<(Statement<'_>, Place), ReadFault>
     requires place { IsPlace bytes.now place }
     requires short { length bytes.now < 2 ^ 31 }
     ensures { MatchResult result
-        (λ found. Takes bytes.now place (body_at section (pieces_at bytes.now place)) (shown found.0) found.1)
+        (λ found. Reads bytes.now place most (body_at section (pieces_at bytes.now place)) (shown found.0) found.1)
         (IsRefusal (body_at section (pieces_at bytes.now place))) }
 {
     match section {
-        Section::Begin => begin(alloc, bytes, place),
+        Section::Begin => begin(alloc, bytes, place, most),
         Section::Objective => subject_to(bytes, place),
-        Section::Rows => row(alloc, bytes, place),
+        Section::Rows => row(alloc, bytes, place, most),
         Section::Bounds => bound(bytes, place),
         Section::General => listed(bytes, place, false),
         Section::Binary => listed(bytes, place, true),
@@ -425,11 +443,12 @@ fn heading_or_body(
     bytes: &[u8],
     section: Section,
     place: Place,
+    most: usize,
 ) -> Result<(Statement<'_>, Place), ReadFault>
     requires place { IsPlace bytes.now place }
     requires short { length bytes.now < 2 ^ 31 }
     ensures { MatchResult result
-        (λ found. Takes bytes.now place (heading_or_body_at section (keyword_first_of (pieces_at bytes.now place)) (pieces_at bytes.now place)) (shown found.0) found.1)
+        (λ found. Reads bytes.now place most (heading_or_body_at section (keyword_first_of (pieces_at bytes.now place)) (pieces_at bytes.now place)) (shown found.0) found.1)
         (IsRefusal (heading_or_body_at section (keyword_first_of (pieces_at bytes.now place)) (pieces_at bytes.now place))) }
 {
     if let Some((keyword, text, next)) = keyword_first(bytes, place) {
@@ -438,7 +457,7 @@ fn heading_or_body(
             Err(fault) => Err(fault),
         };
     }
-    match body(alloc, bytes, section, place) {
+    match body(alloc, bytes, section, place, most) {
         Ok((statement, next)) => Ok((statement, next)),
         Err(fault) => Err(fault),
     }
@@ -449,24 +468,26 @@ fn heading_or_body(
 /// A fault is the first with which no statement of the section goes on: `Unsupported`, `BadNumber`, `LongLine`, `ForeignByte`
 /// and `Truncated` where what stands there is one, `Order` at a keyword where another has to come, before the objective at any
 /// token, and `BadField` elsewhere. What comes after a whole statement is not looked at, but for a relation after a bound that
-/// begins with a constant, and a sign or a name where a term may go on.
+/// begins with a constant, and a sign or a name where a term may go on. Of the terms of a form the first `most` are kept, so that
+/// a long form takes no more memory than these.
 #[tactic(auto, unfolding(crate::specs::Grammar::statement_of))]
 pub fn next_statement(
     alloc: Global,
     bytes: &[u8],
     section: Section,
     place: Place,
+    most: usize,
 ) -> Result<(Statement<'_>, Place), ReadFault>
     requires place { IsPlace bytes.now place }
     requires short { length bytes.now < 2 ^ 31 }
     ensures { MatchResult result
-        (λ found. Takes bytes.now place (statement_of section (pieces_at bytes.now place)) (shown found.0) found.1)
+        (λ found. Reads bytes.now place most (statement_of section (pieces_at bytes.now place)) (shown found.0) found.1)
         (IsRefusal (statement_of section (pieces_at bytes.now place))) }
 {
     match section {
-        Section::Begin => begin(alloc, bytes, place),
+        Section::Begin => begin(alloc, bytes, place, most),
         Section::Objective => subject_to(bytes, place),
-        _ => heading_or_body(alloc, bytes, section, place),
+        _ => heading_or_body(alloc, bytes, section, place, most),
     }
 }
 

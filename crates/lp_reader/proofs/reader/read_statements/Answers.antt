@@ -1,6 +1,6 @@
-use Rattle.std.proofs.Common.{Some, subst}
+use Rattle.std.proofs.Common.{Some, subst, arith}
 use Rattle.lp_statements.specs.Statements.{shown}
-use Rattle.lp_reader.proofs.Scripted.{Reading, reading-init, form_fails, meaning_fails, reading_on, all_read}
+use Rattle.lp_reader.proofs.Scripted.{Reading, reading-init, form_fails, kept_fails, kept_on, all_read}
 use Rattle.lp_reader.proofs.Taking.{holds_room, holds_even}
 use Rattle.lp_reader.proofs.reader.read_statements.Goals as goal
 
@@ -21,25 +21,25 @@ take_statement-requires-clause-even c = holds_even c.loop-section.reader c.loop-
 pub returns-in-Err-take_statement : goal.returns-in-Err-take_statement
 returns-in-Err-take_statement c =
     let so_far : Reading c.args.bytes.now c.loop-section.reader c.loop-section.place (Some c.in-Some.here) = subst (Reading c.args.bytes.now c.loop-section.reader c.loop-section.place) c.in-Some.is c.loop-section.invariant in
-    meaning_fails c.args.bytes.now c.loop-section.reader c.loop-section.place c.in-Some.here so_far (shown c.in-Ok.found.0) c.in-Ok.found.1 c.in-Ok.ensures c.in-Err-take_statement.fault (c.in-Err-take_statement.ensures so_far.front so_far.holds)
+    kept_fails c.args.bytes.now c.loop-section.reader c.loop-section.place c.in-Some.here so_far _ (omega arith) (shown c.in-Ok.found.0) c.in-Ok.found.1 c.in-Ok.ensures c.in-Err-take_statement.fault (c.in-Err-take_statement.ensures so_far.front so_far.holds)
 
 pub loop-section-smaller : goal.loop-section-smaller
-loop-section-smaller c = c.in-Ok.ensures.after.fewer
+loop-section-smaller c = c.in-Ok.ensures.takes.after.fewer
 
 pub loop-section-preserved : goal.loop-section-preserved
 loop-section-preserved c =
     let so_far : Reading c.args.bytes.now c.loop-section.reader c.loop-section.place (Some c.in-Some.here) = subst (Reading c.args.bytes.now c.loop-section.reader c.loop-section.place) c.in-Some.is c.loop-section.invariant in
-    reading_on c.args.bytes.now c.loop-section.reader c.loop-section.place c.in-Some.here so_far (shown c.in-Ok.found.0) c.in-Ok.found.1 c.in-Ok.ensures c.take_statement.new.reader c.section_after-section.result c.section_after-section.ensures (c.in-Ok-take_statement.ensures so_far.front so_far.holds)
+    kept_on c.args.bytes.now c.loop-section.reader c.loop-section.place c.in-Some.here so_far _ (omega arith) (shown c.in-Ok.found.0) c.in-Ok.found.1 c.in-Ok.ensures c.take_statement.new.reader c.section_after-section.result c.section_after-section.ensures (c.in-Ok-take_statement.ensures so_far.front so_far.holds)
 
 pub loop-section-preserved-in-Ok-take_statement : goal.loop-section-preserved-in-Ok-take_statement
 loop-section-preserved-in-Ok-take_statement c =
     let so_far : Reading c.args.bytes.now c.loop-section.reader c.loop-section.place (Some c.in-Some.here) = subst (Reading c.args.bytes.now c.loop-section.reader c.loop-section.place) c.in-Some.is c.loop-section.invariant in
-    reading_on c.args.bytes.now c.loop-section.reader c.loop-section.place c.in-Some.here so_far (shown c.in-Ok.found.0) c.in-Ok.found.1 c.in-Ok.ensures c.take_statement.new.reader c.section_after-section.result c.section_after-section.ensures (c.in-Ok-take_statement.ensures so_far.front so_far.holds)
+    kept_on c.args.bytes.now c.loop-section.reader c.loop-section.place c.in-Some.here so_far _ (omega arith) (shown c.in-Ok.found.0) c.in-Ok.found.1 c.in-Ok.ensures c.take_statement.new.reader c.section_after-section.result c.section_after-section.ensures (c.in-Ok-take_statement.ensures so_far.front so_far.holds)
 
 pub loop-section-preserved-in-Ok-take_statement-2 : goal.loop-section-preserved-in-Ok-take_statement-2
 loop-section-preserved-in-Ok-take_statement-2 c =
     let so_far : Reading c.args.bytes.now c.loop-section.reader c.loop-section.place (Some c.in-Some.here) = subst (Reading c.args.bytes.now c.loop-section.reader c.loop-section.place) c.in-Some.is c.loop-section.invariant in
-    reading_on c.args.bytes.now c.loop-section.reader c.loop-section.place c.in-Some.here so_far (shown c.in-Ok.found.0) c.in-Ok.found.1 c.in-Ok.ensures c.take_statement.new.reader c.section_after-section.result c.section_after-section.ensures (c.in-Ok-take_statement.ensures so_far.front so_far.holds)
+    kept_on c.args.bytes.now c.loop-section.reader c.loop-section.place c.in-Some.here so_far _ (omega arith) (shown c.in-Ok.found.0) c.in-Ok.found.1 c.in-Ok.ensures c.take_statement.new.reader c.section_after-section.result c.section_after-section.ensures (c.in-Ok-take_statement.ensures so_far.front so_far.holds)
 
 pub returns : goal.returns
 returns c = all_read c.args.bytes.now c.loop-section.reader c.loop-section.place (subst (Reading c.args.bytes.now c.loop-section.reader c.loop-section.place) c.in_default.is c.loop-section.invariant)
