@@ -78,7 +78,7 @@ form_formed names terms = record {
 }
 
 -- ---- lists by index
-length-listed : {X : Type 0} (f : ℕ → X) (n : ℕ) → length (listed f n) ≡ n
+pub length-listed : {X : Type 0} (f : ℕ → X) (n : ℕ) → length (listed f n) ≡ n
 length-listed f zero = refl
 length-listed f (suc n) = let before = length-listed f n in let long = length_push (listed f n) (f n) in omega arith
 

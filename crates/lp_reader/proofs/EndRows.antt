@@ -7,13 +7,15 @@ use Rattle.text_fields.specs.declared.faults.ReadKind.TheVariants.{DuplicateName
 use Rattle.text_fields.specs.declared.faults.ReadStop.{ReadStop}
 use Rattle.text_fields.specs.declared.faults.ReadFault.{ReadFault}
 use Rattle.text_fields.specs.declared.faults.ReadFault.TheVariants.{Stop, Memory}
-use Rattle.lp_model.specs.Shown.{is_named, most_rows}
+use Rattle.lp_model.specs.Shown.{is_named, most_rows, longest_name}
 use Rattle.lp_statements.specs.Items.{Written, stop_at}
 use Rattle.lp_statements.specs.Statements.{Constant}
 use Rattle.lp_reader.specs.Numbers.{constant_fault}
 use Rattle.lp_reader.specs.Names.{row_name}
 use Rattle.lp_reader.specs.Faults.{is_too_long, label_fault, unnamed_fault, full_fault, row_end_fault}
 use Rattle.lp_reader.specs.Told.{IsFault}
+use Rattle.std.proofs.lemmas.Fmt.{length-decimal-le}
+use Rattle.lp_reader.proofs.NewColumns.{short_name}
 
 some_none : (x : ReadStop) → Some x ≡ None → ⊥
 some_none x h = cc
@@ -44,6 +46,20 @@ label_room names label h = by (is_named names label.text) (nat_le most_rows (len
     by true m e h = absurd (some_none (stop_at label.line DuplicateName) h)
     by false true e h = absurd (some_none (stop_at label.line Limit) h)
     by false false e h = lt_of_test most_rows (length names) e
+
+pub label_short : (names : List (List ℕ)) (label : Written) → label_fault names (Some label) ≡ None → length label.text ≤ longest_name
+unfolding label_fault
+label_short names label h = by (is_named names label.text) (nat_le most_rows (length names)) (is_too_long label.text) refl h
+  where
+    by : (b m l : Bool) → is_too_long label.text ≡ l → cond b (Some (stop_at label.line DuplicateName)) (cond (m || l) (Some (stop_at label.line Limit)) None) ≡ None → length label.text ≤ longest_name
+    by true m l e h = absurd (some_none (stop_at label.line DuplicateName) h)
+    by false true l e h = absurd (some_none (stop_at label.line Limit) h)
+    by false false true e h = absurd (some_none (stop_at label.line Limit) h)
+    by false false false e h = short_name label.text e
+
+-- a name that is generated
+pub generated_short : (n : ℕ) → n < 10000 → length (row_name n None) ≤ longest_name
+generated_short n h = let few = length-decimal-le 4 n (omega arith) (omega arith) (omega arith) in omega arith
 
 -- with a label only the constant counts
 pub labelled_fault : (names : List (List ℕ)) (label : Written) (right : Constant) (fault : ReadFault) → IsFault (constant_fault right) fault → IsFault (row_end_fault names (Some label) right) fault

@@ -15,7 +15,7 @@ use Rattle.std.proofs.lemmas.List.Folds.{list_any-append}
 use Rattle.rational.specs.Linear.{Term as LinearTerm}
 use Rattle.name_map.specs.Names.{names_of, name_at, StandsAt}
 use Rattle.name_map.proofs.NameLists.{map_agree, map_push, length_map}
-use Rattle.lp_model.specs.Shown.{is_named, most_columns, most_rows}
+use Rattle.lp_model.specs.Shown.{is_named, most_columns, most_rows, longest_name}
 use Rattle.lp_model.specs.declared.parts.Row.{Row as CodeRow}
 use Rattle.lp_statements.specs.declared.parts.Keyword.{Keyword}
 use Rattle.lp_statements.specs.declared.parts.Relation.{Relation}
@@ -32,7 +32,12 @@ use Rattle.lp_reader.specs.Said.{changed, SetsBounds}
 use Rattle.lp_reader.specs.Sides.{lower_side, upper_side, ended_row, PutsRow}
 use Rattle.lp_reader.specs.State.{plain, bounds_of, Widened, TakesForm}
 use Rattle.lp_reader.specs.Held.{Holds}
+use Rattle.lp_reader.proofs.NewColumns.{all_push}
 use Rattle.lp_reader.proofs.Fronts.{terms_push, columns_push, named_stays, absent_terms, form_widen, bounds_push, unchanged, last_said, rows_push, rows_absent, row_names_push}
+
+-- names of 255 bytes at most
+abbrev AreShort : List (List ℕ) → Type 0
+AreShort names = All (λ (name : List ℕ). length name ≤ longest_name) names
 
 -- the terms of the objective are among those of the statements
 objective_absent : (front : List Statement) (name : List ℕ) (d : List Term) → list_any (is_of name) d ≡ false → list_any (is_of name) (terms_of front) ≡ false → list_any (is_of name) (last_or d (filter_map objective_in front)) ≡ false
@@ -126,6 +131,8 @@ hold_heading reader front keyword holds =
       quiet = quiet_are reader reader.columns front s holds silent refl wide;
       few_columns = subst (λ ns. length ns ≤ most_columns) (sym (columns_push front s)) holds.few_columns;
       few_rows = subst (λ ns. length ns ≤ most_rows) (ap (names_from 1) (sym rows)) holds.few_rows;
+      short_columns = subst AreShort (sym (columns_push front s)) holds.short_columns;
+      short_rows = subst AreShort (ap (names_from 1) (sym rows)) holds.short_rows;
     }
 
 -- the objective
@@ -148,6 +155,8 @@ hold_objective old new front maximise label terms form holds takes same_names sa
       quiet = quiet_are old new.columns front s holds silent takes.names takes.widened;
       few_columns = subst (λ ns. length ns ≤ most_columns) columns takes.few;
       few_rows = subst (λ ns. length ns ≤ most_rows) (ap (names_from 1) (sym rows)) holds.few_rows;
+      short_columns = subst AreShort columns (takes.short (subst AreShort (sym holds.columns) holds.short_columns));
+      short_rows = subst AreShort (ap (names_from 1) (sym rows)) holds.short_rows;
     }
 
 -- the sides of a row by those of its constants
@@ -195,10 +204,12 @@ hold_row old new front label left terms relation right form holds takes puts obj
       quiet = quiet_are old new.columns front s holds silent takes.names takes.widened;
       few_columns = subst (λ ns. length ns ≤ most_columns) columns takes.few;
       few_rows = subst (λ ns. length ns ≤ most_rows) names puts.few;
+      short_columns = subst AreShort columns (takes.short (subst AreShort (sym holds.columns) holds.short_columns));
+      short_rows = subst AreShort (sym puts.names ∙ names) (all_push (λ (name : List ℕ). length name ≤ longest_name) (names_of old.rows.names) (row_name (length (names_of old.rows.names) + 1) label) (subst AreShort (sym holds.named) holds.short_rows) puts.short);
     }
 
 -- ---- statements of bounds and marks
-bytes_sym : (a b : List ℕ) → bytes_eq a b ≡ bytes_eq b a
+pub bytes_sym : (a b : List ℕ) → bytes_eq a b ≡ bytes_eq b a
 bytes_sym a b = same_test (bytes_eq a b) (bytes_eq b a) (λ e. (bytes_eq-Decides b a).1 (sym ((bytes_eq-Decides a b).0 e))) (λ e. (bytes_eq-Decides a b).1 (sym ((bytes_eq-Decides b a).0 e)))
 
 pub same_list : {X : Type 0} (d : X) (xs ys : List X) → length xs ≡ length ys → ((i : ℕ) → i < length xs → get_or xs i d ≡ get_or ys i d) → xs ≡ ys
@@ -286,4 +297,6 @@ module _ (old new : Reader) (front : List Statement) (s : Statement) (name : Lis
         quiet = λ n h. let absent = sym (ap (λ ns. is_named ns n) same_columns) ∙ h in after n ∙ (ap (λ b. cond b (changed (bounds_of front n) l u w) (bounds_of front n)) (other n absent) ∙ holds.quiet n absent);
         few_columns = subst (λ ns. length ns ≤ most_columns) (sym same_columns) holds.few_columns;
         few_rows = subst (λ ns. length ns ≤ most_rows) (ap (names_from 1) (sym rows)) holds.few_rows;
+        short_columns = subst AreShort (sym same_columns) holds.short_columns;
+        short_rows = subst AreShort (ap (names_from 1) (sym rows)) holds.short_rows;
       }

@@ -10,3 +10,4 @@ pub mod Kept
 pub mod Scripted
 pub mod Columned
 pub mod Built
+pub mod Fits

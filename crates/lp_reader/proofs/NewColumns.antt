@@ -4,7 +4,7 @@ use Rattle.std.specs.Prelude.{nat_le}
 use Rattle.std.specs.List.{list_any, All}
 use Rattle.std.specs.Str.{bytes_eq}
 use Rattle.std.proofs.lemmas.List.{get_or_append_left}
-use Rattle.std.proofs.lemmas.List.Elements.{All-nil, All-cons}
+use Rattle.std.proofs.lemmas.List.Elements.{All-nil, All-cons, All-head, All-tail}
 use Rattle.std.proofs.lemmas.List.Folds.{list_any-append}
 use Rattle.std.proofs.Math.Seq.{get_or-append_seam}
 use Rattle.std.proofs.lemmas.Slice.Eq.{bytes_eq-Decides}
@@ -12,7 +12,7 @@ use Rattle.std.proofs.lemmas.Bool.{ltb-true, ltb-false, ne_eqb}
 use Rattle.std.proofs.lemmas.Bool.Decides.{nat_tests}
 use Rattle.text_fields.specs.declared.faults.ReadKind.TheVariants.{Limit}
 use Rattle.name_map.specs.Names.{names_of, name_at, StandsAt}
-use Rattle.lp_model.specs.Shown.{is_named, most_columns}
+use Rattle.lp_model.specs.Shown.{is_named, most_columns, longest_name}
 use Rattle.lp_statements.specs.Items.{Written, stop_at}
 use Rattle.lp_reader.specs.declared.columns.Columns.{Columns}
 use Rattle.lp_reader.specs.Faults.{most_entries, is_too_long, limit_fault}
@@ -86,6 +86,14 @@ stands_last names name absent =
         let is : length names ≡ k = omega arith in
         subst (λ (n : ℕ). bytes_eq name (name_at (names ++ name ∷ []) n) ≡ nat_eq (length names) n) is (ap (bytes_eq name) last ∙ self ∙ sym (eq-eqb (length names) (length names) refl))
 
+-- ---- names that are short enough
+pub all_push : {X : Type 0} (P : X → Type 0) (xs : List X) (x : X) → All P xs → P x → All P (xs ++ x ∷ [])
+all_push P [] x h p = All-cons P x [] p (All-nil P)
+all_push P (y ∷ xs) x h p = All-cons P y (xs ++ x ∷ []) (All-head P y xs h) (all_push P xs x (All-tail P y xs h) p)
+
+pub short_name : (name : List ℕ) → is_too_long name ≡ false → length name ≤ longest_name
+short_name name h = grind (arith, nat_tests)
+
 -- ---- the column of a term
 pub takes_known : (old new : Columns) (name : List ℕ) (j : ℕ) → names_of new.names ≡ names_of old.names → new.bounds.items ≡ old.bounds.items → new.entries ≡ old.entries + 1 → StandsAt (names_of old.names) name j → TakesColumn old new name j
 takes_known old new name j names bounds entries at = record {
@@ -94,13 +102,15 @@ takes_known old new name j names bounds entries at = record {
   stands = subst (λ (ns : List (List ℕ)). StandsAt ns name j) (sym names) at;
   widened = record { more = []; names = names ∙ sym (append-nil (names_of old.names)); bounds = bounds ∙ sym (append-nil old.bounds.items); fresh = All-nil (λ name. is_named (names_of old.names) name ≡ false) };
   few = λ h. subst (λ (ns : List (List ℕ)). length ns ≤ most_columns) (sym names) h;
+  short = λ h. subst (λ (ns : List (List ℕ)). All (λ (name : List ℕ). length name ≤ longest_name) ns) (sym names) h;
 }
 
-pub takes_new : (old mid new : Columns) (name : List ℕ) (j : ℕ) → PutsColumn old mid name → names_of new.names ≡ names_of mid.names → new.bounds.items ≡ mid.bounds.items → new.entries ≡ mid.entries + 1 → is_named (names_of old.names) name ≡ false → j ≡ length (names_of old.names) → (most_columns ≤ length (names_of old.names) → ⊥) → TakesColumn old new name j
-takes_new old mid new name j puts names bounds entries absent is room = record {
+pub takes_new : (old mid new : Columns) (name : List ℕ) (j : ℕ) → PutsColumn old mid name → names_of new.names ≡ names_of mid.names → new.bounds.items ≡ mid.bounds.items → new.entries ≡ mid.entries + 1 → is_named (names_of old.names) name ≡ false → j ≡ length (names_of old.names) → (most_columns ≤ length (names_of old.names) → ⊥) → is_too_long name ≡ false → TakesColumn old new name j
+takes_new old mid new name j puts names bounds entries absent is room fits = record {
   names = names ∙ (puts.names ∙ sym (ap (λ b. cond b (names_of old.names) (names_of old.names ++ name ∷ [])) absent));
   entries = let a = puts.entries in omega arith;
   stands = subst (λ (ns : List (List ℕ)). StandsAt ns name j) (sym (names ∙ puts.names)) (subst (StandsAt (names_of old.names ++ name ∷ []) name) (sym is) (stands_last (names_of old.names) name absent));
   widened = record { more = name ∷ []; names = names ∙ puts.names; bounds = bounds ∙ puts.bounds; fresh = All-cons (λ name. is_named (names_of old.names) name ≡ false) name [] absent (All-nil (λ name. is_named (names_of old.names) name ≡ false)) };
   few = λ h. subst (λ (ns : List (List ℕ)). length ns ≤ most_columns) (sym (names ∙ puts.names)) (let long = length-append (names_of old.names) (name ∷ []) in omega (arith, room));
+  short = λ h. subst (λ (ns : List (List ℕ)). All (λ (name : List ℕ). length name ≤ longest_name) ns) (sym (names ∙ puts.names)) (all_push (λ (name : List ℕ). length name ≤ longest_name) (names_of old.names) name h (short_name name fits));
 }

@@ -1,6 +1,7 @@
 -- The statements of a text, one after another.
 use Rattle.std.proofs.Common.{◌≡◌, ℕ, zero, suc, ◌<◌, ◌≤◌, Bool, true, false, List, [], ◌∷◌, ◌++◌, Option, Some, None, length, refl, sym, ap, ◌∙◌, subst, arith, append_assoc}
 use Rattle.std.specs.Option.{option_or}
+use Rattle.std.proofs.lemmas.List.Elements.{All-nil}
 use Rattle.text_fields.specs.declared.tokens.Place.{Place}
 use Rattle.text_fields.specs.declared.faults.ReadFault.{ReadFault}
 use Rattle.text_fields.specs.declared.faults.ReadFault.TheVariants.{Stop, Memory}
@@ -35,6 +36,8 @@ holds_nothing reader a b d e f g h = record {
   quiet = λ name absent. refl;
   few_columns = omega arith;
   few_rows = omega arith;
+  short_columns = All-nil (λ (name : List ℕ). length name ≤ 255);
+  short_rows = All-nil (λ (name : List ℕ). length name ≤ 255);
 }
 
 -- ---- pieces

@@ -31,7 +31,7 @@ use Rattle.lp_reader.specs.declared.columns.Columns.{Columns}
 use Rattle.lp_reader.specs.Numbers.{factor_fault, sum_of, sum_fault, term_value}
 use Rattle.lp_reader.specs.Names.{with_name, with_names}
 use Rattle.lp_reader.specs.Faults.{limit_fault, term_fault}
-use Rattle.lp_reader.specs.State.{plain, Widened, TakesColumn, TakesTerm, TakesForm, AddsSum, HoldsSums, terms_fault_in}
+use Rattle.lp_reader.specs.State.{plain, Widened, KeepsShort, TakesColumn, TakesTerm, TakesForm, AddsSum, HoldsSums, terms_fault_in}
 use Rattle.lp_reader.specs.Told.{IsFault}
 use Rattle.lp_reader.proofs.Sums.{sums_widen, sums_add, sum_at_column, no_sums}
 
@@ -56,6 +56,7 @@ module _ (old new : Columns) (before : List Term) (term : Term) (value : ℚ) (j
     entries = takes.entries;
     widened = takes.widened;
     few = takes.few;
+    short = takes.short;
     sums = sums_add (names_of new.names) before term j es fs held takes.stands (subst (λ (v : ℚ). AddsSum es fs j v) is adds);
   }
 
@@ -102,6 +103,7 @@ pub record TermsSoFar (old now : Columns) (all : List Term) (i : ℕ) (found : L
   pub entries : now.entries ≡ old.entries + i
   pub widened : Widened old now
   pub few : length (names_of now.names) ≤ most_columns
+  pub short : KeepsShort old now
   pub sums : HoldsSums (names_of now.names) (take i all) found
   pub faults : terms_fault_in (names_of old.names) old.entries [] all ≡ terms_fault_in (names_of now.names) now.entries (take i all) (drop i all)
 
@@ -112,6 +114,7 @@ no_terms old all few = record {
   entries = omega arith;
   widened = record { more = []; names = sym (append-nil (names_of old.names)); bounds = sym (append-nil old.bounds.items); fresh = All-nil (λ name. is_named (names_of old.names) name ≡ false) };
   few = few;
+  short = λ h. h;
   sums = no_sums (names_of old.names);
   faults = refl;
 }
@@ -155,6 +158,7 @@ module _ (old now : Columns) (all : List Term) (i : ℕ) (found : List (ℕ × �
         entries = let a = takes.entries in let b = so_far.entries in omega arith;
         widened = widened_more old now new so_far.widened takes.widened;
         few = takes.few so_far.few;
+        short = λ h. takes.short (so_far.short h);
         sums = subst (λ ts. HoldsSums (names_of new.names) ts next) (sym more) takes.sums;
         faults = so_far.faults ∙ (rest_is ∙ (ap (λ o. option_or o (terms_fault_in (with_name (names_of now.names) term.name.text) (now.entries + 1) (take i all ++ term ∷ []) (drop (i + 1) all))) none
             ∙ ap (λ (s : List (List ℕ) × ℕ × List Term). terms_fault_in s.0 s.1 s.2 (drop (i + 1) all)) (λ k. (sym takes.names k, sym takes.entries k, sym more k))));
@@ -172,6 +176,7 @@ all_terms old now all i found form so_far le is = record {
   entries = so_far.entries ∙ ap (λ (n : ℕ). old.entries + n) le;
   widened = so_far.widened;
   few = so_far.few;
+  short = so_far.short;
   form_is = is;
 }
 

@@ -1,8 +1,8 @@
 -- What a reader's tables say of the statements so far.
 use Rattle.std.specs.Prelude.{◌≡◌, ℕ, ◌≤◌, false, List, [], ◌∷◌, ◌++◌, length, map, None, Result, MatchResult}
-use Rattle.std.specs.List.{filter_map}
+use Rattle.std.specs.List.{All, filter_map}
 use Rattle.name_map.specs.Names.{names_of}
-use Rattle.lp_model.specs.Shown.{is_named, most_rows, most_columns}
+use Rattle.lp_model.specs.Shown.{is_named, most_rows, most_columns, longest_name}
 use Rattle.lp_statements.specs.Statements.{Statement}
 use Rattle.lp_statements.specs.Script.{script_of}
 use Rattle.lp_reader.specs.declared.reader.Reader.{Reader}
@@ -28,6 +28,8 @@ pub record Holds (reader : Reader) (front : List Statement) : Type 0 where
   pub quiet : (name : List ℕ) → is_named (columns_of front) name ≡ false → bounds_of front name ≡ plain
   pub few_columns : length (columns_of front) ≤ most_columns
   pub few_rows : length (row_names front) ≤ most_rows
+  pub short_columns : All (λ name. length name ≤ longest_name) (columns_of front)
+  pub short_rows : All (λ name. length name ≤ longest_name) (row_names front)
 
 -- the statements of the text have no fault, and the tables say what they say
 pub record HasRead (bytes : List ℕ) (reader : Reader) : Type 0 where

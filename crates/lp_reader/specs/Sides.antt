@@ -3,7 +3,7 @@ use Rattle.std.specs.Prelude.{◌≡◌, ℕ, ◌≤◌, true, List, [], ◌∷�
 use Rattle.rational.specs.Rational.{ℚ, one_ℚ}
 use Rattle.rational.specs.Linear.{Term as LinearTerm}
 use Rattle.name_map.specs.Names.{names_of}
-use Rattle.lp_model.specs.Shown.{most_rows}
+use Rattle.lp_model.specs.Shown.{most_rows, longest_name}
 use Rattle.lp_model.specs.declared.parts.Row.{Row}
 use Rattle.lp_model.specs.declared.parts.Weight.TheVariants.{Soft}
 use Rattle.lp_statements.specs.declared.parts.Relation.{Relation}
@@ -30,3 +30,4 @@ pub record PutsRow (old new : Rows) (name : List ℕ) (row : Row) : Type 0 where
   pub names : names_of new.names ≡ names_of old.names ++ name ∷ []
   pub items : new.items.items ≡ old.items.items ++ row ∷ []
   pub few : length (names_of new.names) ≤ most_rows
+  pub short : length name ≤ longest_name

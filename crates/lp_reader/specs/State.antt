@@ -6,7 +6,7 @@ use Rattle.std.specs.Option.{option_or}
 use Rattle.rational.specs.Rational.{ℚ, zero_ℚ, ◌+ℚ◌}
 use Rattle.text_fields.specs.declared.faults.ReadStop.{ReadStop}
 use Rattle.name_map.specs.Names.{names_of, name_at, StandsAt}
-use Rattle.lp_model.specs.Shown.{is_named, most_columns}
+use Rattle.lp_model.specs.Shown.{is_named, most_columns, longest_name}
 use Rattle.lp_statements.specs.Statements.{Term, Statement}
 use Rattle.lp_reader.specs.declared.columns.Bounds.{Bounds}
 use Rattle.lp_reader.specs.declared.columns.Columns.{Columns}
@@ -32,6 +32,10 @@ pub record Widened (old new : Columns) : Type 0 where
   pub bounds : new.bounds.items ≡ old.bounds.items ++ map (λ (name : List ℕ). plain) more
   pub fresh : All (λ name. is_named (names_of old.names) name ≡ false) more
 
+-- names stay short enough
+abbrev pub KeepsShort : Columns → Columns → Type 0
+KeepsShort old new = All (λ (name : List ℕ). length name ≤ longest_name) (names_of old.names) → All (λ (name : List ℕ). length name ≤ longest_name) (names_of new.names)
+
 -- a new column stands last, and nothing is said of it
 pub record PutsColumn (old new : Columns) (name : List ℕ) : Type 0 where
   pub names : names_of new.names ≡ names_of old.names ++ name ∷ []
@@ -45,6 +49,7 @@ pub record TakesColumn (old new : Columns) (name : List ℕ) (j : ℕ) : Type 0 
   pub stands : StandsAt (names_of new.names) name j
   pub widened : Widened old new
   pub few : length (names_of old.names) ≤ most_columns → length (names_of new.names) ≤ most_columns
+  pub short : KeepsShort old new
 
 -- ---- sums
 -- one column's sum is greater by the value, the others stay
@@ -75,6 +80,7 @@ pub record TakesTerm (old new : Columns) (before : List Term) (term : Term) (fou
   pub entries : new.entries ≡ old.entries + 1
   pub widened : Widened old new
   pub few : length (names_of old.names) ≤ most_columns → length (names_of new.names) ≤ most_columns
+  pub short : KeepsShort old new
   pub sums : HoldsSums (names_of new.names) (before ++ term ∷ []) found
 
 -- the terms of a form are taken in, and give the form
@@ -84,6 +90,7 @@ pub record TakesForm (old new : Columns) (terms : List Term) (form : List Linear
   pub entries : new.entries ≡ old.entries + length terms
   pub widened : Widened old new
   pub few : length (names_of new.names) ≤ most_columns
+  pub short : KeepsShort old new
   pub form_is : form ≡ form_of (names_of new.names) terms
 
 -- the terms of sums by column, without those that are 0

@@ -1,9 +1,10 @@
 //! The model that a reader's tables declare.
 ghost use Rattle.std.specs.Prelude.{◌≡◌, ℕ, ◌<◌, ◌≤◌, ◌^◌, List, [], ◌++◌, length, IfOk, OnOk, slice_index_or};
+ghost use Rattle.std.specs.List.{All};
 ghost use Rattle.rational.specs.Rational.{lt_q, zero_ℚ};
 ghost use Rattle.name_map.specs.Names.{names_of, name_at};
 ghost use Rattle.lp_model.specs.Program.{IsForm, IsPositiveWeight};
-ghost use Rattle.lp_model.specs.Shown.{named_row, with_more_row, with_more_column, most_columns};
+ghost use Rattle.lp_model.specs.Shown.{named_row, with_more_row, with_more_column, most_rows, most_columns, longest_name, row_names, column_names, CanAdd};
 ghost use Rattle.lp_statements.specs.Statements.{Statement as StatementOf};
 ghost use Rattle.lp_reader.specs.Program.{program_of, is_negative};
 ghost use Rattle.lp_reader.specs.State.{plain};
@@ -14,8 +15,19 @@ use crate::columns::{Bounds, Columns};
 use crate::reader::Reader;
 use crate::rows::Rows;
 use frac128::Frac;
-use lp_model::{Column, Model, Note, Row, Terms, Weight};
+use lp_model::{Column, Model, ModelStop, Note, Row, Weight};
+use name_map::NameMap;
 use std::alloc::{AllocError, Global};
+
+// Want of memory: what fits is refused for nothing else.
+fn memory_alone(stop: ModelStop) -> AllocError
+    requires { stop ≡ ModelStop.Memory }
+{
+    match stop {
+        ModelStop::Memory => AllocError,
+        _ => unreachable!(),
+    }
+}
 
 // Puts the next column last.
 fn put_column(
@@ -26,6 +38,7 @@ fn put_column(
 ) -> Result<(), AllocError>
     requires named { index < length columns.now.names }
     requires bounded { index < length columns.now.bounds.items }
+    requires fits { CanAdd (column_names model.old) most_columns (name_at (names_of columns.now.names) index) }
     ensures { OnOk result (model.new ≡ with_more_column model.old (column_shown (name_at (names_of columns.now.names) index) (slice_index_or columns.now.bounds.items index plain))) }
 {
     let bounds = bounds_at(columns, index);
@@ -43,7 +56,7 @@ fn put_column(
     };
     match model.add_column(alloc, columns.names.name(index), column) {
         Ok(_) => Ok(()),
-        Err(_) => Err(AllocError),
+        Err(stop) => Err(memory_alone(stop)),
     }
 }
 
@@ -51,11 +64,12 @@ fn put_column(
 fn put_row(alloc: Global, model: &mut Model, name: &[u8], row: Row) -> Result<(), AllocError>
     requires form { IsForm (length model.old.columns) row.terms }
     requires weight { IsPositiveWeight row.weight }
+    requires fits { CanAdd (row_names model.old) most_rows name.now }
     ensures { OnOk result (model.new ≡ with_more_row model.old (named_row name.now row)) }
 {
     match model.add_row(alloc, name, row) {
         Ok(_) => Ok(()),
-        Err(_) => Err(AllocError),
+        Err(stop) => Err(memory_alone(stop)),
     }
 }
 
@@ -96,6 +110,8 @@ fn keeps_lower(columns: &Columns, index: usize) -> bool
 // Puts the columns.
 fn put_columns(alloc: Global, model: &mut Model, columns: &Columns) -> Result<(), AllocError>
     requires even { length columns.now.bounds.items ≡ length columns.now.names }
+    requires few { length (names_of columns.now.names) ≤ most_columns }
+    requires short { All (λ name. length name ≤ longest_name) (names_of columns.now.names) }
     requires none { model.old.columns ≡ [] }
     ensures { OnOk result (model.new ≡ record model.old { columns = columns_listed (names_of columns.now.names) columns.now.bounds.items (length columns.now.names) }) }
 {
@@ -105,48 +121,27 @@ fn put_columns(alloc: Global, model: &mut Model, columns: &Columns) -> Result<()
     Ok(())
 }
 
-// A row with its own terms.
-fn copy_row(alloc: Global, row: &Row) -> Result<Row, AllocError>
-    ensures { IfOk result (λ copy. copy ≡ row.now) }
-{
-    let terms = Vec::from_slice(alloc, row.terms.as_slice())?;
-    let weight = row.weight;
-    Ok(Row {
-        terms: Terms::new(terms),
-        lo: row.lo,
-        up: row.up,
-        active: row.active,
-        weight,
-    })
-}
-
-// Puts the next row last.
-fn put_next_row(
+// Puts the rows, which are moved into the model.
+fn put_rows(
     alloc: Global,
     model: &mut Model,
-    rows: &Rows,
-    index: usize,
+    names: &NameMap<()>,
+    rows: Vec<Row>,
 ) -> Result<(), AllocError>
-    requires named { index < length rows.now.names }
-    requires within { index < length rows.now.items.items }
-    requires form { IsForm (length model.old.columns) (slice_index_or rows.now.items.items index no_row).terms }
-    requires weight { IsPositiveWeight (slice_index_or rows.now.items.items index no_row).weight }
-    ensures { OnOk result (model.new ≡ with_more_row model.old (named_row (name_at (names_of rows.now.names) index) (slice_index_or rows.now.items.items index no_row))) }
-{
-    let row = copy_row(alloc, &rows.items[index])?;
-    put_row(alloc, model, rows.names.name(index), row)
-}
-
-// Puts the rows.
-fn put_rows(alloc: Global, model: &mut Model, rows: &Rows) -> Result<(), AllocError>
-    requires even { length rows.now.items.items ≡ length rows.now.names }
+    requires even { length rows.items ≡ length names.now }
+    requires few { length (names_of names.now) ≤ most_rows }
+    requires short { All (λ name. length name ≤ longest_name) (names_of names.now) }
     requires none { model.old.rows ≡ [] }
-    requires forms { (i : ℕ) → i < length rows.now.items.items → IsForm (length model.old.columns) (slice_index_or rows.now.items.items i no_row).terms }
-    requires weights { (i : ℕ) → i < length rows.now.items.items → IsPositiveWeight (slice_index_or rows.now.items.items i no_row).weight }
-    ensures { OnOk result (model.new ≡ record model.old { rows = rows_listed (names_of rows.now.names) rows.now.items.items (length rows.now.items.items) }) }
+    requires forms { (i : ℕ) → i < length rows.items → IsForm (length model.old.columns) (slice_index_or rows.items i no_row).terms }
+    requires weights { (i : ℕ) → i < length rows.items → IsPositiveWeight (slice_index_or rows.items i no_row).weight }
+    ensures { OnOk result (model.new ≡ record model.old { rows = rows_listed (names_of names.now) rows.items (length rows.items) }) }
 {
-    for index in 0..rows.items.len() {
-        put_next_row(alloc, model, rows, index)?;
+    let mut left = rows.into_iter();
+    for index in 0..names.len() {
+        let Some(row) = left.next() else {
+            unreachable!();
+        };
+        put_row(alloc, model, names.name(index), row)?;
     }
     Ok(())
 }
@@ -190,7 +185,8 @@ pub(crate) fn make_model(alloc: Global, reader: Reader) -> Result<Model, AllocEr
     } = reader;
     let mut model = Model::new(alloc, maximise);
     put_columns(alloc, &mut model, &columns)?;
-    put_rows(alloc, &mut model, &rows)?;
+    let Rows { names, items } = rows;
+    put_rows(alloc, &mut model, &names, items)?;
     model.set_objective(objective, maximise);
     put_notes(&mut model, &columns)?;
     Ok(model)

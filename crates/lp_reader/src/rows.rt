@@ -5,7 +5,7 @@ ghost use Rattle.std.specs.Option.{option_map};
 ghost use Rattle.std.specs.Str.{bytes_eq};
 ghost use Rattle.name_map.specs.Names.{names_of};
 ghost use Rattle.rational.specs.Rational.{one_ℚ};
-ghost use Rattle.lp_model.specs.Shown.{most_rows};
+ghost use Rattle.lp_model.specs.Shown.{most_rows, longest_name};
 ghost use Rattle.lp_statements.specs.Statements.{shown_text, shown_constant};
 ghost use Rattle.lp_reader.specs.Numbers.{constant_fault_in, side_of};
 ghost use Rattle.lp_reader.specs.Names.{row_name as row_name_by};
@@ -134,6 +134,7 @@ fn make_row(
 fn put_row(alloc: Global, rows: &mut Rows, name: &[u8], row: Row) -> Result<(), AllocError>
     requires fresh { list_any (bytes_eq name.now) (names_of rows.old.names) ≡ false }
     requires room { length (names_of rows.old.names) < most_rows }
+    requires short { length name.now ≤ longest_name }
     ensures { OnOk result (PutsRow rows.old rows.new name.now row) }
 {
     // The check wants the type of a side named here.

@@ -37,5 +37,5 @@ returns c =
     let long : length n ≡ length c.args.columns.now.names = length_map (λ e. e.0) c.args.columns.now.names in
     let is = c.len.ensures.len in let place = c.len-column.ensures.len in (
       limit_new n e name (λ h. omega arith) c.in_default.ensures (λ h. omega arith) (sym c.if-is_too_long.ensures),
-      takes_new c.args.columns.now c.put_column.new.columns _ c.args.name.bytes.now c.len-column.result c.in_ok-put_column.ensures refl refl refl c.in_default.ensures (omega arith) (λ h. omega arith),
+      takes_new c.args.columns.now c.put_column.new.columns _ c.args.name.bytes.now c.len-column.result c.in_ok-put_column.ensures refl refl refl c.in_default.ensures (omega arith) (λ h. omega arith) (sym c.if-is_too_long.ensures),
     )

@@ -3,7 +3,7 @@ use Rattle.name_map.specs.Names.{names_of}
 use Rattle.lp_model.specs.declared.parts.Row.{Row}
 use Rattle.lp_statements.specs.Statements.{shown_text, shown_constant}
 use Rattle.lp_reader.specs.Sides.{PutsRow, ended_row}
-use Rattle.lp_reader.proofs.EndRows.{label_fresh, label_room, labelled_fault, labelled_none}
+use Rattle.lp_reader.proofs.EndRows.{label_fresh, label_room, label_short, labelled_fault, labelled_none}
 use Rattle.lp_reader.proofs.rows.end_labelled.Goals as goal
 
 pub returns-in-Err : goal.returns-in-Err
@@ -14,6 +14,9 @@ put_row-requires-clause-fresh c = label_fresh (names_of c.args.rows.now.names) (
 
 pub put_row-requires-clause-room : goal.put_row-requires-clause-room
 put_row-requires-clause-room c = label_room (names_of c.args.rows.now.names) (shown_text c.args.label) c.requires
+
+pub put_row-requires-clause-short : goal.put_row-requires-clause-short
+put_row-requires-clause-short c = label_short (names_of c.args.rows.now.names) (shown_text c.args.label) c.requires
 
 pub returns : goal.returns
 returns c = (

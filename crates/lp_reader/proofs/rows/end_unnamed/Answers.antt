@@ -1,7 +1,7 @@
 use Rattle.std.proofs.Common.{◌≡◌, ℕ, ◌+◌, ◌<◌, ◌≤◌, List, length, None, sym, ap, ◌∙◌, subst, arith}
 use Rattle.name_map.specs.Names.{names_of}
 use Rattle.name_map.proofs.NameLists.{length_map}
-use Rattle.lp_model.specs.Shown.{most_rows}
+use Rattle.lp_model.specs.Shown.{most_rows, longest_name}
 use Rattle.lp_model.specs.declared.parts.Row.{Row}
 use Rattle.lp_statements.specs.Statements.{shown_constant}
 use Rattle.std.specs.List.{list_any}
@@ -11,7 +11,7 @@ use Rattle.lp_reader.specs.Names.{row_name}
 use Rattle.lp_reader.specs.Faults.{row_end_fault}
 use Rattle.lp_reader.specs.Sides.{PutsRow, ended_row}
 use Rattle.lp_reader.specs.Told.{IsFault}
-use Rattle.lp_reader.proofs.EndRows.{unnamed_known, unnamed_constant, unnamed_full, unnamed_none}
+use Rattle.lp_reader.proofs.EndRows.{generated_short, unnamed_known, unnamed_constant, unnamed_full, unnamed_none}
 use Rattle.lp_reader.proofs.rows.end_unnamed.Goals as goal
 
 pub overflow_add-len : goal.overflow_add-len
@@ -49,6 +49,14 @@ pub put_row-requires-clause-room : goal.put_row-requires-clause-room
 put_row-requires-clause-room c =
     let long : length (names_of c.args.rows.now.names) ≡ length c.args.rows.now.names = length_map (λ e. e.0) c.args.rows.now.names in
     omega (arith, c.len-2.ensures.len)
+
+pub put_row-requires-clause-short : goal.put_row-requires-clause-short
+put_row-requires-clause-short c =
+    let n = names_of c.args.rows.now.names in
+    let long : length n ≡ length c.args.rows.now.names = length_map (λ e. e.0) c.args.rows.now.names in
+    let is : c.as_bytes.result.now ≡ row_name (length n + 1) None = c.as_bytes.ensures.value ∙ c.in_ok-name.ensures ∙ ap (λ (k : ℕ). row_name (k + 1) None) (c.len.ensures.len ∙ sym long) in
+    let room : length n < most_rows = omega (arith, c.len-2.ensures.len) in
+    subst (λ (name : List ℕ). length name ≤ longest_name) (sym (c.as_bytes-2.ensures.value ∙ sym c.as_bytes.ensures.value ∙ is)) (generated_short (length n + 1) (omega arith))
 
 pub returns : goal.returns
 returns c =

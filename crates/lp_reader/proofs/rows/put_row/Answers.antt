@@ -10,4 +10,5 @@ returns c =
       names = names;
       items = c.in_ok-push-2.ensures.items;
       few = let long = length-append (names_of c.args.rows.now.names) (c.args.name.now ∷ []) in let e = ap length names in let room = c.requires.room in omega arith;
+      short = c.requires.short;
     }
