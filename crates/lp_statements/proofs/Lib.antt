@@ -3,3 +3,5 @@ pub mod Pieces
 pub mod Lists
 pub mod Steps
 pub mod Repeats
+pub mod Spelled
+pub mod Ended

@@ -4,3 +4,4 @@ pub mod Statements
 pub mod Grammar
 pub mod Script
 pub mod Shapes
+pub mod Spelling

@@ -3,9 +3,11 @@
 
 mod grammar;
 mod items;
+mod laws;
 mod parts;
 mod statements;
 mod words;
 
+pub use laws::statement_laws;
 pub use parts::{Constant, Heading, Item, Keyword, Relation, Section, Statement, Term, Text};
 pub use statements::{next_statement, start};
