@@ -386,10 +386,7 @@ fn term(bytes: &[u8], place: Place) -> Result<(Term<'_>, Place), ReadFault>
         (λ found. Takes bytes.now place (term_at (pieces_at bytes.now place)) (shown_term found.0) found.1)
         (IsRefusal (term_at (pieces_at bytes.now place))) }
 {
-    let (element, next) = match take_element(bytes, place) {
-        Ok(found) => found,
-        Err(fault) => return Err(fault),
-    };
+    let (element, next) = take_element(bytes, place)?;
     match element {
         Element::OfTerm(term) => Ok((term, next)),
         Element::OfConstant(constant) => Err(missing_name(bytes, next, constant)),
@@ -637,14 +634,8 @@ fn opening_after<'a>(
         (λ found. Takes bytes.now place (opening_from (OfConstant (shown_constant constant.entry)) (pieces_at bytes.now place)) (shown_opening found.0) found.1)
         (IsRefusal (opening_from (OfConstant (shown_constant constant.entry)) (pieces_at bytes.now place))) }
 {
-    let (before, more) = match inequality(bytes, place) {
-        Ok(found) => found,
-        Err(fault) => return Err(fault),
-    };
-    let (first, last) = match term(bytes, more) {
-        Ok(found) => found,
-        Err(fault) => return Err(fault),
-    };
+    let (before, more) = inequality(bytes, place)?;
+    let (first, last) = term(bytes, more)?;
     let start = Opening {
         left: Some(constant),
         before: Some(before),

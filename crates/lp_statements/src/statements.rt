@@ -55,10 +55,8 @@ fn form<'a>(
     if !is_part_first(bytes, place) {
         return Ok(place);
     }
-    match parts(bytes, place, most, terms) {
-        Ok(next) => Ok(next),
-        Err(fault) => Err(fault),
-    }
+    let next = parts(bytes, place, most, terms)?;
+    Ok(next)
 }
 
 // The objective after its keyword.
@@ -78,10 +76,7 @@ fn objective(
 {
     let (label, at) = label(bytes, place);
     let mut terms = Vec::new(alloc);
-    let next = match form(bytes, at, most, &mut terms) {
-        Ok(next) => next,
-        Err(fault) => return Err(fault),
-    };
+    let next = form(bytes, at, most, &mut terms)?;
     let statement = Statement::Objective {
         maximise,
         label,
@@ -104,17 +99,12 @@ fn begin(
         (λ found. Reads bytes.now place most (begin_at (pieces_at bytes.now place)) (shown found.0) found.1)
         (IsRefusal (begin_at (pieces_at bytes.now place))) }
 {
-    let (item, text, next) = match next_seen(bytes, place) {
-        Ok(seen) => seen,
-        Err(fault) => return Err(fault),
-    };
+    let (item, text, next) = next_seen(bytes, place)?;
     let Some(maximise) = sense_of(item) else {
         return Err(stop_at(text.line, ReadKind::Order));
     };
-    match objective(alloc, bytes, next, most, maximise) {
-        Ok((statement, last)) => Ok((statement, last)),
-        Err(fault) => Err(fault),
-    }
+    let (statement, last) = objective(alloc, bytes, next, most, maximise)?;
+    Ok((statement, last))
 }
 
 // The keyword of the rows.
@@ -126,10 +116,7 @@ fn subject_to(bytes: &[u8], place: Place) -> Result<(Statement<'_>, Place), Read
         (λ found. Takes bytes.now place (subject_to_at (pieces_at bytes.now place)) (shown found.0) found.1)
         (IsRefusal (subject_to_at (pieces_at bytes.now place))) }
 {
-    let (item, text, next) = match next_seen(bytes, place) {
-        Ok(seen) => seen,
-        Err(fault) => return Err(fault),
-    };
+    let (item, text, next) = next_seen(bytes, place)?;
     let Some(keyword) = keyword_in(item) else {
         return Err(stop_at(text.line, ReadKind::BadField));
     };
@@ -152,14 +139,8 @@ fn closing(
         (λ found. Takes bytes.now place (closing_at before (pieces_at bytes.now place)) (found.0.0, shown_constant found.0.1) found.1)
         (IsRefusal (closing_at before (pieces_at bytes.now place))) }
 {
-    let (relation, next) = match agreeing(bytes, place, before) {
-        Ok(found) => found,
-        Err(fault) => return Err(fault),
-    };
-    let (right, last) = match constant(bytes, next) {
-        Ok(found) => found,
-        Err(fault) => return Err(fault),
-    };
+    let (relation, next) = agreeing(bytes, place, before)?;
+    let (right, last) = constant(bytes, next)?;
     Ok(((relation, right), last))
 }
 
@@ -178,20 +159,11 @@ fn row_after<'a>(
         (λ found. Reads bytes.now place most (row_after_at (option_map shown_text label.entry) (pieces_at bytes.now place)) (shown found.0) found.1)
         (IsRefusal (row_after_at (option_map shown_text label.entry) (pieces_at bytes.now place))) }
 {
-    let (start, next) = match take_opening(bytes, place) {
-        Ok(found) => found,
-        Err(fault) => return Err(fault),
-    };
+    let (start, next) = take_opening(bytes, place)?;
     let mut terms = Vec::new(alloc);
     put_term(&mut terms, most, start.first)?;
-    let more = match more_terms(bytes, next, most, &mut terms) {
-        Ok(more) => more,
-        Err(fault) => return Err(fault),
-    };
-    let ((relation, right), last) = match closing(bytes, more, start.before) {
-        Ok(found) => found,
-        Err(fault) => return Err(fault),
-    };
+    let more = more_terms(bytes, next, most, &mut terms)?;
+    let ((relation, right), last) = closing(bytes, more, start.before)?;
     let left = start.left;
     let statement = Statement::Row {
         label,
@@ -218,10 +190,8 @@ fn row(
         (IsRefusal (row_at (pieces_at bytes.now place))) }
 {
     let (label, at) = label(bytes, place);
-    match row_after(alloc, bytes, at, most, label) {
-        Ok((statement, next)) => Ok((statement, next)),
-        Err(fault) => Err(fault),
-    }
+    let (statement, next) = row_after(alloc, bytes, at, most, label)?;
+    Ok((statement, next))
 }
 
 // The place after the word `free`, where it stands first.
@@ -254,14 +224,8 @@ fn bound_after<'a>(
     if let Some(next) = free_first(bytes, place) {
         return Ok((Statement::Free(column), next));
     }
-    let (relation, next) = match relation(bytes, place) {
-        Ok(found) => found,
-        Err(fault) => return Err(fault),
-    };
-    let (right, last) = match constant(bytes, next) {
-        Ok(found) => found,
-        Err(fault) => return Err(fault),
-    };
+    let (relation, next) = relation(bytes, place)?;
+    let (right, last) = constant(bytes, next)?;
     let statement = Statement::Bound {
         left: None,
         name: column,
@@ -295,14 +259,8 @@ fn bound_end<'a>(
         };
         return Ok((statement, place));
     }
-    let (relation, next) = match agreeing(bytes, place, Some(before)) {
-        Ok(found) => found,
-        Err(fault) => return Err(fault),
-    };
-    let (right, last) = match constant(bytes, next) {
-        Ok(found) => found,
-        Err(fault) => return Err(fault),
-    };
+    let (relation, next) = agreeing(bytes, place, Some(before))?;
+    let (right, last) = constant(bytes, next)?;
     let statement = Statement::Bound {
         left: Some(left),
         name: column,
@@ -321,22 +279,11 @@ fn bound_from_constant(bytes: &[u8], place: Place) -> Result<(Statement<'_>, Pla
         (λ found. Takes bytes.now place (bound_from_constant_at (pieces_at bytes.now place)) (shown found.0) found.1)
         (IsRefusal (bound_from_constant_at (pieces_at bytes.now place))) }
 {
-    let (left, next) = match constant(bytes, place) {
-        Ok(found) => found,
-        Err(fault) => return Err(fault),
-    };
-    let (before, more) = match relation(bytes, next) {
-        Ok(found) => found,
-        Err(fault) => return Err(fault),
-    };
-    let (column, last) = match name(bytes, more) {
-        Ok(found) => found,
-        Err(fault) => return Err(fault),
-    };
-    match bound_end(bytes, last, left, before, column) {
-        Ok((statement, end)) => Ok((statement, end)),
-        Err(fault) => Err(fault),
-    }
+    let (left, next) = constant(bytes, place)?;
+    let (before, more) = relation(bytes, next)?;
+    let (column, last) = name(bytes, more)?;
+    let (statement, end) = bound_end(bytes, last, left, before, column)?;
+    Ok((statement, end))
 }
 
 // A bound.
@@ -349,15 +296,11 @@ fn bound(bytes: &[u8], place: Place) -> Result<(Statement<'_>, Place), ReadFault
         (IsRefusal (bound_at (pieces_at bytes.now place))) }
 {
     let Some((column, next)) = name_first(bytes, place) else {
-        return match bound_from_constant(bytes, place) {
-            Ok((statement, last)) => Ok((statement, last)),
-            Err(fault) => Err(fault),
-        };
+        let (statement, last) = bound_from_constant(bytes, place)?;
+        return Ok((statement, last));
     };
-    match bound_after(bytes, next, column) {
-        Ok((statement, last)) => Ok((statement, last)),
-        Err(fault) => Err(fault),
-    }
+    let (statement, last) = bound_after(bytes, next, column)?;
+    Ok((statement, last))
 }
 
 // A listed name.
@@ -369,10 +312,7 @@ fn listed(bytes: &[u8], place: Place, binary: bool) -> Result<(Statement<'_>, Pl
         (λ found. Takes bytes.now place (listed_at binary (pieces_at bytes.now place)) (shown found.0) found.1)
         (IsRefusal (listed_at binary (pieces_at bytes.now place))) }
 {
-    let (column, next) = match name(bytes, place) {
-        Ok(found) => found,
-        Err(fault) => return Err(fault),
-    };
+    let (column, next) = name(bytes, place)?;
     let statement = Statement::Listed {
         binary,
         name: column,
