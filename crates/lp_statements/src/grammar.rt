@@ -243,10 +243,7 @@ fn constant_of(
         (λ found. Takes bytes.now place (constant_by negative (pieces_at bytes.now place)) (shown_constant found.0) found.1)
         (IsRefusal (constant_by negative (pieces_at bytes.now place))) }
 {
-    let (item, text, next) = match next_seen(bytes, place) {
-        Ok(seen) => seen,
-        Err(fault) => return Err(fault),
-    };
+    let (item, text, next) = next_seen(bytes, place)?;
     let Some(infinite) = infinite_of(item) else {
         return Err(stop_at(text.line, ReadKind::BadField));
     };
@@ -267,10 +264,8 @@ pub(crate) fn constant(bytes: &[u8], place: Place) -> Result<(Constant<'_>, Plac
         (IsRefusal (constant_at (pieces_at bytes.now place))) }
 {
     let (negative, at) = skip_signs(bytes, place);
-    match constant_of(bytes, at, negative) {
-        Ok((constant, next)) => Ok((constant, next)),
-        Err(fault) => Err(fault),
-    }
+    let (constant, next) = constant_of(bytes, at, negative)?;
+    Ok((constant, next))
 }
 
 // A number is a term's factor where a name comes after it, else a constant.
@@ -332,10 +327,7 @@ fn element_of(bytes: &[u8], place: Place, negative: bool) -> Result<(Element<'_>
         (λ found. Takes bytes.now place (element_by negative (pieces_at bytes.now place)) (shown_element found.0) found.1)
         (IsRefusal (element_by negative (pieces_at bytes.now place))) }
 {
-    let (item, text, next) = match next_seen(bytes, place) {
-        Ok(seen) => seen,
-        Err(fault) => return Err(fault),
-    };
+    let (item, text, next) = next_seen(bytes, place)?;
     if is_name(item) {
         let term = Term {
             negative,
@@ -359,10 +351,8 @@ fn take_element(bytes: &[u8], place: Place) -> Result<(Element<'_>, Place), Read
         (IsRefusal (element_at (pieces_at bytes.now place))) }
 {
     let (negative, at) = skip_signs(bytes, place);
-    match element_of(bytes, at, negative) {
-        Ok((element, next)) => Ok((element, next)),
-        Err(fault) => Err(fault),
-    }
+    let (element, next) = element_of(bytes, at, negative)?;
+    Ok((element, next))
 }
 
 // The fault of a constant that stands in the place of a term, where the next token is at a place.
@@ -401,10 +391,7 @@ fn part(bytes: &[u8], place: Place) -> Result<(Option<Term<'_>>, Place), ReadFau
         (λ found. Takes bytes.now place (part_at (pieces_at bytes.now place)) (option_map shown_term found.0) found.1)
         (IsRefusal (part_at (pieces_at bytes.now place))) }
 {
-    let (element, next) = match take_element(bytes, place) {
-        Ok(found) => found,
-        Err(fault) => return Err(fault),
-    };
+    let (element, next) = take_element(bytes, place)?;
     match element {
         Element::OfTerm(term) => Ok((Some(term), next)),
         Element::OfConstant(constant) => {
@@ -424,10 +411,7 @@ pub(crate) fn relation(bytes: &[u8], place: Place) -> Result<(Relation, Place), 
         (λ found. Takes bytes.now place (relation_at (pieces_at bytes.now place)) found.0 found.1)
         (IsRefusal (relation_at (pieces_at bytes.now place))) }
 {
-    let (item, text, next) = match next_seen(bytes, place) {
-        Ok(seen) => seen,
-        Err(fault) => return Err(fault),
-    };
+    let (item, text, next) = next_seen(bytes, place)?;
     let Some(relation) = relation_in(item) else {
         return Err(stop_at(text.line, ReadKind::BadField));
     };
@@ -442,10 +426,7 @@ fn inequality(bytes: &[u8], place: Place) -> Result<(Relation, Place), ReadFault
         (λ found. Takes bytes.now place (inequality_at (pieces_at bytes.now place)) found.0 found.1)
         (IsRefusal (inequality_at (pieces_at bytes.now place))) }
 {
-    let (item, text, next) = match next_seen(bytes, place) {
-        Ok(seen) => seen,
-        Err(fault) => return Err(fault),
-    };
+    let (item, text, next) = next_seen(bytes, place)?;
     let Some(relation) = inequality_in(item) else {
         return Err(stop_at(text.line, ReadKind::BadField));
     };
@@ -460,10 +441,7 @@ pub(crate) fn name(bytes: &[u8], place: Place) -> Result<(Text<'_>, Place), Read
         (λ found. Takes bytes.now place (name_at (pieces_at bytes.now place)) (shown_text found.0) found.1)
         (IsRefusal (name_at (pieces_at bytes.now place))) }
 {
-    let (item, text, next) = match next_seen(bytes, place) {
-        Ok(seen) => seen,
-        Err(fault) => return Err(fault),
-    };
+    let (item, text, next) = next_seen(bytes, place)?;
     if !is_name(item) {
         return Err(stop_at(text.line, ReadKind::BadField));
     }
@@ -503,10 +481,7 @@ pub(crate) fn agreeing(
         (λ found. Takes bytes.now place (agreeing_at before (pieces_at bytes.now place)) found.0 found.1)
         (IsRefusal (agreeing_at before (pieces_at bytes.now place))) }
 {
-    let (item, text, next) = match next_seen(bytes, place) {
-        Ok(seen) => seen,
-        Err(fault) => return Err(fault),
-    };
+    let (item, text, next) = next_seen(bytes, place)?;
     let Some(relation) = agreed_with(before, relation_in(item)) else {
         return Err(stop_at(text.line, ReadKind::BadField));
     };
@@ -545,10 +520,7 @@ pub(crate) fn more_terms<'a>(
 {
     let mut at = place;
     while is_sign_first(bytes, at) {
-        let (term, next) = match term(bytes, at) {
-            Ok(found) => found,
-            Err(fault) => return Err(fault),
-        };
+        let (term, next) = term(bytes, at)?;
         put_term(terms, most, term)?;
         at = next;
     }
@@ -587,10 +559,7 @@ fn more_parts<'a>(
 {
     let mut at = place;
     while is_sign_first(bytes, at) {
-        let (part, next) = match part(bytes, at) {
-            Ok(found) => found,
-            Err(fault) => return Err(fault),
-        };
+        let (part, next) = part(bytes, at)?;
         put_part(terms, most, part)?;
         at = next;
     }
@@ -611,15 +580,10 @@ pub(crate) fn parts<'a>(
         (TakesTerms bytes.now place most (parts_at (pieces_at bytes.now place)) terms.old.items terms.new.items)
         (IsRefusal (parts_at (pieces_at bytes.now place))) }
 {
-    let (first, next) = match part(bytes, place) {
-        Ok(found) => found,
-        Err(fault) => return Err(fault),
-    };
+    let (first, next) = part(bytes, place)?;
     put_part(terms, most, first)?;
-    match more_parts(bytes, next, most, terms) {
-        Ok(last) => Ok(last),
-        Err(fault) => Err(fault),
-    }
+    let last = more_parts(bytes, next, most, terms)?;
+    Ok(last)
 }
 
 // The begin of a row after its constant.
@@ -652,10 +616,7 @@ pub(crate) fn take_opening(bytes: &[u8], place: Place) -> Result<(Opening<'_>, P
         (λ found. Takes bytes.now place (opening_at (pieces_at bytes.now place)) (shown_opening found.0) found.1)
         (IsRefusal (opening_at (pieces_at bytes.now place))) }
 {
-    let (element, next) = match take_element(bytes, place) {
-        Ok(found) => found,
-        Err(fault) => return Err(fault),
-    };
+    let (element, next) = take_element(bytes, place)?;
     match element {
         Element::OfTerm(first) => {
             let start = Opening {
@@ -665,9 +626,9 @@ pub(crate) fn take_opening(bytes: &[u8], place: Place) -> Result<(Opening<'_>, P
             };
             Ok((start, next))
         }
-        Element::OfConstant(constant) => match opening_after(bytes, next, constant) {
-            Ok((start, last)) => Ok((start, last)),
-            Err(fault) => Err(fault),
-        },
+        Element::OfConstant(constant) => {
+            let (start, last) = opening_after(bytes, next, constant)?;
+            Ok((start, last))
+        }
     }
 }

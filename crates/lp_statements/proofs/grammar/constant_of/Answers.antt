@@ -1,16 +1,19 @@
 use Rattle.std.proofs.Common.{refl, sym}
+use Rattle.std.proofs.lemmas.Result.{err_from_is_err_and}
 use Rattle.lp_statements.specs.Grammar.{constant_of}
 use Rattle.lp_statements.proofs.Steps.{first_refused, takes_first, fails_first}
 use Rattle.lp_statements.proofs.grammar.constant_of.Goals as goal
 
-pub returns-in-Err : goal.returns-in-Err
+pub returns-in_err-item : goal.returns-in_err-item
 unfolding constant_of
-returns-in-Err c = first_refused c.args.bytes.now c.args.place _ c.in-Err.fault c.in-Err.ensures
+returns-in_err-item c =
+    let p = err_from_is_err_and c.from_residual.result c.from_residual.ensures.1 in
+    rw (p.1, p.2) (first_refused c.args.bytes.now c.args.place _ c.in_err-item.field-0.0 c.in_err-item.ensures)
 
 pub returns-in_default : goal.returns-in_default
 unfolding constant_of
-returns-in_default c = fails_first c.args.bytes.now c.args.place _ _ c.stop_at.result _ _ _ c.in-Ok.ensures (rw (sym c.in_default.ensures) refl) c.stop_at.ensures
+returns-in_default c = fails_first c.args.bytes.now c.args.place _ _ c.stop_at.result _ _ _ c.in_ok-item.ensures (rw (sym c.in_default.ensures) refl) c.stop_at.ensures
 
 pub returns : goal.returns
 unfolding constant_of
-returns c = takes_first c.args.bytes.now c.args.place _ _ _ _ _ c.in-Ok.ensures (rw (sym c.in-Some.ensures) refl)
+returns c = takes_first c.args.bytes.now c.args.place _ _ _ _ _ c.in_ok-item.ensures (rw (sym c.in-Some.ensures) refl)
