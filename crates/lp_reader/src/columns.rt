@@ -158,18 +158,10 @@ fn take_term(
         (λ _. (term_fault (names_of columns.old.names) columns.old.entries before (shown_term term.entry) ≡ None) × TakesTerm columns.old columns.new before (shown_term term.entry) sums.new.entries)
         (IsFault (term_fault (names_of columns.old.names) columns.old.entries before (shown_term term.entry))) }
 {
-    let value = match term_value(term) {
-        Ok(value) => value,
-        Err(fault) => return Err(fault),
-    };
-    let column = match column_for(alloc, columns, term.name) {
-        Ok(column) => column,
-        Err(fault) => return Err(fault),
-    };
-    match add_sum(sums, column, value, term.name.line) {
-        Ok(()) => Ok(()),
-        Err(fault) => Err(fault),
-    }
+    let value = term_value(term)?;
+    let column = column_for(alloc, columns, term.name)?;
+    add_sum(sums, column, value, term.name.line)?;
+    Ok(())
 }
 
 // The terms of sums, in their order, without those that are 0.
@@ -225,10 +217,7 @@ pub(crate) fn take_terms(
 {
     let mut sums = IndexMap::new(alloc);
     for term in terms {
-        match take_term(alloc, columns, &mut sums, *term) {
-            Ok(()) => {}
-            Err(fault) => return Err(fault),
-        }
+        take_term(alloc, columns, &mut sums, *term)?;
     }
     Ok(make_terms(alloc, sums)?)
 }

@@ -28,12 +28,7 @@ pub fn read_lp(alloc: Global, bytes: &[u8]) -> Result<Model, ReadFault>
     requires { length bytes.now < 2 ^ 31 }
     ensures { MatchResult result (DeclaresLp bytes.now) (IsLpStop bytes.now) }
 {
-    let reader = match read_statements(alloc, bytes) {
-        Ok(reader) => reader,
-        Err(fault) => return Err(fault),
-    };
-    match make_model(alloc, reader) {
-        Ok(model) => Ok(model),
-        Err(_) => Err(ReadFault::Memory),
-    }
+    let reader = read_statements(alloc, bytes)?;
+    let model = make_model(alloc, reader)?;
+    Ok(model)
 }

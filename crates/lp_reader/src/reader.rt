@@ -59,14 +59,8 @@ fn take_objective(
     requires { HasRoom reader.old }
     ensures { TakesStatement reader.old reader.new (ObjectiveOf maximise (option_map shown_text label.entry) (map shown_term terms.now)) result }
 {
-    match check_objective_label(label) {
-        Ok(()) => {}
-        Err(fault) => return Err(fault),
-    }
-    let form = match take_terms(alloc, &mut reader.columns, terms) {
-        Ok(form) => form,
-        Err(fault) => return Err(fault),
-    };
+    check_objective_label(label)?;
+    let form = take_terms(alloc, &mut reader.columns, terms)?;
     reader.objective = form;
     reader.maximise = maximise;
     Ok(())
@@ -85,19 +79,10 @@ fn take_row(
     requires { HasRoom reader.old }
     ensures { TakesStatement reader.old reader.new (RowOf (option_map shown_text label.entry) (option_map shown_constant left.entry) (map shown_term terms.now) relation (shown_constant right.entry)) result }
 {
-    match check_label(&reader.rows, label) {
-        Ok(()) => {}
-        Err(fault) => return Err(fault),
-    }
-    let left_side = match side_if(left) {
-        Ok(side) => side,
-        Err(fault) => return Err(fault),
-    };
-    let form = match take_terms(alloc, &mut reader.columns, terms) {
-        Ok(form) => form,
-        Err(fault) => return Err(fault),
-    };
-    match end_row(
+    check_label(&reader.rows, label)?;
+    let left_side = side_if(left)?;
+    let form = take_terms(alloc, &mut reader.columns, terms)?;
+    end_row(
         alloc,
         &mut reader.rows,
         label,
@@ -105,10 +90,8 @@ fn take_row(
         relation,
         &left_side,
         right,
-    ) {
-        Ok(()) => Ok(()),
-        Err(fault) => Err(fault),
-    }
+    )?;
+    Ok(())
 }
 
 // Takes a bound in.
@@ -122,18 +105,9 @@ fn take_bound(
     requires { IsEven reader.old }
     ensures { TakesStatement reader.old reader.new (BoundOf (option_map shown_constant left.entry) (shown_text name.entry) relation (option_map shown_constant right.entry)) result }
 {
-    let left_side = match side_if(left) {
-        Ok(side) => side,
-        Err(fault) => return Err(fault),
-    };
-    let column = match known_column(&reader.columns, name) {
-        Ok(column) => column,
-        Err(fault) => return Err(fault),
-    };
-    let right_side = match side_if(right) {
-        Ok(side) => side,
-        Err(fault) => return Err(fault),
-    };
+    let left_side = side_if(left)?;
+    let column = known_column(&reader.columns, name)?;
+    let right_side = side_if(right)?;
     let lower = lower_said(&left_side, relation, &right_side);
     let upper = upper_said(&left_side, relation, &right_side);
     set_bounds(&mut reader.columns, column, lower, upper, false);
@@ -145,10 +119,7 @@ fn take_free(reader: &mut Reader, name: Text<'_>) -> Result<(), ReadFault>
     requires { IsEven reader.old }
     ensures { TakesStatement reader.old reader.new (FreeOf (shown_text name.entry)) result }
 {
-    let column = match known_column(&reader.columns, name) {
-        Ok(column) => column,
-        Err(fault) => return Err(fault),
-    };
+    let column = known_column(&reader.columns, name)?;
     set_bounds(&mut reader.columns, column, Some(None), Some(None), false);
     Ok(())
 }
@@ -158,10 +129,7 @@ fn take_binary(reader: &mut Reader, name: Text<'_>) -> Result<(), ReadFault>
     requires { IsEven reader.old }
     ensures { TakesStatement reader.old reader.new (ListedOf true (shown_text name.entry)) result }
 {
-    let column = match known_column(&reader.columns, name) {
-        Ok(column) => column,
-        Err(fault) => return Err(fault),
-    };
+    let column = known_column(&reader.columns, name)?;
     let lower = Some(Some(Frac::whole(0)));
     let upper = Some(Some(Frac::whole(1)));
     set_bounds(&mut reader.columns, column, lower, upper, true);
@@ -173,10 +141,7 @@ fn take_general(reader: &mut Reader, name: Text<'_>) -> Result<(), ReadFault>
     requires { IsEven reader.old }
     ensures { TakesStatement reader.old reader.new (ListedOf false (shown_text name.entry)) result }
 {
-    let column = match known_column(&reader.columns, name) {
-        Ok(column) => column,
-        Err(fault) => return Err(fault),
-    };
+    let column = known_column(&reader.columns, name)?;
     set_bounds(&mut reader.columns, column, None, None, true);
     Ok(())
 }
@@ -190,15 +155,6 @@ fn take_listed(reader: &mut Reader, binary: bool, name: Text<'_>) -> Result<(), 
         return take_binary(reader, name);
     }
     take_general(reader, name)
-}
-
-// Takes a keyword in: it changes nothing.
-fn take_heading(reader: &Reader, keyword: Keyword) -> Result<(), ReadFault>
-    ensures { TakesStatement reader.now reader.now (HeadingOf keyword) result }
-{
-    let _ = reader.maximise;
-    let _ = keyword;
-    Ok(())
 }
 
 // Takes a statement in.
@@ -217,7 +173,8 @@ fn take_statement(
             label,
             terms,
         } => take_objective(alloc, reader, *maximise, *label, terms.as_slice()),
-        Statement::Heading(keyword) => take_heading(reader, *keyword),
+        // A keyword changes nothing.
+        Statement::Heading(_) => Ok(()),
         Statement::Row {
             label,
             left,
@@ -278,14 +235,8 @@ pub(crate) fn read_statements(alloc: Global, bytes: &[u8]) -> Result<Reader, Rea
     let mut place = start(bytes);
     let mut section = Some(Section::Begin);
     while let Some(here) = section {
-        let (statement, next) = match next_statement(alloc, bytes, here, place, MOST_TERMS) {
-            Ok(found) => found,
-            Err(fault) => return Err(fault),
-        };
-        match take_statement(alloc, &mut reader, &statement) {
-            Ok(()) => {}
-            Err(fault) => return Err(fault),
-        }
+        let (statement, next) = next_statement(alloc, bytes, here, place, MOST_TERMS)?;
+        take_statement(alloc, &mut reader, &statement)?;
         section = section_after(here, &statement);
         place = next;
     }

@@ -167,10 +167,7 @@ fn end_labelled(
         (λ _. (row_end_fault (names_of rows.old.names) (Some (shown_text label.entry)) (shown_constant right.entry) ≡ None) × PutsRow rows.old rows.new label.entry.bytes.now (ended_row form relation left.now (side_of (shown_constant right.entry))))
         (IsFault (row_end_fault (names_of rows.old.names) (Some (shown_text label.entry)) (shown_constant right.entry))) }
 {
-    let side = match constant_side(right) {
-        Ok(side) => side,
-        Err(fault) => return Err(fault),
-    };
+    let side = constant_side(right)?;
     put_row(
         alloc,
         rows,
@@ -198,10 +195,7 @@ fn end_unnamed(
     if rows.names.contains(name.as_bytes()) {
         return Err(stop_at(right.text.line, ReadKind::DuplicateName));
     }
-    let side = match constant_side(right) {
-        Ok(side) => side,
-        Err(fault) => return Err(fault),
-    };
+    let side = constant_side(right)?;
     if rows.names.len() >= MOST_ROWS {
         return Err(stop_at(right.text.line, ReadKind::Limit));
     }

@@ -1,4 +1,5 @@
 use Rattle.std.proofs.Common.{◌≡◌, ◌∙◌, false, Option, refl, subst}
+use Rattle.std.proofs.lemmas.Result.{err_from_is_err_and}
 use Rattle.rational.specs.Rational.{ℚ}
 use Rattle.lp_reader.specs.Numbers.{side_of}
 use Rattle.lp_reader.specs.Said.{lower_by, upper_by, SetsBounds}
@@ -7,21 +8,27 @@ use Rattle.lp_statements.specs.Statements.{shown_text, shown_constant}
 use Rattle.lp_reader.proofs.Taking.{bound_left_fails, bound_name_fails, bound_right_fails, bound_none, bound_taken}
 use Rattle.lp_reader.proofs.reader.take_bound.Goals as goal
 
-pub returns-in-Err : goal.returns-in-Err
-returns-in-Err c = λ front holds. bound_left_fails c.args.reader.now front holds (option_map shown_constant c.args.left) (shown_text c.args.name) c.args.relation (option_map shown_constant c.args.right) c.in-Err.fault c.in-Err.ensures
+pub returns-in_err-left_side : goal.returns-in_err-left_side
+returns-in_err-left_side c = λ front holds.
+    let p = err_from_is_err_and c.from_residual.result c.from_residual.ensures.1 in
+    rw (p.1, p.2) (bound_left_fails c.args.reader.now front holds (option_map shown_constant c.args.left) (shown_text c.args.name) c.args.relation (option_map shown_constant c.args.right) c.in_err-left_side.field-0.0 c.in_err-left_side.ensures)
 
-pub returns-in-Err-known_column : goal.returns-in-Err-known_column
-returns-in-Err-known_column c = λ front holds. bound_name_fails c.args.reader.now front holds (option_map shown_constant c.args.left) (shown_text c.args.name) c.args.relation (option_map shown_constant c.args.right) c.in-Err-known_column.fault c.in-Ok.ensures.0 c.in-Err-known_column.ensures
+pub returns-in_err-column : goal.returns-in_err-column
+returns-in_err-column c = λ front holds.
+    let p = err_from_is_err_and c.from_residual-in_err-column.result c.from_residual-in_err-column.ensures.1 in
+    rw (p.1, p.2) (bound_name_fails c.args.reader.now front holds (option_map shown_constant c.args.left) (shown_text c.args.name) c.args.relation (option_map shown_constant c.args.right) c.in_err-column.field-0.0 c.in_ok-left_side.ensures.0 c.in_err-column.ensures)
 
-pub returns-in-Err-side_if : goal.returns-in-Err-side_if
-returns-in-Err-side_if c = λ front holds. bound_right_fails c.args.reader.now front holds (option_map shown_constant c.args.left) (shown_text c.args.name) c.args.relation (option_map shown_constant c.args.right) c.in-Err-side_if.fault c.in-Ok.ensures.0 c.in-Ok-known_column.ensures.0 c.in-Err-side_if.ensures
+pub returns-in_err-right_side : goal.returns-in_err-right_side
+returns-in_err-right_side c = λ front holds.
+    let p = err_from_is_err_and c.from_residual-in_err-right_side.result c.from_residual-in_err-right_side.ensures.1 in
+    rw (p.1, p.2) (bound_right_fails c.args.reader.now front holds (option_map shown_constant c.args.left) (shown_text c.args.name) c.args.relation (option_map shown_constant c.args.right) c.in_err-right_side.field-0.0 c.in_ok-left_side.ensures.0 c.in_ok-column.ensures.0 c.in_err-right_side.ensures)
 
 pub returns : goal.returns
 returns c = λ front holds.
     let left = option_map shown_constant c.args.left in let name = shown_text c.args.name in let right = option_map shown_constant c.args.right in
-    let lower : c.lower_said-lower.result ≡ lower_by (option_map side_of left) c.args.relation (option_map side_of right) = c.lower_said-lower.ensures ∙ (λ i. lower_by (c.in-Ok.ensures.1 i) c.args.relation (c.in-Ok-side_if.ensures.1 i)) in
-    let upper : c.upper_said-upper.result ≡ upper_by (option_map side_of left) c.args.relation (option_map side_of right) = c.upper_said-upper.ensures ∙ (λ i. upper_by (c.in-Ok.ensures.1 i) c.args.relation (c.in-Ok-side_if.ensures.1 i)) in (
-      bound_none c.args.reader.now front holds left name c.args.relation right c.in-Ok.ensures.0 c.in-Ok-known_column.ensures.0 c.in-Ok-side_if.ensures.0,
-      bound_taken c.args.reader.now front holds _ left name c.args.relation right c.in-Ok-known_column.column c.in-Ok-known_column.ensures.1
-          (subst (λ (b : Option (Option ℚ) × Option (Option ℚ)). SetsBounds c.args.reader.now.columns c.set_bounds.new.columns c.in-Ok-known_column.column b.0 b.1 false) (λ i. (lower i, upper i)) c.set_bounds.ensures) refl refl refl refl,
+    let lower : c.lower_said-lower.result ≡ lower_by (option_map side_of left) c.args.relation (option_map side_of right) = c.lower_said-lower.ensures ∙ (λ i. lower_by (c.in_ok-left_side.ensures.1 i) c.args.relation (c.in_ok-right_side.ensures.1 i)) in
+    let upper : c.upper_said-upper.result ≡ upper_by (option_map side_of left) c.args.relation (option_map side_of right) = c.upper_said-upper.ensures ∙ (λ i. upper_by (c.in_ok-left_side.ensures.1 i) c.args.relation (c.in_ok-right_side.ensures.1 i)) in (
+      bound_none c.args.reader.now front holds left name c.args.relation right c.in_ok-left_side.ensures.0 c.in_ok-column.ensures.0 c.in_ok-right_side.ensures.0,
+      bound_taken c.args.reader.now front holds _ left name c.args.relation right c.in_ok-column.column c.in_ok-column.ensures.1
+          (subst (λ (b : Option (Option ℚ) × Option (Option ℚ)). SetsBounds c.args.reader.now.columns c.set_bounds.new.columns c.in_ok-column.column b.0 b.1 false) (λ i. (lower i, upper i)) c.set_bounds.ensures) refl refl refl refl,
     )

@@ -1,10 +1,13 @@
 use Rattle.std.proofs.Common.{refl}
+use Rattle.std.proofs.lemmas.Result.{err_from_is_err_and}
 use Rattle.lp_statements.specs.Statements.{shown_text}
 use Rattle.lp_reader.proofs.Taking.{free_fails, free_taken}
 use Rattle.lp_reader.proofs.reader.take_free.Goals as goal
 
-pub returns-in-Err : goal.returns-in-Err
-returns-in-Err c = λ front holds. free_fails c.args.reader.now front holds (shown_text c.args.name) c.in-Err.fault c.in-Err.ensures
+pub returns-in_err-column : goal.returns-in_err-column
+returns-in_err-column c = λ front holds.
+    let p = err_from_is_err_and c.from_residual.result c.from_residual.ensures.1 in
+    rw (p.1, p.2) (free_fails c.args.reader.now front holds (shown_text c.args.name) c.in_err-column.field-0.0 c.in_err-column.ensures)
 
 pub returns : goal.returns
-returns c = λ front holds. free_taken c.args.reader.now front holds _ (shown_text c.args.name) c.in-Ok.column c.in-Ok.ensures.1 c.set_bounds.ensures c.in-Ok.ensures.0 refl refl refl refl
+returns c = λ front holds. free_taken c.args.reader.now front holds _ (shown_text c.args.name) c.in_ok-column.column c.in_ok-column.ensures.1 c.set_bounds.ensures c.in_ok-column.ensures.0 refl refl refl refl

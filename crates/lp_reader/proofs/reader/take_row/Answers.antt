@@ -1,4 +1,5 @@
 use Rattle.std.proofs.Common.{◌+◌, Option, length, map, refl, subst}
+use Rattle.std.proofs.lemmas.Result.{err_from_is_err_and}
 use Rattle.rational.specs.Rational.{ℚ}
 use Rattle.name_map.specs.Names.{names_of}
 use Rattle.lp_reader.specs.Numbers.{side_of}
@@ -10,23 +11,31 @@ use Rattle.lp_reader.proofs.Taking.{row_label_fails, row_left_fails, row_terms_f
 use Rattle.lp_reader.proofs.Holding.{hold_row}
 use Rattle.lp_reader.proofs.reader.take_row.Goals as goal
 
-pub returns-in-Err : goal.returns-in-Err
-returns-in-Err c = λ front holds. row_label_fails c.args.reader.now front holds (option_map shown_text c.args.label) (option_map shown_constant c.args.left) (map shown_term c.args.terms.now) c.args.relation (shown_constant c.args.right) c.in-Err.fault c.in-Err.ensures
+pub returns-in_err-check_label : goal.returns-in_err-check_label
+returns-in_err-check_label c = λ front holds.
+    let p = err_from_is_err_and c.from_residual.result c.from_residual.ensures.1 in
+    rw (p.1, p.2) (row_label_fails c.args.reader.now front holds (option_map shown_text c.args.label) (option_map shown_constant c.args.left) (map shown_term c.args.terms.now) c.args.relation (shown_constant c.args.right) c.in_err-check_label.field-0.0 c.in_err-check_label.ensures)
 
-pub returns-in-Err-side_if : goal.returns-in-Err-side_if
-returns-in-Err-side_if c = λ front holds. row_left_fails c.args.reader.now front holds (option_map shown_text c.args.label) (option_map shown_constant c.args.left) (map shown_term c.args.terms.now) c.args.relation (shown_constant c.args.right) c.in-Err-side_if.fault c.in-Ok.ensures c.in-Err-side_if.ensures
+pub returns-in_err-left_side : goal.returns-in_err-left_side
+returns-in_err-left_side c = λ front holds.
+    let p = err_from_is_err_and c.from_residual-in_err-left_side.result c.from_residual-in_err-left_side.ensures.1 in
+    rw (p.1, p.2) (row_left_fails c.args.reader.now front holds (option_map shown_text c.args.label) (option_map shown_constant c.args.left) (map shown_term c.args.terms.now) c.args.relation (shown_constant c.args.right) c.in_err-left_side.field-0.0 c.in_ok-check_label.ensures c.in_err-left_side.ensures)
 
-pub returns-in-Err-take_terms : goal.returns-in-Err-take_terms
-returns-in-Err-take_terms c = λ front holds. row_terms_fail c.args.reader.now front holds (option_map shown_text c.args.label) (option_map shown_constant c.args.left) (map shown_term c.args.terms.now) c.args.relation (shown_constant c.args.right) c.in-Err-take_terms.fault c.in-Ok.ensures c.in-Ok-side_if.ensures.0 c.in-Err-take_terms.ensures
+pub returns-in_err-form : goal.returns-in_err-form
+returns-in_err-form c = λ front holds.
+    let p = err_from_is_err_and c.from_residual-in_err-form.result c.from_residual-in_err-form.ensures.1 in
+    rw (p.1, p.2) (row_terms_fail c.args.reader.now front holds (option_map shown_text c.args.label) (option_map shown_constant c.args.left) (map shown_term c.args.terms.now) c.args.relation (shown_constant c.args.right) c.in_err-form.field-0.0 c.in_ok-check_label.ensures c.in_ok-left_side.ensures.0 c.in_err-form.ensures)
 
-pub returns-in-Err-end_row : goal.returns-in-Err-end_row
-returns-in-Err-end_row c = λ front holds. row_end_fails c.args.reader.now front holds (option_map shown_text c.args.label) (option_map shown_constant c.args.left) (map shown_term c.args.terms.now) c.args.relation (shown_constant c.args.right) c.in-Err-end_row.fault c.in-Ok.ensures c.in-Ok-side_if.ensures.0 c.in-Ok-take_terms.ensures.no_fault c.in-Err-end_row.ensures
+pub returns-in_err-end_row : goal.returns-in_err-end_row
+returns-in_err-end_row c = λ front holds.
+    let p = err_from_is_err_and c.from_residual-in_err-end_row.result c.from_residual-in_err-end_row.ensures.1 in
+    rw (p.1, p.2) (row_end_fails c.args.reader.now front holds (option_map shown_text c.args.label) (option_map shown_constant c.args.left) (map shown_term c.args.terms.now) c.args.relation (shown_constant c.args.right) c.in_err-end_row.field-0.0 c.in_ok-check_label.ensures c.in_ok-left_side.ensures.0 c.in_ok-form.ensures.no_fault c.in_err-end_row.ensures)
 
-pub returns-in-Ok-end_row : goal.returns-in-Ok-end_row
-returns-in-Ok-end_row c = λ front holds.
+pub returns : goal.returns
+returns c = λ front holds.
     let label = option_map shown_text c.args.label in let left = option_map shown_constant c.args.left in let terms = map shown_term c.args.terms.now in let right = shown_constant c.args.right in (
-      row_none c.args.reader.now front holds label left terms c.args.relation right c.in-Ok.ensures c.in-Ok-side_if.ensures.0 c.in-Ok-take_terms.ensures.no_fault c.in-Ok-end_row.ensures.0,
-      hold_row c.args.reader.now _ front label left terms c.args.relation right c.in-Ok-take_terms.form holds c.in-Ok-take_terms.ensures
-          (subst (λ (l : Option (Option ℚ)). PutsRow c.args.reader.now.rows c.end_row.new.rows (row_name (length (names_of c.args.reader.now.rows.names) + 1) label) (ended_row c.in-Ok-take_terms.form c.args.relation l (side_of right)))
-          c.in-Ok-side_if.ensures.1 c.in-Ok-end_row.ensures.1) refl refl,
+      row_none c.args.reader.now front holds label left terms c.args.relation right c.in_ok-check_label.ensures c.in_ok-left_side.ensures.0 c.in_ok-form.ensures.no_fault c.in_ok-end_row.ensures.0,
+      hold_row c.args.reader.now _ front label left terms c.args.relation right c.in_ok-form.form holds c.in_ok-form.ensures
+          (subst (λ (l : Option (Option ℚ)). PutsRow c.args.reader.now.rows c.end_row.new.rows (row_name (length (names_of c.args.reader.now.rows.names) + 1) label) (ended_row c.in_ok-form.form c.args.relation l (side_of right)))
+          c.in_ok-left_side.ensures.1 c.in_ok-end_row.ensures.1) refl refl,
     )
