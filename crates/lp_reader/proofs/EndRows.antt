@@ -13,7 +13,7 @@ use Rattle.lp_statements.specs.Statements.{Constant}
 use Rattle.lp_reader.specs.Numbers.{constant_fault}
 use Rattle.lp_reader.specs.Names.{row_name}
 use Rattle.lp_reader.specs.Faults.{is_too_long, label_fault, unnamed_fault, full_fault, row_end_fault}
-use Rattle.lp_reader.specs.Told.{IsFault}
+use Rattle.text_fields.specs.Faults.{IsFaultOf}
 use Rattle.std.proofs.lemmas.Fmt.{length-decimal-le}
 use Rattle.lp_reader.proofs.NewColumns.{short_name}
 
@@ -62,9 +62,9 @@ pub generated_short : (n : ℕ) → n < 10000 → length (row_name n None) ≤ l
 generated_short n h = let few = length-decimal-le 4 n (omega arith) (omega arith) (omega arith) in omega arith
 
 -- with a label only the constant counts
-pub labelled_fault : (names : List (List ℕ)) (label : Written) (right : Constant) (fault : ReadFault) → IsFault (constant_fault right) fault → IsFault (row_end_fault names (Some label) right) fault
+pub labelled_fault : (names : List (List ℕ)) (label : Written) (right : Constant) (fault : ReadFault) → IsFaultOf (constant_fault right) fault → IsFaultOf (row_end_fault names (Some label) right) fault
 unfolding unnamed_fault full_fault
-labelled_fault names label right fault told = subst (λ (o : Option ReadStop). IsFault o fault) (by (constant_fault right)) told
+labelled_fault names label right fault told = subst (λ (o : Option ReadStop). IsFaultOf o fault) (by (constant_fault right)) told
   where
     by : (o : Option ReadStop) → o ≡ option_or o None
     by None = refl
@@ -82,12 +82,12 @@ module _ (names : List (List ℕ)) (right : Constant) (name : List ℕ) (is : na
   pub unnamed_known : is_named names name ≡ true → row_end_fault names None right ≡ Some (stop_at right.text.line DuplicateName)
   unnamed_known e = ap (λ o. option_or o (option_or (constant_fault right) (full_fault names right.text.line None))) (named true e)
 
-  pub unnamed_constant : (fault : ReadFault) → is_named names name ≡ false → IsFault (constant_fault right) fault → IsFault (row_end_fault names None right) fault
+  pub unnamed_constant : (fault : ReadFault) → is_named names name ≡ false → IsFaultOf (constant_fault right) fault → IsFaultOf (row_end_fault names None right) fault
   unnamed_constant fault e told =
-      subst (λ (o : Option ReadStop). IsFault o fault) (sym (ap (λ o. option_or o (option_or (constant_fault right) (full_fault names right.text.line None))) (named false e)))
+      subst (λ (o : Option ReadStop). IsFaultOf o fault) (sym (ap (λ o. option_or o (option_or (constant_fault right) (full_fault names right.text.line None))) (named false e)))
       (by fault (constant_fault right) told)
     where
-      by : (fault : ReadFault) (o : Option ReadStop) → IsFault o fault → IsFault (option_or o (full_fault names right.text.line None)) fault
+      by : (fault : ReadFault) (o : Option ReadStop) → IsFaultOf o fault → IsFaultOf (option_or o (full_fault names right.text.line None)) fault
       by (Stop stop) o told = ap (λ o. option_or o (full_fault names right.text.line None)) told
       by Memory o told = tt
 

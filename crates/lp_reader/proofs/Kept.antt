@@ -11,7 +11,7 @@ use Rattle.lp_statements.specs.Statements.{Term, Statement, Objective, Heading, 
 use Rattle.lp_reader.specs.Numbers.{constant_fault_in}
 use Rattle.lp_reader.specs.Names.{terms_of, columns_in, row_names}
 use Rattle.lp_reader.specs.Faults.{most_entries, column_passes, limit_fault, term_fault, terms_fault, objective_label_fault, label_fault, row_end_fault, statement_fault}
-use Rattle.lp_reader.specs.Told.{IsFault}
+use Rattle.text_fields.specs.Faults.{IsFaultOf}
 
 some_none : (x : ReadStop) → Some x ≡ None → ⊥
 some_none x h = cc

@@ -19,7 +19,7 @@ use Rattle.lp_reader.specs.Program.{form_from}
 use Rattle.lp_reader.specs.Faults.{most_entries, statement_fault, first_fault}
 use Rattle.lp_reader.specs.Meaning.{lp_fault, IsLpStop}
 use Rattle.lp_reader.specs.Held.{Holds, HasRead}
-use Rattle.lp_reader.specs.Told.{IsFault}
+use Rattle.text_fields.specs.Faults.{IsFaultOf}
 use Rattle.lp_reader.proofs.Kept.{kept_fault, kept_same}
 
 -- ---- nothing is read
@@ -119,7 +119,7 @@ module _ (bytes : List ℕ) (reader : Reader) (place : Place) (section : Section
     from_here m e = script_is m (Whole statement (pieces_at bytes next)) e takes.whole
 
     -- a statement has a fault
-    pub meaning_fails : (fault : ReadFault) → IsFault (statement_fault so_far.front statement) fault → IsLpStop bytes fault
+    pub meaning_fails : (fault : ReadFault) → IsFaultOf (statement_fault so_far.front statement) fault → IsLpStop bytes fault
     unfolding first_fault
     meaning_fails (Stop stop) told =
         let m = some_most left.most refl in
@@ -165,8 +165,8 @@ module _ (bytes : List ℕ) (reader : Reader) (place : Place) (section : Section
 
   -- the same where terms past the limit are not kept
   module _ (n : ℕ) (past : most_entries < n) (kept : Statement) (next : Place) (reads : Reads bytes place n (statement_of section (pieces_at bytes place)) kept next) where
-    pub kept_fails : (fault : ReadFault) → IsFault (statement_fault so_far.front kept) fault → IsLpStop bytes fault
-    kept_fails fault told = meaning_fails reads.statement next reads.takes fault (subst (λ o. IsFault o fault) (kept_fault n so_far.front past reads.statement kept reads.keeps) told)
+    pub kept_fails : (fault : ReadFault) → IsFaultOf (statement_fault so_far.front kept) fault → IsLpStop bytes fault
+    kept_fails fault told = meaning_fails reads.statement next reads.takes fault (subst (λ o. IsFaultOf o fault) (kept_fault n so_far.front past reads.statement kept reads.keeps) told)
 
     pub kept_on : (new : Reader) (after : Option Section) → after ≡ section_after section kept → (statement_fault so_far.front kept ≡ None) × Holds new (so_far.front ++ kept ∷ []) → Reading bytes new next after
     kept_on new after is done =

@@ -19,16 +19,16 @@ use Rattle.lp_reader.specs.Bounds.{lower_said, upper_said, whole_said, lower_con
 use Rattle.lp_reader.specs.Said.{lower_by, upper_by, SetsBounds}
 use Rattle.lp_reader.specs.State.{bounds_of, terms_fault_in}
 use Rattle.lp_reader.specs.Held.{Holds, HasRoom, IsEven}
-use Rattle.lp_reader.specs.Told.{IsFault}
+use Rattle.text_fields.specs.Faults.{IsFaultOf}
 use Rattle.lp_reader.proofs.Fronts.{faults_of_form}
 use Rattle.lp_reader.proofs.Holding.{hold_said}
 
-pub or_first : (a b : Option ReadStop) (fault : ReadFault) → IsFault a fault → IsFault (option_or a b) fault
+pub or_first : (a b : Option ReadStop) (fault : ReadFault) → IsFaultOf a fault → IsFaultOf (option_or a b) fault
 or_first a b (Stop stop) told = ap (λ o. option_or o b) told
 or_first a b Memory told = tt
 
-pub or_second : (a b : Option ReadStop) (fault : ReadFault) → a ≡ None → IsFault b fault → IsFault (option_or a b) fault
-or_second a b fault none told = subst (λ o. IsFault (option_or o b) fault) (sym none) told
+pub or_second : (a b : Option ReadStop) (fault : ReadFault) → a ≡ None → IsFaultOf b fault → IsFaultOf (option_or a b) fault
+or_second a b fault none told = subst (λ o. IsFaultOf (option_or o b) fault) (sym none) told
 
 or_none : (a b : Option ReadStop) → a ≡ None → b ≡ None → option_or a b ≡ None
 or_none a b p q = ap (λ o. option_or o b) p ∙ q
@@ -48,13 +48,13 @@ module _ (old : Reader) (front : List Statement) (holds : Holds old front) where
   terms_told terms = faults_of_form (terms_of front) terms ∙ (λ i. terms_fault_in (sym holds.columns i) (sym holds.entries i) [] terms)
 
   -- the objective
-  pub objective_label_fails : (maximise : Bool) (label : Option Written) (terms : List Term) (fault : ReadFault) → IsFault (objective_label_fault label) fault → IsFault (statement_fault front (Objective maximise label terms)) fault
+  pub objective_label_fails : (maximise : Bool) (label : Option Written) (terms : List Term) (fault : ReadFault) → IsFaultOf (objective_label_fault label) fault → IsFaultOf (statement_fault front (Objective maximise label terms)) fault
   unfolding statement_fault
   objective_label_fails maximise label terms fault told = or_first (objective_label_fault label) (terms_fault (terms_of front) [] terms) fault told
 
-  pub objective_terms_fail : (maximise : Bool) (label : Option Written) (terms : List Term) (fault : ReadFault) → objective_label_fault label ≡ None → IsFault (terms_fault_in (names_of old.columns.names) old.columns.entries [] terms) fault → IsFault (statement_fault front (Objective maximise label terms)) fault
+  pub objective_terms_fail : (maximise : Bool) (label : Option Written) (terms : List Term) (fault : ReadFault) → objective_label_fault label ≡ None → IsFaultOf (terms_fault_in (names_of old.columns.names) old.columns.entries [] terms) fault → IsFaultOf (statement_fault front (Objective maximise label terms)) fault
   unfolding statement_fault
-  objective_terms_fail maximise label terms fault none told = or_second (objective_label_fault label) (terms_fault (terms_of front) [] terms) fault none (subst (λ (o : Option ReadStop). IsFault o fault) (sym (terms_told terms)) told)
+  objective_terms_fail maximise label terms fault none told = or_second (objective_label_fault label) (terms_fault (terms_of front) [] terms) fault none (subst (λ (o : Option ReadStop). IsFaultOf o fault) (sym (terms_told terms)) told)
 
   pub objective_none : (maximise : Bool) (label : Option Written) (terms : List Term) → objective_label_fault label ≡ None → terms_fault_in (names_of old.columns.names) old.columns.entries [] terms ≡ None → statement_fault front (Objective maximise label terms) ≡ None
   unfolding statement_fault
@@ -68,24 +68,24 @@ module _ (old : Reader) (front : List Statement) (holds : Holds old front) where
     abbrev terms_of_row : Option ReadStop
     terms_of_row = option_or (terms_fault (terms_of front) [] terms) end_of
 
-    pub row_label_fails : (fault : ReadFault) → IsFault (label_fault (names_of old.rows.names) label) fault → IsFault (statement_fault front (Row label left terms relation right)) fault
+    pub row_label_fails : (fault : ReadFault) → IsFaultOf (label_fault (names_of old.rows.names) label) fault → IsFaultOf (statement_fault front (Row label left terms relation right)) fault
     unfolding statement_fault
-    row_label_fails fault told = or_first (label_fault (row_names front) label) (option_or (constant_fault_in left) terms_of_row) fault (subst (λ ns. IsFault (label_fault ns label) fault) holds.named told)
+    row_label_fails fault told = or_first (label_fault (row_names front) label) (option_or (constant_fault_in left) terms_of_row) fault (subst (λ ns. IsFaultOf (label_fault ns label) fault) holds.named told)
 
-    pub row_left_fails : (fault : ReadFault) → label_fault (names_of old.rows.names) label ≡ None → IsFault (constant_fault_in left) fault → IsFault (statement_fault front (Row label left terms relation right)) fault
+    pub row_left_fails : (fault : ReadFault) → label_fault (names_of old.rows.names) label ≡ None → IsFaultOf (constant_fault_in left) fault → IsFaultOf (statement_fault front (Row label left terms relation right)) fault
     unfolding statement_fault
     row_left_fails fault a told = or_second (label_fault (row_names front) label) (option_or (constant_fault_in left) terms_of_row) fault (subst (λ ns. label_fault ns label ≡ None) holds.named a)
         (or_first (constant_fault_in left) terms_of_row fault told)
 
-    pub row_terms_fail : (fault : ReadFault) → label_fault (names_of old.rows.names) label ≡ None → constant_fault_in left ≡ None → IsFault (terms_fault_in (names_of old.columns.names) old.columns.entries [] terms) fault → IsFault (statement_fault front (Row label left terms relation right)) fault
+    pub row_terms_fail : (fault : ReadFault) → label_fault (names_of old.rows.names) label ≡ None → constant_fault_in left ≡ None → IsFaultOf (terms_fault_in (names_of old.columns.names) old.columns.entries [] terms) fault → IsFaultOf (statement_fault front (Row label left terms relation right)) fault
     unfolding statement_fault
     row_terms_fail fault a b told = or_second (label_fault (row_names front) label) (option_or (constant_fault_in left) terms_of_row) fault (subst (λ ns. label_fault ns label ≡ None) holds.named a)
-        (or_second (constant_fault_in left) terms_of_row fault b (or_first (terms_fault (terms_of front) [] terms) end_of fault (subst (λ (o : Option ReadStop). IsFault o fault) (sym (terms_told terms)) told)))
+        (or_second (constant_fault_in left) terms_of_row fault b (or_first (terms_fault (terms_of front) [] terms) end_of fault (subst (λ (o : Option ReadStop). IsFaultOf o fault) (sym (terms_told terms)) told)))
 
-    pub row_end_fails : (fault : ReadFault) → label_fault (names_of old.rows.names) label ≡ None → constant_fault_in left ≡ None → terms_fault_in (names_of old.columns.names) old.columns.entries [] terms ≡ None → IsFault (row_end_fault (names_of old.rows.names) label right) fault → IsFault (statement_fault front (Row label left terms relation right)) fault
+    pub row_end_fails : (fault : ReadFault) → label_fault (names_of old.rows.names) label ≡ None → constant_fault_in left ≡ None → terms_fault_in (names_of old.columns.names) old.columns.entries [] terms ≡ None → IsFaultOf (row_end_fault (names_of old.rows.names) label right) fault → IsFaultOf (statement_fault front (Row label left terms relation right)) fault
     unfolding statement_fault
     row_end_fails fault a b d told = or_second (label_fault (row_names front) label) (option_or (constant_fault_in left) terms_of_row) fault (subst (λ ns. label_fault ns label ≡ None) holds.named a)
-        (or_second (constant_fault_in left) terms_of_row fault b (or_second (terms_fault (terms_of front) [] terms) end_of fault (terms_told terms ∙ d) (subst (λ ns. IsFault (row_end_fault ns label right) fault) holds.named told)))
+        (or_second (constant_fault_in left) terms_of_row fault b (or_second (terms_fault (terms_of front) [] terms) end_of fault (terms_told terms ∙ d) (subst (λ ns. IsFaultOf (row_end_fault ns label right) fault) holds.named told)))
 
     pub row_none : label_fault (names_of old.rows.names) label ≡ None → constant_fault_in left ≡ None → terms_fault_in (names_of old.columns.names) old.columns.entries [] terms ≡ None → row_end_fault (names_of old.rows.names) label right ≡ None → statement_fault front (Row label left terms relation right) ≡ None
     unfolding statement_fault
@@ -93,31 +93,31 @@ module _ (old : Reader) (front : List Statement) (holds : Holds old front) where
         (or_none (constant_fault_in left) terms_of_row b (or_none (terms_fault (terms_of front) [] terms) end_of (terms_told terms ∙ d) (subst (λ ns. row_end_fault ns label right ≡ None) holds.named e)))
 
   -- a name
-  unknown_told : (name : Written) (fault : ReadFault) → IsFault (unknown_fault (names_of old.columns.names) name) fault → IsFault (unknown_fault (columns_of front) name) fault
-  unknown_told name fault told = subst (λ ns. IsFault (unknown_fault ns name) fault) holds.columns told
+  unknown_told : (name : Written) (fault : ReadFault) → IsFaultOf (unknown_fault (names_of old.columns.names) name) fault → IsFaultOf (unknown_fault (columns_of front) name) fault
+  unknown_told name fault told = subst (λ ns. IsFaultOf (unknown_fault ns name) fault) holds.columns told
 
   known_told : (name : Written) → unknown_fault (names_of old.columns.names) name ≡ None → unknown_fault (columns_of front) name ≡ None
   known_told name none = subst (λ ns. unknown_fault ns name ≡ None) holds.columns none
 
-  pub free_fails : (name : Written) (fault : ReadFault) → IsFault (unknown_fault (names_of old.columns.names) name) fault → IsFault (statement_fault front (Free name)) fault
+  pub free_fails : (name : Written) (fault : ReadFault) → IsFaultOf (unknown_fault (names_of old.columns.names) name) fault → IsFaultOf (statement_fault front (Free name)) fault
   unfolding statement_fault
   free_fails name fault told = unknown_told name fault told
 
-  pub listed_fails : (binary : Bool) (name : Written) (fault : ReadFault) → IsFault (unknown_fault (names_of old.columns.names) name) fault → IsFault (statement_fault front (Listed binary name)) fault
+  pub listed_fails : (binary : Bool) (name : Written) (fault : ReadFault) → IsFaultOf (unknown_fault (names_of old.columns.names) name) fault → IsFaultOf (statement_fault front (Listed binary name)) fault
   unfolding statement_fault
   listed_fails binary name fault told = unknown_told name fault told
 
   -- a bound
   module _ (left : Option Constant) (name : Written) (relation : Relation) (right : Option Constant) where
-    pub bound_left_fails : (fault : ReadFault) → IsFault (constant_fault_in left) fault → IsFault (statement_fault front (Bound left name relation right)) fault
+    pub bound_left_fails : (fault : ReadFault) → IsFaultOf (constant_fault_in left) fault → IsFaultOf (statement_fault front (Bound left name relation right)) fault
     unfolding statement_fault
     bound_left_fails fault told = or_first (constant_fault_in left) (option_or (unknown_fault (columns_of front) name) (constant_fault_in right)) fault told
 
-    pub bound_name_fails : (fault : ReadFault) → constant_fault_in left ≡ None → IsFault (unknown_fault (names_of old.columns.names) name) fault → IsFault (statement_fault front (Bound left name relation right)) fault
+    pub bound_name_fails : (fault : ReadFault) → constant_fault_in left ≡ None → IsFaultOf (unknown_fault (names_of old.columns.names) name) fault → IsFaultOf (statement_fault front (Bound left name relation right)) fault
     unfolding statement_fault
     bound_name_fails fault a told = or_second (constant_fault_in left) (option_or (unknown_fault (columns_of front) name) (constant_fault_in right)) fault a (or_first (unknown_fault (columns_of front) name) (constant_fault_in right) fault (unknown_told name fault told))
 
-    pub bound_right_fails : (fault : ReadFault) → constant_fault_in left ≡ None → unknown_fault (names_of old.columns.names) name ≡ None → IsFault (constant_fault_in right) fault → IsFault (statement_fault front (Bound left name relation right)) fault
+    pub bound_right_fails : (fault : ReadFault) → constant_fault_in left ≡ None → unknown_fault (names_of old.columns.names) name ≡ None → IsFaultOf (constant_fault_in right) fault → IsFaultOf (statement_fault front (Bound left name relation right)) fault
     unfolding statement_fault
     bound_right_fails fault a b told = or_second (constant_fault_in left) (option_or (unknown_fault (columns_of front) name) (constant_fault_in right)) fault a (or_second (unknown_fault (columns_of front) name) (constant_fault_in right) fault (known_told name b) told)
 

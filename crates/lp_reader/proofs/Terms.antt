@@ -32,7 +32,7 @@ use Rattle.lp_reader.specs.Numbers.{factor_fault, sum_of, sum_fault, term_value}
 use Rattle.lp_reader.specs.Names.{with_name, with_names}
 use Rattle.lp_reader.specs.Faults.{limit_fault, term_fault}
 use Rattle.lp_reader.specs.State.{plain, Widened, KeepsShort, TakesColumn, TakesTerm, TakesForm, AddsSum, HoldsSums, terms_fault_in}
-use Rattle.lp_reader.specs.Told.{IsFault}
+use Rattle.text_fields.specs.Faults.{IsFaultOf}
 use Rattle.lp_reader.proofs.Sums.{sums_widen, sums_add, sum_at_column, no_sums}
 
 -- a column that may be new
@@ -66,9 +66,9 @@ module _ (old new : Columns) (before : List Term) (term : Term) (value : ℚ) (j
   no_term_fault a b d = rw (a, b, sym same_sum ∙ d) refl
 
   pub wide_term : (fault : ReadFault) → factor_fault term.factor ≡ None → limit_fault (names_of old.names) old.entries term.name ≡ None
-      → IsFault (cond (is_wide limit (operation Plus (unwrap_or (lookup (nat_eq j) es) zero_ℚ) value)) (Some (stop_at term.name.line SumWide)) None) fault → IsFault (term_fault (names_of old.names) old.entries before term) fault
+      → IsFaultOf (cond (is_wide limit (operation Plus (unwrap_or (lookup (nat_eq j) es) zero_ℚ) value)) (Some (stop_at term.name.line SumWide)) None) fault → IsFaultOf (term_fault (names_of old.names) old.entries before term) fault
   unfolding sum_fault
-  wide_term fault a b told = subst (λ (o : Option ReadStop). IsFault o fault) (ap (λ b. cond b (Some (stop_at term.name.line SumWide)) None) same_sum ∙ sym (rw (a, b) refl)) told
+  wide_term fault a b told = subst (λ (o : Option ReadStop). IsFaultOf o fault) (ap (λ b. cond b (Some (stop_at term.name.line SumWide)) None) same_sum ∙ sym (rw (a, b) refl)) told
 
 -- ---- lists by index
 suc_is : (i : ℕ) → suc i ≡ i + 1
@@ -164,7 +164,7 @@ module _ (old now : Columns) (all : List Term) (i : ℕ) (found : List (ℕ × �
             ∙ ap (λ (s : List (List ℕ) × ℕ × List Term). terms_fault_in s.0 s.1 s.2 (drop (i + 1) all)) (λ k. (sym takes.names k, sym takes.entries k, sym more k))));
       }
 
-  pub faulty_term : (fault : ReadFault) → IsFault (term_fault (names_of now.names) now.entries (take i all) term) fault → IsFault (terms_fault_in (names_of old.names) old.entries [] all) fault
+  pub faulty_term : (fault : ReadFault) → IsFaultOf (term_fault (names_of now.names) now.entries (take i all) term) fault → IsFaultOf (terms_fault_in (names_of old.names) old.entries [] all) fault
   faulty_term (Stop stop) told = so_far.faults ∙ (rest_is ∙ ap (λ o. option_or o (terms_fault_in (with_name (names_of now.names) term.name.text) (now.entries + 1) (take i all ++ term ∷ []) (drop (i + 1) all))) told)
   faulty_term Memory told = tt
 
@@ -187,7 +187,7 @@ pub terms_more : (old now : Columns) (terms : List CodeTerm) (i : ℕ) (d : Code
 terms_more old now terms i d found so_far within new next h = one_more old now (map shown_term terms) i found so_far (shown_term (get_or terms i d)) (at_get terms i d within) new next h.0 h.1
 
 pub terms_fail : (old now : Columns) (terms : List CodeTerm) (i : ℕ) (d : CodeTerm) (found : List (ℕ × ℚ)) → TermsSoFar old now (map shown_term terms) i found → i < length terms → (fault : ReadFault)
-    → IsFault (term_fault (names_of now.names) now.entries (take i (map shown_term terms)) (shown_term (get_or terms i d))) fault → IsFault (terms_fault_in (names_of old.names) old.entries [] (map shown_term terms)) fault
+    → IsFaultOf (term_fault (names_of now.names) now.entries (take i (map shown_term terms)) (shown_term (get_or terms i d))) fault → IsFaultOf (terms_fault_in (names_of old.names) old.entries [] (map shown_term terms)) fault
 terms_fail old now terms i d found so_far within fault told = faulty_term old now (map shown_term terms) i found so_far (shown_term (get_or terms i d)) (at_get terms i d within) fault told
 
 pub terms_done : (old now : Columns) (terms : List CodeTerm) (i : ℕ) (found : List (ℕ × ℚ)) (form : List LinearTerm) → TermsSoFar old now (map shown_term terms) i found → i ≡ length terms

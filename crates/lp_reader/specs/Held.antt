@@ -12,7 +12,7 @@ use Rattle.lp_reader.specs.Program.{form_of, row_of, objective_in, sense_in}
 use Rattle.lp_reader.specs.State.{plain, bounds_of}
 use Rattle.lp_reader.specs.Meaning.{lp_fault}
 use Rattle.lp_reader.specs.Faults.{statement_fault}
-use Rattle.lp_reader.specs.Told.{IsFault}
+use Rattle.text_fields.specs.Faults.{IsFaultOf}
 use Rattle.text_fields.specs.declared.faults.ReadFault.{ReadFault}
 
 -- each table is a look-up of the statements
@@ -39,7 +39,7 @@ pub record HasRead (bytes : List ℕ) (reader : Reader) : Type 0 where
 -- a statement is taken in where it has no fault after those before it, or refused with its first
 abbrev pub TakesStatement : Reader → Reader → Statement → Result (Unit {0}) ReadFault → Type 0
 TakesStatement old new statement result = (front : List Statement) → Holds old front → MatchResult result
-    (λ done. (statement_fault front statement ≡ None) × Holds new (front ++ statement ∷ [])) (IsFault (statement_fault front statement))
+    (λ done. (statement_fault front statement ≡ None) × Holds new (front ++ statement ∷ [])) (IsFaultOf (statement_fault front statement))
 
 -- no table is past its limit
 pub record HasRoom (reader : Reader) : Type 0 where

@@ -9,4 +9,3 @@ pub mod Sides
 pub mod Said
 pub mod Held
 pub mod Building
-pub mod Told

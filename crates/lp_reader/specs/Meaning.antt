@@ -3,7 +3,7 @@ use Rattle.std.specs.Prelude.{◌≡◌, ℕ, List, [], Option, Some, None}
 use Rattle.std.specs.Option.{option_or}
 use Rattle.text_fields.specs.declared.faults.ReadStop.{ReadStop}
 use Rattle.text_fields.specs.declared.faults.ReadFault.{ReadFault}
-use Rattle.text_fields.specs.declared.faults.ReadFault.TheVariants.{Stop, Memory}
+use Rattle.text_fields.specs.Faults.{IsFaultOf}
 use Rattle.lp_model.specs.Program.{Program}
 use Rattle.lp_statements.specs.Script.{script_of}
 use Rattle.lp_reader.specs.Faults.{first_fault}
@@ -24,5 +24,4 @@ pub record DeclaresLp (bytes : List ℕ) (program : Program) : Type 0 where
 
 -- this is the first fault; want of memory may come at any time
 abbrev pub IsLpStop : List ℕ → ReadFault → Type 0
-IsLpStop bytes (Stop stop) = lp_fault bytes ≡ Some stop
-IsLpStop bytes Memory = Unit {0}
+IsLpStop bytes fault = IsFaultOf (lp_fault bytes) fault

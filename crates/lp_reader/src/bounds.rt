@@ -6,7 +6,7 @@ ghost use Rattle.lp_statements.specs.Statements.{shown_text};
 ghost use Rattle.lp_reader.specs.Faults.{unknown_fault};
 ghost use Rattle.lp_reader.specs.Said.{lower_by, upper_by, changed, SetsBounds};
 ghost use Rattle.lp_reader.specs.State.{plain};
-ghost use Rattle.lp_reader.specs.Told.{IsFault};
+ghost use Rattle.text_fields.specs.Faults.{IsFaultOf};
 
 use crate::columns::{Bounds, Columns, place_of};
 use crate::numbers::stop_at;
@@ -19,7 +19,7 @@ use text_fields::{ReadFault, ReadKind};
 pub(crate) fn known_column(columns: &Columns, name: Text<'_>) -> Result<usize, ReadFault>
     ensures { MatchResult result
         (λ j. (unknown_fault (names_of columns.now.names) (shown_text name.entry) ≡ None) × StandsAt (names_of columns.now.names) name.entry.bytes.now j)
-        (IsFault (unknown_fault (names_of columns.now.names) (shown_text name.entry))) }
+        (IsFaultOf (unknown_fault (names_of columns.now.names) (shown_text name.entry))) }
 {
     let Some(column) = place_of(&columns.names, name.bytes) else {
         return Err(stop_at(name.line, ReadKind::UnknownName));

@@ -15,7 +15,7 @@ ghost use Rattle.lp_reader.specs.Faults.{is_too_long as is_too_long_by, limit_fa
 ghost use Rattle.lp_reader.specs.State.{plain, PutsColumn, TakesColumn, AddsSum, HoldsSums, TakesTerm, TakesForm, terms_fault_in, kept};
 ghost use Rattle.lp_model.specs.Shown.{most_columns};
 ghost use Rattle.lp_reader.specs.Program.{form_of, with_term};
-ghost use Rattle.lp_reader.specs.Told.{IsFault};
+ghost use Rattle.text_fields.specs.Faults.{IsFaultOf};
 
 use crate::numbers::{stop_at, term_value};
 use frac128::Frac;
@@ -101,7 +101,7 @@ fn put_column(alloc: Global, columns: &mut Columns, name: &[u8]) -> Result<(), A
 fn column_for(alloc: Global, columns: &mut Columns, name: Text<'_>) -> Result<usize, ReadFault>
     ensures { MatchResult result
         (λ j. (limit_fault (names_of columns.old.names) columns.old.entries (shown_text name.entry) ≡ None) × TakesColumn columns.old columns.new name.entry.bytes.now j)
-        (IsFault (limit_fault (names_of columns.old.names) columns.old.entries (shown_text name.entry))) }
+        (IsFaultOf (limit_fault (names_of columns.old.names) columns.old.entries (shown_text name.entry))) }
 {
     if columns.entries >= MOST_ENTRIES {
         return Err(stop_at(name.line, ReadKind::Limit));
@@ -136,7 +136,7 @@ fn sum_at(sums: &Sums, column: usize) -> Frac
 fn add_sum(sums: &mut Sums, column: usize, value: Frac, line: u32) -> Result<(), ReadFault>
     ensures { MatchResult result
         (λ _. (is_wide limit (operation Plus (unwrap_or (lookup (nat_eq column) sums.old.entries) zero_ℚ) value) ≡ false) × AddsSum sums.old.entries sums.new.entries column value)
-        (IsFault (cond (is_wide limit (operation Plus (unwrap_or (lookup (nat_eq column) sums.old.entries) zero_ℚ) value)) (Some (stop_of line SumWideKind)) None)) }
+        (IsFaultOf (cond (is_wide limit (operation Plus (unwrap_or (lookup (nat_eq column) sums.old.entries) zero_ℚ) value)) (Some (stop_of line SumWideKind)) None)) }
 {
     match sum_at(sums, column).plus(value) {
         Ok(sum) => {
@@ -156,7 +156,7 @@ fn take_term(
 ) -> Result<(), ReadFault>
     ensures { (before : List TermOf) → HoldsSums (names_of columns.old.names) before sums.old.entries → MatchResult result
         (λ _. (term_fault (names_of columns.old.names) columns.old.entries before (shown_term term.entry) ≡ None) × TakesTerm columns.old columns.new before (shown_term term.entry) sums.new.entries)
-        (IsFault (term_fault (names_of columns.old.names) columns.old.entries before (shown_term term.entry))) }
+        (IsFaultOf (term_fault (names_of columns.old.names) columns.old.entries before (shown_term term.entry))) }
 {
     let value = term_value(term)?;
     let column = column_for(alloc, columns, term.name)?;
@@ -213,7 +213,7 @@ pub(crate) fn take_terms(
     requires { length (names_of columns.old.names) ≤ most_columns }
     ensures { MatchResult result
         (λ form. TakesForm columns.old columns.new (map shown_term terms.now) form)
-        (IsFault (terms_fault_in (names_of columns.old.names) columns.old.entries [] (map shown_term terms.now))) }
+        (IsFaultOf (terms_fault_in (names_of columns.old.names) columns.old.entries [] (map shown_term terms.now))) }
 {
     let mut sums = IndexMap::new(alloc);
     for term in terms {

@@ -5,7 +5,7 @@ ghost use Rattle.text_fields.specs.Numbers.{literal_in};
 ghost use Rattle.lp_statements.specs.Items.{stop_at as stop_of};
 ghost use Rattle.lp_statements.specs.Statements.{shown_text, shown_constant, shown_term};
 ghost use Rattle.lp_reader.specs.Numbers.{signed as signed_by, number_fault, value_in, factor_fault, factor as factor_by, term_value as term_value_by, side_fault, constant_fault, side_in as side_by, side_of};
-ghost use Rattle.lp_reader.specs.Told.{IsFault};
+ghost use Rattle.text_fields.specs.Faults.{IsFaultOf};
 
 use frac128::{Frac, Literal, read_decimal};
 use lp_statements::{Constant, Term, Text};
@@ -42,7 +42,7 @@ fn literal(text: Text<'_>) -> Option<Literal>
 fn number(line: u32, literal: Option<Literal>) -> Result<Frac, ReadFault>
     ensures { MatchResult result
         (λ value. (number_fault line literal ≡ None) × (value ≡ value_in literal))
-        (IsFault (number_fault line literal)) }
+        (IsFaultOf (number_fault line literal)) }
 {
     let Some(literal) = literal else {
         return Err(stop_at(line, ReadKind::Text(TextKind::BadNumber)));
@@ -57,7 +57,7 @@ fn number(line: u32, literal: Option<Literal>) -> Result<Frac, ReadFault>
 fn factor(factor: Option<Text<'_>>) -> Result<Frac, ReadFault>
     ensures { MatchResult result
         (λ value. (factor_fault (option_map shown_text factor.entry) ≡ None) × (value ≡ factor_by (option_map shown_text factor.entry)))
-        (IsFault (factor_fault (option_map shown_text factor.entry))) }
+        (IsFaultOf (factor_fault (option_map shown_text factor.entry))) }
 {
     let Some(text) = factor else {
         return Ok(Frac::whole(1));
@@ -70,7 +70,7 @@ fn factor(factor: Option<Text<'_>>) -> Result<Frac, ReadFault>
 pub(crate) fn term_value(term: Term<'_>) -> Result<Frac, ReadFault>
     ensures { MatchResult result
         (λ value. (factor_fault (shown_term term.entry).factor ≡ None) × (value ≡ term_value_by (shown_term term.entry)))
-        (IsFault (factor_fault (shown_term term.entry).factor)) }
+        (IsFaultOf (factor_fault (shown_term term.entry).factor)) }
 {
     match factor(term.factor) {
         Ok(value) => Ok(signed(term.negative, value)),
@@ -82,7 +82,7 @@ pub(crate) fn term_value(term: Term<'_>) -> Result<Frac, ReadFault>
 fn literal_side(line: u32, negative: bool, literal: Literal) -> Result<Option<Frac>, ReadFault>
     ensures { MatchResult result
         (λ side. (side_fault line (Some literal) ≡ None) × (side ≡ side_by negative (Some literal)))
-        (IsFault (side_fault line (Some literal))) }
+        (IsFaultOf (side_fault line (Some literal))) }
 {
     if is_wide_limit(&literal) {
         return Err(stop_at(line, ReadKind::Text(TextKind::NumberWide)));
@@ -97,7 +97,7 @@ fn literal_side(line: u32, negative: bool, literal: Literal) -> Result<Option<Fr
 fn number_side(negative: bool, text: Text<'_>) -> Result<Option<Frac>, ReadFault>
     ensures { MatchResult result
         (λ side. (side_fault text.entry.line (literal_in text.entry.bytes.now) ≡ None) × (side ≡ side_by negative (literal_in text.entry.bytes.now)))
-        (IsFault (side_fault text.entry.line (literal_in text.entry.bytes.now))) }
+        (IsFaultOf (side_fault text.entry.line (literal_in text.entry.bytes.now))) }
 {
     let Some(literal) = literal(text) else {
         return Err(stop_at(text.line, ReadKind::Text(TextKind::BadNumber)));
@@ -110,7 +110,7 @@ fn number_side(negative: bool, text: Text<'_>) -> Result<Option<Frac>, ReadFault
 pub(crate) fn constant_side(constant: Constant<'_>) -> Result<Option<Frac>, ReadFault>
     ensures { MatchResult result
         (λ side. (constant_fault (shown_constant constant.entry) ≡ None) × (side ≡ side_of (shown_constant constant.entry)))
-        (IsFault (constant_fault (shown_constant constant.entry))) }
+        (IsFaultOf (constant_fault (shown_constant constant.entry))) }
 {
     if constant.infinite {
         return Ok(None);

@@ -6,7 +6,7 @@ ghost use Rattle.lp_statements.specs.Script.{section_after as section_after_by, 
 ghost use Rattle.lp_reader.specs.Faults.{statement_fault, first_fault};
 ghost use Rattle.lp_reader.specs.Held.{Holds, HasRoom, IsEven, TakesStatement, HasRead};
 ghost use Rattle.lp_reader.specs.Meaning.{IsLpStop};
-ghost use Rattle.lp_reader.specs.Told.{IsFault};
+ghost use Rattle.text_fields.specs.Faults.{IsFaultOf};
 
 use crate::bounds::{known_column, lower_said, set_bounds, upper_said};
 use crate::columns::{Columns, MOST_TERMS, take_terms};

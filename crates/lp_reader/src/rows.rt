@@ -11,7 +11,7 @@ ghost use Rattle.lp_reader.specs.Numbers.{constant_fault_in, side_of};
 ghost use Rattle.lp_reader.specs.Names.{row_name as row_name_by};
 ghost use Rattle.lp_reader.specs.Faults.{objective_label_fault, label_fault, row_end_fault};
 ghost use Rattle.lp_reader.specs.Sides.{lower_side as lower_side_by, upper_side as upper_side_by, ended_row, PutsRow};
-ghost use Rattle.lp_reader.specs.Told.{IsFault};
+ghost use Rattle.text_fields.specs.Faults.{IsFaultOf};
 
 use crate::columns::is_too_long;
 use crate::numbers::{constant_side, stop_at};
@@ -35,7 +35,7 @@ pub(crate) struct Rows {
 pub(crate) fn side_if(constant: Option<Constant<'_>>) -> Result<Option<Option<Frac>>, ReadFault>
     ensures { MatchResult result
         (λ side. (constant_fault_in (option_map shown_constant constant.entry) ≡ None) × (side ≡ option_map side_of (option_map shown_constant constant.entry)))
-        (IsFault (constant_fault_in (option_map shown_constant constant.entry))) }
+        (IsFaultOf (constant_fault_in (option_map shown_constant constant.entry))) }
 {
     let Some(constant) = constant else {
         return Ok(None);
@@ -49,7 +49,7 @@ pub(crate) fn side_if(constant: Option<Constant<'_>>) -> Result<Option<Option<Fr
 /// Checks the label of the objective, which is not kept.
 #[tactic(auto, unfolding(crate::specs::Faults::objective_label_fault))]
 pub(crate) fn check_objective_label(label: Option<Text<'_>>) -> Result<(), ReadFault>
-    ensures { MatchResult result (λ _. objective_label_fault (option_map shown_text label.entry) ≡ None) (IsFault (objective_label_fault (option_map shown_text label.entry))) }
+    ensures { MatchResult result (λ _. objective_label_fault (option_map shown_text label.entry) ≡ None) (IsFaultOf (objective_label_fault (option_map shown_text label.entry))) }
 {
     let Some(label) = label else {
         return Ok(());
@@ -63,7 +63,7 @@ pub(crate) fn check_objective_label(label: Option<Text<'_>>) -> Result<(), ReadF
 /// Checks the label of a row, if it has one.
 #[tactic(auto, unfolding(crate::specs::Faults::label_fault))]
 pub(crate) fn check_label(rows: &Rows, label: Option<Text<'_>>) -> Result<(), ReadFault>
-    ensures { MatchResult result (λ _. label_fault (names_of rows.now.names) (option_map shown_text label.entry) ≡ None) (IsFault (label_fault (names_of rows.now.names) (option_map shown_text label.entry))) }
+    ensures { MatchResult result (λ _. label_fault (names_of rows.now.names) (option_map shown_text label.entry) ≡ None) (IsFaultOf (label_fault (names_of rows.now.names) (option_map shown_text label.entry))) }
 {
     let Some(label) = label else {
         return Ok(());
@@ -165,7 +165,7 @@ fn end_labelled(
     requires { label_fault (names_of rows.old.names) (Some (shown_text label)) ≡ None }
     ensures { MatchResult result
         (λ _. (row_end_fault (names_of rows.old.names) (Some (shown_text label.entry)) (shown_constant right.entry) ≡ None) × PutsRow rows.old rows.new label.entry.bytes.now (ended_row form relation left.now (side_of (shown_constant right.entry))))
-        (IsFault (row_end_fault (names_of rows.old.names) (Some (shown_text label.entry)) (shown_constant right.entry))) }
+        (IsFaultOf (row_end_fault (names_of rows.old.names) (Some (shown_text label.entry)) (shown_constant right.entry))) }
 {
     let side = constant_side(right)?;
     put_row(
@@ -189,7 +189,7 @@ fn end_unnamed(
     requires { length (names_of rows.old.names) ≤ most_rows }
     ensures { MatchResult result
         (λ _. (row_end_fault (names_of rows.old.names) None (shown_constant right.entry) ≡ None) × PutsRow rows.old rows.new (row_name_by (length (names_of rows.old.names) + 1) None) (ended_row form relation left.now (side_of (shown_constant right.entry))))
-        (IsFault (row_end_fault (names_of rows.old.names) None (shown_constant right.entry))) }
+        (IsFaultOf (row_end_fault (names_of rows.old.names) None (shown_constant right.entry))) }
 {
     let name = generated_name(alloc, rows.names.len() + 1)?;
     if rows.names.contains(name.as_bytes()) {
@@ -223,7 +223,7 @@ pub(crate) fn end_row(
     ensures { MatchResult result
         (λ _. (row_end_fault (names_of rows.old.names) (option_map shown_text label.entry) (shown_constant right.entry) ≡ None)
         × PutsRow rows.old rows.new (row_name_by (length (names_of rows.old.names) + 1) (option_map shown_text label.entry)) (ended_row form relation left.now (side_of (shown_constant right.entry))))
-        (IsFault (row_end_fault (names_of rows.old.names) (option_map shown_text label.entry) (shown_constant right.entry))) }
+        (IsFaultOf (row_end_fault (names_of rows.old.names) (option_map shown_text label.entry) (shown_constant right.entry))) }
 {
     match label {
         Some(label) => end_labelled(alloc, rows, label, form, relation, left, right),

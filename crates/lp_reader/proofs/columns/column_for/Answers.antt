@@ -4,14 +4,14 @@ use Rattle.name_map.proofs.NameLists.{length_map}
 use Rattle.lp_model.specs.Shown.{most_columns}
 use Rattle.lp_statements.specs.Statements.{shown_text}
 use Rattle.lp_reader.specs.Faults.{limit_fault}
-use Rattle.lp_reader.specs.Told.{IsFault}
+use Rattle.text_fields.specs.Faults.{IsFaultOf}
 use Rattle.lp_reader.proofs.NewColumns.{limit_many, limit_full, limit_long, limit_known, limit_new, takes_known, takes_new}
 use Rattle.lp_reader.proofs.columns.column_for.Goals as goal
 
 pub returns-then-columns-ge-MOST_ENTRIES : goal.returns-then-columns-ge-MOST_ENTRIES
 returns-then-columns-ge-MOST_ENTRIES c =
     let n = names_of c.args.columns.now.names in let e = c.args.columns.now.entries in let name = shown_text c.args.name in
-    subst (IsFault (limit_fault n e name)) (sym c.stop_at.ensures) (limit_many n e name (omega arith))
+    subst (IsFaultOf (limit_fault n e name)) (sym c.stop_at.ensures) (limit_many n e name (omega arith))
 
 pub returns-in-Some : goal.returns-in-Some
 returns-in-Some c =
@@ -24,12 +24,12 @@ returns-then-len-ge-MOST_COLUMNS c =
     let long : length n ≡ length c.args.columns.now.names = length_map (λ e. e.0) c.args.columns.now.names in
     let is = c.len.ensures.len in
     let full : most_columns ≤ length n = omega arith in
-    subst (IsFault (limit_fault n e name)) (sym c.stop_at-then-len-ge-MOST_COLUMNS.ensures) (limit_full n e name c.in_default.ensures full)
+    subst (IsFaultOf (limit_fault n e name)) (sym c.stop_at-then-len-ge-MOST_COLUMNS.ensures) (limit_full n e name c.in_default.ensures full)
 
 pub returns-then-is_too_long : goal.returns-then-is_too_long
 returns-then-is_too_long c =
     let n = names_of c.args.columns.now.names in let e = c.args.columns.now.entries in let name = shown_text c.args.name in
-    subst (IsFault (limit_fault n e name)) (sym c.stop_at-then-is_too_long.ensures) (limit_long n e name c.in_default.ensures (sym c.if-is_too_long.ensures))
+    subst (IsFaultOf (limit_fault n e name)) (sym c.stop_at-then-is_too_long.ensures) (limit_long n e name c.in_default.ensures (sym c.if-is_too_long.ensures))
 
 pub returns : goal.returns
 returns c =

@@ -11,7 +11,7 @@ use Rattle.lp_reader.specs.Numbers.{side_of}
 use Rattle.lp_reader.specs.Names.{row_name}
 use Rattle.lp_reader.specs.Faults.{row_end_fault}
 use Rattle.lp_reader.specs.Sides.{PutsRow, ended_row}
-use Rattle.lp_reader.specs.Told.{IsFault}
+use Rattle.text_fields.specs.Faults.{IsFaultOf}
 use Rattle.lp_reader.proofs.EndRows.{generated_short, unnamed_known, unnamed_constant, unnamed_full, unnamed_none}
 use Rattle.lp_reader.proofs.rows.end_unnamed.Goals as goal
 
@@ -25,7 +25,7 @@ returns-then-contains c =
     let n = names_of c.args.rows.now.names in
     let long : length n ≡ length c.args.rows.now.names = length_map (λ e. e.0) c.args.rows.now.names in
     let is : c.as_bytes.result.now ≡ row_name (length n + 1) None = c.as_bytes.ensures.value ∙ c.in_ok-name.ensures ∙ ap (λ (k : ℕ). row_name (k + 1) None) (c.len.ensures.len ∙ sym long) in
-    subst (IsFault (row_end_fault n None (shown_constant c.args.right))) (sym c.stop_at.ensures) (unnamed_known n (shown_constant c.args.right) c.as_bytes.result.now is (sym c.if-contains.ensures))
+    subst (IsFaultOf (row_end_fault n None (shown_constant c.args.right))) (sym c.stop_at.ensures) (unnamed_known n (shown_constant c.args.right) c.as_bytes.result.now is (sym c.if-contains.ensures))
 
 pub returns-in_err-side : goal.returns-in_err-side
 returns-in_err-side c =
@@ -41,7 +41,7 @@ returns-then-len-ge-MOST_ROWS c =
     let long : length n ≡ length c.args.rows.now.names = length_map (λ e. e.0) c.args.rows.now.names in
     let is : c.as_bytes.result.now ≡ row_name (length n + 1) None = c.as_bytes.ensures.value ∙ c.in_ok-name.ensures ∙ ap (λ (k : ℕ). row_name (k + 1) None) (c.len.ensures.len ∙ sym long) in
     let full : most_rows ≤ length n = omega (arith, c.len-2.ensures.len) in
-    subst (IsFault (row_end_fault n None (shown_constant c.args.right))) (sym c.stop_at-then-len-ge-MOST_ROWS.ensures) (unnamed_full n (shown_constant c.args.right) c.as_bytes.result.now is (sym c.if-contains.ensures) c.in_ok-side.ensures.0 full)
+    subst (IsFaultOf (row_end_fault n None (shown_constant c.args.right))) (sym c.stop_at-then-len-ge-MOST_ROWS.ensures) (unnamed_full n (shown_constant c.args.right) c.as_bytes.result.now is (sym c.if-contains.ensures) c.in_ok-side.ensures.0 full)
 
 pub put_row-requires-clause-fresh : goal.put_row-requires-clause-fresh
 put_row-requires-clause-fresh c =
