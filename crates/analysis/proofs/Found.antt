@@ -1,6 +1,6 @@
 -- What filters give as answers.
 use Rattle.std.proofs.Common.{◌≡◌, refl, sym, ◌∙◌, ap, subst, ℕ, false, true≢false, List, [], append_assoc, append-nil, length, inl, inr}
-use Rattle.std.specs.Prelude.{All, Contains, IfSome, Option}
+use Rattle.std.specs.Prelude.{All, Contains, IfSome, Option, None}
 use Rattle.std.proofs.lemmas.List.Elements.{All-contains, All-contains_itself, All-filter, All-weaker}
 use Rattle.lp_model.specs.declared.members.Member.{Member}
 use Rattle.lp_model.specs.declared.members.Member.TheVariants.{Whole}
@@ -138,7 +138,7 @@ known_core model core linear h = record {
 }
 
 pub found_is_known : (IsKept IsTest : List Member → Type 0) (model : Program) (budgets : Budgets) (found : Irreducible) → All (λ m. is_mark m ≡ false) (active_members model) → IsIsolated IsKept IsTest model budgets (answer_of found) → IsKnownAnswer model (answer_of found)
-found_is_known IsKept IsTest model budgets (Set members witnesses proof) linear h = known_core model (record { members = members; witnesses = witnesses.items; proof = proof }) linear h.0
+found_is_known IsKept IsTest model budgets (Set members witnesses proof) linear h = known_core model (record { members = members; witnesses = witnesses.items; proof = proof; rounds = None; price = None }) linear h.0
 found_is_known IsKept IsTest model budgets (AtPoint point) linear h = h.each
 
 -- ---- a search by a fresh oracle

@@ -8,9 +8,8 @@ use Rattle.report_text.specs.declared.report.Answer.{Answer}
 use Rattle.report_text.specs.declared.report.Entry.{Entry}
 use Rattle.analysis.specs.declared.pieces.Want.{Want}
 use Rattle.analysis.specs.declared.pieces.Want.TheVariants.{Memory, Fault}
-use Rattle.report_text.specs.Grammar.{entry_lines}
+use Rattle.report_text.specs.Grammar.{entries_lines}
 use Rattle.report_printer.specs.Printing.{head_lines, foot_lines}
-use Rattle.std.specs.Prelude.{flat_map}
 use Rattle.analysis.specs.Puts.{PutWhole, PutFailed}
 use Rattle.analysis.specs.Right.{Right}
 use Rattle.analysis.specs.Written.{head_text, entries_text, foot_text, whole_text, IsAnalysis}
@@ -27,8 +26,8 @@ entry_err faults taken old new model b c a text Memory r e p = p
 -- the text of a report is that of its parts
 whole_parts : (model : Program) (entries : List Entry) → whole_text model entries ≡ head_text model ++ (entries_text model entries ++ foot_text)
 whole_parts model entries =
-    text_append (head_lines model model.notes) (flat_map (entry_lines model) entries ++ foot_lines)
-    ∙ ap (λ (t : List ℕ). head_text model ++ t) (text_append (flat_map (entry_lines model) entries) foot_lines)
+    text_append (head_lines model model.notes) (entries_lines model [] entries ++ foot_lines)
+    ∙ ap (λ (t : List ℕ). head_text model ++ t) (text_append (entries_lines model [] entries) foot_lines)
 
 module _ {K : Type 0} (faults : K → ℕ) (taken : K → Option (List ℕ)) (old : K) (model : Program) (commands : List Command) where
   -- the foot where all commands are answered
@@ -37,7 +36,7 @@ module _ {K : Type 0} (faults : K → ℕ) (taken : K → Option (List ℕ)) (ol
 
   -- no answer yet
   none : Answers model commands
-  none = record { entries = []; right = tt; numbered = tt }
+  none = record { entries = []; right = record { rest = commands; first = refl; each = tt }; numbered = tt }
 
   -- the head was not put whole
   pub head_err : (new : K) (w : Want) → TextPut faults taken old new (head_text model) (Err w) → ReportPut faults taken old new model commands (Err w)

@@ -11,7 +11,7 @@ use Rattle.analysis.specs.declared.pieces.Want.TheVariants.{Memory, Fault}
 use Rattle.analysis.specs.Puts.{PutWhole, PutFailed, PutsNothing}
 use Rattle.report_text.specs.declared.report.Entry.{Entry}
 use Rattle.report_text.specs.Form.{AreNumbered}
-use Rattle.analysis.specs.Right.{Right, AreRight, first_budgets}
+use Rattle.analysis.specs.Right.{Right, AreRight}
 use Rattle.analysis.specs.Written.{is_stop, head_text, entries_text, foot_text, whole_text}
 
 -- the text of an entry; the number of its line is not part of it
@@ -33,8 +33,8 @@ TextPut faults taken old new text (Err Memory) = PutsNothing faults taken old ne
 -- right answers to the first commands, each with the number of its line
 pub record Answers (model : Program) (commands : List Command) : Type 0 where
   pub entries : List Entry
-  pub right : AreRight model first_budgets commands entries
-  pub numbered : AreNumbered model (2 + length model.notes) entries
+  pub right : AreRight model commands entries
+  pub numbered : AreNumbered model [] (2 + length model.notes) entries
 
 -- right answers to all, and whether some is a stop
 pub record AllAnswers (model : Program) (commands : List Command) (stopped : Bool) : Type 0 where

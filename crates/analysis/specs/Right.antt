@@ -1,5 +1,5 @@
 -- What it is for an answer to be right: of the program, within the budgets in force, to its command.
-use Rattle.std.specs.Prelude.{◌≡◌, ◌⊎◌, ⊤, List, [], ◌∷◌, length}
+use Rattle.std.specs.Prelude.{◌≡◌, ◌⊎◌, List, [], ◌++◌, fold, length}
 use Rattle.rational.specs.Rational.{ℚ}
 use Rattle.lp_model.specs.Program.{Program}
 use Rattle.lp_model.specs.declared.members.Member.{Member}
@@ -25,6 +25,7 @@ use Rattle.report_text.specs.declared.report.Command.TheVariants.{Check, Iis, Pi
 use Rattle.report_text.specs.declared.report.Answer.{Answer}
 use Rattle.report_text.specs.declared.report.Answer.TheVariants.{Feasible, Infeasible, Irreducible, Done, Stopped}
 use Rattle.report_text.specs.declared.report.Entry.{Entry}
+use Rattle.report_text.specs.Turns.{after, entry_commands, AllEntries}
 use Rattle.report_text.specs.Form.{IsSettleSite}
 
 -- ---- answers
@@ -59,9 +60,8 @@ IsWhole model set = set ≡ active_members model
 abbrev pub IsChecked : Program → Budgets → Answer → Type 0
 IsChecked model budgets (Feasible point) = IsRightPoint model point.values
 IsChecked model budgets (Infeasible printed proof) = IsRefutation model printed proof
-IsChecked model budgets (Irreducible core) = ⊥
-IsChecked model budgets Done = ⊥
 IsChecked model budgets (Stopped stop) = IsRightStop (IsWhole model) model budgets stop
+IsChecked model budgets _ = ⊥
 
 -- ---- irreducible sets
 -- Active members that are irreducible: the proof is one of them, and for each of them its own witness satisfies all the others.
@@ -75,10 +75,9 @@ pub record IsRightCore (model : Program) (core : Core) : Type 0 where
 -- what is right to a search that leaves such members and asks for such sets
 abbrev pub IsIsolated : (List Member → Type 0) → (List Member → Type 0) → Program → Budgets → Answer → Type 0
 IsIsolated IsKept IsTest model budgets (Feasible point) = IsRightPoint model point.values
-IsIsolated IsKept IsTest model budgets (Infeasible printed proof) = ⊥
 IsIsolated IsKept IsTest model budgets (Irreducible core) = IsRightCore model core × IsKept core.members.members
-IsIsolated IsKept IsTest model budgets Done = ⊥
 IsIsolated IsKept IsTest model budgets (Stopped stop) = IsRightStop IsTest model budgets stop
+IsIsolated IsKept IsTest model budgets _ = ⊥
 
 -- The core of the active members within the budgets: those that the proof by the run of their plain system uses.
 abbrev pub IsCore : Program → Budgets → List Member → Type 0
@@ -111,13 +110,20 @@ first_budgets = record { pivots = 100000; nodes = 10000 }
 
 -- and after a command
 abbrev pub budgets_after : Budgets → Command → Budgets
-budgets_after budgets Check = budgets
-budgets_after budgets (Iis method) = budgets
 budgets_after budgets (Pivots n) = record budgets { pivots = n }
+budgets_after budgets _ = budgets
+
+-- those in force behind commands
+abbrev pub budgets_in_force : List Command → Budgets
+budgets_in_force before = fold budgets_after first_budgets before
 
 -- ---- entries
--- Each entry answers the command that comes next, and is right within the budgets then in force; commands at the end may be without answers.
-abbrev pub AreRight : Program → Budgets → List Command → List Entry → Type 0
-AreRight model budgets commands [] = ⊤
-AreRight model budgets [] (e ∷ entries) = ⊥
-AreRight model budgets (c ∷ commands) (e ∷ entries) = (e.command ≡ c) × (Right model budgets c e.answer × AreRight model (budgets_after budgets c) commands entries)
+-- the entry's answer is right of the program after the commands before it, within the budgets then in force
+abbrev pub IsRightAfter : Program → List Command → Entry → Type 0
+IsRightAfter model before e = Right (after model before) (budgets_in_force before) e.command e.answer
+
+-- The entries answer the first commands, and each of them is right; the rest of the commands may be without answers.
+pub record AreRight (model : Program) (commands : List Command) (entries : List Entry) : Type 0 where
+  pub rest : List Command
+  pub first : commands ≡ entry_commands entries ++ rest
+  pub each : AllEntries (IsRightAfter model) [] entries

@@ -1,16 +1,16 @@
 -- What an analysis writes: the head with the notes, an entry for each command, and the foot.
-use Rattle.std.specs.Prelude.{◌≡◌, ◌⊎◌, ℕ, ◌+◌, ◌==◌, Bool, true, false, cond, List, [], ◌++◌, flat_map, length, Option}
+use Rattle.std.specs.Prelude.{◌≡◌, ◌⊎◌, ℕ, ◌+◌, ◌==◌, Bool, true, false, cond, List, [], ◌++◌, length, Option}
 use Rattle.std.specs.List.{list_any}
 use Rattle.lp_model.specs.Program.{Program}
 use Rattle.analysis.specs.Puts.{PutWhole, PutFailed, PutsNothing}
 use Rattle.report_text.specs.declared.report.Command.{Command}
 use Rattle.report_text.specs.declared.report.Answer.{Answer}
-use Rattle.report_text.specs.declared.report.Answer.TheVariants.{Feasible, Infeasible, Irreducible, Done, Stopped}
+use Rattle.report_text.specs.declared.report.Answer.TheVariants.{Stopped}
 use Rattle.report_text.specs.declared.report.Entry.{Entry}
-use Rattle.report_text.specs.Grammar.{entry_lines, report_lines, text_of}
+use Rattle.report_text.specs.Grammar.{entries_lines, report_lines, text_of}
 use Rattle.report_printer.specs.Printing.{head_lines, foot_lines}
 use Rattle.report_text.specs.Form.{AreNumbered}
-use Rattle.analysis.specs.Right.{AreRight, first_budgets}
+use Rattle.analysis.specs.Right.{AreRight}
 
 -- ---- the text
 -- the head and the notes
@@ -19,7 +19,7 @@ head_text model = text_of (head_lines model model.notes)
 
 -- the entries
 abbrev pub entries_text : Program → List Entry → List ℕ
-entries_text model entries = text_of (flat_map (entry_lines model) entries)
+entries_text model entries = text_of (entries_lines model [] entries)
 
 -- the last line
 abbrev pub foot_text : List ℕ
@@ -32,11 +32,8 @@ whole_text model entries = text_of (report_lines model (record { notes = model.n
 -- ---- the status
 -- whether an answer is a stop
 abbrev pub is_stop : Answer → Bool
-is_stop (Feasible point) = false
-is_stop (Infeasible printed proof) = false
-is_stop (Irreducible core) = false
-is_stop Done = false
 is_stop (Stopped stop) = true
+is_stop _ = false
 
 -- 1 where some answer is a stop
 abbrev pub status_of : List Entry → ℕ
@@ -62,6 +59,6 @@ pub record IsWant {K : Type 0} (faults : K → ℕ) (taken : K → Option (List 
 -- The entries are right, each with the number of its line, and what is written is their text as far as the status tells.
 pub record IsAnalysis {K : Type 0} (faults : K → ℕ) (taken : K → Option (List ℕ)) (old new : K) (model : Program) (commands : List Command) (status : ℕ) : Type 0 where
   pub entries : List Entry
-  pub right : AreRight model first_budgets commands entries
-  pub numbered : AreNumbered model (2 + length model.notes) entries
+  pub right : AreRight model commands entries
+  pub numbered : AreNumbered model [] (2 + length model.notes) entries
   pub written : IsWhole faults taken old new model commands entries status ⊎ (IsCut faults taken old new model commands entries status ⊎ IsWant faults taken old new model entries status)

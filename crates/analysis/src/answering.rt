@@ -36,13 +36,12 @@ pub(crate) fn first_budgets() -> Budgets
 pub(crate) fn after(budgets: Budgets, command: &Command) -> Budgets
     ensures { budgets_of result ≡ budgets_after (budgets_of budgets) command.now }
 {
-    match *command {
-        Command::Check => budgets,
-        Command::Iis(_) => budgets,
+    match command {
         Command::Pivots(pivots) => Budgets {
-            pivots,
+            pivots: *pivots,
             nodes: budgets.nodes,
         },
+        _ => budgets,
     }
 }
 
@@ -51,17 +50,17 @@ pub(crate) fn answer(
     alloc: Global,
     model: &Model,
     budgets: Budgets,
-    command: Command,
+    command: &Command,
 ) -> Result<Answer, AllocError>
     requires linear { All (λ m. is_mark m ≡ false) (active_members model.now) }
-    requires built { IsCommand command }
+    requires built { IsCommand command.now }
     requires few { budgets.pivots < 2 ^ 63 }
-    ensures right { IfOk result (Right model.now (budgets_of budgets) command) }
+    ensures right { IfOk result (Right model.now (budgets_of budgets) command.now) }
     ensures known { IfOk result (IsKnownAnswer model.now) }
 {
     match command {
         Command::Check => check(alloc, model, budgets),
-        Command::Iis(method) => search(alloc, model, budgets, method),
+        Command::Iis(method) => search(alloc, model, budgets, *method),
         Command::Pivots(_) => Ok(Answer::Done),
     }
 }

@@ -42,7 +42,7 @@ pub fn analyse<W: Sink>(alloc: Global, model: &Model, script: &Script, out: &mut
     requires built { All IsCommand script.now }
     ensures { IsAnalysis W.faults W.taken out.old out.new model.now script.now result }
 {
-    match put_report(alloc, model, script.as_slice(), out) {
+    match put_report(alloc, model, script.commands.as_slice(), out) {
         Ok(stopped) => status(stopped),
         Err(Want::Fault) => 4,
         Err(Want::Memory) => 7,
@@ -142,7 +142,7 @@ fn put_entry<W: Sink>(
     requires few { budgets.pivots < 2 ^ 63 }
     ensures { EntryPut W.faults W.taken out.old out.new model.now (budgets_of budgets) command.now result }
 {
-    let answer = answer(alloc, model, budgets, *command)?;
+    let answer = answer(alloc, model, budgets, command)?;
     let mut text = Vec::new(alloc);
     print_entry(model, command, &answer, &mut text)?;
     put(out, text.as_slice())?;

@@ -99,6 +99,8 @@ fn isolated(found: Irreducible) -> Answer
             members,
             witnesses: Witnesses::new(witnesses),
             proof,
+            rounds: None,
+            price: None,
         }),
         Irreducible::Feasible(point) => Answer::Feasible(point),
     }

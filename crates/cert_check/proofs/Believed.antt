@@ -19,12 +19,14 @@ use Rattle.certs.proofs.Passed.{point_check_law}
 use Rattle.certs.proofs.Sound.{satisfiable_law, unsatisfiable_law}
 use Rattle.report_text.specs.declared.report.Answer.{Answer}
 use Rattle.report_text.specs.declared.report.Answer.TheVariants.{Feasible, Infeasible, Irreducible, Done, Stopped}
+use Rattle.report_text.specs.declared.report.Command.{Command}
 use Rattle.report_text.specs.declared.report.Entry.{Entry}
-use Rattle.report_text.specs.Form.{IsAnswerFor, IsEntryFor}
+use Rattle.report_text.specs.Turns.{after}
+use Rattle.report_text.specs.Form.{IsAnswerFor, AreEntriesFor}
 use Rattle.report_text.specs.Grammar.{witness_lines}
-use Rattle.cert_check.specs.Trials.{said, paired_trials, same_note, is_active_use, leaf_shares, leaf_trial, others, witness_trials, witnesses_of, used_members, answer_trials, entry_trials}
+use Rattle.cert_check.specs.Trials.{said, paired_trials, same_note, is_active_use, leaf_shares, leaf_trial, others, witness_trials, witnesses_of, used_members, answer_trials, entry_trials, entries_trials}
 use Rattle.cert_check.specs.Stops.{first_stop, stop_or}
-use Rattle.cert_check.specs.Truth.{IsTrueAnswer, IsTrueOf}
+use Rattle.cert_check.specs.Truth.{IsTrueAnswer, AreTrue}
 use Rattle.cert_check.proofs.Firsts.{found_yes, parts_pass}
 
 said_yes : (b : Bool) → said b ≡ Yes → b ≡ true
@@ -154,8 +156,10 @@ true_answer model n (Irreducible core) f h e =
 true_answer model n Done f h e = tt
 true_answer model n (Stopped stop) f h e = tt
 
-pub true_entries : (model : Program) (entries : List Entry) → IsWellFormed model → All (IsEntryFor model) entries → first_stop (flat_map (entry_trials model) entries) ≡ None → All (IsTrueOf model) entries
-true_entries model [] f h e = All-nil (IsTrueOf model)
-true_entries model (t ∷ entries) f h e =
-    let both = parts_pass (entry_trials model t) (flat_map (entry_trials model) entries) e in
-    All-cons (IsTrueOf model) t entries (true_answer model t.line t.answer f (All-head (IsEntryFor model) t entries h).answer both.0) (true_entries model entries f (All-tail (IsEntryFor model) t entries h) both.1)
+pub true_entries : (model : Program) (before : List Command) (entries : List Entry) → IsWellFormed model → AreEntriesFor model before entries → first_stop (entries_trials model before entries) ≡ None → AreTrue model before entries
+true_entries model before [] f h e = tt
+true_entries model before (t ∷ entries) f h e =
+    let now = after model before in
+    let next = before ++ t.command ∷ [] in
+    let both = parts_pass (entry_trials now t) (entries_trials model next entries) e in
+    (true_answer now t.line t.answer f h.0.answer both.0, true_entries model next entries f h.1 both.1)

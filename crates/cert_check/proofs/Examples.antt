@@ -59,7 +59,7 @@ abbrev infeasible : List Member → Proof → Entry
 infeasible members proof = record { command = Check; answer = Infeasible (record { rows = 3; columns = 1; members = members }) proof; line = 3 }
 
 abbrev irreducible : ℤ → ℤ → Proof → Entry
-irreducible x y proof = record { command = Iis Deletion; answer = Irreducible (record { members = record { rows = 3; columns = 1; members = Row 0 ∷ Row 1 ∷ [] }; witnesses = at x ∷ at y ∷ []; proof = proof }); line = 3 }
+irreducible x y proof = record { command = Iis Deletion; answer = Irreducible (record { members = record { rows = 3; columns = 1; members = Row 0 ∷ Row 1 ∷ [] }; witnesses = at x ∷ at y ∷ []; proof = proof; rounds = None; price = None }); line = 3 }
 
 abbrev feasible : ℤ → Entry
 feasible x = record { command = Check; answer = Feasible (at x); line = 12 }

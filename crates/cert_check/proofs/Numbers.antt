@@ -1,19 +1,20 @@
 -- How many lines there are.
 use Rattle.std.proofs.Common.{◌≡◌, ◌≤◌, ◌<◌, ◌+◌, refl, ap, ℕ, suc, Bool, true, false, cond, not, List, [], ◌∷◌, ◌++◌, length, filter, map, flat_map, codes, length-append, arith}
 use Rattle.std.proofs.lemmas.List.{length-map}
-use Rattle.std.proofs.lemmas.List.Elements.{All-nil, All-cons, All-weaker}
-use Rattle.std.specs.Prelude.{All}
 use Rattle.rational.specs.Rational.{ℚ, zero_ℚ, eq_ℚ}
 use Rattle.lp_model.specs.Program.{Program}
 use Rattle.lp_model.specs.MemberSets.{SetValue}
 use Rattle.certs.specs.declared.evidence.Proof.{Proof}
 use Rattle.report_text.specs.declared.report.Core.{Core}
+use Rattle.report_text.specs.declared.report.Command.{Command}
 use Rattle.report_text.specs.declared.report.Entry.{Entry}
+use Rattle.report_text.specs.Turns.{after}
 use Rattle.report_text.specs.declared.report.Report.{Report}
 use Rattle.report_text.specs.declared.report.Answer.TheVariants.{Infeasible, Irreducible}
-use Rattle.report_text.specs.Grammar.{Line, text_of, value_line, value_lines, member_line, witness_lines, proof_lines, answer_lines, note_line, entry_lines, report_lines}
+use Rattle.report_text.specs.Grammar.{Line, text_of, value_line, value_lines, member_line, witness_lines, proof_lines, answer_lines, note_line, entry_lines, entries_lines, report_lines}
 use Rattle.report_text.specs.Form.{AreNumbered}
 use Rattle.cert_check.specs.Trials.{witnesses_of}
+use Rattle.cert_check.specs.Uses.{AreShort}
 
 -- a line for each value that is not 0
 pub value_count : (model : Program) (j : ℕ) (values : List ℚ) → length (value_lines model j values) ≡ length (filter (λ v. not (eq_ℚ v zero_ℚ)) values)
@@ -43,22 +44,23 @@ witnesses_fit model core =
     omega (arith, a, c)
 
 -- ---- the lines of entries, where line number n is that of the first
-pub entries_short : (model : Program) (n most : ℕ) (entries : List Entry) → AreNumbered model n entries → n + length (flat_map (entry_lines model) entries) ≤ most
-    → All (λ e. e.line + length (entry_lines model e) ≤ most) entries
-entries_short model n most [] h l = All-nil (λ e. e.line + length (entry_lines model e) ≤ most)
-entries_short model n most (e ∷ entries) h l =
-    let a : length (flat_map (entry_lines model) (e ∷ entries)) ≡ length (entry_lines model e) + length (flat_map (entry_lines model) entries) = length-append (entry_lines model e) (flat_map (entry_lines model) entries) in
+entries_short : (model : Program) (before : List Command) (n : ℕ) (entries : List Entry) → AreNumbered model before n entries → n + length (entries_lines model before entries) ≤ 2147483648 → AreShort model before entries
+entries_short model before n [] h l = tt
+entries_short model before n (e ∷ entries) h l =
+    let next = before ++ e.command ∷ [] in
+    let own = entry_lines (after model before) e in
+    let others = entries_lines model next entries in
+    let a : length (entries_lines model before (e ∷ entries)) ≡ length own + length others = length-append own others in
     let line : e.line ≡ n = h.0 in
-    let first : e.line + length (entry_lines model e) ≤ most = omega (arith, a, l, line) in
-    let rest : (n + length (entry_lines model e)) + length (flat_map (entry_lines model) entries) ≤ most = omega (arith, a, l) in
-    All-cons (λ e. e.line + length (entry_lines model e) ≤ most) e entries first (entries_short model (n + length (entry_lines model e)) most entries h.1 rest)
+    let first : e.line + length own < 4294967280 = omega (arith, a, l, line) in
+    let rest : (n + length own) + length others ≤ 2147483648 = omega (arith, a, l) in
+    (first, entries_short model next (n + length own) entries h.1 rest)
 
 -- of a report: before the first entry stand the head and the notes, and after the last the foot
-pub report_short : (model : Program) (report : Report) → AreNumbered model (2 + length report.notes) report.entries → length (report_lines model report) < 2147483648
-    → All (λ e. e.line + length (entry_lines model e) < 4294967280) report.entries
+pub report_short : (model : Program) (report : Report) → AreNumbered model [] (2 + length report.notes) report.entries → length (report_lines model report) < 2147483648 → AreShort model [] report.entries
 report_short model report h l =
     let notes = map (note_line model) report.notes in
-    let lines = flat_map (entry_lines model) report.entries in
+    let lines = entries_lines model [] report.entries in
     let foot = codes "report end" ∷ [] in
     let a : length (report_lines model report) ≡ suc (length (notes ++ (lines ++ foot))) = refl in
     let b : length (notes ++ (lines ++ foot)) ≡ length notes + length (lines ++ foot) = length-append notes (lines ++ foot) in
@@ -66,8 +68,7 @@ report_short model report h l =
     let d : length notes ≡ length report.notes = length-map report.notes (note_line model) in
     let one : length foot ≡ 1 = refl in
     let within : (2 + length report.notes) + length lines ≤ 2147483648 = omega (arith, a, b, c, d, one, l) in
-    All-weaker (λ e. e.line + length (entry_lines model e) ≤ 2147483648) (λ e. e.line + length (entry_lines model e) < 4294967280) (λ e k. omega (arith, k)) report.entries
-    (entries_short model (2 + length report.notes) 2147483648 report.entries h within)
+    entries_short model [] (2 + length report.notes) report.entries h within
 
 -- ---- for callers
 -- lines are no more than the bytes of their text

@@ -22,6 +22,8 @@ use Rattle.report_text.specs.declared.report.Answer.{Answer}
 use Rattle.report_text.specs.declared.report.Answer.TheVariants.{Feasible, Infeasible, Irreducible, Done, Stopped}
 use Rattle.report_text.specs.declared.report.Entry.{Entry}
 use Rattle.report_text.specs.declared.report.Report.{Report}
+use Rattle.report_text.specs.declared.report.Command.{Command}
+use Rattle.report_text.specs.Turns.{after, gathered}
 use Rattle.report_text.specs.Grammar.{witness_lines}
 use Rattle.cert_check.specs.declared.outcome.Outcome.{Outcome}
 use Rattle.cert_check.specs.declared.outcome.Outcome.TheVariants.{Accepted, Rejected, Wide as TooWide, Memory}
@@ -124,10 +126,14 @@ answer_trials model n (Stopped stop) = []
 abbrev pub entry_trials : Program → Entry → List Trial
 entry_trials model e = answer_trials model e.line e.answer
 
+-- those of entries, each against the program after the commands before it
+abbrev pub entries_trials : Program → List Command → List Entry → List Trial
+entries_trials model before entries = gathered (λ front e. entry_trials (after model front) e) before entries
+
 -- ---- reports
 -- The notes against the program's: the head is line 1. Then the entries.
 abbrev pub trials : Program → Report → List Trial
-trials model report = paired_trials same_note 2 report.notes model.notes ++ flat_map (entry_trials model) report.entries
+trials model report = paired_trials same_note 2 report.notes model.notes ++ entries_trials model [] report.entries
 
 -- what a line makes of the check: a yes leaves it to what follows
 abbrev pub unless_failed : ℕ → Checked → Outcome → Outcome

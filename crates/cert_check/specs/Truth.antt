@@ -7,7 +7,9 @@ use Rattle.lp_model.specs.Satisfaction.{values_at, Satisfies, IsUnsatisfiable, I
 use Rattle.certs.specs.declared.evidence.Point.{Point}
 use Rattle.report_text.specs.declared.report.Answer.{Answer}
 use Rattle.report_text.specs.declared.report.Answer.TheVariants.{Feasible, Infeasible, Irreducible, Done, Stopped}
+use Rattle.report_text.specs.declared.report.Command.{Command}
 use Rattle.report_text.specs.declared.report.Entry.{Entry}
+use Rattle.report_text.specs.Turns.{after, AllEntries}
 use Rattle.cert_check.specs.Trials.{others}
 
 -- members that are active, and that no point satisfies
@@ -33,3 +35,7 @@ IsTrueAnswer model (Stopped stop) = Unit {0}
 -- what an entry claims is so
 abbrev pub IsTrueOf : Program → Entry → Type 0
 IsTrueOf model e = IsTrueAnswer model e.answer
+
+-- what each entry claims is so of the program after the commands before it
+abbrev pub AreTrue : Program → List Command → List Entry → Type 0
+AreTrue model before entries = AllEntries (λ front e. IsTrueOf (after model front) e) before entries

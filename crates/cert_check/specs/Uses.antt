@@ -6,7 +6,9 @@ use Rattle.certs.specs.declared.evidence.Source.{Source}
 use Rattle.certs.specs.declared.evidence.Source.TheVariants.{Member as Of, Below, Above}
 use Rattle.certs.specs.declared.evidence.Node.{Node}
 use Rattle.certs.specs.declared.evidence.Node.TheVariants.{Split, Leaf}
+use Rattle.report_text.specs.declared.report.Command.{Command}
 use Rattle.report_text.specs.declared.report.Entry.{Entry}
+use Rattle.report_text.specs.Turns.{after, AllEntries}
 use Rattle.report_text.specs.Grammar.{entry_lines}
 
 -- a member that a source names is one that the set may have
@@ -36,3 +38,7 @@ IsLeaf (Leaf combo ∷ nodes) = Unit {0}
 -- the lines of an entry have numbers that can be counted
 abbrev pub IsShort : Program → Entry → Type 0
 IsShort model e = e.line + length (entry_lines model e) < 4294967280
+
+-- those of each entry have
+abbrev pub AreShort : Program → List Command → List Entry → Type 0
+AreShort model before entries = AllEntries (λ front e. IsShort (after model front) e) before entries

@@ -1,11 +1,11 @@
 //! Whether the entries of a report hold.
-ghost use Rattle.std.specs.Prelude.{◌≡◌, ◌+◌, ◌<◌, All, length, flat_map};
+ghost use Rattle.std.specs.Prelude.{◌≡◌, ◌+◌, ◌<◌, [], length, flat_map};
 ghost use Rattle.lp_model.specs.MemberSets.{active_set};
-ghost use Rattle.report_text.specs.Form.{IsOneLeaf, IsPointFor, IsListed, IsCoreFor, IsAnswerFor, IsEntryFor};
+ghost use Rattle.report_text.specs.Form.{IsOneLeaf, IsPointFor, IsListed, IsCoreFor, IsAnswerFor, AreEntriesFor};
 ghost use Rattle.report_text.specs.Grammar.{answer_lines, witness_lines};
-ghost use Rattle.cert_check.specs.Trials.{leaf_shares, witnesses_of, feasible_trials, infeasible_trials, irreducible_trials, answer_trials, entry_trials};
+ghost use Rattle.cert_check.specs.Trials.{leaf_shares, witnesses_of, feasible_trials, infeasible_trials, irreducible_trials, answer_trials, entries_trials};
 ghost use Rattle.cert_check.specs.Stops.{first_stop, Says};
-ghost use Rattle.cert_check.specs.Uses.{IsLeaf, IsShort};
+ghost use Rattle.cert_check.specs.Uses.{IsLeaf, AreShort};
 
 use crate::members::{check_members, used_members};
 use crate::outcome::{Stop, settle};
@@ -18,9 +18,9 @@ use std::alloc::Global;
 
 /// Checks the entries, in order.
 pub(crate) fn check_entries(alloc: Global, model: &Model, entries: &[Entry]) -> Result<(), Stop>
-    requires form { All (IsEntryFor model.now) entries.now }
-    requires short { All (IsShort model.now) entries.now }
-    ensures { Says (first_stop (flat_map (entry_trials model.now) entries.now)) result }
+    requires form { AreEntriesFor model.now [] entries.now }
+    requires short { AreShort model.now [] entries.now }
+    ensures { Says (first_stop (entries_trials model.now [] entries.now)) result }
 {
     let Ok(active) = model.members(alloc) else {
         return Err(Stop::Memory);
@@ -47,7 +47,7 @@ fn check_answer(
     model: &Model,
     active: &MemberSet,
     answer: &Answer,
-    line: u64,
+    line: u32,
     sums: &mut [Frac],
 ) -> Result<(), Stop>
     requires active { active.now ≡ active_set model.now }
@@ -67,10 +67,10 @@ fn check_answer(
 }
 
 // Checks a point against the active members.
-fn check_feasible(model: &Model, active: &MemberSet, point: &Point, line: u64) -> Result<(), Stop>
+fn check_feasible(model: &Model, active: &MemberSet, point: &Point, line: u32) -> Result<(), Stop>
     requires active { active.now ≡ active_set model.now }
     requires form { IsPointFor model.now point.now }
-    requires short { line < 4294967296 }
+    requires short { line + 2 < 4294967296 }
     ensures { Says (first_stop (feasible_trials model.now line point.now)) result }
 {
     settle(line + 2, check_point(model, active, point))
@@ -82,7 +82,7 @@ fn check_infeasible(
     model: &Model,
     members: &MemberSet,
     proof: &Proof,
-    line: u64,
+    line: u32,
     sums: &mut [Frac],
 ) -> Result<(), Stop>
     requires room { length sums.old ≡ length model.now.columns }
@@ -97,7 +97,7 @@ fn check_infeasible(
     };
     check_members(model, members, &used, line + 2)?;
     settle(
-        line + (3 + members.count()),
+        line + (3 + members.count() as u32),
         check_combo(model, members, &[], combo, sums),
     )
 }
@@ -107,7 +107,7 @@ fn check_core(
     alloc: Global,
     model: &Model,
     core: &Core,
-    line: u64,
+    line: u32,
     sums: &mut [Frac],
 ) -> Result<(), Stop>
     requires room { length sums.old ≡ length model.now.columns }

@@ -45,7 +45,7 @@ pub(crate) fn check_members(
     model: &Model,
     printed: &MemberSet,
     used: &MemberSet,
-    start: u64,
+    start: u32,
 ) -> Result<(), Stop>
     requires printed { IsSetOf model.now printed.now }
     requires used { IsSetOf model.now used.now }

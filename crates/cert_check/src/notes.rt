@@ -11,7 +11,7 @@ pub(crate) fn check_notes(printed: &[Note], known: &[Note]) -> Result<(), Stop>
     requires { length printed.now < 2147483648 }
     ensures { Says (first_stop (paired_trials same_note 2 printed.now known.now)) result }
 {
-    let mut line: u64 = 2;
+    let mut line: u32 = 2;
     for place in 0..printed.len() {
         if place >= known.len() {
             return Err(Stop::Rejected(line));

@@ -14,21 +14,21 @@ use frac128::Wide;
 #[derive(Clone, Copy, PartialEq, Eq, Debug)]
 pub enum Outcome {
     Accepted { settled: u64, unsettled: u64 },
-    Rejected { line: u64 },
-    Wide { line: u64, wide: Wide },
+    Rejected { line: u32 },
+    Wide { line: u32, wide: Wide },
     Memory,
 }
 
 /// Why a check goes no further: a line fails, a line has an operation that is too wide, or memory was refused.
 #[derive(Clone, Copy)]
 pub(crate) enum Stop {
-    Rejected(u64),
-    Wide(u64, Wide),
+    Rejected(u32),
+    Wide(u32, Wide),
     Memory,
 }
 
 /// Goes on where a line passes, and stops where it does not.
-pub(crate) fn settle(line: u64, found: Checked) -> Result<(), Stop>
+pub(crate) fn settle(line: u32, found: Checked) -> Result<(), Stop>
     ensures { Says (first_stop (on_line line found ∷ [])) result }
 {
     match found {

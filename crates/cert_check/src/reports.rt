@@ -1,10 +1,10 @@
 //! Whether a report holds of a program.
-ghost use Rattle.std.specs.Prelude.{◌≡◌, ◌⊎◌, ◌<◌, All, length};
+ghost use Rattle.std.specs.Prelude.{◌≡◌, ◌⊎◌, ◌<◌, [], length};
 ghost use Rattle.report_text.specs.Form.{IsReportFor};
 ghost use Rattle.report_text.specs.Grammar.{report_lines};
 ghost use Rattle.cert_check.specs.Trials.{trials, settles as settles_command, settled_count, unsettled_count, outcome_of, IsAccepted};
 ghost use Rattle.cert_check.specs.Stops.{first_stop, Says, ending};
-ghost use Rattle.cert_check.specs.Truth.{IsTrueOf};
+ghost use Rattle.cert_check.specs.Truth.{AreTrue};
 
 use crate::entries::check_entries;
 use crate::notes::check_notes;
@@ -28,17 +28,17 @@ use std::alloc::Global;
 ///
 /// The report is to stand in the grammar for the program, as one that was read for it does, and to have fewer than 2^31
 /// lines.
-pub fn verify(alloc: Global, model: &Model, report: &Report) -> Outcome
-    requires form { IsReportFor model.now report.now }
-    requires short { length (report_lines model.now report.now) < 2147483648 }
-    ensures said { (result ≡ Outcome.Memory) ⊎ (result ≡ outcome_of report.now.entries (trials model.now report.now)) }
-    ensures notes { IsAccepted result → report.now.notes ≡ model.now.notes }
-    ensures true_answers { IsAccepted result → All (IsTrueOf model.now) report.now.entries }
-    ensures settled { IsAccepted result → result ≡ Outcome.Accepted (settled_count report.now.entries) (unsettled_count report.now.entries) }
+pub fn verify(alloc: Global, model: Model, report: Report) -> Outcome
+    requires form { IsReportFor model report }
+    requires short { length (report_lines model report) < 2147483648 }
+    ensures said { (result ≡ Outcome.Memory) ⊎ (result ≡ outcome_of report.entries (trials model report)) }
+    ensures notes { IsAccepted result → report.notes ≡ model.notes }
+    ensures true_answers { IsAccepted result → AreTrue model [] report.entries }
+    ensures settled { IsAccepted result → result ≡ Outcome.Accepted (settled_count report.entries) (unsettled_count report.entries) }
 {
     // That the program is well formed is told with the count.
     let _rows = model.row_count();
-    match check_report(alloc, model, report) {
+    match check_report(alloc, &model, &report) {
         Ok(()) => accepted(report.entries.as_slice()),
         Err(stop) => ending_of(stop),
     }

@@ -21,8 +21,8 @@ pub(crate) fn check_witnesses(
     members: &MemberSet,
     others: &mut MemberSet,
     witnesses: &[Point],
-    start: u64,
-) -> Result<u64, Stop>
+    start: u32,
+) -> Result<u32, Stop>
     requires same { IsSetOf model.now members.now }
     requires copy { others.old ≡ members.now }
     requires each { length witnesses.now ≡ length members.now.members }
@@ -42,7 +42,7 @@ pub(crate) fn check_witnesses(
             unreachable!()
         };
         check_witness(model, others, member, witness, line)?;
-        line += 2 + count_values(witness.values.as_slice());
+        line += 2 + count_values(witness.values.as_slice()) as u32;
         after = Some(member);
     }
     Ok(line)
@@ -54,13 +54,13 @@ fn check_witness(
     members: &mut MemberSet,
     member: Member,
     witness: &Point,
-    line: u64,
+    line: u32,
 ) -> Result<(), Stop>
     requires same { IsSetOf model.now members.old }
     requires there { IsTrue (has members.old.members member) }
     requires possible { IsPossibleIn members.old member }
     requires point { length witness.now.values ≡ length model.now.columns }
-    requires short { line < 4294967296 }
+    requires short { line + 1 < 4294967296 }
     ensures says { Says (first_stop (witness_trials model.now members.old.members line ((member, witness.now) ∷ []))) result }
     ensures stays { members.new ≡ members.old }
 {

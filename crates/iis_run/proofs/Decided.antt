@@ -1,6 +1,5 @@
 -- What fetched bytes call for.
 use Rattle.std.proofs.Common.{◌≡◌, ◌≤◌, sym, subst, ℕ, List, [], ◌∷◌, length, Option, Some, None, IfSome, ◌⊎◌, inl, inr, arith}
-use Rattle.std.specs.Prelude.{All}
 use Rattle.certs.specs.declared.evidence.Checked.{Checked as Found}
 use Rattle.certs.specs.declared.evidence.Checked.TheVariants.{Yes, No, Wide as TooWide}
 use Rattle.report_text.specs.declared.report.Report.{Report as Entries}
@@ -10,7 +9,7 @@ use Rattle.report_reader.specs.Reading.{Reads, IsReportStop}
 use Rattle.cert_check.specs.declared.outcome.Outcome.{Outcome}
 use Rattle.cert_check.specs.declared.outcome.Outcome.TheVariants.{Accepted, Rejected, Wide, Memory as Want}
 use Rattle.cert_check.specs.Trials.{Trial, trials, outcome_of, unless_failed, IsAccepted}
-use Rattle.cert_check.specs.Truth.{IsTrueOf}
+use Rattle.cert_check.specs.Truth.{AreTrue}
 use Rattle.lp_model.specs.Program.{Program}
 use Rattle.text_fields.specs.declared.faults.ReadFault.{ReadFault as ModelFault}
 use Rattle.text_fields.specs.declared.faults.ReadFault.TheVariants.{Stop, Memory as NoModelMemory}
@@ -239,7 +238,7 @@ decided entries (t ∷ list) = by t.found (decided entries list)
 
 -- a report that was checked
 pub check_comes : (p : Program) (bytes : List ℕ) (report : Entries) (o : Outcome) → Reads p bytes report → (o ≡ Want) ⊎ (o ≡ outcome_of report.entries (trials p report))
-    → (IsAccepted o → report.notes ≡ p.notes) → (IsAccepted o → All (IsTrueOf p) report.entries) → ComesTo p bytes (checked_ending o)
+    → (IsAccepted o → report.notes ≡ p.notes) → (IsAccepted o → AreTrue p [] report.entries) → ComesTo p bytes (checked_ending o)
 check_comes p bytes report o reads (inl want) notes answers = subst (λ (x : Outcome). ComesTo p bytes (checked_ending x)) (sym want) tt
 check_comes p bytes report o reads (inr same) notes answers = by o (subst IsDecided (sym same) (decided report.entries (trials p report))) (record { report = report; reads = reads; found = same; so = λ a. record { notes = notes a; entries = answers a } })
   where

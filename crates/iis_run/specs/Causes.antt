@@ -1,5 +1,5 @@
 -- What the told files call for.
-use Rattle.std.specs.Prelude.{◌≡◌, ⊤, ℕ, ◌<◌, ◌≤◌, List, length, Option, Some, IfSome, IsSome, All}
+use Rattle.std.specs.Prelude.{◌≡◌, ⊤, ℕ, ◌<◌, ◌≤◌, List, [], length, Option, Some, IfSome, IsSome}
 use Rattle.lp_model.specs.Program.{Program}
 use Rattle.text_fields.specs.declared.faults.ReadStop.{ReadStop}
 use Rattle.model_files.specs.Formats.{Declares, format_of, model_fault}
@@ -8,7 +8,7 @@ use Rattle.report_reader.specs.Reading.{Reads, IsBadLine, IsTruncated}
 use Rattle.cert_check.specs.declared.outcome.Outcome.{Outcome}
 use Rattle.cert_check.specs.declared.outcome.Outcome.TheVariants.{Accepted, Rejected, Wide, Memory as Want}
 use Rattle.cert_check.specs.Trials.{trials, outcome_of, IsAccepted}
-use Rattle.cert_check.specs.Truth.{IsTrueOf}
+use Rattle.cert_check.specs.Truth.{AreTrue}
 use Rattle.report_reader.specs.declared.reader.ReportStop.{ReportStop}
 use Rattle.report_reader.specs.declared.reader.ReportStop.TheVariants.{BadLine, Truncated, Memory as NoMemory}
 use Rattle.iis_run.specs.Limits.{limit_of}
@@ -42,7 +42,7 @@ IsDecided Want = ⊥
 -- the notes are the program's, and what each entry claims is so
 pub record IsTrueReport (program : Program) (report : Entries) : Type 0 where
   pub notes : report.notes ≡ program.notes
-  pub entries : All (IsTrueOf program) report.entries
+  pub entries : AreTrue program [] report.entries
 
 -- The bytes are a report, and its check against the program comes out so. What it accepts is true.
 pub record IsChecked (program : Program) (bytes : List ℕ) (outcome : Outcome) : Type 0 where

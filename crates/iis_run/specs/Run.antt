@@ -1,5 +1,5 @@
 -- The endings of a run, with their causes and what is written.
-use Rattle.std.specs.Prelude.{◌≡◌, ◌≢◌, ◌<◌, ◌+◌, ◌⊎◌, ⊤, ℕ, Bool, true, false, cond, List, length, Option, Some, None, IfSome}
+use Rattle.std.specs.Prelude.{◌≡◌, ◌≢◌, ◌<◌, ◌+◌, ◌⊎◌, ⊤, ℕ, Bool, true, false, cond, List, [], length, Option, Some, None, IfSome}
 use Rattle.std.specs.List.{list_any}
 use Rattle.frac128.specs.declared.Wide.{Wide as Operation}
 use Rattle.lp_model.specs.Program.{Program}
@@ -14,7 +14,7 @@ use Rattle.cert_check.specs.declared.outcome.Outcome.{Outcome}
 use Rattle.cert_check.specs.declared.outcome.Outcome.TheVariants.{Accepted, Rejected, Wide}
 use Rattle.iis_edge.specs.Causes.{Rose, KeepsCounts}
 use Rattle.analysis.specs.Puts.{PutWhole}
-use Rattle.analysis.specs.Right.{AreRight, first_budgets}
+use Rattle.analysis.specs.Right.{AreRight}
 use Rattle.analysis.specs.Written.{IsAnalysis, is_stop, whole_text}
 use Rattle.iis_run.specs.Words.{Request}
 use Rattle.iis_run.specs.Limits.{limit_of}
@@ -132,8 +132,8 @@ pub record IsTextRefused (file : List ℕ → Option (List ℕ)) (request : Opti
 -- all commands are answered rightly, the whole text is written, and some answer is a stop or none is
 pub record IsAnswered {K : Type 0} (put_faults : K → ℕ) (taken : K → Option (List ℕ)) (out_old out_new : K) (program : Program) (commands : List Command) (stopped : Bool) : Type 0 where
   pub entries : List Entry
-  pub right : AreRight program first_budgets commands entries
-  pub numbered : AreNumbered program (2 + length program.notes) entries
+  pub right : AreRight program commands entries
+  pub numbered : AreNumbered program [] (2 + length program.notes) entries
   pub all : length entries ≡ length commands
   pub stops : list_any (λ e. is_stop e.answer) entries ≡ stopped
   pub put : PutWhole put_faults taken out_old out_new (whole_text program entries)

@@ -21,7 +21,7 @@ pub enum Ending {
     /// The first fault of the model, by its line and kind.
     ModelRefused(ReadStop),
     /// A whole line of the report, by its number, with which no report goes on.
-    BadReport(u64),
+    BadReport(u32),
     /// The report ends too soon.
     CutReport,
     /// A line of the script, by its number, that is the first bad one.

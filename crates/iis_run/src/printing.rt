@@ -94,11 +94,11 @@ pub(crate) fn print_model_refused(alloc: Global, stop: ReadStop) -> Result<Vec<u
 }
 
 /// The line that names a line of the report with which no report goes on.
-pub(crate) fn print_bad_report(alloc: Global, line: u64) -> Result<Vec<u8>, AllocError>
+pub(crate) fn print_bad_report(alloc: Global, line: u32) -> Result<Vec<u8>, AllocError>
     ensures { IfOk result (λ text. text.items ≡ bad_report_line line) }
 {
     let mut text = Vec::new(alloc);
-    print_part(b"report refused line ", line, &mut text)?;
+    print_part(b"report refused line ", u64::from(line), &mut text)?;
     text.push(b'\n')?;
     Ok(text)
 }
@@ -129,21 +129,21 @@ pub(crate) fn print_accepted(
 }
 
 /// The line that names a line of the report that fails.
-pub(crate) fn print_rejected(alloc: Global, line: u64) -> Result<Vec<u8>, AllocError>
+pub(crate) fn print_rejected(alloc: Global, line: u32) -> Result<Vec<u8>, AllocError>
     ensures { IfOk result (λ text. text.items ≡ rejected_line line) }
 {
     let mut text = Vec::new(alloc);
-    print_part(b"rejected line ", line, &mut text)?;
+    print_part(b"rejected line ", u64::from(line), &mut text)?;
     text.push(b'\n')?;
     Ok(text)
 }
 
 /// The line that names an operation that is too wide, and the line of the report on which it is.
-pub(crate) fn print_wide(alloc: Global, line: u64, wide: Wide) -> Result<Vec<u8>, AllocError>
+pub(crate) fn print_wide(alloc: Global, line: u32, wide: Wide) -> Result<Vec<u8>, AllocError>
     ensures { IfOk result (λ text. text.items ≡ wide_line line wide) }
 {
     let mut text = Vec::new(alloc);
-    print_part(b"wide line ", line, &mut text)?;
+    print_part(b"wide line ", u64::from(line), &mut text)?;
     text.push(b' ')?;
     text.extend_from_slice(op_text(wide.op).as_bytes())?;
     text.push(b' ')?;

@@ -73,24 +73,19 @@ fn refused(stop: ReportStop) -> Ending
 }
 
 // Reads a report and checks it.
-fn check_report(alloc: Global, model: &Model, bytes: &[u8]) -> Ending
+fn check_report(alloc: Global, model: Model, bytes: &[u8]) -> Ending
     requires { length bytes.now ≤ 67108864 }
-    ensures { ComesTo model.now bytes.now result }
+    ensures { ComesTo model bytes.now result }
 {
-    match read_report(alloc, bytes, model) {
-        Ok(report) => checked(verify(alloc, model, &report)),
+    match read_report(alloc, bytes, &model) {
+        Ok(report) => checked(verify(alloc, model, report)),
         Err(stop) => refused(stop),
     }
 }
 
 /// Fetches the report, reads it and checks it.
-pub(crate) fn check_file<S: Shelf>(
-    alloc: Global,
-    model: &Model,
-    shelf: &mut S,
-    name: &str,
-) -> Ending
-    ensures end { IsCheckEnd model.now (S.file shelf.old name.now) (S.faults shelf.old name.now) (S.faults shelf.new name.now) result }
+pub(crate) fn check_file<S: Shelf>(alloc: Global, model: Model, shelf: &mut S, name: &str) -> Ending
+    ensures end { IsCheckEnd model (S.file shelf.old name.now) (S.faults shelf.old name.now) (S.faults shelf.new name.now) result }
     ensures counts { (n : List ℕ) → S.faults shelf.old n ≤ S.faults shelf.new n }
     ensures files { (n : List ℕ) → S.file shelf.new n ≡ S.file shelf.old n }
 {

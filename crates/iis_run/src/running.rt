@@ -39,7 +39,7 @@ fn plan_second<S: Shelf>(alloc: Global, model: Model, shelf: &mut S, verb: Verb,
     ensures files { (n : List ℕ) → S.file shelf.new n ≡ S.file shelf.old n }
 {
     match verb {
-        Verb::Verify => Plan::Say(check_file(alloc, &model, shelf, name)),
+        Verb::Verify => Plan::Say(check_file(alloc, model, shelf, name)),
         Verb::Analyse => plan_answers(alloc, model, shelf, name),
     }
 }

@@ -50,7 +50,7 @@ fn accepted_status(unsettled: u64) -> u8
 }
 
 // Puts the line that names a line of the report that fails, and gives the status.
-fn say_rejected<W: Sink>(alloc: Global, line: u64, out: &mut W) -> u8
+fn say_rejected<W: Sink>(alloc: Global, line: u32, out: &mut W) -> u8
     ensures { Ends W.faults W.taken out.old out.new (Ending.Checked (Rejected line)) result }
 {
     let Ok(text) = print_rejected(alloc, line) else {
@@ -61,7 +61,7 @@ fn say_rejected<W: Sink>(alloc: Global, line: u64, out: &mut W) -> u8
 }
 
 // Puts the line that names an operation, and gives the status.
-fn say_wide<W: Sink>(alloc: Global, line: u64, wide: Wide, out: &mut W) -> u8
+fn say_wide<W: Sink>(alloc: Global, line: u32, wide: Wide, out: &mut W) -> u8
     ensures { Ends W.faults W.taken out.old out.new (Ending.Checked (TooWide line wide)) result }
 {
     let Ok(text) = print_wide(alloc, line, wide) else {
@@ -83,7 +83,7 @@ fn say_model_refused<W: Sink>(alloc: Global, stop: ReadStop, out: &mut W) -> u8
 }
 
 // Puts the line that names a bad line of the report, and gives the status.
-fn say_bad_report<W: Sink>(alloc: Global, line: u64, out: &mut W) -> u8
+fn say_bad_report<W: Sink>(alloc: Global, line: u32, out: &mut W) -> u8
     ensures { Ends W.faults W.taken out.old out.new (Ending.BadReport line) result }
 {
     let Ok(text) = print_bad_report(alloc, line) else {

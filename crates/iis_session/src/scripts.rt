@@ -20,7 +20,7 @@ const LONGEST_LINE: usize = 65_536;
 const MOST_COMMANDS: usize = 10_000;
 
 /// What a line says: nothing, a command, or what is neither.
-#[derive(Clone, Copy)]
+#[derive(Drop)]
 pub(crate) enum Saying {
     Nothing,
     Says(Command),
@@ -143,7 +143,7 @@ pub fn read_script(alloc: Global, bytes: &[u8]) -> Result<Script, ScriptStop>
         at = after_line(bytes, &line);
         number += 1;
     }
-    Ok(Script::new(commands))
+    Ok(Script { commands })
 }
 
 /// Where no line is bad the lines are right; the first bad line is the first by which they are not; and each command of lines

@@ -15,7 +15,9 @@ use Rattle.certs.specs.Checks.{IsSetOf}
 use Rattle.certs.specs.declared.evidence.Point.{Point}
 use Rattle.certs.proofs.Walk.{next_step, none_follow}
 use Rattle.report_text.specs.declared.report.Entry.{Entry}
-use Rattle.report_text.specs.Grammar.{Line, member_line, without_line, left_out, witness_lines, entry_lines, note_line, text_of}
+use Rattle.report_text.specs.declared.report.Command.{Command}
+use Rattle.report_text.specs.Turns.{after, gathered}
+use Rattle.report_text.specs.Grammar.{Line, member_line, without_line, left_out, witness_lines, entry_lines, entries_lines, note_line, text_of}
 use Rattle.report_printer.specs.Printing.{ended, missing_text, head_lines, foot_lines, IsKnownMember, PartsLaw}
 use Rattle.report_text.proofs.Filters.{filter_twice}
 
@@ -41,16 +43,18 @@ witnesses_left model set witnesses after i m w order there l is =
     ∙ text_both (witness_lines model (m, w)) (flat_map (witness_lines model) (zip (filter (follows (Some m)) set) (drop (i + 1) witnesses)))))
 
 -- the text of entries, one after another
-entries_text : (model : Program) (entries : List Entry) → text_of (flat_map (entry_lines model) entries) ≡ flat_map (λ e. text_of (entry_lines model e)) entries
-entries_text model [] = refl
-entries_text model (e ∷ entries) = text_both (entry_lines model e) (flat_map (entry_lines model) entries) ∙ ap (λ t. text_of (entry_lines model e) ++ t) (entries_text model entries)
+entries_text : (model : Program) (before : List Command) (entries : List Entry) → text_of (entries_lines model before entries) ≡ gathered (λ front e. text_of (entry_lines (after model front) e)) before entries
+entries_text model before [] = refl
+entries_text model before (e ∷ entries) =
+    let next = before ++ e.command ∷ [] in
+    text_both (entry_lines (after model before) e) (entries_lines model next entries) ∙ ap (λ t. text_of (entry_lines (after model before) e) ++ t) (entries_text model next entries)
 
 -- the text of a report, part by part
 pub parts_of : PartsLaw
 parts_of model report =
-    let entries = flat_map (entry_lines model) report.entries in
+    let entries = entries_lines model [] report.entries in
     text_both (head_lines model report.notes) (entries ++ foot_lines)
-    ∙ ap (λ t. text_of (head_lines model report.notes) ++ t) (text_both entries foot_lines ∙ ap (λ t. t ++ text_of foot_lines) (entries_text model report.entries))
+    ∙ ap (λ t. text_of (head_lines model report.notes) ++ t) (text_both entries foot_lines ∙ ap (λ t. t ++ text_of foot_lines) (entries_text model [] report.entries))
 
 -- a line, the lines of two parts, and the end
 pub in_parts : (first last : Line) (a b : List Line) (start s1 s2 s3 s4 : List ℕ) → s1 ≡ start ++ ended first → s2 ≡ s1 ++ text_of a → s3 ≡ s2 ++ text_of b → s4 ≡ s3 ++ ended last → s4 ≡ start ++ text_of (first ∷ (a ++ (b ++ last ∷ [])))

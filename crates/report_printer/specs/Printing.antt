@@ -18,6 +18,7 @@ use Rattle.report_text.specs.declared.report.Core.{Core}
 use Rattle.report_text.specs.declared.report.Answer.{Answer}
 use Rattle.report_text.specs.declared.report.Answer.TheVariants.{Feasible, Infeasible, Irreducible, Done, Stopped}
 use Rattle.report_text.specs.declared.report.Report.{Report}
+use Rattle.report_text.specs.Turns.{after, gathered}
 use Rattle.report_text.specs.Grammar.{Line, without_line, entry_lines, note_line, report_lines, text_of}
 use Rattle.report_text.specs.Form.{IsAnswerFor}
 
@@ -94,6 +95,6 @@ foot_lines = codes "report end" ∷ []
 abbrev pub CanPrintLaw : Type 0
 CanPrintLaw = (model : Program) (answer : Answer) → IsAnswerFor model answer → IsKnownAnswer model answer
 
--- the text of a report is the head, the entries one after another, and the foot
+-- the text of a report is the head, the entries one after another, each by the program after the commands before it, and the foot
 abbrev pub PartsLaw : Type 0
-PartsLaw = (model : Program) (report : Report) → text_of (report_lines model report) ≡ text_of (head_lines model report.notes) ++ (flat_map (λ e. text_of (entry_lines model e)) report.entries ++ text_of foot_lines)
+PartsLaw = (model : Program) (report : Report) → text_of (report_lines model report) ≡ text_of (head_lines model report.notes) ++ (gathered (λ before e. text_of (entry_lines (after model before) e)) [] report.entries ++ text_of foot_lines)

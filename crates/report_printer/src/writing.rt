@@ -540,8 +540,13 @@ fn print_irreducible(model: &Model, core: &Core, into: &mut Vec<u8>) -> Result<(
     Ok(())
 }
 
-/// Appends the lines of an answer.
-pub fn print_answer(model: &Model, answer: &Answer, into: &mut Vec<u8>) -> Result<(), AllocError>
+/// Appends the lines of an answer to a command. As yet none is printed otherwise for one command than for another.
+pub fn print_answer(
+    model: &Model,
+    _command: &Command,
+    answer: &Answer,
+    into: &mut Vec<u8>,
+) -> Result<(), AllocError>
     requires { IsKnownAnswer model.now answer.now }
     ensures text { OnOk result (into.new.items ≡ into.old.items ++ text_of (answer_lines model.now answer.now)) }
     ensures front { Keeps into.old.items into.new.items }
@@ -610,7 +615,7 @@ pub fn print_entry(
     push_word(b"command", into)?;
     print_command(command, into)?;
     into.push(b'\n')?;
-    print_answer(model, answer, into)
+    print_answer(model, command, answer, into)
 }
 
 // Appends a note on a column.

@@ -18,10 +18,12 @@ use Rattle.certs.specs.declared.solving.Stop.{Stop}
 use Rattle.certs.specs.declared.solving.Stop.TheVariants.{Wide as TooWide, Pivots as Spent, Nodes, Large, Memory}
 use Rattle.report_text.specs.declared.report.Answer.{Answer}
 use Rattle.report_text.specs.declared.report.Answer.TheVariants.{Feasible, Infeasible, Irreducible, Done, Stopped}
+use Rattle.report_text.specs.declared.report.Command.{Command}
 use Rattle.report_text.specs.declared.report.Entry.{Entry}
 use Rattle.report_text.specs.declared.report.Report.{Report}
-use Rattle.report_text.specs.Grammar.{Line, ◌then◌, column_name, member_line, value_line, value_lines, point_lines, use_line, node_lines, proof_lines, witness_lines, site_line, without_line, left_out, site_lines, step_line, operation_line, stop_lines, answer_lines, command_text, entry_lines, note_line, report_lines}
-use Rattle.report_text.specs.Form.{IsNamedColumn, IsEntryFor, IsReportFor}
+use Rattle.report_text.specs.Turns.{after}
+use Rattle.report_text.specs.Grammar.{Line, ◌then◌, column_name, member_line, value_line, value_lines, point_lines, use_line, node_lines, proof_lines, witness_lines, site_line, without_line, left_out, site_lines, step_line, operation_line, stop_lines, answer_lines, command_text, entry_lines, entries_lines, note_line, report_lines}
+use Rattle.report_text.specs.Form.{IsNamedColumn, IsReportFor}
 use Rattle.report_reader.specs.Reading.{IsFront, IsWhole}
 
 -- two elements of which the first stands before the second
@@ -30,7 +32,7 @@ pair_in_order R x y h = AllPairs-cons R x (y ∷ []) (All-cons (R x) y [] h (All
 
 -- the report of no notes and no entries stands in the grammar
 pub nothing_in_form : (model : Program) → IsReportFor model (record { notes = []; entries = [] })
-nothing_in_form model = record { notes = All-nil (λ note. IsNamedColumn model (noted_column note)); entries = All-nil (IsEntryFor model); numbered = tt }
+nothing_in_form model = record { notes = All-nil (λ note. IsNamedColumn model (noted_column note)); entries = tt; numbered = tt }
 
 -- ---- the foot
 abbrev pub foot : Line
@@ -126,18 +128,24 @@ note_is : (model : Program) (n : Note) → NotFoot (note_line model n)
 note_is model (LowerRemoved j) = other_start (note_line model (LowerRemoved j)) refl
 note_is model (LowerKept j) = other_start (note_line model (LowerKept j)) refl
 
+entries_are : (model : Program) (before : List Command) (entries : List Entry) → All NotFoot (entries_lines model before entries)
+entries_are model before [] = All-nil NotFoot
+entries_are model before (e ∷ entries) =
+    let next = before ++ e.command ∷ [] in
+    All-append NotFoot (entry_lines (after model before) e) (entries_lines model next entries) (entry_is (after model before) e) (entries_are model next entries)
+
 -- all that stands before the foot
 abbrev pub body : Program → Report → List Line
-body model report = codes "iisan report 1" ∷ (map (note_line model) report.notes ++ flat_map (entry_lines model) report.entries)
+body model report = codes "iisan report 1" ∷ (map (note_line model) report.notes ++ entries_lines model [] report.entries)
 
 pub body_is : (model : Program) (report : Report) → All NotFoot (body model report)
-body_is model report = before (codes "iisan report 1") (map (note_line model) report.notes ++ flat_map (entry_lines model) report.entries) refl
-    (All-append NotFoot (map (note_line model) report.notes) (flat_map (entry_lines model) report.entries)
-    (all_lines NotFoot (note_line model) (note_is model) report.notes) (all_made NotFoot (entry_lines model) (entry_is model) report.entries))
+body_is model report = before (codes "iisan report 1") (map (note_line model) report.notes ++ entries_lines model [] report.entries) refl
+    (All-append NotFoot (map (note_line model) report.notes) (entries_lines model [] report.entries)
+    (all_lines NotFoot (note_line model) (note_is model) report.notes) (entries_are model [] report.entries))
 
 -- a report is its body and the foot
 body_and_foot : (model : Program) (report : Report) → report_lines model report ≡ body model report ++ foot ∷ []
-body_and_foot model report = ap (λ l. codes "iisan report 1" ∷ l) (sym (append_assoc (map (note_line model) report.notes) (flat_map (entry_lines model) report.entries) (foot ∷ [])))
+body_and_foot model report = ap (λ l. codes "iisan report 1" ∷ l) (sym (append_assoc (map (note_line model) report.notes) (entries_lines model [] report.entries) (foot ∷ [])))
 
 -- ---- fronts
 -- no lines are the front of a report

@@ -32,7 +32,7 @@ use Rattle.report_text.specs.declared.report.Answer.TheVariants.{Feasible, Infea
 use Rattle.report_text.specs.declared.report.Report.{Report}
 use Rattle.report_text.specs.Grammar.{Line, report_lines, text_of}
 use Rattle.report_reader.proofs.Endings.{pair_in_order, nothing_is_front, foot, NotFoot, body, body_is, needs_foot, needs_head, whole_ends}
-use Rattle.report_text.specs.Form.{IsNamedColumn, share_before, IsNamedMember, IsListed, IsUse, AreUses, IsEntryFor, IsReportFor}
+use Rattle.report_text.specs.Form.{IsNamedColumn, share_before, IsNamedMember, IsListed, IsUse, AreUses, IsReportFor}
 use Rattle.report_reader.specs.Reading.{Reads, IsFront, IsWhole, IsBadLine, IsTruncated}
 
 abbrev term : ℕ → ℤ → Term
@@ -77,7 +77,7 @@ contradiction_has_lines = refl
 
 -- ---- each row alone can be satisfied; a value of 0 has no line
 abbrev irreducible : Answer
-irreducible = Irreducible (record { members = rows_set; witnesses = point (zero_ℚ ∷ frac (pos 1) 2 ∷ []) ∷ point (zero_ℚ ∷ zero_ℚ ∷ []) ∷ []; proof = proof })
+irreducible = Irreducible (record { members = rows_set; witnesses = point (zero_ℚ ∷ frac (pos 1) 2 ∷ []) ∷ point (zero_ℚ ∷ zero_ℚ ∷ []) ∷ []; proof = proof; rounds = None; price = None })
 
 abbrev two_entries : Report
 two_entries = record {
@@ -126,7 +126,7 @@ both_uses = record {
 contradiction_in_form : IsReportFor two_rows contradiction
 contradiction_in_form = record {
   notes = All-nil (λ note. IsNamedColumn two_rows (noted_column note));
-  entries = All-cons (IsEntryFor two_rows) (record { command = Check; answer = Infeasible rows_set proof; line = 2 }) [] (record { command = tt; kind = refl; answer = (rows_listed, record { combo = record { shares = use_of (Row 0) Up one_ℚ ∷ use_of (Row 1) Lo (frac (pos 3) 2) ∷ [] }; one = refl; uses = both_uses }) }) (All-nil (IsEntryFor two_rows));
+  entries = (record { command = tt; kind = refl; answer = (rows_listed, record { combo = record { shares = use_of (Row 0) Up one_ℚ ∷ use_of (Row 1) Lo (frac (pos 3) 2) ∷ [] }; one = refl; uses = both_uses }) }, tt);
   numbered = (refl, tt);
 }
 

@@ -34,11 +34,13 @@ use Rattle.report_reader.specs.declared.drafts.Part.{Part}
 use Rattle.report_reader.specs.declared.drafts.Next.{Next}
 use Rattle.report_reader.specs.declared.drafts.Stage.{Stage}
 use Rattle.report_reader.specs.declared.drafts.Draft.{Draft}
-use Rattle.report_text.specs.Grammar.{column_name, entry_lines}
-use Rattle.report_text.specs.Form.{is_word, IsNamedColumn, IsNamedMember, IsWithinLimit, IsUse, AreUses, IsListed, IsOneLeaf, IsPointFor, IsAnswerFor, IsEntryFor, AreNumbered, can_answer, share_before}
+use Rattle.report_text.specs.Turns.{after}
+use Rattle.report_text.specs.Grammar.{column_name, entries_lines}
+use Rattle.report_text.proofs.InTurn.{gathered-push, AllEntries-push, numbered-push}
+use Rattle.report_text.specs.Form.{is_word, IsNamedColumn, IsNamedMember, IsWithinLimit, IsUse, AreUses, IsListed, IsOneLeaf, IsPointFor, IsAnswerFor, IsEntryFor, AreEntriesFor, can_answer, share_before}
 use Rattle.report_reader.specs.Phrases.{IsPhraseFor, phrase_line}
 use Rattle.report_reader.specs.Drafts.{filled, point_of, leaf_of, set_of, answer_of, only_if, witnessed_with, site_without, with_left_out, left_out_next, at_site, stop_begun, stop_with, extended, placed, between, advanced, AreValues, AreMembers, AreWitnesses, IsFound, IsOneMore, AreLeftOut, IsStopPart, Asks, IsPartFor, IsDraftFor}
-use Rattle.report_reader.proofs.Said.{value_phrases, point_phrases, proof_phrases, witness_phrases, without_phrase, site_phrases, answer_front, answer_end, entry_phrases, body_phrases, entry_spelled}
+use Rattle.report_reader.proofs.Said.{value_phrases, point_phrases, proof_phrases, witness_phrases, without_phrase, site_phrases, answer_front, answer_end, entry_phrases, entries_phrases, body_phrases, entries_spelled}
 use Rattle.report_reader.proofs.LeftOut.{none_left, left_twice, site_in_form}
 
 -- ---- what is read, as phrases
@@ -410,7 +412,7 @@ module _ (model : Program) where
   leaf_ends (Iis method) (Found.Members members) shares h k = absurd h
   leaf_ends (Pivots n) found shares h k = absurd h
   leaf_ends (Iis method) (Found.Witnessed members witnesses) shares h k =
-      record { ended = refl; kind = refl; form = record { members = listed_taken members h.0; each = h.1.each; points = h.1.points; proof = leaf_taken shares k }; said = leaf_said (found_phrases (Found.Witnessed members witnesses)) shares }
+      record { ended = refl; kind = refl; form = record { members = listed_taken members h.0; each = h.1.each; points = h.1.points; proof = leaf_taken shares k; rounds = refl; price = refl }; said = leaf_said (found_phrases (Found.Witnessed members witnesses)) shares }
 
   point_ends : (c : Command) (values : List ℚ) → IsPartFor model c (Part.Point values) → Ends c (Part.Point values) Phrase.End (Answer.Feasible (point_of model values))
   point_ends Check values h = record { ended = refl; kind = refl; form = point_taken values h.1; said = ap (λ l. Phrase.Feasible ∷ l) (point_said values) }
@@ -505,30 +507,17 @@ module _ (model : Program) where
   whole_taken c (Part.Leaf found shares) _ a h e = absurd (cc)
 
   -- ---- drafts
-  -- one entry more on the line after those before it
-  numbered_push : (n : ℕ) (entries : List Entry) (e : Entry) → AreNumbered model n entries → e.line ≡ n + length (flat_map (entry_lines model) entries) → AreNumbered model n (entries ++ e ∷ [])
-  numbered_push n [] e h l = (l ∙ (omega arith), tt)
-  numbered_push n (f ∷ entries) e h l = (
-    h.0,
-    numbered_push (n + length (entry_lines model f)) entries e h.1
-        (l ∙ ap (λ k. n + k) (length-append (entry_lines model f) (flat_map (entry_lines model) entries)) ∙ (omega arith)),
-  )
+  entries_length : (entries : List Entry) → AreEntriesFor model [] entries → length (entries_lines model [] entries) ≡ length (entries_phrases model [] entries)
+  entries_length entries h = ap length (entries_spelled model [] entries h) ∙ length-map (entries_phrases model [] entries) (phrase_line model)
 
-  entries_length : (entries : List Entry) → All (IsEntryFor model) entries → length (flat_map (entry_lines model) entries) ≡ length (flat_map (entry_phrases model) entries)
-  entries_length [] h = refl
-  entries_length (e ∷ entries) h =
-      let first = ap length (entry_spelled model e (All-head (IsEntryFor model) e entries h)) ∙ length-map (entry_phrases model e) (phrase_line model) in
-      let rest = entries_length entries (All-tail (IsEntryFor model) e entries h) in
-      length-append (entry_lines model e) (flat_map (entry_lines model) entries) ∙ ap (λ k. k + length (flat_map (entry_lines model) entries)) first ∙ ap (λ k. length (entry_phrases model e) + k) rest ∙ sym (length-append (entry_phrases model e) (flat_map (entry_phrases model) entries))
-
-  body_length : (notes : List Note) (entries : List Entry) → All (IsEntryFor model) entries → length (body_phrases model notes entries) ≡ suc (length notes + length (flat_map (entry_lines model) entries))
+  body_length : (notes : List Note) (entries : List Entry) → AreEntriesFor model [] entries → length (body_phrases model notes entries) ≡ suc (length notes + length (entries_lines model [] entries))
   body_length notes entries h =
-      ap suc (length-append (map Phrase.Note notes) (flat_map (entry_phrases model) entries) ∙ ap (λ k. k + length (flat_map (entry_phrases model) entries)) (length-map notes Phrase.Note) ∙ ap (λ k. length notes + k) (sym (entries_length entries h)))
+      ap suc (length-append (map Phrase.Note notes) (entries_phrases model [] entries) ∙ ap (λ k. k + length (entries_phrases model [] entries)) (length-map notes Phrase.Note) ∙ ap (λ k. length notes + k) (sym (entries_length entries h)))
 
   body_push : (notes : List Note) (entries : List Entry) (e : Entry) → body_phrases model notes (entries ++ e ∷ []) ≡ body_phrases model notes entries ++ entry_phrases model e
   body_push notes entries e =
-      ap (λ l. Phrase.Head ∷ (map Phrase.Note notes ++ l)) (flat_map-append (entry_phrases model) entries (e ∷ []) ∙ ap (λ l. flat_map (entry_phrases model) entries ++ l) (append-nil (entry_phrases model e)))
-      ∙ ap (λ l. Phrase.Head ∷ l) (sym (append_assoc (map Phrase.Note notes) (flat_map (entry_phrases model) entries) (entry_phrases model e)))
+      ap (λ l. Phrase.Head ∷ (map Phrase.Note notes ++ l)) (gathered-push (λ front x. entry_phrases (after model front) x) [] entries e)
+      ∙ ap (λ l. Phrase.Head ∷ l) (sym (append_assoc (map Phrase.Note notes) (entries_phrases model [] entries) (entry_phrases model e)))
 
   -- what a phrase makes of a draft
   abbrev Draws : Draft → Phrase → Draft → Type 0
@@ -546,7 +535,7 @@ module _ (model : Program) where
       → Draws (record { notes = notes; entries = entries; stage = Stage.Between }) p next
   between_taken n notes [] (Phrase.Note note) next h k l e =
       drawn (record { notes = notes; entries = []; stage = Stage.Between }) (Phrase.Note note) (record { notes = notes ++ note ∷ []; entries = []; stage = Stage.Between }) next e (
-        record { notes = All-push (λ x. IsNamedColumn model (noted_column x)) notes note h.notes k; entries = All-nil (IsEntryFor model); numbered = tt; stage = tt },
+        record { notes = All-push (λ x. IsNamedColumn model (noted_column x)) notes note h.notes k; entries = tt; numbered = tt; stage = tt },
         ap (λ m. Phrase.Head ∷ m) (append-nil (map Phrase.Note (notes ++ note ∷ [])) ∙ map_push Phrase.Note notes note ∙ ap (λ m. m ++ Phrase.Note note ∷ []) (sym (append-nil (map Phrase.Note notes)))),
       )
   between_taken n notes (f ∷ entries) (Phrase.Note note) next h k l e = absurd (cc)
@@ -577,8 +566,8 @@ module _ (model : Program) where
       let entry : Entry = record { command = question.command; answer = answer; line = question.line } in (
         record {
           notes = h.notes;
-          entries = All-push (IsEntryFor model) entries entry h.entries (record { command = h.stage.1.0; kind = t.kind; answer = t.form });
-          numbered = numbered_push (2 + length notes) entries entry h.numbered (h.stage.0 ∙ (omega arith));
+          entries = AllEntries-push (λ front e. IsEntryFor (after model front) e) [] entries entry h.entries (record { command = h.stage.1.0; kind = t.kind; answer = t.form });
+          numbered = numbered-push model [] (2 + length notes) entries entry h.numbered (h.stage.0 ∙ (omega arith));
           stage = tt;
         },
         body_push notes entries entry
@@ -592,7 +581,7 @@ module _ (model : Program) where
       → Draws (record { notes = notes; entries = entries; stage = stage }) p next
   taken n notes entries Stage.Start Phrase.Head next h k l e =
       drawn (record { notes = notes; entries = entries; stage = Stage.Start }) Phrase.Head (record { notes = notes; entries = entries; stage = Stage.Between }) next e
-      (record { notes = h.notes; entries = h.entries; numbered = h.numbered; stage = tt }, ap (λ m. Phrase.Head ∷ (map Phrase.Note m ++ flat_map (entry_phrases model) entries)) h.stage.0 ∙ ap (λ m. Phrase.Head ∷ flat_map (entry_phrases model) m) h.stage.1)
+      (record { notes = h.notes; entries = h.entries; numbered = h.numbered; stage = tt }, ap (λ m. Phrase.Head ∷ (map Phrase.Note m ++ entries_phrases model [] entries)) h.stage.0 ∙ ap (λ m. Phrase.Head ∷ entries_phrases model [] m) h.stage.1)
   taken n notes entries Stage.Start _ next h k l e = absurd (cc)
   taken n notes entries Stage.Between p next h k l e = between_taken n notes entries p next h k l e
   taken n notes entries (Stage.Answering question part) p next h k l e =

@@ -207,7 +207,7 @@ cut_at model (p ∷ ps) (l ∷ front) line rest e = cut_behind model p ps l fron
 module _ (model : Program) where
   pub nothing_led : HasRead model [] nothing_read
   nothing_led = record {
-    form = record { notes = λ k d l. absurd (omega arith); entries = λ k d l. absurd (omega arith); numbered = tt; stage = (refl, refl) };
+    form = record { notes = λ k d l. absurd (omega arith); entries = tt; numbered = tt; stage = (refl, refl) };
     said = refl;
     only = λ ps h e. empty ps e;
   }

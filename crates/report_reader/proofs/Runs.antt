@@ -4,7 +4,7 @@ use Rattle.std.specs.Prelude.{map, flat_map, zip, replicate, option_and_then, op
 use Rattle.std.specs.List.{list_all}
 use Rattle.std.proofs.lemmas.List.{replicate_more, length-append, length-map}
 use Rattle.report_reader.specs.Phrases.{phrase_line}
-use Rattle.report_reader.proofs.Said.{value_phrases, point_phrases, node_phrases, proof_phrases, witness_phrases, without_phrase, site_phrases, answer_front, answer_end, entry_phrases, report_phrases, entry_spelled}
+use Rattle.report_reader.proofs.Said.{value_phrases, point_phrases, node_phrases, proof_phrases, witness_phrases, without_phrase, site_phrases, answer_front, answer_end, entry_phrases, entries_phrases, report_phrases, entry_spelled}
 use Rattle.std.proofs.lemmas.List.Elements.{All-head, All-tail, All-contains, Contains-append_right}
 use Rattle.std.proofs.lemmas.Bool.{and_from, le-leb}
 use Rattle.rational.proofs.Compare.{eq-Decides}
@@ -39,7 +39,7 @@ use Rattle.report_reader.specs.declared.drafts.Stage.{Stage}
 use Rattle.report_reader.specs.declared.drafts.Draft.{Draft}
 use Rattle.lp_model.specs.MemberSets.{SetValue, empty_set}
 use Rattle.report_text.specs.Grammar.{left_out}
-use Rattle.report_text.specs.Form.{IsListed, IsOneLeaf, IsPointFor, IsSettleSite, IsStopFor, IsAnswerFor, IsEntryFor, AreNumbered, IsReportFor, can_answer, share_before}
+use Rattle.report_text.specs.Form.{IsListed, IsOneLeaf, IsPointFor, IsSettleSite, IsStopFor, IsAnswerFor, IsEntryFor, AreEntriesFor, AreNumbered, IsReportFor, can_answer, share_before}
 use Rattle.report_reader.specs.Drafts.{filled, point_of, leaf_of, set_of, only_if, with_value, witnessed_with, site_without, with_left_out, left_out_next, at_site, stop_begun, extended, placed, advanced, nothing_read}
 use Rattle.report_reader.proofs.LeftOut.{left_in_order, left_active, set_twice}
 
@@ -374,8 +374,10 @@ answer_read model (Iis method) (Irreducible core) can h =
         grown_step model (Iis method) Part.Nothing (Part.Listed (Found.Witnessed [] [])) Phrase.Irreducible (flat_map witness_phrases (zip members core.witnesses) ++ proof_phrases core.proof) refl
             ∙ grown_append model (Iis method) (Part.Listed (Found.Witnessed [] [])) w.0 (flat_map witness_phrases (zip members core.witnesses)) (proof_phrases core.proof) w.1.0
             ∙ leaf_read model (Iis method) w.0 found core.proof h.proof w.1.1.1,
-        ap (λ s. Some (Next.Whole (Irreducible (record { members = s; witnesses = core.witnesses; proof = leaf_of h.proof.combo.shares })))) (same_set model core.members h.members)
-            ∙ ap (λ q. Some (Next.Whole (Irreducible (record { members = core.members; witnesses = core.witnesses; proof = q })))) (same_proof model core.proof h.proof),
+        ap (λ s. Some (Next.Whole (Irreducible (record { members = s; witnesses = core.witnesses; proof = leaf_of h.proof.combo.shares; rounds = None; price = None })))) (same_set model core.members h.members)
+            ∙ ap (λ q. Some (Next.Whole (Irreducible (record { members = core.members; witnesses = core.witnesses; proof = q; rounds = None; price = None })))) (same_proof model core.proof h.proof)
+            ∙ ap (λ r. Some (Next.Whole (Irreducible (record { members = core.members; witnesses = core.witnesses; proof = core.proof; rounds = r; price = None })))) (sym h.rounds)
+            ∙ ap (λ r. Some (Next.Whole (Irreducible (record { members = core.members; witnesses = core.witnesses; proof = core.proof; rounds = core.rounds; price = r })))) (sym h.price),
       ),
     )
 answer_read model Check (Irreducible core) can h = absurd (true≢false (sym can))
@@ -401,15 +403,16 @@ module _ (model : Program) where
       ∙ run_append model (suc e.line) start last (answer_front model e.answer) (last_phrase ∷ []) (grown_runs model (suc e.line) (between notes entries) q Part.Nothing r.0 (answer_front model e.answer) r.1.0)
       ∙ run_step model (suc e.line + length (answer_front model e.answer)) last (between notes (entries ++ e ∷ [])) last_phrase [] (ap (option_map (placed last q)) r.1.1)
 
-  entries_read : (n : ℕ) (notes : List Note) (entries more : List Entry) → All (IsEntryFor model) more → AreNumbered model n more
-      → run model n (between notes entries) (flat_map (entry_phrases model) more) ≡ Some (between notes (entries ++ more))
-  entries_read n notes entries [] h numbered = ap (λ l. Some (between notes l)) (sym (append-nil entries))
-  entries_read n notes entries (e ∷ more) h numbered =
-      let first = All-head (IsEntryFor model) e more h in
+  entries_read : (before : List Command) (n : ℕ) (notes : List Note) (entries more : List Entry) → AreEntriesFor model before more → AreNumbered model before n more
+      → run model n (between notes entries) (entries_phrases model before more) ≡ Some (between notes (entries ++ more))
+  entries_read before n notes entries [] h numbered = ap (λ l. Some (between notes l)) (sym (append-nil entries))
+  entries_read before n notes entries (e ∷ more) h numbered =
+      let first = h.0 in
+      let behind = before ++ e.command ∷ [] in
       let next = n + length (entry_phrases model e) in
-      run_append model n (between notes entries) (between notes (entries ++ e ∷ [])) (entry_phrases model e) (flat_map (entry_phrases model) more)
+      run_append model n (between notes entries) (between notes (entries ++ e ∷ [])) (entry_phrases model e) (entries_phrases model behind more)
       (subst (λ l. run model l (between notes entries) (entry_phrases model e) ≡ Some (between notes (entries ++ e ∷ []))) numbered.0 (entry_read notes entries e first))
-      ∙ entries_read next notes (entries ++ e ∷ []) more (All-tail (IsEntryFor model) e more h) (subst (λ k. AreNumbered model (n + k) more) (ap length (entry_spelled model e first) ∙ length-map (entry_phrases model e) (phrase_line model)) numbered.1)
+      ∙ entries_read behind next notes (entries ++ e ∷ []) more h.1 (subst (λ k. AreNumbered model behind (n + k) more) (ap length (entry_spelled model e first) ∙ length-map (entry_phrases model e) (phrase_line model)) numbered.1)
       ∙ ap (λ l. Some (between notes l)) (append_assoc entries (e ∷ []) more)
 
   notes_read : (n : ℕ) (notes more : List Note) → run model n (between notes []) (map Phrase.Note more) ≡ Some (between (notes ++ more) [])
@@ -428,12 +431,12 @@ module _ (model : Program) where
   unfolding between done
   report_read report h =
       let notes = map Phrase.Note report.notes in
-      let entries = flat_map (entry_phrases model) report.entries in
+      let entries = entries_phrases model [] report.entries in
       let middle = between report.notes report.entries in
       let two : run model 2 (between [] []) (notes ++ entries) ≡ Some middle =
       run_append model 2 (between [] []) (between report.notes []) notes entries (notes_read 2 [] report.notes)
       ∙ ap (λ k. run model (2 + k) (between report.notes []) entries) (length-map report.notes Phrase.Note)
-      ∙ entries_read (2 + length report.notes) report.notes [] report.entries h.entries h.numbered in
+      ∙ entries_read [] (2 + length report.notes) report.notes [] report.entries h.entries h.numbered in
       run_step model 1 nothing_read (between [] []) Phrase.Head ((notes ++ entries) ++ Phrase.Foot ∷ []) refl
       ∙ run_append model 2 (between [] []) middle (notes ++ entries) (Phrase.Foot ∷ []) two
       ∙ run_step model (2 + length (notes ++ entries)) middle (done report) Phrase.Foot [] refl

@@ -31,8 +31,9 @@ use Rattle.report_text.specs.declared.report.Report.{Report}
 use Rattle.report_reader.specs.declared.phrases.Phrase.{Phrase}
 use Rattle.report_reader.specs.declared.phrases.StopPhrase.{StopPhrase}
 use Rattle.lp_model.specs.Satisfaction.{values_at}
-use Rattle.report_text.specs.Form.{is_word, IsWithinLimit, IsNamedColumn, IsNamedMember, IsUse, IsOneLeaf, IsPointFor, IsSiteFor, IsStopFor, IsAnswerFor, IsEntryFor, IsReportFor}
-use Rattle.report_text.specs.Grammar.{Line, ◌then◌, column_name, name_of, kind_word, member_line, side_word, source_text, command_text, value_line, value_lines, point_lines, use_line, node_lines, proof_lines, witness_lines, site_line, without_line, left_out, site_lines, step_line, operation_line, stop_lines, answer_lines, entry_lines, note_line, report_lines}
+use Rattle.report_text.specs.Form.{is_word, IsWithinLimit, IsNamedColumn, IsNamedMember, IsUse, IsOneLeaf, IsPointFor, IsSiteFor, IsStopFor, IsAnswerFor, IsEntryFor, AreEntriesFor, IsReportFor}
+use Rattle.report_text.specs.Turns.{after, gathered}
+use Rattle.report_text.specs.Grammar.{Line, ◌then◌, column_name, name_of, kind_word, member_line, side_word, source_text, command_text, value_line, value_lines, point_lines, use_line, node_lines, proof_lines, witness_lines, site_line, without_line, left_out, site_lines, step_line, operation_line, stop_lines, answer_lines, entry_lines, entries_lines, note_line, report_lines}
 use Rattle.report_reader.specs.Phrases.{spelled, source_words, phrase_line, IsPhraseFor}
 
 -- ---- the phrases of a report
@@ -84,8 +85,11 @@ abbrev pub entry_phrases : Program → Entry → List Phrase
 entry_phrases model e = Phrase.Command e.command ∷ (answer_front model e.answer ++ answer_end e.answer ∷ [])
 
 -- all that stands before the foot
+abbrev pub entries_phrases : Program → List Command → List Entry → List Phrase
+entries_phrases model before entries = gathered (λ front e. entry_phrases (after model front) e) before entries
+
 abbrev pub body_phrases : Program → List Note → List Entry → List Phrase
-body_phrases model notes entries = Phrase.Head ∷ (map Phrase.Note notes ++ flat_map (entry_phrases model) entries)
+body_phrases model notes entries = Phrase.Head ∷ (map Phrase.Note notes ++ entries_phrases model [] entries)
 
 abbrev pub report_phrases : Program → Report → List Phrase
 report_phrases model report = body_phrases model report.notes report.entries ++ Phrase.Foot ∷ []
@@ -185,12 +189,20 @@ module _ (model : Program) where
   pub entry_spelled : (e : Entry) → IsEntryFor model e → entry_lines model e ≡ map (phrase_line model) (entry_phrases model e)
   entry_spelled e h = ap (λ l. l ∷ answer_lines model e.answer) (command_spelled model e.command) ∙ ap (λ l. phrase_line model (Phrase.Command e.command) ∷ l) (answer_spelled e.answer h.answer)
 
+  pub entries_spelled : (before : List Command) (entries : List Entry) → AreEntriesFor model before entries → entries_lines model before entries ≡ map (phrase_line model) (entries_phrases model before entries)
+  entries_spelled before [] h = refl
+  entries_spelled before (e ∷ entries) h =
+      let next = before ++ e.command ∷ [] in
+      ap (λ l. l ++ entries_lines model next entries) (entry_spelled e h.0)
+      ∙ ap (λ l. map (phrase_line model) (entry_phrases model e) ++ l) (entries_spelled next entries h.1)
+      ∙ sym (map-append (phrase_line model) (entry_phrases model e) (entries_phrases model next entries))
+
   pub report_spelled : (report : Report) → IsReportFor model report → report_lines model report ≡ map (phrase_line model) (report_phrases model report)
   report_spelled report h =
       let notes = map Phrase.Note report.notes in
-      let entries = flat_map (entry_phrases model) report.entries in
-      ap (λ l. codes "iisan report 1" ∷ (l ++ (flat_map (entry_lines model) report.entries ++ codes "report end" ∷ []))) (map_map model Phrase.Note (note_line model) (note_spelled model) report.notes)
-      ∙ ap (λ l. codes "iisan report 1" ∷ (map (phrase_line model) notes ++ (l ++ codes "report end" ∷ []))) (flat_both model (entry_lines model) (entry_phrases model) report.entries (λ k d l. entry_spelled (get_or report.entries k d) (h.entries k d l)))
+      let entries = entries_phrases model [] report.entries in
+      ap (λ l. codes "iisan report 1" ∷ (l ++ (entries_lines model [] report.entries ++ codes "report end" ∷ []))) (map_map model Phrase.Note (note_line model) (note_spelled model) report.notes)
+      ∙ ap (λ l. codes "iisan report 1" ∷ (map (phrase_line model) notes ++ (l ++ codes "report end" ∷ []))) (entries_spelled [] report.entries h.entries)
       ∙ ap (λ l. codes "iisan report 1" ∷ l) (sym (append_assoc (map (phrase_line model) notes) (map (phrase_line model) entries) (codes "report end" ∷ []))
       ∙ ap (λ l. l ++ codes "report end" ∷ []) (sym (map-append (phrase_line model) notes entries)) ∙ sym (map-append (phrase_line model) (notes ++ entries) (Phrase.Foot ∷ [])))
 
@@ -293,11 +305,17 @@ module _ (model : Program) where
   unfolding For
   entry_for e h = All-cons For (Phrase.Command e.command) (answer_front model e.answer ++ answer_end e.answer ∷ []) h.command (All-push For (answer_front model e.answer) (answer_end e.answer) (answer_for e.answer h.answer) (end_for e.answer))
 
+  entries_for : (before : List Command) (entries : List Entry) → AreEntriesFor model before entries → All For (entries_phrases model before entries)
+  entries_for before [] h = All-nil For
+  entries_for before (e ∷ entries) h =
+      let next = before ++ e.command ∷ [] in
+      All-append For (entry_phrases model e) (entries_phrases model next entries) (entry_for e h.0) (entries_for next entries h.1)
+
   pub report_for : (report : Report) → IsReportFor model report → All (IsPhraseFor model) (report_phrases model report)
   unfolding For
   report_for report h =
-      All-cons For Phrase.Head ((map Phrase.Note report.notes ++ flat_map (entry_phrases model) report.entries) ++ Phrase.Foot ∷ []) tt
-      (All-push For (map Phrase.Note report.notes ++ flat_map (entry_phrases model) report.entries) Phrase.Foot
-      (All-append For (map Phrase.Note report.notes) (flat_map (entry_phrases model) report.entries)
+      All-cons For Phrase.Head ((map Phrase.Note report.notes ++ entries_phrases model [] report.entries) ++ Phrase.Foot ∷ []) tt
+      (All-push For (map Phrase.Note report.notes ++ entries_phrases model [] report.entries) Phrase.Foot
+      (All-append For (map Phrase.Note report.notes) (entries_phrases model [] report.entries)
       (each_for (λ note. IsNamedColumn model (noted_column note)) Phrase.Note (λ note k. k) report.notes h.notes)
-      (flat_for (IsEntryFor model) (entry_phrases model) entry_for report.entries h.entries)) tt)
+      (entries_for [] report.entries h.entries)) tt)

@@ -1,5 +1,5 @@
 -- What may follow in a report, line by line: the draft that a phrase makes of a draft.
-use Rattle.std.specs.Prelude.{◌≡◌, ◌≢◌, ⊤, ℕ, ◌+◌, ◌-◌, ◌≤◌, nat_le, Bool, true, false, ◌&&◌, IsTrue, List, [], ◌∷◌, ◌++◌, length, replicate, Option, Some, None, option_map, Result, Ok, Err, flat_map, All}
+use Rattle.std.specs.Prelude.{◌≡◌, ◌≢◌, ⊤, ℕ, ◌+◌, ◌-◌, ◌≤◌, nat_le, Bool, true, false, ◌&&◌, IsTrue, List, [], ◌∷◌, ◌++◌, length, replicate, Option, Some, None, option_map, Result, Ok, Err, All}
 use Rattle.std.specs.List.{list_all}
 use Rattle.rational.specs.Rational.{ℚ, zero_ℚ}
 use Rattle.lp_model.specs.Program.{Program, noted_column}
@@ -32,8 +32,9 @@ use Rattle.report_text.specs.declared.report.Report.{Report}
 use Rattle.report_reader.specs.declared.reader.ReportStop.{ReportStop}
 use Rattle.report_reader.specs.declared.reader.ReportStop.TheVariants.{BadLine, Truncated, Memory}
 use Rattle.report_reader.specs.Phrases.{Says}
-use Rattle.report_text.specs.Grammar.{Line, column_name, left_out, entry_lines}
-use Rattle.report_text.specs.Form.{is_word, IsNamedColumn, IsNamedMember, IsWithinLimit, IsPointFor, IsEntryFor, IsCommand, IsCount, IsOperation, AreUses, AreNumbered, share_before}
+use Rattle.report_text.specs.Turns.{after, entry_commands}
+use Rattle.report_text.specs.Grammar.{Line, column_name, left_out, entries_lines}
+use Rattle.report_text.specs.Form.{is_word, IsNamedColumn, IsNamedMember, IsWithinLimit, IsPointFor, AreEntriesFor, IsCommand, IsCount, IsOperation, AreUses, AreNumbered, share_before}
 
 -- values with zeros behind them, up to so many
 abbrev pub filled : ℕ → List ℚ → List ℚ
@@ -60,7 +61,7 @@ members_of (Found.Witnessed members witnesses) = members
 abbrev pub answer_of : Program → Found → List Share → Answer
 answer_of model (Found.Members members) shares = Answer.Infeasible (set_of model members) (leaf_of shares)
 answer_of model (Found.Witnessed members witnesses) shares =
-    Answer.Irreducible (record { members = set_of model members; witnesses = witnesses; proof = leaf_of shares })
+    Answer.Irreducible (record { members = set_of model members; witnesses = witnesses; proof = leaf_of shares; rounds = None; price = None })
 
 -- so far, if it may be
 abbrev pub only_if : {X : Type 0} → Bool → X → Option X
@@ -163,6 +164,10 @@ between n draft (Phrase.Command command) = Some (record draft { stage = Stage.An
 between n draft Phrase.Foot = Some (record draft { stage = Stage.Done })
 between n draft _ = None
 
+-- the program after the commands of whole entries
+abbrev pub program_now : Program → Draft → Program
+program_now model draft = after model (entry_commands draft.entries)
+
 -- the draft that a draft becomes by the phrase of line number n, if it may follow
 abbrev pub advanced : Program → ℕ → Draft → Phrase → Option Draft
 advanced model n draft p = by draft.stage p
@@ -170,18 +175,18 @@ advanced model n draft p = by draft.stage p
     by : Stage → Phrase → Option Draft
     by Stage.Start Phrase.Head = Some (record draft { stage = Stage.Between })
     by Stage.Between q = between n draft q
-    by (Stage.Answering question part) q = option_map (placed draft question) (extended model question.command part q)
+    by (Stage.Answering question part) q = option_map (placed draft question) (extended (program_now model draft) question.command part q)
     by _ _ = None
 
 -- a line is taken: some phrase says it, and each that says it leads to the next draft
 pub record Takes (model : Program) (n : ℕ) (draft : Draft) (line : Line) (next : Draft) : Type 0 where
   pub phrase : Phrase
-  pub says : Says model line phrase
-  pub all : (p : Phrase) → Says model line p → advanced model n draft p ≡ Some next
+  pub says : Says (program_now model draft) line phrase
+  pub all : (p : Phrase) → Says (program_now model draft) line p → advanced model n draft p ≡ Some next
 
 -- a line is not taken: no phrase that says it may follow, or memory was refused
 abbrev pub IsLineStop : Program → ℕ → Draft → Line → ReportStop → Type 0
-IsLineStop model n draft line (BadLine m) = (m ≡ n) × ((p : Phrase) → Says model line p → advanced model n draft p ≡ None)
+IsLineStop model n draft line (BadLine m) = (m ≡ n) × ((p : Phrase) → Says (program_now model draft) line p → advanced model n draft p ≡ None)
 IsLineStop model n draft line Truncated = ⊥
 IsLineStop model n draft line Memory = ⊤
 
@@ -264,11 +269,11 @@ IsStageFor model notes entries Stage.Start = (notes ≡ []) × (entries ≡ [])
 IsStageFor model notes entries Stage.Between = ⊤
 IsStageFor model notes entries Stage.Done = ⊤
 IsStageFor model notes entries (Stage.Answering question part) =
-    (question.line ≡ 2 + (length notes + length (flat_map (entry_lines model) entries))) × (IsCommand question.command × IsPartFor model question.command part)
+    (question.line ≡ 2 + (length notes + length (entries_lines model [] entries))) × (IsCommand question.command × IsPartFor (after model (entry_commands entries)) question.command part)
 
 -- notes and entries as a report has them, and a part of one more
 pub record IsDraftFor (model : Program) (draft : Draft) : Type 0 where
   pub notes : All (λ note. IsNamedColumn model (noted_column note)) draft.notes
-  pub entries : All (IsEntryFor model) draft.entries
-  pub numbered : AreNumbered model (2 + length draft.notes) draft.entries
+  pub entries : AreEntriesFor model [] draft.entries
+  pub numbered : AreNumbered model [] (2 + length draft.notes) draft.entries
   pub stage : IsStageFor model draft.notes draft.entries draft.stage

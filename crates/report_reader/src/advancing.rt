@@ -42,7 +42,7 @@ fn add_note(notes: Notes, entries: Entries, note: Note) -> Result<Option<Draft>,
 fn advance_between(
     notes: Notes,
     entries: Entries,
-    number: u64,
+    number: u32,
     phrase: Phrase,
 ) -> Result<Option<Draft>, AllocError>
     ensures { IfOk result (λ d. d ≡ between_drafts number (record { notes = notes; entries = entries; stage = Stage.Between }) phrase) }
@@ -124,7 +124,7 @@ fn advance_answer(
     requires phrase { IsPhraseFor model.now phrase }
     ensures { (stage : Stage) → IfOk result (λ d. d ≡ option_map (placed (record { notes = notes; entries = entries; stage = stage }) question) (extended model.now question.command part phrase)) }
 {
-    let Some(next) = follow(alloc, model, question.command, part, phrase)? else {
+    let Some(next) = follow(alloc, model, &question.command, part, phrase)? else {
         return Ok(None);
     };
     Ok(Some(place(notes, entries, question, next)?))
@@ -149,7 +149,7 @@ pub(crate) fn advance(
     alloc: Global,
     model: &Model,
     draft: Draft,
-    number: u64,
+    number: u32,
     phrase: Phrase,
 ) -> Result<Option<Draft>, AllocError>
     requires draft { IsDraftFor model.now draft }

@@ -124,11 +124,11 @@ fn make_leaf(alloc: Global, shares: Shares) -> Result<Proof, AllocError>
 pub(crate) fn make_answer(
     alloc: Global,
     model: &Model,
-    command: Command,
+    command: &Command,
     found: Found,
     shares: Shares,
 ) -> Result<Answer, AllocError>
-    requires { IsFound model.now command found }
+    requires { IsFound model.now command.now found }
     ensures { IfOk result (λ a. a ≡ answer_of model.now found shares) }
 {
     let proof = make_leaf(alloc, shares)?;
@@ -143,6 +143,8 @@ pub(crate) fn make_answer(
                 members,
                 witnesses,
                 proof,
+                rounds: None,
+                price: None,
             }))
         }
     }

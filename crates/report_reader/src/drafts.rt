@@ -53,10 +53,10 @@ pub(crate) enum Found {
 }
 
 /// The command that is being answered, and the number of its line.
-#[derive(Clone, Copy, PartialEq, Eq, Debug)]
+#[derive(Drop)]
 pub(crate) struct Question {
     pub(crate) command: Command,
-    pub(crate) line: u64,
+    pub(crate) line: u32,
 }
 
 /// How far a stop is read.

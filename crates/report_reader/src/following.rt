@@ -17,8 +17,8 @@ use report_text::{Answer, Command, Witnesses};
 use std::alloc::{AllocError, Global};
 
 // The part behind `feasible`.
-fn open_feasible(command: Command) -> Option<Next>
-    ensures { (model : Program) → result ≡ extended model command Part.Nothing Phrase.Feasible }
+fn open_feasible(command: &Command) -> Option<Next>
+    ensures { (model : Program) → result ≡ extended model command.now Part.Nothing Phrase.Feasible }
 {
     match command {
         Command::Check | Command::Iis(_) => Some(Next::More(Part::Feasible)),
@@ -27,8 +27,8 @@ fn open_feasible(command: Command) -> Option<Next>
 }
 
 // The part behind `infeasible`.
-fn open_infeasible(alloc: Global, command: Command) -> Option<Next>
-    ensures { (model : Program) → result ≡ extended model command Part.Nothing Phrase.Infeasible }
+fn open_infeasible(alloc: Global, command: &Command) -> Option<Next>
+    ensures { (model : Program) → result ≡ extended model command.now Part.Nothing Phrase.Infeasible }
 {
     match command {
         Command::Check => {
@@ -40,8 +40,8 @@ fn open_infeasible(alloc: Global, command: Command) -> Option<Next>
 }
 
 // The part behind `irreducible`.
-fn open_irreducible(alloc: Global, command: Command) -> Option<Next>
-    ensures { (model : Program) → result ≡ extended model command Part.Nothing Phrase.Irreducible }
+fn open_irreducible(alloc: Global, command: &Command) -> Option<Next>
+    ensures { (model : Program) → result ≡ extended model command.now Part.Nothing Phrase.Irreducible }
 {
     match command {
         Command::Check | Command::Pivots(_) => None,
@@ -54,8 +54,8 @@ fn open_irreducible(alloc: Global, command: Command) -> Option<Next>
 }
 
 // The part behind the first line of a stop.
-fn open_stop(command: Command, phrase: StopPhrase) -> Option<Next>
-    ensures { (model : Program) → result ≡ extended model command Part.Nothing (Phrase.Stop phrase) }
+fn open_stop(command: &Command, phrase: StopPhrase) -> Option<Next>
+    ensures { (model : Program) → result ≡ extended model command.now Part.Nothing (Phrase.Stop phrase) }
 {
     match command {
         Command::Check | Command::Iis(_) => begin_stop(phrase),
@@ -64,8 +64,8 @@ fn open_stop(command: Command, phrase: StopPhrase) -> Option<Next>
 }
 
 // The answer that `done` is.
-fn close_budget(command: Command) -> Option<Next>
-    ensures { (model : Program) → result ≡ extended model command Part.Nothing Phrase.Done }
+fn close_budget(command: &Command) -> Option<Next>
+    ensures { (model : Program) → result ≡ extended model command.now Part.Nothing Phrase.Done }
 {
     match command {
         Command::Check | Command::Iis(_) => None,
@@ -74,8 +74,8 @@ fn close_budget(command: Command) -> Option<Next>
 }
 
 // What may follow a command.
-fn follow_command(alloc: Global, command: Command, phrase: Phrase) -> Option<Next>
-    ensures { (model : Program) → result ≡ extended model command Part.Nothing phrase }
+fn follow_command(alloc: Global, command: &Command, phrase: Phrase) -> Option<Next>
+    ensures { (model : Program) → result ≡ extended model command.now Part.Nothing phrase }
 {
     match phrase {
         Phrase::Feasible => open_feasible(command),
@@ -240,14 +240,14 @@ fn follow_proof(alloc: Global, found: Found, phrase: Phrase) -> Option<Next>
 fn follow_leaf(
     alloc: Global,
     model: &Model,
-    command: Command,
+    command: &Command,
     found: Found,
     shares: Shares,
     phrase: Phrase,
 ) -> Result<Option<Next>, AllocError>
-    requires found { IsFound model.now command found }
+    requires found { IsFound model.now command.now found }
     requires in_order { AllPairs (λ s t. IsTrue (share_before s.source s.side t.source t.side)) shares }
-    ensures { IfOk result (λ n. n ≡ extended model.now command (Part.Leaf found shares) phrase) }
+    ensures { IfOk result (λ n. n ≡ extended model.now command.now (Part.Leaf found shares) phrase) }
 {
     match phrase {
         Phrase::Use(share) => {
@@ -268,13 +268,13 @@ fn follow_leaf(
 pub(crate) fn follow(
     alloc: Global,
     model: &Model,
-    command: Command,
+    command: &Command,
     part: Part,
     phrase: Phrase,
 ) -> Result<Option<Next>, AllocError>
-    requires part { IsPartFor model.now command part }
+    requires part { IsPartFor model.now command.now part }
     requires phrase { IsPhraseFor model.now phrase }
-    ensures { IfOk result (λ n. n ≡ extended model.now command part phrase) }
+    ensures { IfOk result (λ n. n ≡ extended model.now command.now part phrase) }
 {
     match part {
         Part::Nothing => Ok(follow_command(alloc, command, phrase)),

@@ -43,7 +43,7 @@ pub(crate) enum StopPhrase {
 }
 
 /// What a line of a report says.
-#[derive(Clone, Copy, PartialEq, Eq, Debug)]
+#[derive(Drop)]
 pub(crate) enum Phrase {
     Head,
     Note(Note),

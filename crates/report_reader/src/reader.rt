@@ -21,7 +21,7 @@ use thiserror::Error;
 #[derive(Clone, Copy, PartialEq, Eq, Debug, Error)]
 pub enum ReportStop {
     #[error("bad line {0}")]
-    BadLine(u64),
+    BadLine(u32),
     #[error("truncated")]
     Truncated,
     #[error("want of memory")]
@@ -33,7 +33,7 @@ fn take_line(
     alloc: Global,
     model: &Model,
     draft: Draft,
-    number: u64,
+    number: u32,
     line: &[u8],
 ) -> Result<Draft, ReportStop>
     requires { IsDraftFor model.now draft }
@@ -52,8 +52,8 @@ fn take_line(
 }
 
 // What the lines, and the bytes behind the last of them, have come to.
-fn end(draft: Draft, number: u64, rest: &[u8]) -> Result<Report, ReportStop>
-    requires { number + length rest.now < 18446744073709551616 }
+fn end(draft: Draft, number: u32, rest: &[u8]) -> Result<Report, ReportStop>
+    requires { number + length rest.now < 2147483648 }
     ensures { result ≡ ended number draft rest.now }
 {
     let Draft {
@@ -89,13 +89,6 @@ fn whole_line(bytes: &[u8]) -> Option<(&[u8], &[u8])>
     Some((&bytes[..line.to], &bytes[line.to + 1..]))
 }
 
-// How many bytes there are, which is a number that can be counted to.
-fn count_bytes(bytes: &[u8]) -> usize
-    ensures { result ≡ length bytes.now }
-{
-    bytes.len()
-}
-
 /// Reads a report on a program.
 ///
 /// Each line is looked at once, in order, and what is read of it is kept: notes and entries with the numbers of their
@@ -104,7 +97,10 @@ fn count_bytes(bytes: &[u8]) -> usize
 /// `BadLine` has the number, from 1, of the first whole line with which no report on the program goes on; a byte
 /// behind a whole report counts as such a line, whether or not a byte 10 follows it. `Truncated` comes where every
 /// whole line is right and the bytes end before the report does. `Memory` comes where memory was refused.
+///
+/// There are to be fewer than 2^31 bytes.
 pub fn read_report(alloc: Global, bytes: &[u8], model: &Model) -> Result<Report, ReportStop>
+    requires { length bytes.now < 2147483648 }
     // The bytes are the report's.
     ensures read { IfOk result (Reads model.now bytes.now) }
     // They are those of no other report.
@@ -112,11 +108,9 @@ pub fn read_report(alloc: Global, bytes: &[u8], model: &Model) -> Result<Report,
     // A stop comes where it is to.
     ensures stop { IfErr result (IsReportStop model.now bytes.now) }
 {
-    // That so many lines can be counted is told with the number of bytes.
-    let _count = count_bytes(bytes);
     let mut draft = nothing(alloc);
     let mut rest = bytes;
-    let mut number: u64 = 0;
+    let mut number: u32 = 0;
     while let Some((line, after)) = whole_line(rest) {
         number += 1;
         draft = take_line(alloc, model, draft, number, line)?;

@@ -1,9 +1,8 @@
 //! Texts in a file.
 
-use crate::models::{noted_model, plain_model};
+use crate::models::make_model;
 use crate::reports::tell_report;
 use crate::scripts::tell_script;
-use lp_model::Model;
 use std::alloc::{AllocError, Global};
 
 // The place after the line that begins at a place.
@@ -36,24 +35,6 @@ fn unmarked(text: &[u8]) -> &[u8] {
     }
 }
 
-// The programs, without a note and with one.
-#[derive(Drop)]
-struct Models {
-    plain: Model,
-    noted: Model,
-}
-
-// The programs.
-fn make_models(alloc: Global) -> Result<Models, AllocError> {
-    let Ok(plain) = plain_model(alloc) else {
-        return Err(AllocError);
-    };
-    let Ok(noted) = noted_model(alloc) else {
-        return Err(AllocError);
-    };
-    Ok(Models { plain, noted })
-}
-
 // The text that begins at a place: its first line, its other lines and its end.
 fn text_at(bytes: &[u8], at: usize) -> Option<(&[u8], &[u8], usize)> {
     if at >= bytes.len() {
@@ -68,13 +49,16 @@ fn text_at(bytes: &[u8], at: usize) -> Option<(&[u8], &[u8], usize)> {
     Some((head, unmarked(&bytes[begin..end]), end))
 }
 
-// Puts what is told of a report.
+// Puts what is told of a report on the program, with its note or without.
 fn put_report(
     alloc: Global,
-    model: &Model,
+    is_noted: bool,
     text: &[u8],
     into: &mut Vec<u8>,
 ) -> Result<(), AllocError> {
+    let Ok(model) = make_model(alloc, is_noted) else {
+        return Err(AllocError);
+    };
     let told = tell_report(alloc, model, text)?;
     into.extend_from_slice(told.as_str().as_bytes())
 }
@@ -86,50 +70,30 @@ fn put_script(alloc: Global, text: &[u8], into: &mut Vec<u8>) -> Result<(), Allo
 }
 
 // Puts what is told of a text, by the line that it begins with.
-fn put_told(
-    alloc: Global,
-    models: &Models,
-    head: &[u8],
-    text: &[u8],
-    into: &mut Vec<u8>,
-) -> Result<(), AllocError> {
+fn put_told(alloc: Global, head: &[u8], text: &[u8], into: &mut Vec<u8>) -> Result<(), AllocError> {
     if head.starts_with(b"script ") {
         return put_script(alloc, text, into);
     }
-    if head.starts_with(b"noted ") {
-        return put_report(alloc, &models.noted, text, into);
-    }
-    put_report(alloc, &models.plain, text, into)
+    put_report(alloc, head.starts_with(b"noted "), text, into)
 }
 
 // Puts a line for a text.
-fn put_line(
-    alloc: Global,
-    models: &Models,
-    head: &[u8],
-    text: &[u8],
-    into: &mut Vec<u8>,
-) -> Result<(), AllocError> {
+fn put_line(alloc: Global, head: &[u8], text: &[u8], into: &mut Vec<u8>) -> Result<(), AllocError> {
     into.extend_from_slice(head)?;
     into.extend_from_slice(b": ")?;
-    put_told(alloc, models, head, text, into)?;
+    put_told(alloc, head, text, into)?;
     into.push(b'\n')?;
     Ok(())
 }
 
 // Puts a line for each text.
-fn put_lines(
-    alloc: Global,
-    models: &Models,
-    bytes: &[u8],
-    into: &mut Vec<u8>,
-) -> Result<(), AllocError> {
+fn put_lines(alloc: Global, bytes: &[u8], into: &mut Vec<u8>) -> Result<(), AllocError> {
     let mut at = next_text(bytes, 0);
     for _ in 0..bytes.len() {
         let Some((head, text, end)) = text_at(bytes, at) else {
             return Ok(());
         };
-        put_line(alloc, models, head, text, into)?;
+        put_line(alloc, head, text, into)?;
         at = end;
     }
     Ok(())
@@ -137,6 +101,5 @@ fn put_lines(
 
 /// Puts what is told of each text, a line for each.
 pub fn try_cases(alloc: Global, bytes: &[u8], into: &mut Vec<u8>) -> Result<(), AllocError> {
-    let models = make_models(alloc)?;
-    put_lines(alloc, &models, bytes, into)
+    put_lines(alloc, bytes, into)
 }

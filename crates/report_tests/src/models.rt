@@ -74,8 +74,8 @@ fn add_row(
     model.add_row(alloc, name, row(terms, lo, up, active))
 }
 
-/// The program without notes.
-pub fn plain_model(alloc: Global) -> Result<Model, ModelStop> {
+// The program without notes.
+fn plain_model(alloc: Global) -> Result<Model, ModelStop> {
     let mut model = Model::new(alloc, false);
     add_box(&mut model, alloc, b"x")?;
     add_box(&mut model, alloc, b"y")?;
@@ -86,8 +86,8 @@ pub fn plain_model(alloc: Global) -> Result<Model, ModelStop> {
     Ok(model)
 }
 
-/// The program with a note on y: its lower bound was kept.
-pub fn noted_model(alloc: Global) -> Result<Model, ModelStop> {
+// The program with a note on y: its lower bound was kept.
+fn noted_model(alloc: Global) -> Result<Model, ModelStop> {
     let mut model = plain_model(alloc)?;
     if model.column_count() < 2 {
         return Err(ModelStop::Limit);
@@ -96,4 +96,13 @@ pub fn noted_model(alloc: Global) -> Result<Model, ModelStop> {
         return Err(ModelStop::Memory);
     }
     Ok(model)
+}
+
+/// The program, with its note or without.
+pub fn make_model(alloc: Global, is_noted: bool) -> Result<Model, ModelStop> {
+    if is_noted {
+        noted_model(alloc)
+    } else {
+        plain_model(alloc)
+    }
 }

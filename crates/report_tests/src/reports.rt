@@ -1,4 +1,5 @@
 //! What is told of reports.
+ghost use Rattle.std.specs.Prelude.{◌<◌, length};
 
 use cert_check::{Outcome, verify};
 use lp_model::Model;
@@ -11,7 +12,9 @@ use std::alloc::{AllocError, Global};
 const MOST: usize = 1_048_576;
 
 // The text of the report that is read of a text.
-fn print_read(alloc: Global, model: &Model, text: &[u8]) -> Result<Vec<u8>, AllocError> {
+fn print_read(alloc: Global, model: &Model, text: &[u8]) -> Result<Vec<u8>, AllocError>
+    requires { length text.now < 2147483648 }
+{
     let mut into = Vec::new(alloc);
     let Ok(report) = read_report(alloc, text, model) else {
         return Err(AllocError);
@@ -26,18 +29,19 @@ fn print_read(alloc: Global, model: &Model, text: &[u8]) -> Result<Vec<u8>, Allo
 }
 
 // What the check of the report that is read of a text answers.
-fn check_read(alloc: Global, model: &Model, text: &[u8]) -> Result<Outcome, AllocError> {
-    if text.len() > MOST {
-        return Err(AllocError);
-    }
-    let Ok(report) = read_report(alloc, text, model) else {
+fn check_read(alloc: Global, model: Model, text: &[u8]) -> Result<Outcome, AllocError>
+    requires { length text.now < 2147483648 }
+{
+    let Ok(report) = read_report(alloc, text, &model) else {
         return Err(AllocError);
     };
-    Ok(verify(alloc, model, &report))
+    Ok(verify(alloc, model, report))
 }
 
 // Whether a text is truncated.
-fn is_truncated(alloc: Global, model: &Model, text: &[u8]) -> bool {
+fn is_truncated(alloc: Global, model: &Model, text: &[u8]) -> bool
+    requires { length text.now < 2147483648 }
+{
     match read_report(alloc, text, model) {
         Err(ReportStop::Truncated) => true,
         _ => false,
@@ -45,7 +49,9 @@ fn is_truncated(alloc: Global, model: &Model, text: &[u8]) -> bool {
 }
 
 // How many fronts of a text are truncated.
-fn count_truncated(alloc: Global, model: &Model, text: &[u8]) -> u64 {
+fn count_truncated(alloc: Global, model: &Model, text: &[u8]) -> u64
+    requires { length text.now < 2147483648 }
+{
     let mut count: u64 = 0;
     for end in 0..text.len() {
         if is_truncated(alloc, model, &text[..end]) {
@@ -80,19 +86,21 @@ fn put_lines(alloc: Global, report: &Report, told: &mut String) -> Result<(), Al
 // What is told of a report that is read of a text.
 fn report_told(
     alloc: Global,
-    model: &Model,
+    model: Model,
     text: &[u8],
     report: &Report,
-) -> Result<String, AllocError> {
+) -> Result<String, AllocError>
+    requires { length text.now < 2147483648 }
+{
     let mut told = String::new(alloc);
     put_lines(alloc, report, &mut told)?;
-    let printed = print_read(alloc, model, text)?;
+    let printed = print_read(alloc, &model, text)?;
     if printed.as_slice() == text {
         told.push_str(", printed as it stands")?;
     } else {
         told.push_str(", printed otherwise")?;
     }
-    let count = count_truncated(alloc, model, text);
+    let count = count_truncated(alloc, &model, text);
     let fronts = format!(in alloc; ", {count} fronts of {} truncated, ", text.len())?;
     told.push_str(fronts.as_str())?;
     let outcome = outcome_told(alloc, check_read(alloc, model, text)?)?;
@@ -101,8 +109,11 @@ fn report_told(
 }
 
 /// What is told of a text that may be a report.
-pub fn tell_report(alloc: Global, model: &Model, text: &[u8]) -> Result<String, AllocError> {
-    match read_report(alloc, text, model) {
+pub fn tell_report(alloc: Global, model: Model, text: &[u8]) -> Result<String, AllocError> {
+    if text.len() > MOST {
+        return Err(AllocError);
+    }
+    match read_report(alloc, text, &model) {
         Ok(report) => report_told(alloc, model, text, &report),
         Err(ReportStop::BadLine(line)) => Ok(format!(in alloc; "bad line {line}")?),
         Err(ReportStop::Truncated) => Ok(format!(in alloc; "truncated")?),

@@ -13,7 +13,7 @@ const MOST_TOLD: usize = 10;
 
 // The commands of a script, or how many they are.
 fn script_told(alloc: Global, script: &Script) -> Result<Vec<u8>, AllocError> {
-    let commands = script.as_slice();
+    let commands = script.commands.as_slice();
     let mut told = Vec::new(alloc);
     let count = format!(in alloc; "{} commands", commands.len())?;
     told.extend_from_slice(count.as_str().as_bytes())?;

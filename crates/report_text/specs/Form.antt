@@ -1,5 +1,5 @@
 -- Which reports stand in the grammar: what is asked of their names, numbers and order.
-use Rattle.std.specs.Prelude.{◌≡◌, ◌≢◌, ℕ, ◌+◌, ◌^◌, ◌<◌, ◌≤◌, nat_lt, nat_le, Bool, true, false, ◌&&◌, ◌||◌, IsTrue, List, [], ◌∷◌, length, filter, All, AllPairs}
+use Rattle.std.specs.Prelude.{◌≡◌, ◌≢◌, ℕ, ◌+◌, ◌^◌, ◌<◌, ◌≤◌, nat_lt, nat_le, Bool, true, false, ◌&&◌, ◌||◌, IsTrue, List, [], ◌∷◌, ◌++◌, length, filter, None, All, AllPairs}
 use Rattle.std.specs.List.{list_all}
 use Rattle.report_text.specs.Names.{is_shown}
 use Rattle.rational.specs.Rational.{ℚ, zero_ℚ, ◌<ℚ◌}
@@ -32,6 +32,7 @@ use Rattle.report_text.specs.declared.report.Answer.{Answer}
 use Rattle.report_text.specs.declared.report.Answer.TheVariants.{Feasible, Infeasible, Irreducible, Done, Stopped}
 use Rattle.report_text.specs.declared.report.Entry.{Entry}
 use Rattle.report_text.specs.declared.report.Report.{Report}
+use Rattle.report_text.specs.Turns.{after, AllEntries}
 use Rattle.report_text.specs.Grammar.{column_name, name_of, left_out, entry_lines}
 
 -- ---- names
@@ -141,12 +142,14 @@ IsStopFor model (Large size) = ⊥
 IsStopFor model Memory = ⊥
 
 -- ---- answers
--- an irreducible set: a witness for each member, and a proof
+-- an irreducible set: a witness for each member, and a proof; no rounds and no price have a line as yet
 pub record IsCoreFor (model : Program) (core : Core) : Type 0 where
   pub members : IsListed model core.members
   pub each : length core.witnesses ≡ length core.members.members
   pub points : All (IsPointFor model) core.witnesses
   pub proof : IsOneLeaf model core.proof
+  pub rounds : core.rounds ≡ None
+  pub price : core.price ≡ None
 
 -- what is asked of each answer
 abbrev pub IsAnswerFor : Program → Answer → Type 0
@@ -170,16 +173,12 @@ IsCommand (Pivots n) = n ≤ most_pivots
 abbrev pub can_answer : Command → Answer → Bool
 can_answer Check (Feasible p) = true
 can_answer Check (Infeasible set proof) = true
-can_answer Check (Irreducible core) = false
-can_answer Check Done = false
 can_answer Check (Stopped stop) = true
 can_answer (Iis method) (Feasible p) = true
-can_answer (Iis method) (Infeasible set proof) = false
 can_answer (Iis method) (Irreducible core) = true
-can_answer (Iis method) Done = false
 can_answer (Iis method) (Stopped stop) = true
 can_answer (Pivots n) Done = true
-can_answer (Pivots n) _ = false
+can_answer _ _ = false
 
 -- ---- reports
 -- an entry whose answer is one to its command
@@ -188,13 +187,17 @@ pub record IsEntryFor (model : Program) (e : Entry) : Type 0 where
   pub kind : can_answer e.command e.answer ≡ true
   pub answer : IsAnswerFor model e.answer
 
+-- such entries, each for the program after the commands before it
+abbrev pub AreEntriesFor : Program → List Command → List Entry → Type 0
+AreEntriesFor model before entries = AllEntries (λ front e. IsEntryFor (after model front) e) before entries
+
 -- each entry has the number of its first line, where line number n is that of the first entry
-abbrev pub AreNumbered : Program → ℕ → List Entry → Type 0
-AreNumbered model n [] = Unit {0}
-AreNumbered model n (e ∷ entries) = (e.line ≡ n) × AreNumbered model (n + length (entry_lines model e)) entries
+abbrev pub AreNumbered : Program → List Command → ℕ → List Entry → Type 0
+AreNumbered model before n [] = Unit {0}
+AreNumbered model before n (e ∷ entries) = (e.line ≡ n) × AreNumbered model (before ++ e.command ∷ []) (n + length (entry_lines (after model before) e)) entries
 
 -- a report in the grammar: before the first entry stand the head and the notes
 pub record IsReportFor (model : Program) (report : Report) : Type 0 where
   pub notes : All (λ note. IsNamedColumn model (noted_column note)) report.notes
-  pub entries : All (IsEntryFor model) report.entries
-  pub numbered : AreNumbered model (2 + length report.notes) report.entries
+  pub entries : AreEntriesFor model [] report.entries
+  pub numbered : AreNumbered model [] (2 + length report.notes) report.entries

@@ -34,6 +34,7 @@ use Rattle.report_text.specs.declared.report.Answer.{Answer}
 use Rattle.report_text.specs.declared.report.Answer.TheVariants.{Feasible, Infeasible, Irreducible, Done, Stopped}
 use Rattle.report_text.specs.declared.report.Entry.{Entry}
 use Rattle.report_text.specs.declared.report.Report.{Report}
+use Rattle.report_text.specs.Turns.{after, gathered}
 
 -- a line, as its bytes
 abbrev pub Line : Type 0
@@ -188,6 +189,10 @@ command_text (Pivots n) = codes "budget" then codes "pivots" then decimal n
 abbrev pub entry_lines : Program → Entry → List Line
 entry_lines model e = (codes "command" then command_text e.command) ∷ answer_lines model e.answer
 
+-- the lines of entries, each by the program after the commands before it
+abbrev pub entries_lines : Program → List Command → List Entry → List Line
+entries_lines model before entries = gathered (λ front e. entry_lines (after model front) e) before entries
+
 -- the line of a note
 abbrev pub note_line : Program → Note → Line
 note_line model (LowerRemoved j) = codes "note" then column_name model j then codes "lower removed"
@@ -195,7 +200,7 @@ note_line model (LowerKept j) = codes "note" then column_name model j then codes
 
 -- the lines of a report: the head, the notes, the entries, the foot
 abbrev pub report_lines : Program → Report → List Line
-report_lines model report = codes "iisan report 1" ∷ (map (note_line model) report.notes ++ (flat_map (entry_lines model) report.entries ++ codes "report end" ∷ []))
+report_lines model report = codes "iisan report 1" ∷ (map (note_line model) report.notes ++ (entries_lines model [] report.entries ++ codes "report end" ∷ []))
 
 -- the text of lines: byte 10 ends each
 abbrev pub text_of : List Line → List ℕ

@@ -1,3 +1,4 @@
 pub mod Names
+pub mod Turns
 pub mod Grammar
 pub mod Form

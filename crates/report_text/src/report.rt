@@ -2,6 +2,7 @@
 ghost use Rattle.std.specs.Prelude.{◌≡◌};
 
 use certs::{Point, Proof, Stop};
+use frac128::Frac;
 use lp_model::{MemberSet, Note};
 use std::marker::Model;
 
@@ -15,7 +16,7 @@ pub enum Method {
 
 /// What is asked of a program: whether some point satisfies its active members, or which of them no point satisfies
 /// though each part of them has one. Or how many pivots each later solve may make, up to 1,000,000.
-#[derive(Clone, Copy, PartialEq, Eq, Debug)]
+#[derive(Drop)]
 pub enum Command {
     Check,
     Iis(Method),
@@ -25,7 +26,7 @@ pub enum Command {
 /// The commands of a script in order, as a list.
 #[derive(Drop)]
 pub struct Script {
-    commands: Vec<Command>,
+    pub commands: Vec<Command>,
 }
 
 impl Model for Script {
@@ -35,22 +36,6 @@ impl Model for Script {
     ghost Value = { List Command };
 
     ghost view = { λ s. s.commands.items };
-}
-
-impl Script {
-    /// These commands.
-    pub fn new(commands: Vec<Command>) -> Script
-        ensures { result ≡ commands.items }
-    {
-        Script { commands }
-    }
-
-    /// The commands.
-    pub fn as_slice(&self) -> &[Command]
-        ensures { result.now ≡ self.now }
-    {
-        self.commands.as_slice()
-    }
 }
 
 /// Points, as a list.
@@ -92,12 +77,15 @@ impl Witnesses {
 }
 
 /// An irreducible set: its members, for each of them in member order a point that is to satisfy all the others, and a
-/// proof that no point satisfies them all.
+/// proof that no point satisfies them all. How many rounds a method took, and a price with its point, are given by no
+/// method as yet.
 #[derive(Drop)]
 pub struct Core {
     pub members: MemberSet,
     pub witnesses: Witnesses,
     pub proof: Proof,
+    pub rounds: Option<u64>,
+    pub price: Option<(Frac, Point)>,
 }
 
 /// What a report answers to a command: a point, members with a proof that no point satisfies them, or an irreducible
@@ -117,7 +105,7 @@ pub enum Answer {
 pub struct Entry {
     pub command: Command,
     pub answer: Answer,
-    pub line: u64,
+    pub line: u32,
 }
 
 /// Entries, as a list.

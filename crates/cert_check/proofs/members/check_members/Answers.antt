@@ -39,6 +39,13 @@ returns-then-not-is_next c =
 pub loop-member-smaller : goal.loop-member-smaller
 loop-member-smaller c = fewer_follow c.args.printed.now.members c.loop-member.after c.in-Some.member c.count-printed.ensures.in_order (sym c.next.ensures ∙ c.in-Some.is)
 
+pub overflow_add-line : goal.overflow_add-line
+overflow_add-line c =
+    let printed = c.args.printed.now.members in
+    let m = c.in-Some.member in
+    let steps : length (filter (follows c.loop-member.after) printed) ≡ suc (length (filter (follows (Some m)) printed)) = ap length (next_step c.loop-member.after printed m c.count-printed.ensures.in_order (sym c.next.ensures ∙ c.in-Some.is)) in
+    omega (arith, steps, c.loop-member.invariant.line, c.requires.short)
+
 pub loop-member-preserved : goal.loop-member-preserved
 loop-member-preserved c =
     let printed = c.args.printed.now.members in

@@ -1,11 +1,10 @@
-use Rattle.std.proofs.Common.{◌<◌, ◌+◌, sym, ◌∙◌, ap, subst, List, length, flat_map}
-use Rattle.std.specs.Prelude.{All}
+use Rattle.std.proofs.Common.{sym, ◌∙◌, ap, subst, List, []}
 use Rattle.std.proofs.lemmas.Result.{err_from_is_err_and}
 use Rattle.lp_model.specs.declared.parts.Note.{Note}
 use Rattle.report_text.specs.declared.report.Entry.{Entry}
-use Rattle.report_text.specs.Grammar.{entry_lines}
-use Rattle.cert_check.specs.Trials.{paired_trials, same_note, entry_trials}
+use Rattle.cert_check.specs.Trials.{paired_trials, same_note, entries_trials}
 use Rattle.cert_check.specs.Stops.{first_stop}
+use Rattle.cert_check.specs.Uses.{AreShort}
 use Rattle.cert_check.proofs.Firsts.{stop_first, stop_of, says_second, says_of}
 use Rattle.cert_check.proofs.Numbers.{report_short}
 use Rattle.cert_check.proofs.reports.check_report.Goals as goal
@@ -16,7 +15,7 @@ returns-in_err-check_notes c =
     let s = c.in_err-check_notes.field-0.0 in
     let p = err_from_is_err_and c.from_residual.result c.from_residual.ensures.1 in
     rw (p.1, p.2)
-    (stop_first (paired_trials same_note 2 report.notes c.args.model.now.notes) (flat_map (entry_trials c.args.model.now) report.entries) s
+    (stop_first (paired_trials same_note 2 report.notes c.args.model.now.notes) (entries_trials c.args.model.now [] report.entries) s
     (stop_of _ _ s
     (ap (λ (l : List Note). first_stop (paired_trials same_note 2 l c.notes.result.now)) c.as_slice.ensures
     ∙ ap (λ (l : List Note). first_stop (paired_trials same_note 2 report.notes l)) c.notes.ensures)
@@ -24,7 +23,7 @@ returns-in_err-check_notes c =
 
 pub check_entries-requires-clause-short : goal.check_entries-requires-clause-short
 check_entries-requires-clause-short c =
-    subst (λ (l : List Entry). All (λ e. e.line + length (entry_lines c.args.model.now e) < 4294967280) l) (sym c.as_slice-2.ensures)
+    subst (λ (l : List Entry). AreShort c.args.model.now [] l) (sym c.as_slice-2.ensures)
     (report_short c.args.model.now c.args.report.now c.requires.form.numbered c.requires.short)
 
 pub returns : goal.returns
@@ -33,6 +32,6 @@ returns c =
     let notes =
     ap (λ (l : List Note). first_stop (paired_trials same_note 2 l c.notes.result.now)) c.as_slice.ensures
     ∙ ap (λ (l : List Note). first_stop (paired_trials same_note 2 report.notes l)) c.notes.ensures in
-    says_second (paired_trials same_note 2 report.notes c.args.model.now.notes) (flat_map (entry_trials c.args.model.now) report.entries) c.check_entries.result
+    says_second (paired_trials same_note 2 report.notes c.args.model.now.notes) (entries_trials c.args.model.now [] report.entries) c.check_entries.result
     (sym notes ∙ c.in_ok-check_notes.ensures)
-    (says_of _ _ c.check_entries.result (ap (λ (l : List Entry). first_stop (flat_map (entry_trials c.args.model.now) l)) c.as_slice-2.ensures) c.check_entries.ensures)
+    (says_of _ _ c.check_entries.result (ap (λ (l : List Entry). first_stop (entries_trials c.args.model.now [] l)) c.as_slice-2.ensures) c.check_entries.ensures)

@@ -53,6 +53,19 @@ returns-in_err-check_witness c =
     (witness_stops model set c.args.witnesses.now i.after i.witness-index m w c.count-count.ensures.in_order (sym c.next.ensures ∙ c.in-Some.is) c.loop-witness-test.true c.witness-item.is set i.line s
     (stop_of _ _ s (ap (λ (v : SetValue). first_stop (witness_trials model v.members i.line ((m, w) ∷ []))) i.invariant.others) c.in_err-check_witness.ensures.says)))
 
+pub check_witness-requires-clause-short : goal.check_witness-requires-clause-short
+check_witness-requires-clause-short c =
+    let i = c.loop-witness in
+    let step = lines_step c.args.model.now c.args.members.now.members c.args.witnesses.now i.after i.witness-index c.in-Some.member c.witness-item.result c.count-count.ensures.in_order (sym c.next.ensures ∙ c.in-Some.is) c.loop-witness-test.true c.witness-item.is in
+    omega (arith, step, i.invariant.line, c.requires.short)
+
+pub overflow_cast-line : goal.overflow_cast-line
+overflow_cast-line c =
+    let i = c.loop-witness in
+    let step = lines_step c.args.model.now c.args.members.now.members c.args.witnesses.now i.after i.witness-index c.in-Some.member c.witness-item.result c.count-count.ensures.in_order (sym c.next.ensures ∙ c.in-Some.is) c.loop-witness-test.true c.witness-item.is in
+    let count : c.count_values.result ≡ length (filter (λ v. not (eq_ℚ v zero_ℚ)) c.witness-item.result.values) = c.count_values.ensures ∙ ap (λ l. length (filter (λ v. not (eq_ℚ v zero_ℚ)) l)) c.as_slice.ensures in
+    omega (arith, step, count, i.invariant.line, c.requires.short)
+
 pub overflow_add-line : goal.overflow_add-line
 overflow_add-line c =
     let i = c.loop-witness in

@@ -5,22 +5,22 @@ use Rattle.report_reader.specs.Drafts.{extended}
 use Rattle.report_reader.proofs.following.follow.Goals as goal
 
 pub returns-in-Nothing : goal.returns-in-Nothing
-returns-in-Nothing c = c.follow_command.ensures c.args.model.now ∙ ap (λ p. extended c.args.model.now c.args.command p c.args.phrase) (sym c.in-Nothing.is)
+returns-in-Nothing c = c.follow_command.ensures c.args.model.now ∙ ap (λ p. extended c.args.model.now c.args.command.now p c.args.phrase) (sym c.in-Nothing.is)
 
 pub returns-in-Feasible : goal.returns-in-Feasible
-returns-in-Feasible c = c.follow_feasible.ensures c.args.model.now c.args.command ∙ ap (λ p. extended c.args.model.now c.args.command p c.args.phrase) (sym c.in-Feasible.is)
+returns-in-Feasible c = c.follow_feasible.ensures c.args.model.now c.args.command.now ∙ ap (λ p. extended c.args.model.now c.args.command.now p c.args.phrase) (sym c.in-Feasible.is)
 
 pub returns-in-Point : goal.returns-in-Point
-returns-in-Point c = subst (λ (p : Part). IfOk c.follow_point.result (λ n. n ≡ extended c.args.model.now c.args.command p c.args.phrase)) (sym c.in-Point.is) (c.follow_point.ensures c.args.command)
+returns-in-Point c = subst (λ (p : Part). IfOk c.follow_point.result (λ n. n ≡ extended c.args.model.now c.args.command.now p c.args.phrase)) (sym c.in-Point.is) (c.follow_point.ensures c.args.command.now)
 
 pub returns-in-Listed : goal.returns-in-Listed
-returns-in-Listed c = subst (λ (p : Part). IfOk c.follow_list.result (λ n. n ≡ extended c.args.model.now c.args.command p c.args.phrase)) (sym c.in-Listed.is) (c.follow_list.ensures c.args.model.now c.args.command)
+returns-in-Listed c = subst (λ (p : Part). IfOk c.follow_list.result (λ n. n ≡ extended c.args.model.now c.args.command.now p c.args.phrase)) (sym c.in-Listed.is) (c.follow_list.ensures c.args.model.now c.args.command.now)
 
 pub returns-in-Member : goal.returns-in-Member
-returns-in-Member c = c.follow_member.ensures c.args.model.now c.args.command ∙ ap (λ p. extended c.args.model.now c.args.command p c.args.phrase) (sym c.in-Member.is)
+returns-in-Member c = c.follow_member.ensures c.args.model.now c.args.command.now ∙ ap (λ p. extended c.args.model.now c.args.command.now p c.args.phrase) (sym c.in-Member.is)
 
 pub returns-in-Witness : goal.returns-in-Witness
-returns-in-Witness c = subst (λ (p : Part). IfOk c.follow_witness.result (λ n. n ≡ extended c.args.model.now c.args.command p c.args.phrase)) (sym c.in-Witness.is) (c.follow_witness.ensures c.args.command)
+returns-in-Witness c = subst (λ (p : Part). IfOk c.follow_witness.result (λ n. n ≡ extended c.args.model.now c.args.command.now p c.args.phrase)) (sym c.in-Witness.is) (c.follow_witness.ensures c.args.command.now)
 
 pub returns-in-Proof : goal.returns-in-Proof
-returns-in-Proof c = c.follow_proof.ensures c.args.model.now c.args.command ∙ ap (λ p. extended c.args.model.now c.args.command p c.args.phrase) (sym c.in-Proof.is)
+returns-in-Proof c = c.follow_proof.ensures c.args.model.now c.args.command.now ∙ ap (λ p. extended c.args.model.now c.args.command.now p c.args.phrase) (sym c.in-Proof.is)

@@ -16,8 +16,7 @@ pub overflow_add-number : goal.overflow_add-number
 overflow_add-number c =
     let w = c.loop-line.invariant.within in
     let s = c.in-Some.ensures.shorter in
-    let e = c.count_bytes-count.ensures in
-    let t = c.count_bytes-count.type_inv in
+    let t = c.requires in
     omega arith
 
 pub take_line-requires : goal.take_line-requires
@@ -38,8 +37,7 @@ loop-line-preserved c =
 pub end-requires : goal.end-requires
 end-requires c =
     let w = c.loop-line.invariant.within in
-    let e = c.count_bytes-count.ensures in
-    let t = c.count_bytes-count.type_inv in
+    let t = c.requires in
     omega arith
 
 pub returns-clause-read : goal.returns-clause-read

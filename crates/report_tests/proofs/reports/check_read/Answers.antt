@@ -7,6 +7,6 @@ pub verify-requires-clause-short : goal.verify-requires-clause-short
 verify-requires-clause-short c =
     let reads = c.in-Ok.ensures.read in
     let bytes = ap length reads.text in
-    let lines = lines_fit (report_lines c.args.model.now c.in-Ok.report) in
-    let short = c.if-text-gt-MOST.false in
+    let lines = lines_fit (report_lines c.args.model c.in-Ok.report) in
+    let short = c.requires in
     omega arith
