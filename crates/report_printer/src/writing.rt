@@ -1,7 +1,7 @@
 //! The printed lines of commands, answers and reports.
 #![tactic(auto, using(crate::proofs::Kept::keeps_on, crate::proofs::Kept::keeps_more, crate::proofs::Kept::keeps_same))]
 
-ghost use Rattle.std.specs.Prelude.{◌≡◌, ◌++◌, ◌∷◌, [], ◌<◌, ◌≤◌, ◌&&◌, not, OnOk, codes, decimal, length, map, flat_map, zip, ℕ, All};
+ghost use Rattle.std.specs.Prelude.{◌≡◌, ◌++◌, ◌∷◌, [], ◌<◌, ◌≤◌, ◌&&◌, not, OnErr, OnOk, codes, decimal, length, map, flat_map, take, zip, ℕ, All};
 ghost use Rattle.std.specs.Fmt.{signed_decimal};
 ghost use Rattle.frac128.specs.Printed.{printed};
 ghost use Rattle.certs.specs.Checks.{IsSetOf};
@@ -540,13 +540,8 @@ fn print_irreducible(model: &Model, core: &Core, into: &mut Vec<u8>) -> Result<(
     Ok(())
 }
 
-/// Appends the lines of an answer to a command. As yet none is printed otherwise for one command than for another.
-pub fn print_answer(
-    model: &Model,
-    _command: &Command,
-    answer: &Answer,
-    into: &mut Vec<u8>,
-) -> Result<(), AllocError>
+// Appends the lines of an answer.
+fn put_answer(model: &Model, answer: &Answer, into: &mut Vec<u8>) -> Result<(), AllocError>
     requires { IsKnownAnswer model.now answer.now }
     ensures text { OnOk result (into.new.items ≡ into.old.items ++ text_of (answer_lines model.now answer.now)) }
     ensures front { Keeps into.old.items into.new.items }
@@ -589,8 +584,8 @@ fn print_budget(most: u64, into: &mut Vec<u8>) -> Result<(), AllocError>
     Ok(())
 }
 
-/// Appends a command.
-pub fn print_command(command: &Command, into: &mut Vec<u8>) -> Result<(), AllocError>
+// Appends a command.
+fn put_command(command: &Command, into: &mut Vec<u8>) -> Result<(), AllocError>
     ensures text { OnOk result (into.new.items ≡ into.old.items ++ command_text command.now) }
     ensures front { Keeps into.old.items into.new.items }
 {
@@ -601,8 +596,8 @@ pub fn print_command(command: &Command, into: &mut Vec<u8>) -> Result<(), AllocE
     }
 }
 
-/// Appends the lines of a command and its answer.
-pub fn print_entry(
+// Appends the lines of a command and its answer.
+fn put_entry(
     model: &Model,
     command: &Command,
     answer: &Answer,
@@ -613,9 +608,9 @@ pub fn print_entry(
     ensures front { Keeps into.old.items into.new.items }
 {
     push_word(b"command", into)?;
-    print_command(command, into)?;
+    put_command(command, into)?;
     into.push(b'\n')?;
-    print_answer(model, command, answer, into)
+    put_answer(model, answer, into)
 }
 
 // Appends a note on a column.
@@ -646,8 +641,8 @@ fn print_note(model: &Model, note: Note, into: &mut Vec<u8>) -> Result<(), Alloc
     }
 }
 
-/// Appends the lines of a report that stand before its entries: the notes are those of the program's reader.
-pub fn print_head(model: &Model, into: &mut Vec<u8>) -> Result<(), AllocError>
+// Appends the lines of a report that stand before its entries.
+fn put_head(model: &Model, into: &mut Vec<u8>) -> Result<(), AllocError>
     ensures text { OnOk result (into.new.items ≡ into.old.items ++ text_of (head_lines model.now model.now.notes)) }
     ensures front { Keeps into.old.items into.new.items }
 {
@@ -660,12 +655,84 @@ pub fn print_head(model: &Model, into: &mut Vec<u8>) -> Result<(), AllocError>
     Ok(())
 }
 
-/// Appends the last line of a report.
+// Takes back what was appended before more was refused.
+fn take_back(
+    printed: Result<(), AllocError>,
+    start: usize,
+    into: &mut Vec<u8>,
+) -> Result<(), AllocError>
+    ensures same { result ≡ printed }
+    ensures ok { OnOk result (into.new.items ≡ into.old.items) }
+    ensures err { OnErr result (into.new.items ≡ take start into.old.items) }
+{
+    if printed.is_err() {
+        into.truncate(start);
+    }
+    printed
+}
+
+/// Appends a command. Where memory is refused, the bytes are those that were there.
+pub fn print_command(command: &Command, into: &mut Vec<u8>) -> Result<(), AllocError>
+    ensures text { OnOk result (into.new.items ≡ into.old.items ++ command_text command.now) }
+    ensures kept { OnErr result (into.new.items ≡ into.old.items) }
+{
+    let start = into.len();
+    let printed = put_command(command, into);
+    take_back(printed, start, into)
+}
+
+/// Appends the lines of an answer to a command. As yet none is printed otherwise for one command than for another.
+/// Where memory is refused, the bytes are those that were there.
+pub fn print_answer(
+    model: &Model,
+    _command: &Command,
+    answer: &Answer,
+    into: &mut Vec<u8>,
+) -> Result<(), AllocError>
+    requires { IsKnownAnswer model.now answer.now }
+    ensures text { OnOk result (into.new.items ≡ into.old.items ++ text_of (answer_lines model.now answer.now)) }
+    ensures kept { OnErr result (into.new.items ≡ into.old.items) }
+{
+    let start = into.len();
+    let printed = put_answer(model, answer, into);
+    take_back(printed, start, into)
+}
+
+/// Appends the lines of a command and its answer. Where memory is refused, the bytes are those that were there.
+pub fn print_entry(
+    model: &Model,
+    command: &Command,
+    answer: &Answer,
+    into: &mut Vec<u8>,
+) -> Result<(), AllocError>
+    requires { IsKnownAnswer model.now answer.now }
+    ensures text { (line : ℕ) → OnOk result (into.new.items ≡ into.old.items ++ text_of (entry_lines model.now (record { command = command.now; answer = answer.now; line = line }))) }
+    ensures kept { OnErr result (into.new.items ≡ into.old.items) }
+{
+    let start = into.len();
+    let printed = put_entry(model, command, answer, into);
+    take_back(printed, start, into)
+}
+
+/// Appends the lines of a report that stand before its entries: the notes are those of the program's reader. Where memory
+/// is refused, the bytes are those that were there.
+pub fn print_head(model: &Model, into: &mut Vec<u8>) -> Result<(), AllocError>
+    ensures text { OnOk result (into.new.items ≡ into.old.items ++ text_of (head_lines model.now model.now.notes)) }
+    ensures kept { OnErr result (into.new.items ≡ into.old.items) }
+{
+    let start = into.len();
+    let printed = put_head(model, into);
+    take_back(printed, start, into)
+}
+
+/// Appends the last line of a report. Where memory is refused, the bytes are those that were there.
 pub fn print_foot(into: &mut Vec<u8>) -> Result<(), AllocError>
     ensures text { OnOk result (into.new.items ≡ into.old.items ++ text_of foot_lines) }
-    ensures front { Keeps into.old.items into.new.items }
+    ensures kept { OnErr result (into.new.items ≡ into.old.items) }
 {
-    push_line(b"report end", into)
+    let start = into.len();
+    let printed = push_line(b"report end", into);
+    take_back(printed, start, into)
 }
 
 /// What is in the form of an answer can be printed.

@@ -1,7 +1,7 @@
 use Rattle.std.proofs.Common.{◌≡◌, ◌++◌, map, drop}
 use Rattle.report_text.specs.Grammar.{note_line, text_of}
 use Rattle.report_printer.specs.Printing.{Keeps}
-use Rattle.report_printer.proofs.writing.print_head.Given as goal
+use Rattle.report_printer.proofs.writing.put_head.Given as goal
 
 -- what was there stays, and the lines that are left complete the text
 abbrev pub invariant-loop-note : goal.invariant-loop-note

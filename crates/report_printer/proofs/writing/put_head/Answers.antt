@@ -3,7 +3,7 @@ use Rattle.std.specs.Prelude.{codes}
 use Rattle.report_text.specs.Grammar.{text_of}
 use Rattle.report_printer.specs.Printing.{head_lines}
 use Rattle.report_printer.proofs.Printed.{head_ended}
-use Rattle.report_printer.proofs.writing.print_head.Goals as goal
+use Rattle.report_printer.proofs.writing.put_head.Goals as goal
 
 pub returns-clause-text : goal.returns-clause-text
 returns-clause-text c =
