@@ -12,7 +12,8 @@ use Rattle.lp_model.specs.Program.{Program, IsWellFormed}
 use Rattle.lp_model.specs.Members.{comes_before, is_same, kind, place, is_active, active_members, IsInOrder}
 use Rattle.lp_model.specs.Satisfaction.{values_at, Satisfies, IsSatisfiable, IsPart}
 use Rattle.lp_model.proofs.Sets.{same_self, members_law}
-use Rattle.certs.specs.declared.evidence.Checked.TheVariants.{Yes}
+use Rattle.certs.specs.declared.evidence.Checked.{Checked}
+use Rattle.certs.specs.declared.evidence.Checked.TheVariants.{Yes, No, Wide}
 use Rattle.certs.specs.declared.evidence.Point.{Point}
 use Rattle.certs.specs.Checks.{outcome, point_steps}
 use Rattle.certs.proofs.Passed.{point_check_law}
@@ -24,9 +25,9 @@ use Rattle.report_text.specs.declared.report.Entry.{Entry}
 use Rattle.report_text.specs.Turns.{after}
 use Rattle.report_text.specs.Form.{IsAnswerFor, AreEntriesFor}
 use Rattle.report_text.specs.Grammar.{witness_lines}
-use Rattle.cert_check.specs.Trials.{said, paired_trials, same_note, is_active_use, leaf_shares, leaf_trial, others, witness_trials, witnesses_of, used_members, answer_trials, entry_trials, entries_trials}
+use Rattle.cert_check.specs.Trials.{said, paired_trials, same_note, is_active_use, leaf_shares, leaf_trial, others, witness_trials, witnesses_of, used_members, answer_trials, entry_trials, entries_trials, Trial, trials, unless_failed, outcome_of, IsAccepted}
 use Rattle.cert_check.specs.Stops.{first_stop, stop_or}
-use Rattle.cert_check.specs.Truth.{IsTrueAnswer, AreTrue}
+use Rattle.cert_check.specs.Truth.{IsTrueAnswer, AreTrue, AcceptedLaw}
 use Rattle.cert_check.proofs.Firsts.{found_yes, parts_pass}
 
 said_yes : (b : Bool) → said b ≡ Yes → b ≡ true
@@ -163,3 +164,18 @@ true_entries model before (t ∷ entries) f h e =
     let next = before ++ t.command ∷ [] in
     let both = parts_pass (entry_trials now t) (entries_trials model next entries) e in
     (true_answer now t.line t.answer f h.0.answer both.0, true_entries model next entries f h.1 both.1)
+
+-- where a check accepts, nothing stops it
+accepted_passes : (entries : List Entry) (list : List Trial) → IsAccepted (outcome_of entries list) → first_stop list ≡ None
+accepted_passes entries [] a = refl
+accepted_passes entries (t ∷ list) a = by t.found a (accepted_passes entries list)
+  where
+    by : (found : Checked) → IsAccepted (unless_failed t.line found (outcome_of entries list)) → (IsAccepted (outcome_of entries list) → first_stop list ≡ None) → stop_or t.line found (first_stop list) ≡ None
+    by Yes b rest = rest b
+    by No b rest = absurd b
+    by (Wide o) b rest = absurd b
+
+pub accepted_is_true : AcceptedLaw
+accepted_is_true model report f form a =
+    let both = parts_pass (paired_trials same_note 2 report.notes model.notes) (entries_trials model [] report.entries) (accepted_passes report.entries (trials model report) a) in
+    (same_notes 2 report.notes model.notes both.0, true_entries model [] report.entries f form.entries both.1)

@@ -1,6 +1,6 @@
 -- What a report claims of a program, apart from any check.
-use Rattle.std.specs.Prelude.{List, All, zip}
-use Rattle.lp_model.specs.Program.{Program}
+use Rattle.std.specs.Prelude.{◌≡◌, List, [], All, zip}
+use Rattle.lp_model.specs.Program.{Program, IsWellFormed}
 use Rattle.lp_model.specs.declared.members.Member.{Member}
 use Rattle.lp_model.specs.Members.{active_members}
 use Rattle.lp_model.specs.Satisfaction.{values_at, Satisfies, IsUnsatisfiable, IsIrreducible, IsPart}
@@ -10,7 +10,9 @@ use Rattle.report_text.specs.declared.report.Answer.TheVariants.{Feasible, Infea
 use Rattle.report_text.specs.declared.report.Command.{Command}
 use Rattle.report_text.specs.declared.report.Entry.{Entry}
 use Rattle.report_text.specs.Turns.{after, AllEntries}
-use Rattle.cert_check.specs.Trials.{others}
+use Rattle.report_text.specs.declared.report.Report.{Report}
+use Rattle.report_text.specs.Form.{IsReportFor}
+use Rattle.cert_check.specs.Trials.{others, trials, outcome_of, IsAccepted}
 
 -- members that are active, and that no point satisfies
 pub record IsRefuted (model : Program) (set : List Member) : Type 0 where
@@ -39,3 +41,8 @@ IsTrueOf model e = IsTrueAnswer model e.answer
 -- what each entry claims is so of the program after the commands before it
 abbrev pub AreTrue : Program → List Command → List Entry → Type 0
 AreTrue model before entries = AllEntries (λ front e. IsTrueOf (after model front) e) before entries
+
+-- ---- what is accepted is true
+-- where the trials of a report in the grammar for a program all pass, its notes are the program's, and what each entry claims is so
+abbrev pub AcceptedLaw : Type 0
+AcceptedLaw = (model : Program) (report : Report) → IsWellFormed model → IsReportFor model report → IsAccepted (outcome_of report.entries (trials model report)) → (report.notes ≡ model.notes) × AreTrue model [] report.entries

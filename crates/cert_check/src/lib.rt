@@ -9,4 +9,4 @@ mod reports;
 mod witnesses;
 
 pub use outcome::Outcome;
-pub use reports::verify;
+pub use reports::{accepted_reports_are_true, verify};

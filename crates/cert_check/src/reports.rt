@@ -4,7 +4,7 @@ ghost use Rattle.report_text.specs.Form.{IsReportFor};
 ghost use Rattle.report_text.specs.Grammar.{report_lines};
 ghost use Rattle.cert_check.specs.Trials.{trials, settles as settles_command, settled_count, unsettled_count, outcome_of, IsAccepted};
 ghost use Rattle.cert_check.specs.Stops.{first_stop, Says, ending};
-ghost use Rattle.cert_check.specs.Truth.{AreTrue};
+ghost use Rattle.cert_check.specs.Truth.{AreTrue, AcceptedLaw};
 
 use crate::entries::check_entries;
 use crate::notes::check_notes;
@@ -43,6 +43,11 @@ pub fn verify(alloc: Global, model: Model, report: Report) -> Outcome
         Err(stop) => ending_of(stop),
     }
 }
+
+/// What a check accepts is true, whatever program ran it. It does nothing when it runs.
+pub fn accepted_reports_are_true()
+    ensures { AcceptedLaw }
+{}
 
 // Checks the notes, and then the entries.
 fn check_report(alloc: Global, model: &Model, report: &Report) -> Result<(), Stop>

@@ -8,8 +8,7 @@ use Rattle.report_reader.specs.declared.reader.ReportStop.TheVariants.{BadLine, 
 use Rattle.report_reader.specs.Reading.{Reads, IsReportStop}
 use Rattle.cert_check.specs.declared.outcome.Outcome.{Outcome}
 use Rattle.cert_check.specs.declared.outcome.Outcome.TheVariants.{Accepted, Rejected, Wide, Memory as Want}
-use Rattle.cert_check.specs.Trials.{Trial, trials, outcome_of, unless_failed, IsAccepted}
-use Rattle.cert_check.specs.Truth.{AreTrue}
+use Rattle.cert_check.specs.Trials.{Trial, trials, outcome_of, unless_failed}
 use Rattle.lp_model.specs.Program.{Program}
 use Rattle.text_fields.specs.declared.faults.ReadFault.{ReadFault as ModelFault}
 use Rattle.text_fields.specs.declared.faults.ReadFault.TheVariants.{Stop, Memory as NoModelMemory}
@@ -36,7 +35,7 @@ use Rattle.iis_run.specs.Fetches.{IsFetchStop}
 use Rattle.iis_run.specs.Causes.{IsModel, IsNoModel, IsModelOf, AreReported, IsReportEnding, IsDecided, IsChecked, ComesTo, checked_ending, refused_ending}
 use Rattle.iis_run.specs.Scripts.{IsCommands, IsBadScript, script_ending}
 use Rattle.iis_run.specs.Run.{IsCaused}
-use Rattle.iis_run.specs.Steps.{IsModelStop, IsQuietRefusal, model_ending, IsReportOf, IsCheckEnd, IsScriptEnd, IsSecondPlan, IsPlanned}
+use Rattle.iis_run.specs.Steps.{IsModelStop, IsQuietEnd, model_ending, IsReportOf, IsCheckEnd, IsScriptEnd, IsSecondPlan, IsPlanned}
 
 -- these bytes were fetched of a file, where it is told
 abbrev pub IsFetched : Option (List ℕ) → List ℕ → Which → Type 0
@@ -185,10 +184,10 @@ module _ (file : List ℕ → Option (List ℕ)) (before mid now : List ℕ → 
   second_planned Analyse (Answer q commands) m later h = record { declares = subst (λ (r : Program). IfSome (file model) (λ b. IsModelOf model b r)) (sym h.0) m; says = h.1 }
 
 -- there is no model
-pub model_planned : (file : List ℕ → Option (List ℕ)) (before now : List ℕ → ℕ) (verb : Verb) (model second : List ℕ) (e : Ending) → IsModelStop model (file model) (before model) (now model) e → IsQuietRefusal before now e → IsCaused file before now (Some (request_for verb model second)) e
+pub model_planned : (file : List ℕ → Option (List ℕ)) (before now : List ℕ → ℕ) (verb : Verb) (model second : List ℕ) (e : Ending) → IsModelStop model (file model) (before model) (now model) e → IsQuietEnd before now e → IsCaused file before now (Some (request_for verb model second)) e
 model_planned file before now Verify model second e h k = by e h k
   where
-    by : (f : Ending) → IsModelStop model (file model) (before model) (now model) f → IsQuietRefusal before now f → IsCaused file before now (Some (Request.Verify model second)) f
+    by : (f : Ending) → IsModelStop model (file model) (before model) (now model) f → IsQuietEnd before now f → IsCaused file before now (Some (Request.Verify model second)) f
     by (ReadFault Model) g k = g
     by (ReadFault Report) g k = absurd g
     by (ReadFault Script) g k = absurd g
@@ -204,7 +203,7 @@ model_planned file before now Verify model second e h k = by e h k
     by (Checked v) g k = absurd g
 model_planned file before now Analyse model second e h k = by e h k
   where
-    by : (f : Ending) → IsModelStop model (file model) (before model) (now model) f → IsQuietRefusal before now f → IsCaused file before now (Some (Request.Analyse model second)) f
+    by : (f : Ending) → IsModelStop model (file model) (before model) (now model) f → IsQuietEnd before now f → IsCaused file before now (Some (Request.Analyse model second)) f
     by (ReadFault Model) g k = g
     by (ReadFault Report) g k = absurd g
     by (ReadFault Script) g k = absurd g
@@ -238,9 +237,9 @@ decided entries (t ∷ list) = by t.found (decided entries list)
 
 -- a report that was checked
 pub check_comes : (p : Program) (bytes : List ℕ) (report : Entries) (o : Outcome) → Reads p bytes report → (o ≡ Want) ⊎ (o ≡ outcome_of report.entries (trials p report))
-    → (IsAccepted o → report.notes ≡ p.notes) → (IsAccepted o → AreTrue p [] report.entries) → ComesTo p bytes (checked_ending o)
-check_comes p bytes report o reads (inl want) notes answers = subst (λ (x : Outcome). ComesTo p bytes (checked_ending x)) (sym want) tt
-check_comes p bytes report o reads (inr same) notes answers = by o (subst IsDecided (sym same) (decided report.entries (trials p report))) (record { report = report; reads = reads; found = same; so = λ a. record { notes = notes a; entries = answers a } })
+    → ComesTo p bytes (checked_ending o)
+check_comes p bytes report o reads (inl want) = subst (λ (x : Outcome). ComesTo p bytes (checked_ending x)) (sym want) tt
+check_comes p bytes report o reads (inr same) = by o (subst IsDecided (sym same) (decided report.entries (trials p report))) (record { report = report; reads = reads; found = same })
   where
     by : (x : Outcome) → IsDecided x → IsChecked p bytes x → ComesTo p bytes (checked_ending x)
     by (Accepted settled unsettled) d h = (d, h)

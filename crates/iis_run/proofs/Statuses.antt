@@ -13,6 +13,10 @@ use Rattle.text_fields.specs.declared.faults.ReadStop.{ReadStop}
 use Rattle.model_files.specs.Formats.{Declares}
 use Rattle.report_text.specs.declared.report.Report.{Report as Entries}
 use Rattle.report_reader.specs.Reading.{Reads}
+use Rattle.report_text.specs.Form.{IsReportFor}
+use Rattle.cert_check.specs.Trials.{trials, outcome_of, IsAccepted as IsPassed}
+use Rattle.cert_check.proofs.Believed.{accepted_is_true}
+use Rattle.model_files.proofs.Meaning.{meaning}
 use Rattle.iis_run.specs.declared.endings.Which.{Which}
 use Rattle.iis_run.specs.declared.endings.Which.TheVariants.{Model, Report, Script}
 use Rattle.iis_run.specs.declared.endings.Ending.{Ending}
@@ -473,6 +477,12 @@ module _ {S K : Type 0} (file : S → List ℕ → Option (List ℕ)) (fetch_fau
       by (Some (Request.Analyse model script)) a = absurd a.1.1.1
   unsettled_clause request status (inr run) h = done request status true (IsUnsettled (file shelf_old) put_faults taken out_old out_new) run h (λ model script d. d)
 
+  -- what a check accepts is so
+  is_true : (bytes name : List ℕ) (program : Program) (report : Entries) → Declares name bytes program → IsReportFor program report → IsPassed (outcome_of report.entries (trials program report)) → IsTrueReport program report
+  is_true bytes name program report declares form passed =
+      let both = accepted_is_true program report (meaning.well_formed name bytes program declares) form passed in
+      record { notes = both.0; entries = both.1 }
+
   -- what an accepted report says is so
   accepted_so : (request : Option Request) (settled unsettled : ℕ) → AskedFor (file shelf_old) request (Checked (Accepted settled unsettled)) → IsBorneOut (file shelf_old) request
   accepted_so request settled unsettled h = by request h
@@ -483,7 +493,7 @@ module _ {S K : Type 0} (file : S → List ℕ → Option (List ℕ)) (fetch_fau
       so name (Some mb) (Some rb) a = λ program report declares reads.
           let at = a.1 in
           let same = the_report name mb rb at.program program at.comes.1.report report at.declares declares at.comes.1.reads reads in
-          subst (λ (x : Entries). IsTrueReport program x) same.1 (subst (λ (p : Program). IsTrueReport p at.comes.1.report) same.0 (at.comes.1.so tt))
+          subst (λ (x : Entries). IsTrueReport program x) same.1 (subst (λ (p : Program). IsTrueReport p at.comes.1.report) same.0 (is_true mb name at.program at.comes.1.report at.declares at.comes.1.reads.form (subst IsPassed at.comes.1.found tt)))
 
       by : (r : Option Request) → AskedFor (file shelf_old) r (Checked (Accepted settled unsettled)) → IsBorneOut (file shelf_old) r
       by None a = absurd a

@@ -7,7 +7,7 @@ use Rattle.report_text.specs.declared.report.Report.{Report as Entries}
 use Rattle.report_reader.specs.Reading.{Reads, IsBadLine, IsTruncated}
 use Rattle.cert_check.specs.declared.outcome.Outcome.{Outcome}
 use Rattle.cert_check.specs.declared.outcome.Outcome.TheVariants.{Accepted, Rejected, Wide, Memory as Want}
-use Rattle.cert_check.specs.Trials.{trials, outcome_of, IsAccepted}
+use Rattle.cert_check.specs.Trials.{trials, outcome_of}
 use Rattle.cert_check.specs.Truth.{AreTrue}
 use Rattle.report_reader.specs.declared.reader.ReportStop.{ReportStop}
 use Rattle.report_reader.specs.declared.reader.ReportStop.TheVariants.{BadLine, Truncated, Memory as NoMemory}
@@ -44,12 +44,11 @@ pub record IsTrueReport (program : Program) (report : Entries) : Type 0 where
   pub notes : report.notes ≡ program.notes
   pub entries : AreTrue program [] report.entries
 
--- The bytes are a report, and its check against the program comes out so. What it accepts is true.
+-- the bytes are a report, and its check against the program comes out so
 pub record IsChecked (program : Program) (bytes : List ℕ) (outcome : Outcome) : Type 0 where
   pub report : Entries
   pub reads : Reads program bytes report
   pub found : outcome ≡ outcome_of report.entries (trials program report)
-  pub so : IsAccepted outcome → IsTrueReport program report
 
 -- what the bytes of a report come to, for a program: a line with which no report goes on, an end that comes too soon, or a check
 abbrev pub IsReportEnding : Program → List ℕ → Ending → Type 0

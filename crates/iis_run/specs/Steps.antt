@@ -1,5 +1,5 @@
 -- What the steps of a run come to.
-use Rattle.std.specs.Prelude.{◌≡◌, ◌<◌, ◌≤◌, ⊤, ℕ, false, List, length, Option, IfSome, All}
+use Rattle.std.specs.Prelude.{◌≡◌, ◌<◌, ◌≤◌, ⊤, ℕ, List, length, Option, IfSome, All}
 use Rattle.iis_edge.specs.Causes.{Rose, KeepsCounts}
 use Rattle.lp_model.specs.Program.{Program}
 use Rattle.model_files.specs.Reading.{IsMarkless}
@@ -29,10 +29,12 @@ IsModelStop name file before now (ModelRefused stop) = IfSome file (λ m. IsNoMo
 IsModelStop name file before now Memory = ⊤
 IsModelStop name file before now _ = ⊥
 
--- a model that is refused was fetched, so no count of faults has changed
-abbrev pub IsQuietRefusal : (List ℕ → ℕ) → (List ℕ → ℕ) → Ending → Type 0
-IsQuietRefusal before now (ModelRefused stop) = KeepsCounts before now
-IsQuietRefusal before now _ = ⊤
+-- where no fetch stopped and memory was there, no count of faults has changed
+abbrev pub IsQuietEnd : (List ℕ → ℕ) → (List ℕ → ℕ) → Ending → Type 0
+IsQuietEnd before now (ReadFault which) = ⊤
+IsQuietEnd before now (TooLong which) = ⊤
+IsQuietEnd before now Memory = ⊤
+IsQuietEnd before now _ = KeepsCounts before now
 
 -- within the limit, and they come to this ending for the program
 pub record IsReportOf (program : Program) (bytes : List ℕ) (ending : Ending) : Type 0 where
@@ -76,6 +78,11 @@ IsSecondPlan Analyse program file before now plan = IsScriptPlan program file be
 abbrev pub IsPlanned : (List ℕ → Option (List ℕ)) → (List ℕ → ℕ) → (List ℕ → ℕ) → Option Request → Plan → Type 0
 IsPlanned file before now request (Say ending) = IsCaused file before now request ending
 IsPlanned file before now request (Answer program commands) = IsAskedSession file request program commands
+
+-- the same of a plan
+abbrev pub IsQuietPlan : (List ℕ → ℕ) → (List ℕ → ℕ) → Plan → Type 0
+IsQuietPlan before now (Say ending) = IsQuietEnd before now ending
+IsQuietPlan before now (Answer program commands) = KeepsCounts before now
 
 -- what is to be answered can be: there are no marks, and a script may have each command
 abbrev pub IsReady : Plan → Type 0

@@ -3,6 +3,7 @@ ghost use Rattle.std.specs.Prelude.{◌≡◌, ◌≤◌, ℕ, List, length, vec
 ghost use Rattle.iis_edge.specs.Causes.{KeepsCounts};
 ghost use Rattle.iis_run.specs.Limits.{limit_of};
 ghost use Rattle.iis_run.specs.Fetches.{IsFetchStop};
+ghost use Rattle.iis_run.specs.Steps.{IsQuietEnd};
 
 use crate::endings::{Ending, Which};
 use iis_edge::{FetchStop, Shelf};
@@ -34,6 +35,7 @@ pub(crate) fn fetch_file<S: Shelf>(
     ensures bytes { IfOk result (λ v. IfSome (S.file shelf.old name.now) (λ b. (v.items ≡ b) × (length b ≤ limit_of which))) }
     ensures within { IfOk result (λ v. vec_len v ≤ limit_of which) }
     ensures quiet { OnOk result (KeepsCounts (S.faults shelf.old) (S.faults shelf.new)) }
+    ensures quiet_stop { IfErr result (IsQuietEnd (S.faults shelf.old) (S.faults shelf.new)) }
     ensures stop { IfErr result (IsFetchStop (S.file shelf.old name.now) (S.faults shelf.old name.now) (S.faults shelf.new name.now) which) }
     ensures counts { (n : List ℕ) → S.faults shelf.old n ≤ S.faults shelf.new n }
     ensures files { (n : List ℕ) → S.file shelf.new n ≡ S.file shelf.old n }

@@ -1,10 +1,11 @@
 //! Files that are fetched and read.
-ghost use Rattle.std.specs.Prelude.{◌≡◌, ◌≤◌, ℕ, List, length, All, IfOk, IfErr, IfSome};
+ghost use Rattle.std.specs.Prelude.{◌≡◌, ◌≤◌, ℕ, List, length, All, IfOk, IfErr, IfSome, OnOk};
+ghost use Rattle.iis_edge.specs.Causes.{KeepsCounts};
 ghost use Rattle.report_text.specs.Form.{IsCommand};
 ghost use Rattle.model_files.specs.Reading.{IsMarkless};
 ghost use Rattle.iis_run.specs.Causes.{ComesTo, IsModelOf, checked_ending, refused_ending};
 ghost use Rattle.iis_run.specs.Scripts.{IsCommands, script_ending};
-ghost use Rattle.iis_run.specs.Steps.{IsModelStop, IsQuietRefusal, IsCheckEnd, IsScriptEnd, model_ending};
+ghost use Rattle.iis_run.specs.Steps.{IsModelStop, IsQuietEnd, IsCheckEnd, IsScriptEnd, model_ending};
 
 use crate::endings::{Ending, Which};
 use crate::fetching::fetch_file;
@@ -27,7 +28,8 @@ pub(crate) fn fetch_model<S: Shelf>(
     ensures read { IfOk result (λ model. IfSome (S.file shelf.old name.now) (λ b. IsModelOf name.now b model)) }
     ensures markless { IfOk result IsMarkless }
     ensures stop { IfErr result (IsModelStop name.now (S.file shelf.old name.now) (S.faults shelf.old name.now) (S.faults shelf.new name.now)) }
-    ensures quiet { IfErr result (IsQuietRefusal (S.faults shelf.old) (S.faults shelf.new)) }
+    ensures quiet { IfErr result (IsQuietEnd (S.faults shelf.old) (S.faults shelf.new)) }
+    ensures kept { OnOk result (KeepsCounts (S.faults shelf.old) (S.faults shelf.new)) }
     ensures counts { (n : List ℕ) → S.faults shelf.old n ≤ S.faults shelf.new n }
     ensures files { (n : List ℕ) → S.file shelf.new n ≡ S.file shelf.old n }
 {
@@ -86,6 +88,7 @@ fn check_report(alloc: Global, model: Model, bytes: &[u8]) -> Ending
 /// Fetches the report, reads it and checks it.
 pub(crate) fn check_file<S: Shelf>(alloc: Global, model: Model, shelf: &mut S, name: &str) -> Ending
     ensures end { IsCheckEnd model (S.file shelf.old name.now) (S.faults shelf.old name.now) (S.faults shelf.new name.now) result }
+    ensures quiet { IsQuietEnd (S.faults shelf.old) (S.faults shelf.new) result }
     ensures counts { (n : List ℕ) → S.faults shelf.old n ≤ S.faults shelf.new n }
     ensures files { (n : List ℕ) → S.file shelf.new n ≡ S.file shelf.old n }
 {
@@ -115,6 +118,8 @@ pub(crate) fn fetch_script<S: Shelf>(
     ensures read { IfOk result (λ script. IfSome (S.file shelf.old name.now) (λ b. IsCommands b script)) }
     ensures built { IfOk result (All IsCommand) }
     ensures stop { IfErr result (IsScriptEnd (S.file shelf.old name.now) (S.faults shelf.old name.now) (S.faults shelf.new name.now)) }
+    ensures quiet { IfErr result (IsQuietEnd (S.faults shelf.old) (S.faults shelf.new)) }
+    ensures kept { OnOk result (KeepsCounts (S.faults shelf.old) (S.faults shelf.new)) }
     ensures counts { (n : List ℕ) → S.faults shelf.old n ≤ S.faults shelf.new n }
     ensures files { (n : List ℕ) → S.file shelf.new n ≡ S.file shelf.old n }
 {

@@ -4,7 +4,7 @@ ghost use Rattle.iis_edge.specs.Causes.{KeepsCounts, Rose};
 ghost use Rattle.iis_run.specs.Words.{request_of};
 ghost use Rattle.iis_run.specs.Run.{IsRun, HasFetchStop, IsModelRefused, IsTextRefused, IsAccepted, IsUnsettled, IsRefuted, IsBorneOut, Settles};
 ghost use Rattle.model_files.specs.Reading.{IsMarkless};
-ghost use Rattle.iis_run.specs.Steps.{IsPlanned, IsReady, IsScriptPlan, IsSecondPlan, Follows};
+ghost use Rattle.iis_run.specs.Steps.{IsPlanned, IsQuietPlan, IsReady, IsScriptPlan, IsSecondPlan, Follows};
 
 use crate::endings::Ending;
 use crate::plans::Plan;
@@ -20,6 +20,7 @@ use std::alloc::Global;
 fn plan_answers<S: Shelf>(alloc: Global, model: Model, shelf: &mut S, name: &str) -> Plan
     requires { IsMarkless model }
     ensures planned { IsScriptPlan model (S.file shelf.old name.now) (S.faults shelf.old name.now) (S.faults shelf.new name.now) result }
+    ensures quiet { IsQuietPlan (S.faults shelf.old) (S.faults shelf.new) result }
     ensures ready { IsReady result }
     ensures counts { (n : List ℕ) → S.faults shelf.old n ≤ S.faults shelf.new n }
     ensures files { (n : List ℕ) → S.file shelf.new n ≡ S.file shelf.old n }
@@ -34,6 +35,7 @@ fn plan_answers<S: Shelf>(alloc: Global, model: Model, shelf: &mut S, name: &str
 fn plan_second<S: Shelf>(alloc: Global, model: Model, shelf: &mut S, verb: Verb, name: &str) -> Plan
     requires { IsMarkless model }
     ensures planned { IsSecondPlan verb model (S.file shelf.old name.now) (S.faults shelf.old name.now) (S.faults shelf.new name.now) result }
+    ensures quiet { IsQuietPlan (S.faults shelf.old) (S.faults shelf.new) result }
     ensures ready { IsReady result }
     ensures counts { (n : List ℕ) → S.faults shelf.old n ≤ S.faults shelf.new n }
     ensures files { (n : List ℕ) → S.file shelf.new n ≡ S.file shelf.old n }
@@ -47,6 +49,7 @@ fn plan_second<S: Shelf>(alloc: Global, model: Model, shelf: &mut S, verb: Verb,
 // Fetches the files and reads them, the model first, and checks a report.
 fn decide<S: Shelf>(alloc: Global, words: &[String], shelf: &mut S) -> Plan
     ensures planned { IsPlanned (S.file shelf.old) (S.faults shelf.old) (S.faults shelf.new) (request_of words.now) result }
+    ensures quiet { IsQuietPlan (S.faults shelf.old) (S.faults shelf.new) result }
     ensures ready { IsReady result }
     ensures counts { (n : List ℕ) → S.faults shelf.old n ≤ S.faults shelf.new n }
     ensures files { (n : List ℕ) → S.file shelf.new n ≡ S.file shelf.old n }
@@ -101,6 +104,8 @@ pub fn run<S: Shelf, W: Sink>(alloc: Global, words: &[String], shelf: &mut S, ou
     ensures usage { (result ≡ 2) ↔ (request_of words.now ≡ None) }
     // Status 3 comes only where a fetch of one of the two names failed in this call, or where the told file is too long.
     ensures fetch_stop { result ≡ 3 → HasFetchStop (S.file shelf.old) (S.faults shelf.old) (S.faults shelf.new) (request_of words.now) }
+    // Where some count of faults of the shelf has changed, the status is 3, or 7 for want of memory.
+    ensures faulted { (result ≡ 3) ⊎ ((result ≡ 7) ⊎ KeepsCounts (S.faults shelf.old) (S.faults shelf.new)) }
     // Status 4 comes only where the sink failed in this call.
     ensures write_fault { result ≡ 4 → Rose (W.faults out.old) (W.faults out.new) }
     // Statuses 5, 6 and 8 come only where the told files call for them.

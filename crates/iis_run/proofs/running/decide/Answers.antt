@@ -3,8 +3,13 @@ use Rattle.std.specs.Option.{option_map}
 use Rattle.iis_run.specs.Words.{Request}
 use Rattle.iis_run.specs.Asked.{request_asked}
 use Rattle.iis_run.specs.Steps.{IsSecondPlan, IsPlanned}
+use Rattle.iis_run.proofs.Counts.{plan_later}
 use Rattle.iis_run.proofs.Decided.{second_planned}
 use Rattle.iis_run.proofs.running.decide.Goals as goal
+
+pub returns-clause-quiet : goal.returns-clause-quiet
+returns-clause-quiet g c =
+    plan_later (g.S.Shelf.faults c.args.shelf.now) (g.S.Shelf.faults c.fetch_model.new.shelf) (g.S.Shelf.faults c.plan_second.new.shelf) c.plan_second.result c.in-Ok.ensures.kept c.plan_second.ensures.quiet
 
 pub returns-clause-planned : goal.returns-clause-planned
 returns-clause-planned g c =

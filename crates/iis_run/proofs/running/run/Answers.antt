@@ -1,5 +1,5 @@
 use Rattle.iis_run.specs.Words.{request_of}
-use Rattle.iis_run.proofs.Counts.{plan_kept}
+use Rattle.iis_run.proofs.Counts.{plan_kept, plan_quiet}
 use Rattle.iis_run.proofs.Statuses.{planned_run, usage_clause, fetch_stop_clause, write_fault_clause, model_clause, alone_clause, text_clause, accepted_clause, unsettled_clause, refuted_clause, borne_out_clause, bounds_clause, settles_clause}
 use Rattle.iis_run.proofs.running.run.Goals as goal
 
@@ -18,6 +18,7 @@ returns g c =
     record {
       usage = usage_clause file fetches puts taken shelf shelf' out out' request c.follow.result run;
       fetch_stop = fetch_stop_clause file fetches puts taken shelf shelf' out out' request c.follow.result run;
+      faulted = plan_quiet puts taken out out' (fetches shelf) (fetches shelf') c.decide-plan.result c.follow.result c.follow.ensures c.decide-plan.ensures.quiet;
       write_fault = write_fault_clause file fetches puts taken shelf shelf' out out' request c.follow.result run;
       model_refused = model_clause file fetches puts taken shelf shelf' out out' request c.follow.result run;
       model_alone = alone_clause file fetches puts taken shelf shelf' out out' request c.follow.result run;

@@ -1,0 +1,5 @@
+use Rattle.cert_check.proofs.Believed.{accepted_is_true}
+use Rattle.cert_check.proofs.reports.accepted_reports_are_true.Goals as goal
+
+pub returns : goal.returns
+returns c = accepted_is_true
