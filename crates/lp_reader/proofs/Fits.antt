@@ -1,5 +1,5 @@
 -- Rows and columns that fit are refused for want of memory alone.
-use Rattle.std.proofs.Common.{◌≡◌, ℕ, zero, suc, ◌+◌, ◌<◌, ◌≤◌, ◌⊎◌, inl, inr, Bool, true, false, ◌||◌, List, [], ◌∷◌, ◌++◌, length, map, drop, get_or, refl, sym, ap, ◌∙◌, subst, arith, true≢false}
+use Rattle.std.proofs.Common.{◌≡◌, ℕ, zero, suc, ◌+◌, ◌<◌, ◌≤◌, false, ◌||◌, List, [], ◌∷◌, ◌++◌, length, map, drop, get_or, refl, sym, ap, ◌∙◌, subst, arith}
 use Rattle.std.specs.List.{All, IsDistinct}
 use Rattle.std.specs.Str.{bytes_eq}
 use Rattle.std.proofs.lemmas.List.{map-append}
@@ -7,10 +7,7 @@ use Rattle.std.proofs.lemmas.List.Folds.{list_any-append}
 use Rattle.std.proofs.lemmas.Map.Keys.{apart_from_distinct}
 use Rattle.std.proofs.Math.Seq.{drop-cons}
 use Rattle.name_map.specs.Names.{name_at}
-use Rattle.lp_model.specs.declared.models.ModelStop.{ModelStop}
-use Rattle.lp_model.specs.declared.models.ModelStop.TheVariants.{DuplicateName, Limit, Memory, UnknownName}
 use Rattle.lp_model.specs.Shown.{is_named, longest_name, CanAdd}
-use Rattle.lp_model.specs.Refusals.{IsAddRefusal}
 use Rattle.lp_model.specs.declared.parts.Row.{Row}
 use Rattle.lp_reader.specs.declared.columns.Bounds.{Bounds}
 use Rattle.lp_reader.specs.Building.{listed, columns_listed, rows_listed, column_shown, no_row}
@@ -18,16 +15,6 @@ use Rattle.lp_model.specs.Shown.{named_row}
 use Rattle.lp_reader.specs.State.{plain}
 use Rattle.lp_reader.proofs.Built.{length-listed}
 use Rattle.lp_reader.proofs.Holding.{bytes_sym}
-
-pub only_memory : (names : List (List ℕ)) (most : ℕ) (name : List ℕ) (stop : ModelStop) → CanAdd names most name → IsAddRefusal names most name stop → stop ≡ Memory
-only_memory names most name DuplicateName can told = absurd (true≢false (sym told ∙ can.fresh))
-only_memory names most name Limit can told = absurd (by told.past)
-  where
-    by : (most ≤ length names) ⊎ (longest_name < length name) → ⊥
-    by (inl h) = let r = can.room in omega arith
-    by (inr h) = let r = can.short in omega arith
-only_memory names most name Memory can told = refl
-only_memory names most name UnknownName can told = absurd told
 
 -- ---- names that come one after another
 map_listed : {X Y : Type 0} (g : X → Y) (f : ℕ → X) (n : ℕ) → map g (listed f n) ≡ listed (λ i. g (f i)) n

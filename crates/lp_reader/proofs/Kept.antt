@@ -1,17 +1,16 @@
 -- Terms past the limit are not needed.
-use Rattle.std.proofs.Common.{◌≡◌, ℕ, zero, suc, ◌+◌, ◌<◌, ◌≤◌, Bool, true, false, cond, ◌||◌, List, [], ◌∷◌, ◌++◌, Option, Some, None, length, take, refl, sym, ap, ◌∙◌, subst, arith, append_assoc, length-append}
+use Rattle.std.proofs.Common.{◌≡◌, ℕ, zero, suc, ◌+◌, ◌<◌, Bool, true, false, cond, ◌||◌, List, [], ◌∷◌, ◌++◌, Option, Some, None, length, take, refl, sym, ap, ◌∙◌, arith, append_assoc, length-append}
 use Rattle.std.specs.Prelude.{nat_le}
 use Rattle.std.specs.Option.{option_or}
 use Rattle.std.proofs.lemmas.Bool.Decides.{nat_tests}
 use Rattle.text_fields.specs.declared.faults.ReadStop.{ReadStop}
 use Rattle.text_fields.specs.declared.faults.ReadKind.TheVariants.{Limit}
-use Rattle.text_fields.specs.declared.faults.ReadFault.{ReadFault}
 use Rattle.lp_statements.specs.Items.{Written, stop_at}
 use Rattle.lp_statements.specs.Statements.{Term, Statement, Objective, Heading, Row, Free, Bound, Listed, IsKept, Entire, Shortened, shortened}
+use Rattle.lp_model.specs.Shown.{most_entries}
 use Rattle.lp_reader.specs.Numbers.{constant_fault_in}
 use Rattle.lp_reader.specs.Names.{terms_of, columns_in, row_names}
-use Rattle.lp_reader.specs.Faults.{most_entries, column_passes, limit_fault, term_fault, terms_fault, objective_label_fault, label_fault, row_end_fault, statement_fault}
-use Rattle.text_fields.specs.Faults.{IsFaultOf}
+use Rattle.lp_reader.specs.Faults.{column_passes, limit_fault, term_fault, terms_fault, objective_label_fault, label_fault, row_end_fault, statement_fault}
 
 some_none : (x : ReadStop) → Some x ≡ None → ⊥
 some_none x h = cc

@@ -12,10 +12,10 @@ use Rattle.std.proofs.lemmas.Bool.{ltb-true, ltb-false, ne_eqb}
 use Rattle.std.proofs.lemmas.Bool.Decides.{nat_tests}
 use Rattle.text_fields.specs.declared.faults.ReadKind.TheVariants.{Limit}
 use Rattle.name_map.specs.Names.{names_of, name_at, StandsAt}
-use Rattle.lp_model.specs.Shown.{is_named, most_columns, longest_name}
+use Rattle.lp_model.specs.Shown.{is_named, most_columns, longest_name, most_entries}
 use Rattle.lp_statements.specs.Items.{Written, stop_at}
 use Rattle.lp_reader.specs.declared.columns.Columns.{Columns}
-use Rattle.lp_reader.specs.Faults.{most_entries, is_too_long, limit_fault}
+use Rattle.lp_reader.specs.Faults.{is_too_long, limit_fault}
 use Rattle.lp_reader.specs.State.{PutsColumn, TakesColumn}
 
 -- the limits, by their tests

@@ -9,14 +9,15 @@ use Rattle.text_fields.specs.Tokens.{Lexeme, scan_at}
 use Rattle.name_map.specs.Names.{names_of}
 use Rattle.lp_statements.specs.declared.parts.Section.{Section}
 use Rattle.lp_statements.specs.Items.{Piece, pieces, pieces_in, pieces_at, pieces_of, ending_of, IsPlace}
-use Rattle.lp_statements.specs.Statements.{Statement, IsKept}
+use Rattle.lp_statements.specs.Statements.{Statement}
 use Rattle.lp_statements.specs.Grammar.{Parsed, Whole, Fails, statement_of}
 use Rattle.lp_statements.specs.Script.{Script, section_after, with_statement, goes_on, script_by, script, script_of, Takes, Reads, IsRefusal}
+use Rattle.lp_model.specs.Shown.{most_entries}
 use Rattle.lp_reader.specs.declared.reader.Reader.{Reader}
 use Rattle.lp_reader.specs.Names.{terms_of, with_names, names_from}
 use Rattle.lp_reader.specs.Bounds.{lower_of, upper_of, whole_of, is_lower_set}
 use Rattle.lp_reader.specs.Program.{form_from}
-use Rattle.lp_reader.specs.Faults.{most_entries, statement_fault, first_fault}
+use Rattle.lp_reader.specs.Faults.{statement_fault, first_fault}
 use Rattle.lp_reader.specs.Meaning.{lp_fault, IsLpStop}
 use Rattle.lp_reader.specs.Held.{Holds, HasRead}
 use Rattle.text_fields.specs.Faults.{IsFaultOf}

@@ -3,15 +3,11 @@ use Rattle.std.specs.Prelude.{ℕ, ◌+◌, ◌||◌, nat_lt, nat_le, Bool, fals
 use Rattle.std.specs.Option.{option_or}
 use Rattle.text_fields.specs.declared.faults.ReadStop.{ReadStop}
 use Rattle.text_fields.specs.declared.faults.ReadKind.TheVariants.{UnknownName, DuplicateName, Limit}
-use Rattle.lp_model.specs.Shown.{is_named, most_rows, most_columns, longest_name}
+use Rattle.lp_model.specs.Shown.{is_named, most_rows, most_columns, most_entries, longest_name}
 use Rattle.lp_statements.specs.Items.{Written, stop_at}
 use Rattle.lp_statements.specs.Statements.{Constant, Term, Statement, Objective, Heading, Row, Free, Bound, Listed}
 use Rattle.lp_reader.specs.Numbers.{factor_fault, sum_fault, constant_fault, constant_fault_in}
 use Rattle.lp_reader.specs.Names.{terms_of, columns_in, columns_of, row_names, row_name}
-
--- the most entries
-abbrev pub most_entries : ℕ
-most_entries = 100000
 
 -- a name of more than 255 bytes
 abbrev pub is_too_long : List ℕ → Bool

@@ -1,5 +1,5 @@
 -- What the bytes of an LP text stand for: a program, or the first fault.
-use Rattle.std.specs.Prelude.{◌≡◌, ℕ, List, [], Option, Some, None}
+use Rattle.std.specs.Prelude.{◌≡◌, ℕ, List, [], Option, None}
 use Rattle.std.specs.Option.{option_or}
 use Rattle.text_fields.specs.declared.faults.ReadStop.{ReadStop}
 use Rattle.text_fields.specs.declared.faults.ReadFault.{ReadFault}

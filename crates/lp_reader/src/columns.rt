@@ -20,20 +20,14 @@ ghost use Rattle.text_fields.specs.Faults.{IsFaultOf};
 use crate::numbers::{stop_at, term_value};
 use frac128::Frac;
 use indexmap::IndexMap;
-use lp_model::Terms;
+use lp_model::{LONGEST_NAME, MOST_COLUMNS, MOST_ENTRIES, Terms};
 use lp_statements::{Term, Text};
 use name_map::NameMap;
 use std::alloc::{AllocError, Global};
 use text_fields::{ReadFault, ReadKind};
 
-const MOST_ENTRIES: usize = 100_000;
-
 /// How many terms of a form are kept: those after them are past the limit.
 pub(crate) const MOST_TERMS: usize = MOST_ENTRIES + 1;
-
-const MOST_COLUMNS: usize = 4_000;
-
-const LONGEST_NAME: usize = 255;
 
 /// What statements say of a column so far.
 #[derive(Clone, Copy)]

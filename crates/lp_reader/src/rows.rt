@@ -16,13 +16,11 @@ ghost use Rattle.text_fields.specs.Faults.{IsFaultOf};
 use crate::columns::is_too_long;
 use crate::numbers::{constant_side, stop_at};
 use frac128::Frac;
-use lp_model::{Row, Terms, Weight};
+use lp_model::{MOST_ROWS, Row, Terms, Weight};
 use lp_statements::{Constant, Relation, Text};
 use name_map::NameMap;
 use std::alloc::{AllocError, Global};
 use text_fields::{ReadFault, ReadKind};
-
-const MOST_ROWS: usize = 2_000;
 
 /// The rows so far.
 #[derive(Drop)]

@@ -1,5 +1,5 @@
 use Rattle.std.proofs.Common.{◌≡◌, ℕ, suc, ◌+◌, ◌<◌, ◌∷◌, List, length, drop, get_or, sym, ap, ◌∙◌, subst, arith}
-use Rattle.name_map.specs.Names.{names_of, name_at}
+use Rattle.name_map.specs.Names.{names_of}
 use Rattle.name_map.proofs.NameLists.{length_map}
 use Rattle.lp_model.specs.declared.parts.Row.{Row}
 use Rattle.lp_model.specs.Program.{Program, IsForm, IsPositiveWeight}

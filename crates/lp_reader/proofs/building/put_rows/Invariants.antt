@@ -1,6 +1,5 @@
 use Rattle.std.proofs.Common.{◌≡◌, ◌+◌, length, drop}
 use Rattle.name_map.specs.Names.{names_of}
-use Rattle.lp_model.specs.Program.{Program}
 use Rattle.lp_reader.specs.Building.{rows_listed}
 use Rattle.lp_reader.proofs.building.put_rows.Given as goal
 
