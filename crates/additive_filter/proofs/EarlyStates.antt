@@ -1,5 +1,5 @@
 -- How far an early filter has come.
-use Rattle.std.proofs.Common.{◌≡◌, ◌≤◌, ◌+◌, ℕ, arith, sym, ◌∙◌, subst, List, [], ◌∷◌, ◌++◌, append_assoc, append-nil, length, length-append, reverse}
+use Rattle.std.proofs.Common.{◌≡◌, suc, arith, sym, ◌∙◌, subst, List, [], ◌∷◌, ◌++◌, append_assoc, append-nil, length, length-append, reverse}
 use Rattle.std.specs.Prelude.{Contains}
 use Rattle.std.proofs.lemmas.List.{reverse-append}
 use Rattle.lp_model.specs.declared.members.Member.{Member}
@@ -13,7 +13,8 @@ use Rattle.certs.specs.Filter.{IsEarlyTest, Early, EarlyReaches, start, stays, g
 use Rattle.certs.specs.Proof.{IsProof}
 use Rattle.certs.proofs.Filters.{early_law, satisfiable_weaker}
 use Rattle.certs.proofs.Refuted.{proof_law}
-use Rattle.filter_steps.specs.Isolated.{IsPointFor, AreWitnesses}
+use Rattle.certs.specs.Tales.{IsPointOf}
+use Rattle.filter_steps.specs.Isolated.{AreWitnesses}
 use Rattle.filter_steps.specs.Reductions.{Tried, stays as it_stays, goes as it_goes}
 use Rattle.filter_steps.proofs.Sets.{in_middle, set_without_middle}
 use Rattle.filter_steps.proofs.Reached.{early_part, early_weaker, part_of_part}
@@ -24,12 +25,12 @@ pub record IsEarlyState (model : Program) (set front left : List Member) (witnes
   pub kept : List Member
   pub reached : EarlyReaches (IsSatisfiable model) set front kept
   pub is : left ≡ front ++ kept
-  pub witnessed : EachSuits (IsPointFor model) front kept [] (reverse witnesses)
+  pub witnessed : EachSuits (IsPointOf model) front kept [] (reverse witnesses)
 
 pub state_starts : (model : Program) (set front left : List Member) (witnesses : List Point) → front ≡ set → left ≡ set → witnesses ≡ [] → IsEarlyState model set front left witnesses
 state_starts model set front left witnesses f e w =
     subst (λ l. IsEarlyState model set l left witnesses) (sym f)
-    (record { kept = []; reached = start; is = e ∙ sym (append-nil set); witnessed = subst (λ l. EachSuits (IsPointFor model) set [] [] (reverse l)) (sym w) tt })
+    (record { kept = []; reached = start; is = e ∙ sym (append-nil set); witnessed = subst (λ l. EachSuits (IsPointOf model) set [] [] (reverse l)) (sym w) tt })
 
 -- what is left, around the next member
 around : (model : Program) (set front : List Member) (m : Member) (left : List Member) (witnesses : List Point) → (s : IsEarlyState model set (front ++ m ∷ []) left witnesses) → left ≡ front ++ m ∷ s.kept
@@ -57,12 +58,12 @@ pub state_tried : (model : Program) (set front : List Member) (m : Member) (left
     → IsEarlyState model set (front ++ m ∷ []) left.members witnesses → IsInOrder left.members → Tried model left witnesses m now witnesses_now → IsProof model now.members nodes → IsEarlyState model set front now.members witnesses_now
 state_tried model set front m left _ witnesses _ nodes s order (it_stays p h) q =
     let is : left.members ≡ front ++ m ∷ s.kept = around model set front m left.members witnesses s in
-    let point : IsPointFor model (front ++ s.kept) p = subst (λ l. IsPointFor model l p) (set_without_middle left front m s.kept is order) h in
+    let point : IsPointOf model (front ++ s.kept) p = subst (λ l. IsPointOf model l p) (set_without_middle left front m s.kept is order) h in
     record {
       kept = m ∷ s.kept;
       reached = stays s.reached (satisfiable_by model (front ++ s.kept) p point);
       is = is;
-      witnessed = subst (EachSuits (IsPointFor model) front (m ∷ s.kept) []) (sym (reverse-append witnesses (p ∷ []))) (early_stays (IsPointFor model) front m s.kept (reverse witnesses) p s.witnessed point);
+      witnessed = subst (EachSuits (IsPointOf model) front (m ∷ s.kept) []) (sym (reverse-append witnesses (p ∷ []))) (early_stays (IsPointOf model) front m s.kept (reverse witnesses) p s.witnessed point);
     }
 state_tried model set front m left _ witnesses _ nodes s order it_goes q =
     let is : (set_without left m).members ≡ front ++ s.kept = set_without_middle left front m s.kept (around model set front m left.members witnesses s) order in
@@ -70,8 +71,8 @@ state_tried model set front m left _ witnesses _ nodes s order it_goes q =
       kept = s.kept;
       reached = goes m s.reached (proof_law model (front ++ s.kept) nodes (subst (λ l. IsProof model l nodes) is q));
       is = is;
-      witnessed = subst (λ l. EachSuits (IsPointFor model) l s.kept [] (reverse witnesses)) (append-nil front)
-          (early_goes (IsPointFor model) (weaker_point model) front (m ∷ []) [] s.kept [] (reverse witnesses) s.witnessed);
+      witnessed = subst (λ l. EachSuits (IsPointOf model) l s.kept [] (reverse witnesses)) (append-nil front)
+          (early_goes (IsPointOf model) (weaker_point model) front (m ∷ []) [] s.kept [] (reverse witnesses) s.witnessed);
     }
 
 -- ---- in the end
@@ -91,6 +92,5 @@ pub whole_is_test : (model : Program) (set : List Member) → IsEarlyTest model 
 whole_is_test model set = record { front = set; between = []; kept = []; reached = subst (λ l. EarlyReaches (IsSatisfiable model) set l []) (sym (append-nil set)) start; joined = sym (append-nil set) }
 
 -- ---- counts of asks
--- with at most one ask more for one member less
-pub few_more : (first now next : ℕ) (front : List Member) (m : Member) (total : ℕ) → now + length (front ++ m ∷ []) ≤ first + total → next ≤ now + 1 → next + length front ≤ first + total
-few_more first now next front m total h f = omega (arith, length-append front (m ∷ []))
+pub one_less : (front : List Member) (m : Member) → length (front ++ m ∷ []) ≡ suc (length front)
+one_less front m = omega (arith, length-append front (m ∷ []))

@@ -1,6 +1,6 @@
 -- What filters give as answers.
-use Rattle.std.proofs.Common.{◌≡◌, refl, sym, ◌∙◌, ap, subst, ℕ, false, true≢false, List, [], append_assoc, append-nil, length, inl, inr}
-use Rattle.std.specs.Prelude.{All, Contains, IfSome, Option, None}
+use Rattle.std.proofs.Common.{◌≡◌, refl, sym, ◌∙◌, ap, subst, ℕ, false, true≢false, List, [], append_assoc, append-nil, length, Ok, Err, inl, inr}
+use Rattle.std.specs.Prelude.{All, Contains, IfErr, IfOk, Option, None, Result}
 use Rattle.std.proofs.lemmas.List.Elements.{All-contains, All-contains_itself, All-filter, All-weaker}
 use Rattle.lp_model.specs.declared.members.Member.{Member}
 use Rattle.lp_model.specs.declared.members.Member.TheVariants.{Whole}
@@ -21,18 +21,24 @@ use Rattle.certs.specs.Filter.{Early, IsEarlyTest, IsLateTest, Late}
 use Rattle.certs.specs.Proof.{IsMarked, IsProof, IsTreeProof, Tree, preorder}
 use Rattle.certs.specs.Proof.Tree.{Tip, Fork}
 use Rattle.certs.specs.Sites.{Budgets}
-use Rattle.certs.specs.Tales.{FirstCore}
-use Rattle.filter_steps.specs.Isolated.{AreWitnesses, IfFeasible, IfSet, IsPointFor}
+use Rattle.certs.specs.declared.evidence.Node.{Node}
+use Rattle.certs.specs.declared.solving.Stop.{Stop}
+use Rattle.certs.specs.declared.solving.Verdict.{Verdict}
+use Rattle.certs.specs.Answers.{IsAnsweredProof, IsPlainAnswer}
+use Rattle.certs.specs.Order.{AreLeavesInOrder}
+use Rattle.certs.specs.Tales.{FirstCore, OracleState}
+use Rattle.certs.proofs.PlainAnswers.{plain_ordered}
+use Rattle.filter_steps.specs.Isolated.{IsIsolation, IsStoppedAt}
 use Rattle.filter_steps.proofs.Reached.{early_part, late_part, part_of_part}
-use Rattle.linear_oracle.specs.Value.{IsPlainCore, OracleValue}
+use Rattle.linear_oracle.specs.Value.{OracleValue, state_of}
 use Rattle.sensitivity_filter.specs.Cores.{IsFirstCoreOf, IsCoreTest as IsToldTest, IsLateOfCore as IsLateOfTold, whole as it_is_whole, within as it_is_within}
 use Rattle.report_text.specs.declared.report.Answer.{Answer}
 use Rattle.report_text.specs.declared.report.Core.{Core}
 use Rattle.report_printer.specs.Printing.{IsKnownAnswer, IsKnownCore, IsKnownNode}
-use Rattle.analysis.specs.Answers.{IsLeafProof, answer_of}
+use Rattle.analysis.specs.Answers.{IsAnswerOf, IsLeafProof, IsStopAnswer, answer_of}
 use Rattle.analysis.specs.Right.{IsCore, IsCoreTest, IsIsolated, IsLateOfCore, IsRightCore}
 use Rattle.analysis.proofs.Refuting.{printed_nodes}
-use Rattle.analysis.proofs.Stopping.{fresh_oracle}
+use Rattle.analysis.proofs.Stopping.{PlainAnswers, filter_stop, fresh_oracle, isolated_stop, known_stopped}
 
 -- ---- parts of the active members
 pub within : (part whole all : List Member) → IsPart part whole → IsPart whole all → IsPart part all
@@ -55,49 +61,41 @@ early_test_is_part model set test t =
     (part_of_part set t.front t.between t.kept (subst (λ (l : List Member). IsPart l set) (append_assoc t.front t.between t.kept) (early_part (IsSatisfiable model) set t.reached)))
 
 -- ---- the first core
--- what is told of it, by an oracle with the program and the budget
-pub plain_first : (model : Program) (budgets : Budgets) (old now : OracleValue) → old ≡ fresh_oracle model budgets.pivots → now.model ≡ old.model → now.pivots ≡ old.pivots → IfSome now.first (IsPlainCore now.model now.pivots)
-    → IfSome now.first (IsPlainCore model budgets.pivots)
-plain_first model budgets old now fresh m p h =
-    subst (λ (n : ℕ). IfSome now.first (IsPlainCore model n)) (p ∙ ap (λ (o : OracleValue). o.pivots) fresh)
-    (subst (λ (k : Program). IfSome now.first (IsPlainCore k now.pivots)) (m ∙ ap (λ (o : OracleValue). o.model) fresh) h)
+pub late_of_core : (model : Program) (budgets : Budgets) (first : Option FirstCore) (kept : List Member) → IsLateOfTold (IsPlainAnswer model budgets.pivots) first model (active_members model) kept → IsLateOfCore model budgets kept
+late_of_core model budgets first kept h = (h.core, (h.is_core.answered, h.late))
 
--- it is so
-told_core : (model : Program) (budgets : Budgets) (core : List Member) (first : Option FirstCore) → IsFirstCoreOf (active_members model) core first → IfSome first (IsPlainCore model budgets.pivots) → IsCore model budgets core
-told_core model budgets core first is plain = subst (λ (o : Option FirstCore). IfSome o (IsPlainCore model budgets.pivots)) is.told plain
+pub late_of_core_is_part : (Answers : List Member → Result Verdict Stop → Type 0) (first : Option FirstCore) (model : Program) (set kept : List Member) → IsLateOfTold Answers first model set kept → IsPart kept set
+late_of_core_is_part Answers first model set kept h = within kept h.core set (late_is_part model h.core kept h.late) h.is_core.part
 
-pub late_of_core : (model : Program) (budgets : Budgets) (first : Option FirstCore) → IfSome first (IsPlainCore model budgets.pivots) → (kept : List Member) → IsLateOfTold model (active_members model) first kept → IsLateOfCore model budgets kept
-late_of_core model budgets first plain kept h = (h.core, (told_core model budgets h.core first h.is_core plain, h.late))
+pub core_test : (model : Program) (budgets : Budgets) (first : Option FirstCore) (test : List Member) → IsToldTest (IsPlainAnswer model budgets.pivots) first model (active_members model) test → IsCoreTest model budgets test
+core_test model budgets first _ it_is_whole = inl refl
+core_test model budgets first test (it_is_within {core = core} is late) = inr (core, (is.answered, late))
 
-pub late_of_core_is_part : (model : Program) (set : List Member) (first : Option FirstCore) (kept : List Member) → IsLateOfTold model set first kept → IsPart kept set
-late_of_core_is_part model set first kept h = within kept h.core set (late_is_part model h.core kept h.late) h.is_core.part
-
-pub core_test : (model : Program) (budgets : Budgets) (first : Option FirstCore) → IfSome first (IsPlainCore model budgets.pivots) → (test : List Member) → IsToldTest model (active_members model) first test → IsCoreTest model budgets test
-core_test model budgets first plain _ it_is_whole = inl refl
-core_test model budgets first plain test (it_is_within {core = core} is late) = inr (core, (told_core model budgets core first is plain, late))
-
-pub core_test_is_part : (model : Program) (set : List Member) (first : Option FirstCore) (test : List Member) → IsToldTest model set first test → IsPart test set
-core_test_is_part model set first _ it_is_whole = All-contains_itself set
-core_test_is_part model set first test (it_is_within {core = core} is late) = within test core set (late_test_is_part model core test late) is.part
+pub core_test_is_part : (Answers : List Member → Result Verdict Stop → Type 0) (first : Option FirstCore) (model : Program) (set test : List Member) → IsToldTest Answers first model set test → IsPart test set
+core_test_is_part Answers first model set _ it_is_whole = All-contains_itself set
+core_test_is_part Answers first model set test (it_is_within {core = core} is late) = within test core set (late_test_is_part model core test late) is.part
 
 -- ---- what a filter gives
--- the members that it leaves, with their proof and witnesses; or a point
-pub record IsGiven (IsKept : List Member → Type 0) (model : Program) (set : List Member) (found : Irreducible) : Type 0 where
-  pub kept : IfSet (λ r. IsKept r.set.members) found
-  pub proof : IfSet (λ r. IsProof model r.set.members r.nodes) found
-  pub witnesses : IfSet (λ r. AreWitnesses model r.set.members r.witnesses) found
-  pub irreducible : IfSet (λ r. IsIrreducible model r.set.members) found
-  pub same : IfSet (λ r. IsSetOf model r.set) found
-  pub point : IfFeasible (IsPointFor model set) found
+-- the shares of a proof that an oracle answered stand in order
+answered_order : (model : Program) (budgets : Budgets) (nodes : List Node) → IsAnsweredProof (PlainAnswers model budgets) nodes → AreLeavesInOrder nodes
+answered_order model budgets nodes h = subst AreLeavesInOrder (sym h.nodes_are) (plain_ordered model budgets.pivots h.asked h.proof h.answered)
 
 -- is right to a search
-pub found_is_right : (IsKept IsTest : List Member → Type 0) (model : Program) (budgets : Budgets) (found : Irreducible) → ((k : List Member) → IsKept k → IsPart k (active_members model))
-    → IsGiven IsKept model (active_members model) found → IsIsolated IsKept IsTest model budgets (answer_of found)
-found_is_right IsKept IsTest model budgets (Set members witnesses proof) part h = (
-  record { of_model = h.same; active = part members.members h.kept; proves = h.proof; witnesses = h.witnesses; irreducible = h.irreducible },
-  h.kept,
+pub found_is_right : (IsLeft : Program → List Member → List Member → Type 0) (IsKept IsTest : List Member → Type 0) (state : OracleState) (budgets : Budgets) (found : Irreducible)
+    → ((k : List Member) → IsLeft state.model (active_members state.model) k → IsKept k) → ((k : List Member) → IsLeft state.model (active_members state.model) k → IsPart k (active_members state.model))
+    → IsIsolation IsLeft PlainAnswers state (active_members state.model) found → IsIsolated IsKept IsTest state.model budgets (answer_of found)
+found_is_right IsLeft IsKept IsTest state budgets (Set members witnesses proof) kept part h = (
+  record {
+    of_model = h.same;
+    active = part members.members h.kept;
+    proves = h.proof;
+    ordered = answered_order state.model state.budgets proof.nodes h.told;
+    witnesses = h.witnesses;
+    irreducible = h.irreducible;
+  },
+  kept members.members h.kept,
 )
-found_is_right IsKept IsTest model budgets (AtPoint point) part h = record { each = h.point.each_column; satisfies = h.point.satisfies }
+found_is_right IsLeft IsKept IsTest state budgets (AtPoint point) kept part h = h
 
 -- ---- and can be printed
 possible_members_are : (model : Program) → All (IsPossibleIn (active_set model)) (active_members model)
@@ -139,33 +137,38 @@ known_core model core linear h = record {
 
 pub found_is_known : (IsKept IsTest : List Member → Type 0) (model : Program) (budgets : Budgets) (found : Irreducible) → All (λ m. is_mark m ≡ false) (active_members model) → IsIsolated IsKept IsTest model budgets (answer_of found) → IsKnownAnswer model (answer_of found)
 found_is_known IsKept IsTest model budgets (Set members witnesses proof) linear h = known_core model (record { members = members; witnesses = witnesses.items; proof = proof; rounds = None; price = None }) linear h.0
-found_is_known IsKept IsTest model budgets (AtPoint point) linear h = h.each
+found_is_known IsKept IsTest model budgets (AtPoint point) linear h = h.each_column
 
 -- ---- a search by a fresh oracle
--- a filter that leaves less
-given_less : (P Q : List Member → Type 0) (model : Program) (set : List Member) (found : Irreducible) → ((k : List Member) → P k → Q k) → IsGiven P model set found → IsGiven Q model set found
-given_less P Q model set found f h = record { kept = by found h.kept; proof = h.proof; witnesses = h.witnesses; irreducible = h.irreducible; same = h.same; point = h.point }
-  where
-    by : (a : Irreducible) → IfSet (λ r. P r.set.members) a → IfSet (λ r. Q r.set.members) a
-    by (Set members witnesses proof) k = f members.members k
-    by (AtPoint point) k = tt
-
 -- the answer that a filter gives
-pub found_answer : (IsLeft : Program → List Member → List Member → Type 0) (IsKept IsTest : List Member → Type 0) (old model : Program) (set : SetValue) (budgets : Budgets) (found : Irreducible) (answer : Answer) → old ≡ model → set ≡ active_set model
-    → All (λ m. is_mark m ≡ false) (active_members model) → ((k : List Member) → IsLeft model (active_members model) k → IsKept k) → ((k : List Member) → IsLeft model (active_members model) k → IsPart k (active_members model))
-    → answer ≡ answer_of found → IsGiven (IsLeft old set.members) old set.members found → IsIsolated IsKept IsTest model budgets answer × IsKnownAnswer model answer
-found_answer IsLeft IsKept IsTest old model set budgets found answer e w linear kept part is h =
-    let active = active_members model in
-    let given : IsGiven (IsLeft model active) model active found =
-    subst (λ (s : SetValue). IsGiven (IsLeft model s.members) model s.members found) w
-    (subst (λ (m : Program). IsGiven (IsLeft m set.members) m set.members found) e h) in
-    let right : IsIsolated (λ k. IsKept k × IsPart k active) IsTest model budgets (answer_of found) =
-    found_is_right (λ k. IsKept k × IsPart k active) IsTest model budgets found (λ k b. b.1) (given_less (IsLeft model active) (λ k. IsKept k × IsPart k active) model active found (λ k l. (kept k l, part k l)) given) in
-    let plain : IsIsolated IsKept IsTest model budgets (answer_of found) = one found right in (
-      subst (IsIsolated IsKept IsTest model budgets) (sym is) plain,
-      subst (IsKnownAnswer model) (sym is) (found_is_known IsKept IsTest model budgets found linear plain),
+pub found_answer : (IsLeft : OracleState → Program → List Member → List Member → Type 0) (IsKept IsTest : List Member → Type 0) (model : Program) (set : SetValue) (budgets : Budgets) (old : OracleValue) (found : Irreducible) (answer : Answer)
+    → old ≡ fresh_oracle model budgets.pivots → set ≡ active_set model → All (λ m. is_mark m ≡ false) (active_members model)
+    → ((k : List Member) → IsLeft (state_of (fresh_oracle model budgets.pivots)) model (active_members model) k → IsKept k)
+    → ((s : OracleState) (k : List Member) → IsLeft s model (active_members model) k → IsPart k (active_members model))
+    → answer ≡ answer_of found → IsIsolation (IsLeft (state_of old)) PlainAnswers (state_of old) set.members found → IsIsolated IsKept IsTest model budgets answer × IsKnownAnswer model answer
+found_answer IsLeft IsKept IsTest model set budgets old found answer fresh whole linear kept part is h =
+    let first : OracleState = state_of (fresh_oracle model budgets.pivots) in
+    let given : IsIsolation (IsLeft first) PlainAnswers first (active_members model) found =
+    subst (λ (s : SetValue). IsIsolation (IsLeft first) PlainAnswers first s.members found) whole
+    (subst (λ (o : OracleValue). IsIsolation (IsLeft (state_of o)) PlainAnswers (state_of o) set.members found) fresh h) in
+    let right : IsIsolated IsKept IsTest model budgets (answer_of found) = found_is_right (IsLeft first) IsKept IsTest first budgets found kept (part first) given in (
+      subst (IsIsolated IsKept IsTest model budgets) (sym is) right,
+      subst (IsKnownAnswer model) (sym is) (found_is_known IsKept IsTest model budgets found linear right),
     )
-  where
-    one : (a : Irreducible) → IsIsolated (λ k. IsKept k × IsPart k (active_members model)) IsTest model budgets (answer_of a) → IsIsolated IsKept IsTest model budgets (answer_of a)
-    one (Set members witnesses proof) r = (r.0, r.1.0)
-    one (AtPoint point) r = r
+
+-- and the answer for what it gives, a stop included
+pub given_answer : (IsLeft IsTest : OracleState → Program → List Member → List Member → Type 0) (IsKept IsRight : List Member → Type 0) (model : Program) (set : SetValue) (budgets : Budgets) (old : OracleValue) (after : OracleState)
+    (given : Result Irreducible Stop) {E : Type 0} (result : Result Answer E) → old ≡ fresh_oracle model budgets.pivots → set ≡ active_set model → All (λ m. is_mark m ≡ false) (active_members model)
+    → ((k : List Member) → IsLeft (state_of (fresh_oracle model budgets.pivots)) model (active_members model) k → IsKept k)
+    → ((s : OracleState) (k : List Member) → IsLeft s model (active_members model) k → IsPart k (active_members model))
+    → ((t : List Member) → IsTest (state_of (fresh_oracle model budgets.pivots)) model (active_members model) t → IsRight t)
+    → ((s : OracleState) (t : List Member) → IsTest s model (active_members model) t → IsPart t (active_members model))
+    → IfOk given (IsIsolation (IsLeft (state_of old)) PlainAnswers (state_of old) set.members) → IfErr given (IsStoppedAt (IsTest (state_of old)) PlainAnswers set.members (state_of old) after)
+    → IfOk result (IsAnswerOf given) → IfOk result (IsIsolated IsKept IsRight model budgets) × IfOk result (IsKnownAnswer model)
+given_answer IsLeft IsTest IsKept IsRight model set budgets old after (Ok found) (Ok answer) fresh whole linear kept part right within_all h k is =
+    found_answer IsLeft IsKept IsRight model set budgets old found answer fresh whole linear kept part is h
+given_answer IsLeft IsTest IsKept IsRight model set budgets old after (Err stop) {E} (Ok answer) fresh whole linear kept part right within_all h k is =
+    let stopped : IsStopAnswer IsRight model budgets answer = filter_stop IsTest IsRight model set budgets old after stop answer fresh whole k within_all right is in
+    (isolated_stop IsKept IsRight model budgets {E = E} (Ok answer) stopped, known_stopped IsRight model budgets {E = E} (Ok answer) stopped)
+given_answer IsLeft IsTest IsKept IsRight model set budgets old after (Ok found) (Err error) fresh whole linear kept part right within_all h k is = (tt, tt)
+given_answer IsLeft IsTest IsKept IsRight model set budgets old after (Err stop) (Err error) fresh whole linear kept part right within_all h k is = (tt, tt)

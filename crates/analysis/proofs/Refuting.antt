@@ -27,10 +27,11 @@ use Rattle.certs.specs.Proof.Tree.{Tip}
 use Rattle.certs.specs.Violation.{is_of}
 use Rattle.certs.specs.Named.{IsKnownNode, IsKnownSource, node_uses, used_set}
 use Rattle.certs.specs.declared.evidence.Branch.{Branch}
-use Rattle.certs.specs.declared.solving.Verdict.TheVariants.{Infeasible}
 use Rattle.certs.proofs.Sides.{all_both}
 use Rattle.certs.proofs.PlainCuts.{plain_cut}
-use Rattle.linear_oracle.specs.Value.{IsPlainProof}
+use Rattle.certs.proofs.Possible.{all_possible}
+use Rattle.certs.specs.Answers.{IsPlainProof}
+use Rattle.certs.specs.Order.{AreLeavesInOrder}
 use Rattle.report_printer.specs.Printing.{IsKnownSource as IsPrintedSource, IsKnownNode as IsPrintedNode}
 use Rattle.analysis.specs.Right.{IsRefutation}
 use Rattle.analysis.specs.Answers.{IsLeafProof}
@@ -66,8 +67,8 @@ used_alone model set combo h = record {
 }
 
 -- a proof of one leaf refutes the members that it uses
-pub refutes : (model : Program) (proof : Proof) (printed : SetValue) → IsLeafProof model proof → printed ≡ used_set (active_set model) proof.nodes → IsRefutation model printed proof
-refutes model proof printed leaf same = record { proves = proves; used = same }
+pub refutes : (model : Program) (proof : Proof) (printed : SetValue) → IsLeafProof model proof → AreLeavesInOrder proof.nodes → printed ≡ used_set (active_set model) proof.nodes → IsRefutation model printed proof
+refutes model proof printed leaf ordered same = record { proves = proves; ordered = ordered; used = same }
   where
     alone : IsCombination model (used_set (active_set model) (Leaf leaf.combo ∷ [])).members [] leaf.combo.shares
     alone = used_alone model (active_set model) leaf.combo leaf.combination
@@ -82,12 +83,6 @@ refutes model proof printed leaf same = record { proves = proves; used = same }
     }
 
 -- ---- known members
--- the members of a set may be in it
-pub all_possible : (set : SetValue) → set.members ≡ filter (has set.members) (possible_in set) → All (IsPossibleIn set) set.members
-all_possible set is =
-    let every : All (IsPossibleIn set) (possible_in set) = All-weaker (Contains (possible_in set)) (IsPossibleIn set) (λ m c. possible_is set.rows set.columns m c) (possible_in set) (All-contains_itself (possible_in set)) in
-    subst (All (IsPossibleIn set)) (sym is) (All-filter (has set.members) (IsPossibleIn set) (possible_in set) every)
-
 known_source : (set : SetValue) (source : Source) → All (IsPossibleIn set) set.members → IsFrom set.members source → IsKnownSource set source
 known_source set (Of m) all h = All-contains (IsPossibleIn set) set.members m all h
 known_source set (Below j) all h = tt
@@ -138,7 +133,7 @@ used_of_model model set nodes used whole same = record {
 -- ---- from what the oracle answers
 -- its proof is one leaf with a combination of the active members
 pub leaf_proof : (model : Program) (set : SetValue) (proof : Proof) (pivots : ℕ) → IsWellFormed model → set ≡ active_set model
-    → IsPlainProof model set.members pivots (Infeasible proof) → IsLeafProof model proof
+    → IsPlainProof model set.members pivots proof → IsLeafProof model proof
 leaf_proof model set proof pivots formed whole h = record {
   combo = h.combo;
   leaf = h.leaf;

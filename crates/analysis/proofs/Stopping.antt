@@ -1,14 +1,13 @@
 -- Stops of oracles as answers.
-use Rattle.std.proofs.Common.{◌≡◌, refl, sym, ◌∙◌, ap, subst, ℕ, Bool, true, false, ◌&&◌, List, [], ◌∷◌, ◌++◌, filter, length, Result, Ok, Err, None}
-use Rattle.std.specs.Prelude.{All, Contains, IfOk}
-use Rattle.std.proofs.lemmas.List.Elements.{All-contains, All-head, filter_passes}
+use Rattle.std.proofs.Common.{◌≡◌, refl, sym, ◌∙◌, ap, subst, ℕ, Bool, true, false, ◌&&◌, List, [], ◌∷◌, ◌++◌, filter, length, Result, Ok, Err, inl, inr}
+use Rattle.std.specs.Prelude.{Contains, IfOk, ◌⊎◌}
+use Rattle.std.proofs.lemmas.List.Elements.{All-contains, All-contains_itself, filter_passes}
 use Rattle.lp_model.specs.declared.members.Member.{Member}
 use Rattle.lp_model.specs.Program.{Program}
 use Rattle.lp_model.specs.Members.{active_members, has, is_active, possible_members}
 use Rattle.lp_model.specs.MemberSets.{SetValue, active_set, empty_set, members_for, possible_in}
 use Rattle.lp_model.specs.Satisfaction.{IsPart}
 use Rattle.lp_model.proofs.Sets.{contains_of_has}
-use Rattle.frac128.specs.declared.Wide.{Wide as Operation}
 use Rattle.certs.specs.declared.evidence.Branch.{Branch}
 use Rattle.certs.specs.declared.solving.Site.{Site}
 use Rattle.certs.specs.declared.solving.SiteKind.{SiteKind}
@@ -23,15 +22,17 @@ use Rattle.certs.specs.Runs.{End}
 use Rattle.certs.specs.Runs.End.{TooWide as SettleTooWide, Spent as SettleSpent}
 use Rattle.certs.specs.Sites.{Budgets, StopsBy, site_system}
 use Rattle.certs.specs.Solves.{RunEnds}
-use Rattle.certs.specs.Tales.{IsNodeSite, Stopped as Told, listed_stop}
+use Rattle.certs.specs.declared.solving.Verdict.{Verdict}
+use Rattle.certs.specs.Answers.{AnswersAt, IsAnsweredStop, IsPlainAnswer}
+use Rattle.certs.specs.Tales.{IsNodeSite, OracleState, no_tale}
 use Rattle.certs.proofs.HasLists.{agree_on}
 use Rattle.certs.proofs.Parted.{filter_both}
 use Rattle.filter_steps.specs.Isolated.{IsStoppedAt}
-use Rattle.linear_oracle.specs.Value.{IsPlainStop, OracleValue}
+use Rattle.linear_oracle.specs.Value.{OracleValue, state_of}
 use Rattle.report_text.specs.declared.report.Answer.{Answer}
 use Rattle.report_text.specs.declared.report.Answer.TheVariants.{Feasible, Infeasible, Irreducible, Done, Stopped}
 use Rattle.report_printer.specs.Printing.{IsKnownAnswer, IsKnownStop}
-use Rattle.analysis.specs.Answers.{IsStopAnswer}
+use Rattle.analysis.specs.Answers.{IsPossibleSite, IsRunStop, IsStopAnswer, IsToldStop}
 use Rattle.analysis.specs.Right.{IsChecked, IsIsolated, IsRightStop, IsSiteOf, IsWhole}
 
 -- ---- the site of a set of active members
@@ -64,14 +65,13 @@ empty_is model set of none =
     ∙ ap (λ (n : ℕ). record set { rows = length model.rows; columns = n }) of.columns
     ∙ ap (λ (l : List Member). record (empty_set model) { members = l }) none
 
-site_of : (model : Program) (asked : List Member) (site : Site) → IsNodeSite asked [] site → IsSetOf model site.set × IsSetOf model site.enforced
-    → site.set.members ≡ filter (has site.set.members) (possible_in site.set) → IsPart asked (active_members model) → IsSiteOf (λ s. s ≡ asked) model site
-site_of model asked site node of possible part = record {
+site_of : (model : Program) (asked : List Member) (site : Site) → IsNodeSite model asked [] site → IsPossibleSite site → IsPart asked (active_members model) → IsSiteOf (λ s. s ≡ asked) model site
+site_of model asked site node possible part = record {
   settle = record {
     kind = node.kind;
-    of_model = of.0;
-    active = active_site model site.set of.0 possible (subst (λ l. IsPart l (active_members model)) (sym node.set_is) part);
-    enforced_is = empty_is model site.enforced of.1 node.none_enforced;
+    of_model = node.set_of;
+    active = active_site model site.set node.set_of possible (subst (λ l. IsPart l (active_members model)) (sym node.set_is) part);
+    enforced_is = empty_is model site.enforced node.enforced_of node.none_enforced;
     path_is = node.path_is;
   };
   test = node.set_is;
@@ -85,30 +85,31 @@ own_run model pivots asked kind set enforced path first further k e p run =
     (subst (λ (l : List Member). RunEnds (plain_system model l path false) pivots first) (sym e)
     (subst (λ (q : List Branch). RunEnds (plain_system model asked q false) pivots first) (sym p) run))
 
--- the one stop that is told
-one_told : (model : Program) (pivots : ℕ) (stops : List Told) (stop : Stop) (told : Told) (asked : List Member) → stops ≡ listed_stop stop asked [] → listed_stop stop asked [] ≡ told ∷ [] → All (IsPlainStop model pivots) stops
-    → IsPlainStop model pivots told
-one_told model pivots stops stop told asked e f all = All-head (IsPlainStop model pivots) told [] (subst (All (IsPlainStop model pivots)) (e ∙ f) all)
+-- ---- stops that an oracle answers
+-- a stop of a run
+pub run_stop : (model : Program) (pivots : ℕ) (asked : List Member) (stop : Stop) → IsPlainAnswer model pivots asked (Err stop) → IsRunStop stop
+run_stop model pivots asked (Wide site turn wide) h = tt
+run_stop model pivots asked (Spent site) h = tt
+run_stop model pivots asked (Nodes site) h = absurd h.ends
+run_stop model pivots asked (Large size) h = absurd h.ends
+run_stop model pivots asked Memory h = tt
 
-pub wide_answer : (model : Program) (pivots nodes : ℕ) (stops : List Told) (stop : Stop) (site : Site) (turn : ℕ) (wide : Operation) (asked : List Member) → stop ≡ Wide site turn wide → All (IsPlainStop model pivots) stops
-    → site.set.members ≡ filter (has site.set.members) (possible_in site.set) → stops ≡ listed_stop stop asked [] → IsPart asked (active_members model)
-    → IsRightStop (λ s. s ≡ asked) model (record { pivots = pivots; nodes = nodes }) (Wide site turn wide)
-wide_answer model pivots nodes stops stop site turn wide asked is all possible told part =
-    let told_one : Told = record { stop = Wide site turn wide; set = asked; enforced = [] } in
-    let h = one_told model pivots stops stop told_one asked told (ap (λ (s : Stop). listed_stop s asked []) is) all in (
-      site_of model asked site h.stops.0 h.of_model possible part,
-      own_run model pivots asked site.kind site.set site.enforced site.path (SettleTooWide turn wide) (ImproveTooWide turn wide) h.stops.0.kind h.stops.0.set_is h.stops.0.path_is h.stops.1,
+-- as an answer it is right
+right_stop : (model : Program) (budgets : Budgets) (asked : List Member) (stop : Stop) (answer : Answer) → IsPlainAnswer model budgets.pivots asked (Err stop) → IsPart asked (active_members model) → IsToldStop stop answer
+    → IsStopAnswer (λ s. s ≡ asked) model budgets answer
+right_stop model budgets asked (Wide site turn wide) answer h part told =
+    subst (IsStopAnswer (λ s. s ≡ asked) model budgets) (sym told.0) (
+      site_of model asked site h.ends.0 told.1 part,
+      own_run model budgets.pivots asked site.kind site.set site.enforced site.path (SettleTooWide turn wide) (ImproveTooWide turn wide) h.ends.0.kind h.ends.0.set_is h.ends.0.path_is h.ends.1,
     )
-
-pub spent_answer : (model : Program) (pivots nodes : ℕ) (stops : List Told) (stop : Stop) (site : Site) (asked : List Member) → stop ≡ Spent site → All (IsPlainStop model pivots) stops
-    → site.set.members ≡ filter (has site.set.members) (possible_in site.set) → stops ≡ listed_stop stop asked [] → IsPart asked (active_members model)
-    → IsRightStop (λ s. s ≡ asked) model (record { pivots = pivots; nodes = nodes }) (Spent site)
-spent_answer model pivots nodes stops stop site asked is all possible told part =
-    let told_one : Told = record { stop = Spent site; set = asked; enforced = [] } in
-    let h = one_told model pivots stops stop told_one asked told (ap (λ (s : Stop). listed_stop s asked []) is) all in (
-      site_of model asked site h.stops.0 h.of_model possible part,
-      own_run model pivots asked site.kind site.set site.enforced site.path SettleSpent ImproveSpent h.stops.0.kind h.stops.0.set_is h.stops.0.path_is h.stops.1,
+right_stop model budgets asked (Spent site) answer h part told =
+    subst (IsStopAnswer (λ s. s ≡ asked) model budgets) (sym told.0) (
+      site_of model asked site h.ends.0 told.1 part,
+      own_run model budgets.pivots asked site.kind site.set site.enforced site.path SettleSpent ImproveSpent h.ends.0.kind h.ends.0.set_is h.ends.0.path_is h.ends.1,
     )
+right_stop model budgets asked (Nodes site) answer h part told = absurd told
+right_stop model budgets asked (Large size) answer h part told = absurd told
+right_stop model budgets asked Memory answer h part told = absurd told
 
 -- ---- stops that pass a test
 site_passes : (IsTest : List Member → Type 0) (model : Program) (asked : List Member) (site : Site) → IsTest asked → IsSiteOf (λ s. s ≡ asked) model site → IsSiteOf IsTest model site
@@ -128,17 +129,11 @@ passes IsTest model budgets asked test (Irreducible core) h = absurd h
 passes IsTest model budgets asked test Done h = absurd h
 passes IsTest model budgets asked test (Stopped stop) h = stop_passes IsTest model budgets asked test stop h
 
--- what an oracle with the program and the budget tells of its one stop
-pub stop_answer : (IsTest : List Member → Type 0) (model : Program) (budgets : Budgets) (now : OracleValue) (stop : Stop) (asked : List Member) {E : Type 0} (result : Result Answer E) → now.model ≡ model → now.pivots ≡ budgets.pivots
-    → now.stops ≡ listed_stop stop asked [] → IsPart asked (active_members model) → IsTest asked
-    → ((s : List Member) (nodes : ℕ) → now.stops ≡ listed_stop stop s [] → IsPart s (active_members now.model) → IfOk result (IsStopAnswer (λ t. t ≡ s) now.model (record { pivots = now.pivots; nodes = nodes })))
-    → IfOk result (IsStopAnswer IsTest model budgets)
-stop_answer IsTest model budgets now stop asked (Ok answer) e p told part test says =
-    passes IsTest model budgets asked test answer
-    (subst (λ (n : ℕ). IsStopAnswer (λ t. t ≡ asked) model (record { pivots = n; nodes = budgets.nodes }) answer) p
-    (subst (λ (m : Program). IsStopAnswer (λ t. t ≡ asked) m (record { pivots = now.pivots; nodes = budgets.nodes }) answer) e
-    (says asked budgets.nodes told (subst (λ (m : Program). IsPart asked (active_members m)) (sym e) part))))
-stop_answer IsTest model budgets now stop asked (Err error) e p told part test says = tt
+-- what is answered to an ask for a set of active members that passes the test
+pub stop_answer : (IsTest : List Member → Type 0) (model : Program) (budgets : Budgets) (asked : List Member) (stop : Stop) (answer : Answer) → IsAnsweredStop (IsPlainAnswer model budgets.pivots) asked stop
+    → IsPart asked (active_members model) → IsTest asked → IsToldStop stop answer → IsStopAnswer IsTest model budgets answer
+stop_answer IsTest model budgets asked stop answer (inl memory) part test told = absurd (subst (λ (s : Stop). IsToldStop s answer) memory told)
+stop_answer IsTest model budgets asked stop answer (inr h) part test told = passes IsTest model budgets asked test answer (right_stop model budgets asked stop answer h part told)
 
 -- is right to a search and to a check
 isolated_answer : (IsKept IsTest : List Member → Type 0) (model : Program) (budgets : Budgets) (answer : Answer) → IsStopAnswer IsTest model budgets answer → IsIsolated IsKept IsTest model budgets answer
@@ -185,18 +180,37 @@ known_stopped IsTest model budgets (Err error) h = tt
 -- ---- a fresh oracle
 -- it was asked nothing yet
 abbrev pub fresh_oracle : Program → ℕ → OracleValue
-fresh_oracle model pivots = record { model = model; pivots = pivots; asks = 0; made = 0; stops = []; first = None }
+fresh_oracle model pivots = record { model = model; pivots = pivots; made = 0; tale = no_tale }
 
--- the answer at its one stop
-pub first_stop : (IsAsked : Program → List Member → List Member → Type 0) (IsTest : List Member → Type 0) (model : Program) (set : SetValue) (budgets : Budgets) (old now : OracleValue) (stop : Stop) {E : Type 0} (result : Result Answer E)
-    → old ≡ fresh_oracle model budgets.pivots → set ≡ active_set model → now.model ≡ old.model → now.pivots ≡ old.pivots → IsStoppedAt (IsAsked old.model set.members) old.stops now.stops stop
-    → ((t : List Member) → IsAsked model (active_members model) t → IsPart t (active_members model)) → ((t : List Member) → IsAsked model (active_members model) t → IsTest t)
-    → ((s : List Member) (nodes : ℕ) → now.stops ≡ listed_stop stop s [] → IsPart s (active_members now.model) → IfOk result (IsStopAnswer (λ t. t ≡ s) now.model (record { pivots = now.pivots; nodes = nodes })))
-    → IfOk result (IsStopAnswer IsTest model budgets)
-first_stop IsAsked IsTest model set budgets old now stop result fresh whole m p h part test says =
-    let model_is : old.model ≡ model = ap (λ (o : OracleValue). o.model) fresh in
-    let none : old.stops ≡ [] = ap (λ (o : OracleValue). o.stops) fresh in
-    let asked : IsAsked model (active_members model) h.asked =
-    subst (λ (s : SetValue). IsAsked model s.members h.asked) whole (subst (λ (k : Program). IsAsked k set.members h.asked) model_is h.test) in
-    stop_answer IsTest model budgets now stop h.asked result (m ∙ model_is) (p ∙ ap (λ (o : OracleValue). o.pivots) fresh) (h.told ∙ ap (λ (l : List Told). l ++ listed_stop stop h.asked []) none)
-    (part h.asked asked) (test h.asked asked) says
+-- what it answers
+abbrev pub PlainAnswers : Program → Budgets → List Member → Result Verdict Stop → Type 0
+PlainAnswers model budgets set result = IsPlainAnswer model budgets.pivots set result
+
+-- a stop of a filter is one of a run
+pub stops_in_run : (IsTest : Program → List Member → List Member → Type 0) (set : List Member) (before after : OracleState) (stop : Stop) → IsStoppedAt IsTest PlainAnswers set before after stop → IsRunStop stop
+stops_in_run IsTest set before after stop h = by h.answered
+  where
+    by : IsAnsweredStop (AnswersAt PlainAnswers before) h.asked stop → IsRunStop stop
+    by (inl memory) = subst IsRunStop (sym memory) tt
+    by (inr k) = run_stop before.model before.budgets.pivots h.asked stop k
+
+-- and right as an answer
+pub filter_stop : (IsTest : OracleState → Program → List Member → List Member → Type 0) (IsRight : List Member → Type 0) (model : Program) (set : SetValue) (budgets : Budgets) (old : OracleValue) (after : OracleState) (stop : Stop) (answer : Answer)
+    → old ≡ fresh_oracle model budgets.pivots → set ≡ active_set model → IsStoppedAt (IsTest (state_of old)) PlainAnswers set.members (state_of old) after stop
+    → ((s : OracleState) (t : List Member) → IsTest s model (active_members model) t → IsPart t (active_members model)) → ((t : List Member) → IsTest (state_of (fresh_oracle model budgets.pivots)) model (active_members model) t → IsRight t)
+    → IsToldStop stop answer → IsStopAnswer IsRight model budgets answer
+filter_stop IsTest IsRight model set budgets old after stop answer fresh whole h part right told =
+    let first : OracleState = state_of (fresh_oracle model budgets.pivots) in
+    let k : IsStoppedAt (IsTest first) PlainAnswers (active_members model) first after stop =
+    subst (λ (s : SetValue). IsStoppedAt (IsTest first) PlainAnswers s.members first after stop) whole
+    (subst (λ (o : OracleValue). IsStoppedAt (IsTest (state_of o)) PlainAnswers set.members (state_of o) after stop) fresh h) in
+    stop_answer IsRight model budgets k.asked stop answer k.answered (part first k.asked k.test) (right k.asked k.test) told
+
+-- the stop of an ask for all active members
+pub stop_of_ask : (model : Program) (set : SetValue) (budgets : Budgets) (old : OracleValue) (stop : Stop) {E : Type 0} (result : Result Answer E) → old ≡ fresh_oracle model budgets.pivots → set ≡ active_set model
+    → IsPlainAnswer old.model old.pivots set.members (Err stop) → IfOk result (IsToldStop stop) → IfOk result (IsStopAnswer (IsWhole model) model budgets)
+stop_of_ask model set budgets old stop (Ok answer) fresh whole h told =
+    let k : IsPlainAnswer model budgets.pivots (active_members model) (Err stop) =
+    subst (λ (s : SetValue). IsPlainAnswer model budgets.pivots s.members (Err stop)) whole (subst (λ (o : OracleValue). IsPlainAnswer o.model o.pivots set.members (Err stop)) fresh h) in
+    stop_answer (IsWhole model) model budgets (active_members model) stop answer (inr k) (All-contains_itself (active_members model)) refl told
+stop_of_ask model set budgets old stop (Err error) fresh whole h told = tt

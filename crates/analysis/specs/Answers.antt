@@ -1,13 +1,17 @@
 -- The budgets in code, what is asked of the proof of an answer, and answers from what filters and oracles tell.
-use Rattle.std.specs.Prelude.{◌≡◌, List, [], ◌∷◌, None}
+use Rattle.std.specs.Prelude.{◌≡◌, ⊤, List, [], ◌∷◌, None, filter, Result, Ok, Err}
 use Rattle.lp_model.specs.declared.members.Member.{Member}
 use Rattle.lp_model.specs.Program.{Program}
-use Rattle.lp_model.specs.Members.{active_members}
+use Rattle.lp_model.specs.Members.{active_members, has}
+use Rattle.lp_model.specs.MemberSets.{possible_in}
 use Rattle.certs.specs.declared.evidence.Combo.{Combo}
 use Rattle.certs.specs.declared.evidence.Node.TheVariants.{Leaf}
 use Rattle.certs.specs.declared.evidence.Proof.{Proof}
 use Rattle.certs.specs.declared.solving.Irreducible.{Irreducible}
 use Rattle.certs.specs.declared.solving.Irreducible.TheVariants.{Set, Feasible as AtPoint}
+use Rattle.certs.specs.declared.solving.Site.{Site}
+use Rattle.certs.specs.declared.solving.Stop.{Stop}
+use Rattle.certs.specs.declared.solving.Stop.TheVariants.{Wide, Pivots as Spent, Nodes, Large, Memory}
 use Rattle.certs.specs.Combination.{IsCombination}
 use Rattle.certs.specs.Sites.{Budgets}
 use Rattle.report_text.specs.declared.report.Answer.{Answer}
@@ -29,6 +33,31 @@ pub record IsLeafProof (model : Program) (proof : Proof) : Type 0 where
 abbrev pub answer_of : Irreducible → Answer
 answer_of (Set members witnesses proof) = Isolated (record { members = members; witnesses = witnesses.items; proof = proof; rounds = None; price = None })
 answer_of (AtPoint point) = Feasible point
+
+-- a stop that a settle run may have: there is no tree, and no size
+abbrev pub IsRunStop : Stop → Type 0
+IsRunStop (Wide site k o) = ⊤
+IsRunStop (Spent site) = ⊤
+IsRunStop (Nodes site) = ⊥
+IsRunStop (Large size) = ⊥
+IsRunStop Memory = ⊤
+
+-- the members of the site's set are possible ones
+abbrev pub IsPossibleSite : Site → Type 0
+IsPossibleSite site = site.set.members ≡ filter (has site.set.members) (possible_in site.set)
+
+-- the answer is just that stop, at such a site
+abbrev pub IsToldStop : Stop → Answer → Type 0
+IsToldStop (Wide site k o) answer = (answer ≡ Stopped (Wide site k o)) × IsPossibleSite site
+IsToldStop (Spent site) answer = (answer ≡ Stopped (Spent site)) × IsPossibleSite site
+IsToldStop (Nodes site) answer = ⊥
+IsToldStop (Large size) answer = ⊥
+IsToldStop Memory answer = ⊥
+
+-- the answer is what a filter gives
+abbrev pub IsAnswerOf : Result Irreducible Stop → Answer → Type 0
+IsAnswerOf (Ok found) answer = answer ≡ answer_of found
+IsAnswerOf (Err stop) answer = IsToldStop stop answer
 
 -- the answer is a stop of a set that passes the test
 abbrev pub IsStopAnswer : (List Member → Type 0) → Program → Budgets → Answer → Type 0

@@ -1,13 +1,15 @@
 -- What it is for an answer to be right: of the program, within the budgets in force, to its command.
 use Rattle.std.specs.Prelude.{◌≡◌, ◌⊎◌, List, [], ◌++◌, fold, length}
-use Rattle.rational.specs.Rational.{ℚ}
 use Rattle.lp_model.specs.Program.{Program}
 use Rattle.lp_model.specs.declared.members.Member.{Member}
 use Rattle.lp_model.specs.Members.{active_members}
 use Rattle.lp_model.specs.MemberSets.{SetValue, active_set}
-use Rattle.lp_model.specs.Satisfaction.{Satisfies, values_at, IsPart, IsIrreducible}
+use Rattle.lp_model.specs.Satisfaction.{IsPart, IsIrreducible}
 use Rattle.certs.specs.declared.evidence.Proof.{Proof}
+use Rattle.certs.specs.Answers.{IsCoreBy, IsPlainAnswer}
 use Rattle.certs.specs.Checks.{IsSetOf}
+use Rattle.certs.specs.Order.{AreLeavesInOrder}
+use Rattle.certs.specs.Tales.{IsPointOf}
 use Rattle.certs.specs.Filter.{Late, Early, IsLateTest, IsEarlyTest}
 use Rattle.certs.specs.declared.solving.Site.{Site}
 use Rattle.certs.specs.declared.solving.Stop.{Stop}
@@ -16,7 +18,6 @@ use Rattle.certs.specs.Proof.{IsProof}
 use Rattle.certs.specs.Named.{used_set}
 use Rattle.certs.specs.Sites.{Budgets, IsStopped}
 use Rattle.filter_steps.specs.Isolated.{AreWitnesses}
-use Rattle.linear_oracle.specs.Value.{IsPlainCore}
 use Rattle.report_text.specs.declared.report.Method.{Method}
 use Rattle.report_text.specs.declared.report.Method.TheVariants.{Deletion, Additive, Sensitivity}
 use Rattle.report_text.specs.declared.report.Core.{Core}
@@ -29,9 +30,10 @@ use Rattle.report_text.specs.Turns.{after, entry_commands, AllEntries}
 use Rattle.report_text.specs.Form.{IsSettleSite}
 
 -- ---- answers
--- The proof is one of the printed members, and these are the active members that it uses.
+-- The proof is one of the printed members, the shares of each leaf stand in order, and these are the active members that it uses.
 pub record IsRefutation (model : Program) (printed : SetValue) (proof : Proof) : Type 0 where
   pub proves : IsProof model printed.members proof.nodes
+  pub ordered : AreLeavesInOrder proof.nodes
   pub used : printed ≡ used_set (active_set model) proof.nodes
 
 -- the site is the settle run of a set of active members that passes the test
@@ -47,41 +49,37 @@ IsRightStop IsTest model budgets (Nodes site) = ⊥
 IsRightStop IsTest model budgets (Large size) = ⊥
 IsRightStop IsTest model budgets Memory = ⊥
 
--- a point has a value for each column and satisfies the active members
-pub record IsRightPoint (model : Program) (values : List ℚ) : Type 0 where
-  pub each : length values ≡ length model.columns
-  pub satisfies : Satisfies model (active_members model) (values_at values)
-
 -- a check asks for all active members
 abbrev pub IsWhole : Program → List Member → Type 0
 IsWhole model set = set ≡ active_members model
 
 -- what is right to `check`
 abbrev pub IsChecked : Program → Budgets → Answer → Type 0
-IsChecked model budgets (Feasible point) = IsRightPoint model point.values
+IsChecked model budgets (Feasible point) = IsPointOf model (active_members model) point
 IsChecked model budgets (Infeasible printed proof) = IsRefutation model printed proof
 IsChecked model budgets (Stopped stop) = IsRightStop (IsWhole model) model budgets stop
 IsChecked model budgets _ = ⊥
 
 -- ---- irreducible sets
--- Active members that are irreducible: the proof is one of them, and for each of them its own witness satisfies all the others.
+-- Active members that are irreducible: the proof is one of them, with the shares of each leaf in order, and for each of them its own witness satisfies all the others.
 pub record IsRightCore (model : Program) (core : Core) : Type 0 where
   pub of_model : IsSetOf model core.members
   pub active : IsPart core.members.members (active_members model)
   pub proves : IsProof model core.members.members core.proof.nodes
+  pub ordered : AreLeavesInOrder core.proof.nodes
   pub witnesses : AreWitnesses model core.members.members core.witnesses
   pub irreducible : IsIrreducible model core.members.members
 
 -- what is right to a search that leaves such members and asks for such sets
 abbrev pub IsIsolated : (List Member → Type 0) → (List Member → Type 0) → Program → Budgets → Answer → Type 0
-IsIsolated IsKept IsTest model budgets (Feasible point) = IsRightPoint model point.values
+IsIsolated IsKept IsTest model budgets (Feasible point) = IsPointOf model (active_members model) point
 IsIsolated IsKept IsTest model budgets (Irreducible core) = IsRightCore model core × IsKept core.members.members
 IsIsolated IsKept IsTest model budgets (Stopped stop) = IsRightStop IsTest model budgets stop
 IsIsolated IsKept IsTest model budgets _ = ⊥
 
 -- The core of the active members within the budgets: those that the proof by the run of their plain system uses.
 abbrev pub IsCore : Program → Budgets → List Member → Type 0
-IsCore model budgets core = IsPlainCore model budgets.pivots (record { core = core; asked = active_members model })
+IsCore model budgets core = IsCoreBy (IsPlainAnswer model budgets.pivots) (active_members model) core
 
 -- what a late filter leaves of the core
 abbrev pub IsLateOfCore : Program → Budgets → List Member → Type 0

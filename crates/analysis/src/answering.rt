@@ -2,6 +2,7 @@
 ghost use Rattle.std.specs.Prelude.{◌≡◌, ◌<◌, ◌^◌, IfOk, All, false};
 ghost use Rattle.lp_model.specs.Members.{active_members, is_mark};
 ghost use Rattle.lp_model.specs.MemberSets.{active_set};
+ghost use Rattle.certs.specs.Order.{AreLeavesInOrder};
 ghost use Rattle.certs.specs.Sites.{Budgets as Allowed};
 ghost use Rattle.report_text.specs.Form.{IsCommand};
 ghost use Rattle.report_printer.specs.Printing.{IsKnownAnswer};
@@ -79,7 +80,7 @@ fn check(alloc: Global, model: &Model, budgets: Budgets) -> Result<Answer, Alloc
     match oracle.ask(alloc, &set) {
         Ok(Verdict::Feasible(point)) => Ok(Answer::Feasible(point)),
         Ok(Verdict::Infeasible(proof)) => refuted(alloc, model, &set, proof),
-        Err(stop) => stopped(&oracle, stop),
+        Err(stop) => stopped(stop),
     }
 }
 
@@ -92,6 +93,7 @@ fn refuted(
 ) -> Result<Answer, AllocError>
     requires whole { set.now ≡ active_set model.now }
     requires leaf { IsLeafProof model.now proof }
+    requires ordered { AreLeavesInOrder proof.nodes }
     ensures right { (budgets : Allowed) → IfOk result (IsChecked model.now budgets) }
     ensures known { IfOk result (IsKnownAnswer model.now) }
 {

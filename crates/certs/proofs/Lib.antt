@@ -28,3 +28,6 @@ pub mod Parted
 pub mod PlainForms
 pub mod PlainPoints
 pub mod PlainCuts
+pub mod PlainOrder
+pub mod PlainAnswers
+pub mod Possible

@@ -123,5 +123,9 @@ abbrev pub IsPartBy : SetValue → (Member → Bool) → SetValue → Type 0
 IsPartBy set test part = part ≡ record set { members = filter (λ m. has set.members m && test m) (possible_in set) }
 
 -- the members of a set that the nodes use
+abbrev pub used_members : List Member → List Node → List Member
+used_members set nodes = filter (λ m. list_any (node_uses m) nodes) set
+
+-- as a set
 abbrev pub used_set : SetValue → List Node → SetValue
-used_set set nodes = record set { members = filter (λ m. list_any (node_uses m) nodes) set.members }
+used_set set nodes = record set { members = used_members set.members nodes }

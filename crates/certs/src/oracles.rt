@@ -1,13 +1,19 @@
 //! Solvers as filters and searches see them.
-ghost use Rattle.std.specs.Prelude.{◌≡◌, ◌<◌, [], false, true, All, Bool, IfErr, IfOk, List, ℕ, Option, length};
+ghost use Rattle.std.specs.Prelude.{◌≡◌, ◌<◌, [], false, true, All, IfErr, IfOk, List, ℕ, Ok, Err, Result as Outcome, length};
 ghost use Rattle.lp_model.specs.declared.members.Member.{Member as OneMember};
 ghost use Rattle.lp_model.specs.Members.{is_mark};
 ghost use Rattle.lp_model.specs.Program.{Program};
 ghost use Rattle.lp_model.specs.Satisfaction.{IsPart};
+ghost use Rattle.certs.specs.declared.evidence.Proof.{Proof as OneProof};
+ghost use Rattle.certs.specs.declared.solving.Stop.{Stop as OneStop};
+ghost use Rattle.certs.specs.declared.solving.Stretched.{Stretched as OneStretched};
+ghost use Rattle.certs.specs.declared.solving.Verdict.{Verdict as OneVerdict};
+ghost use Rattle.certs.specs.declared.solving.Verdict.TheVariants.{Infeasible};
 ghost use Rattle.certs.specs.Checks.{IsSetOf};
 ghost use Rattle.certs.specs.Combination.{IsFitting};
+ghost use Rattle.certs.specs.Order.{AreLeavesInOrder};
 ghost use Rattle.certs.specs.Sites.{Budgets};
-ghost use Rattle.certs.specs.Tales.{FirstCore, IsNodeEnd, IsSiteWithin, IsStretched, IsVerdict, Stopped, first_core_after, one_more, stops_after};
+ghost use Rattle.certs.specs.Tales.{IsNodeEnd, IsSiteWithin, IsStretchStop, IsStretched, IsVerdict, OracleState, Stopped, asked_after, one_more, stops_after};
 
 use crate::evidence::Branch;
 use crate::solving::{NodeEnd, Stop, Stretched, Verdict};
@@ -16,23 +22,11 @@ use std::alloc::Global;
 
 /// What tells whether sets of a program's members can be satisfied.
 pub trait Oracle {
-    /// The program.
-    ghost model: { Self → Program };
+    /// The program, what each solve may spend, which sets it serves, and what it tells of its calls.
+    ghost state: { Self → OracleState };
 
-    /// What each solve may spend.
-    ghost budgets: { Self → Budgets };
-
-    /// Whether it serves a set.
-    ghost serves: { Self → List OneMember → Bool };
-
-    /// How often it was asked.
-    ghost asks: { Self → ℕ };
-
-    /// Its stops, in order.
-    ghost stops: { Self → List Stopped };
-
-    /// The members that its first infeasible verdict used.
-    ghost first_core: { Self → Option FirstCore };
+    /// What the answers to an ask are: by the program and what a solve may spend, to a set.
+    ghost answers: { Program → Budgets → List OneMember → Outcome OneVerdict OneStop → Type 0 };
 
     /// Whether the set can be satisfied.
     ///
@@ -41,21 +35,23 @@ pub trait Oracle {
     /// A stop at a run of a part of the set; all but want of memory are put into the list of stops before they are
     /// answered.
     fn ask(&mut self, alloc: Global, set: &MemberSet) -> Result<Verdict, Stop>
-        requires same { IsSetOf (model self.old) set.now }
-        requires served { serves self.old set.now.members ≡ true }
-        ensures verdict { IfOk result (IsVerdict (model self.old) set.now.members) }
-        ensures within { IfErr result (IsSiteWithin set.now.members) }
+        requires same { IsSetOf (state self.old).model set.now }
+        requires served { (state self.old).serves set.now.members ≡ true }
+        ensures answered { answers (state self.old).model (state self.old).budgets set.now.members result }
+        // It is told: one ask more, the stop at the end of the list, and the first core where there was none.
+        ensures told { state self.new ≡ asked_after (state self.old) set.now.members result };
 
-        // The tale: one ask more, the stop at the end of the list, and the first core where there was none.
-        ensures asks { asks self.new ≡ one_more (asks self.old) }
-        ensures stops { stops self.new ≡ stops_after (stops self.old) set.now.members [] result }
-        ensures first_core { first_core self.new ≡ first_core_after (first_core self.old) set.now.members result }
+    /// An answered verdict holds.
+    ghost holds: { (model : Program) (budgets : Budgets) (set : List OneMember) (verdict : OneVerdict) → answers model budgets set (Ok verdict) → IsVerdict model set verdict };
 
-        // The program, the budgets and the sets that are served stay; with a set its parts are served.
-        ensures model { model self.new ≡ model self.old }
-        ensures budgets { budgets self.new ≡ budgets self.old }
-        ensures serves { (s : List OneMember) → serves self.new s ≡ serves self.old s }
-        ensures parts { (s part : List OneMember) → IsPart part s → serves self.old s ≡ true → serves self.old part ≡ true };
+    /// The shares of each leaf of an answered proof stand in order.
+    ghost ordered: { (model : Program) (budgets : Budgets) (set : List OneMember) (proof : OneProof) → answers model budgets set (Ok (Infeasible proof)) → AreLeavesInOrder proof.nodes };
+
+    /// The site of an answered stop lies within the set.
+    ghost within: { (model : Program) (budgets : Budgets) (set : List OneMember) (stop : OneStop) → answers model budgets set (Err stop) → IsSiteWithin set stop };
+
+    /// With a set its parts are served.
+    ghost parts: { (oracle : Self) (set part : List OneMember) → IsPart part set → (state oracle).serves set ≡ true → (state oracle).serves part ≡ true };
 }
 
 /// An oracle that also makes the runs of nodes.
@@ -67,16 +63,11 @@ pub trait BranchAsk: Oracle {
     ///
     /// The stop of just that run. Nothing is put into the oracle's tale.
     fn ask_with(&mut self, alloc: Global, set: &MemberSet, path: &[Branch]) -> Result<NodeEnd, Stop>
-        requires same { IsSetOf (Self.model self.old) set.now }
-        requires known { All (λ b. b.column < length (Self.model self.old).columns) path.now }
+        requires same { IsSetOf (Self.state self.old).model set.now }
+        requires known { All (λ b. b.column < length (Self.state self.old).model.columns) path.now }
         requires fitting { All IsFitting path.now }
-        ensures end { IsNodeEnd (Self.model self.old) set.now.members path.now (Self.budgets self.old).pivots result }
-        ensures model { Self.model self.new ≡ Self.model self.old }
-        ensures budgets { Self.budgets self.new ≡ Self.budgets self.old }
-        ensures serves { (s : List OneMember) → Self.serves self.new s ≡ Self.serves self.old s }
-        ensures asks { Self.asks self.new ≡ Self.asks self.old }
-        ensures stops { Self.stops self.new ≡ Self.stops self.old }
-        ensures first_core { Self.first_core self.new ≡ Self.first_core self.old };
+        ensures end { IsNodeEnd (Self.state self.old).model set.now.members path.now (Self.state self.old).budgets.pivots result }
+        ensures untold { Self.state self.new ≡ Self.state self.old };
 }
 
 /// What makes the rounds of stretching a set without marks.
@@ -93,8 +84,11 @@ pub trait Stretcher {
     /// Its stops, in order.
     ghost stops: { Self → List Stopped };
 
+    /// What the answers to a round are: by the program and what a solve may spend, to a set and its enforced part.
+    ghost answers: { Program → Budgets → List OneMember → List OneMember → Outcome OneStretched OneStop → Type 0 };
+
     /// One round: at a point that satisfies the enforced members with the least total violation of the set, the members
-    /// that are violated are to be enforced too.
+    /// that are violated and not enforced yet.
     ///
     /// # Errors
     ///
@@ -110,9 +104,15 @@ pub trait Stretcher {
         requires enforced { IsSetOf (model self.old) enforced.now }
         requires linear { All (λ m. is_mark m ≡ false) set.now.members }
         requires part { IsPart enforced.now.members set.now.members }
-        ensures stretched { IfOk result (IsStretched (model self.old) set.now.members enforced.now.members) }
+        ensures answered { answers (model self.old) (budgets self.old) set.now.members enforced.now.members result }
         ensures rounds { rounds self.new ≡ one_more (rounds self.old) }
         ensures stops { stops self.new ≡ stops_after (stops self.old) set.now.members enforced.now.members result }
         ensures model { model self.new ≡ model self.old }
         ensures budgets { budgets self.new ≡ budgets self.old };
+
+    /// What is answered holds.
+    ghost holds: { (model : Program) (budgets : Budgets) (set enforced : List OneMember) (answer : OneStretched) → answers model budgets set enforced (Ok answer) → IsStretched model set enforced answer };
+
+    /// An answered stop is that of the round's run.
+    ghost stopped: { (model : Program) (budgets : Budgets) (set enforced : List OneMember) (stop : OneStop) → answers model budgets set enforced (Err stop) → IsStretchStop model budgets set enforced stop };
 }

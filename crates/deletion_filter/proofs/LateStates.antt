@@ -1,5 +1,5 @@
 -- How far a late filter has come.
-use Rattle.std.proofs.Common.{◌≡◌, ◌≤◌, ◌+◌, ℕ, suc, arith, refl, sym, ◌∙◌, subst, List, [], ◌∷◌, ◌++◌, append_assoc, append-nil}
+use Rattle.std.proofs.Common.{◌≡◌, refl, sym, ◌∙◌, subst, List, [], ◌∷◌, ◌++◌, append_assoc, append-nil}
 use Rattle.std.specs.Prelude.{Contains}
 use Rattle.lp_model.specs.declared.members.Member.{Member}
 use Rattle.lp_model.specs.Members.{IsInOrder}
@@ -12,7 +12,8 @@ use Rattle.certs.specs.Filter.{IsLateTest, Late, LateReaches, start, stays, goes
 use Rattle.certs.specs.Proof.{IsProof}
 use Rattle.certs.proofs.Filters.{late_law, satisfiable_weaker}
 use Rattle.certs.proofs.Refuted.{proof_law}
-use Rattle.filter_steps.specs.Isolated.{IsPointFor, AreWitnesses}
+use Rattle.certs.specs.Tales.{IsPointOf}
+use Rattle.filter_steps.specs.Isolated.{AreWitnesses}
 use Rattle.filter_steps.specs.Reductions.{Tried, stays as it_stays, goes as it_goes}
 use Rattle.filter_steps.proofs.Sets.{in_middle, set_without_middle}
 use Rattle.filter_steps.proofs.Reached.{late_part, late_weaker, part_of_part}
@@ -23,10 +24,10 @@ pub record IsLateState (model : Program) (set rest left : List Member) (witnesse
   pub kept : List Member
   pub reached : LateReaches (IsSatisfiable model) set kept rest
   pub is : left ≡ kept ++ rest
-  pub witnessed : EachSuits (IsPointFor model) [] kept rest witnesses
+  pub witnessed : EachSuits (IsPointOf model) [] kept rest witnesses
 
 pub state_starts : (model : Program) (set left : List Member) (witnesses : List Point) → left ≡ set → witnesses ≡ [] → IsLateState model set set left witnesses
-state_starts model set left witnesses e w = record { kept = []; reached = start; is = e; witnessed = subst (EachSuits (IsPointFor model) [] [] set) (sym w) tt }
+state_starts model set left witnesses e w = record { kept = []; reached = start; is = e; witnessed = subst (EachSuits (IsPointOf model) [] [] set) (sym w) tt }
 
 -- the next member is one that is left
 pub next_is_left : (model : Program) (set : List Member) (m : Member) (rest left : List Member) (witnesses : List Point) → IsLateState model set (m ∷ rest) left witnesses → Contains left m
@@ -47,12 +48,12 @@ asked_is_part model set m rest left witnesses s order =
 pub state_tried : (model : Program) (set : List Member) (m : Member) (rest : List Member) (left now : SetValue) (witnesses witnesses_now : List Point) (nodes : List Node)
     → IsLateState model set (m ∷ rest) left.members witnesses → IsInOrder left.members → Tried model left witnesses m now witnesses_now → IsProof model now.members nodes → IsLateState model set rest now.members witnesses_now
 state_tried model set m rest left _ witnesses _ nodes s order (it_stays p h) q =
-    let point : IsPointFor model (s.kept ++ rest) p = subst (λ l. IsPointFor model l p) (set_without_middle left s.kept m rest s.is order) h in
+    let point : IsPointOf model (s.kept ++ rest) p = subst (λ l. IsPointOf model l p) (set_without_middle left s.kept m rest s.is order) h in
     record {
       kept = s.kept ++ m ∷ [];
       reached = stays s.reached (satisfiable_by model (s.kept ++ rest) p point);
       is = s.is ∙ sym (append_assoc s.kept (m ∷ []) rest);
-      witnessed = late_stays (IsPointFor model) [] s.kept m rest witnesses p s.witnessed point;
+      witnessed = late_stays (IsPointOf model) [] s.kept m rest witnesses p s.witnessed point;
     }
 state_tried model set m rest left _ witnesses _ nodes s order it_goes q =
     let is : (set_without left m).members ≡ s.kept ++ rest = set_without_middle left s.kept m rest s.is order in
@@ -60,7 +61,7 @@ state_tried model set m rest left _ witnesses _ nodes s order it_goes q =
       kept = s.kept;
       reached = goes s.reached (proof_law model (s.kept ++ rest) nodes (subst (λ l. IsProof model l nodes) is q));
       is = is;
-      witnessed = late_goes (IsPointFor model) (weaker_point model) [] s.kept m rest witnesses s.witnessed;
+      witnessed = late_goes (IsPointOf model) (weaker_point model) [] s.kept m rest witnesses s.witnessed;
     }
 
 -- ---- in the end
@@ -78,12 +79,3 @@ irreducible_in_the_end model set left nodes late proof =
 -- the whole set is a test
 pub whole_is_test : (model : Program) (set : List Member) → IsLateTest model set set
 whole_is_test model set = record { kept = []; between = []; back = set; reached = start; joined = refl }
-
--- ---- counts of asks
--- with at most one ask more for one member less
-pub few_more : (first now next before after total : ℕ) → now + before ≤ first + total → before ≡ suc after → next ≤ now + 1 → next + after ≤ first + total
-few_more first now next before after total h e f = omega arith
-
--- where the last one stops
-pub few_at_stop : (first now next before after total : ℕ) → now + before ≤ first + total → before ≡ suc after → next ≤ now + 1 → next ≤ first + total
-few_at_stop first now next before after total h e f = omega arith

@@ -1,12 +1,10 @@
 //! The deletion filter.
-ghost use Rattle.std.specs.Prelude.{◌≡◌, ◌≤◌, ◌+◌, ◌↔◌, false, true, Some, IfErr, IfOk, IsTrue, List, OnOk, length};
-ghost use Rattle.lp_model.specs.declared.members.Member.{Member as OneMember};
-ghost use Rattle.lp_model.specs.Satisfaction.{IsIrreducible, IsPart, IsSatisfiable};
+ghost use Rattle.std.specs.Prelude.{◌≡◌, ◌+◌, ◌↔◌, true, IfErr, IfOk, IsTrue, OnOk, length};
+ghost use Rattle.lp_model.specs.Satisfaction.{IsSatisfiable};
 ghost use Rattle.certs.specs.Checks.{IsSetOf};
 ghost use Rattle.certs.specs.Filter.{IsLateTest, Late};
 ghost use Rattle.certs.specs.Proof.{IsProof};
-ghost use Rattle.certs.specs.Tales.{FirstCore};
-ghost use Rattle.filter_steps.specs.Isolated.{AreWitnesses, IfFeasible, IfSet, IsPointFor, IsStoppedAt, is_feasible};
+ghost use Rattle.filter_steps.specs.Isolated.{IsIsolation, IsLeft, IsReduced, IsStoppedAt, is_feasible};
 
 use certs::{Irreducible, MemberSet, Oracle, Proof, Stop, Verdict};
 use filter_steps::{Reduction, try_without};
@@ -29,26 +27,15 @@ pub fn isolate<O: Oracle>(
     oracle: &mut O,
     set: &MemberSet,
 ) -> Result<Irreducible, Stop>
-    requires same { IsSetOf (O.model oracle.old) set.now }
-    requires served { O.serves oracle.old set.now.members ≡ true }
-    ensures late { IfOk result (IfSet (λ core. Late (O.model oracle.old) set.now.members core.set.members)) }
-    ensures proof { IfOk result (IfSet (λ core. IsProof (O.model oracle.old) core.set.members core.nodes)) }
-    ensures witnesses { IfOk result (IfSet (λ core. AreWitnesses (O.model oracle.old) core.set.members core.witnesses)) }
-    ensures irreducible { IfOk result (IfSet (λ core. IsIrreducible (O.model oracle.old) core.set.members)) }
-    ensures same { IfOk result (IfSet (λ core. IsSetOf (O.model oracle.old) core.set)) }
-    ensures point { IfOk result (IfFeasible (IsPointFor (O.model oracle.old) set.now.members)) }
+    requires same { IsSetOf (O.state oracle.old).model set.now }
+    requires served { (O.state oracle.old).serves set.now.members ≡ true }
+    ensures found { IfOk result (IsIsolation Late O.answers (O.state oracle.old) set.now.members) }
     // A point comes exactly where the set can be satisfied.
-    ensures which { IfOk result (λ answer. IsTrue (is_feasible answer) ↔ IsSatisfiable (O.model oracle.old) set.now.members) }
-    ensures stop { IfErr result (IsStoppedAt (IsLateTest (O.model oracle.old) set.now.members) (O.stops oracle.old) (O.stops oracle.new)) }
-    ensures quiet { OnOk result (O.stops oracle.new ≡ O.stops oracle.old) }
-
-    // At most one ask more than the set has members; the rest of the tale stays.
-    ensures asks { O.asks oracle.old ≤ O.asks oracle.new }
-    ensures few { O.asks oracle.new ≤ O.asks oracle.old + length set.now.members + 1 }
-    ensures first_core { (first : FirstCore) → O.first_core oracle.old ≡ Some first → O.first_core oracle.new ≡ Some first }
-    ensures model { O.model oracle.new ≡ O.model oracle.old }
-    ensures budgets { O.budgets oracle.new ≡ O.budgets oracle.old }
-    ensures serves { (s : List OneMember) → O.serves oracle.new s ≡ O.serves oracle.old s }
+    ensures which { IfOk result (λ answer. IsTrue (is_feasible answer) ↔ IsSatisfiable (O.state oracle.old).model set.now.members) }
+    ensures stop { IfErr result (IsStoppedAt IsLateTest O.answers set.now.members (O.state oracle.old) (O.state oracle.new)) }
+    ensures quiet { OnOk result ((O.state oracle.new).tale.stops ≡ (O.state oracle.old).tale.stops) }
+    // At most one ask more than the set has members.
+    ensures left { IsLeft (length set.now.members + 1) (O.state oracle.old) (O.state oracle.new) }
 {
     let verdict = oracle.ask(alloc, set)?;
     match verdict {
@@ -68,25 +55,14 @@ pub fn isolate_refuted<O: Oracle>(
     set: &MemberSet,
     proof: Proof,
 ) -> Result<Irreducible, Stop>
-    requires same { IsSetOf (O.model oracle.old) set.now }
-    requires served { (part : List OneMember) → IsPart part set.now.members → O.serves oracle.old part ≡ true }
-    requires proof { IsProof (O.model oracle.old) set.now.members proof.nodes }
-    ensures set { IfOk result (λ answer. is_feasible answer ≡ false) }
-    ensures late { IfOk result (IfSet (λ core. Late (O.model oracle.old) set.now.members core.set.members)) }
-    ensures proof { IfOk result (IfSet (λ core. IsProof (O.model oracle.old) core.set.members core.nodes)) }
-    ensures witnesses { IfOk result (IfSet (λ core. AreWitnesses (O.model oracle.old) core.set.members core.witnesses)) }
-    ensures irreducible { IfOk result (IfSet (λ core. IsIrreducible (O.model oracle.old) core.set.members)) }
-    ensures same { IfOk result (IfSet (λ core. IsSetOf (O.model oracle.old) core.set)) }
-    ensures stop { IfErr result (IsStoppedAt (IsLateTest (O.model oracle.old) set.now.members) (O.stops oracle.old) (O.stops oracle.new)) }
-    ensures quiet { OnOk result (O.stops oracle.new ≡ O.stops oracle.old) }
-
-    // At most one ask for each member; the rest of the tale stays.
-    ensures asks { O.asks oracle.old ≤ O.asks oracle.new }
-    ensures few { O.asks oracle.new ≤ O.asks oracle.old + length set.now.members }
-    ensures first_core { (first : FirstCore) → O.first_core oracle.old ≡ Some first → O.first_core oracle.new ≡ Some first }
-    ensures model { O.model oracle.new ≡ O.model oracle.old }
-    ensures budgets { O.budgets oracle.new ≡ O.budgets oracle.old }
-    ensures serves { (s : List OneMember) → O.serves oracle.new s ≡ O.serves oracle.old s }
+    requires same { IsSetOf (O.state oracle.old).model set.now }
+    requires served { (O.state oracle.old).serves set.now.members ≡ true }
+    requires proof { IsProof (O.state oracle.old).model set.now.members proof.nodes }
+    ensures found { IfOk result (IsReduced Late O.answers (O.state oracle.old) set.now.members proof.nodes) }
+    ensures stop { IfErr result (IsStoppedAt IsLateTest O.answers set.now.members (O.state oracle.old) (O.state oracle.new)) }
+    ensures quiet { OnOk result ((O.state oracle.new).tale.stops ≡ (O.state oracle.old).tale.stops) }
+    // At most one ask for each member.
+    ensures left { IsLeft (length set.now.members) (O.state oracle.old) (O.state oracle.new) }
 {
     // That the members of the set may be in it, and stand in order, is told with their count.
     let _count = set.count();

@@ -22,7 +22,6 @@ use Rattle.certs.specs.Named.{IsKnownNode, IsKnownSource, node_uses, used_set}
 use Rattle.certs.specs.Proof.{Tree, Tip, Fork, preorder, at_most, at_least, IsMarked, IsTreeProof, IsProof}
 use Rattle.certs.specs.Violation.{is_of}
 use Rattle.certs.proofs.HasLists.{has_of_filter}
-use Rattle.filter_steps.proofs.Sets.{all_possible}
 
 -- an element that passes is one
 any_of : {A : Type 0} (p : A → Bool) (xs : List A) (x : A) → Contains xs x → p x ≡ true → list_any p xs ≡ true
@@ -79,26 +78,6 @@ unfolding HasUsed
 proof_of_used model set nodes p =
     proof_within model set.members (used_set set nodes).members nodes
     (λ n c k u d. Contains-filter (λ m. list_any (node_uses m) nodes) set.members k d (any_of (node_uses k) nodes n c u)) p
-
--- ---- the nodes of a proof name members that the set may have
-known_source : (set : SetValue) → All (IsPossibleIn set) set.members → (source : Source) → IsFrom set.members source → IsKnownSource set source
-known_source set possible (Of m) c = All-contains (IsPossibleIn set) set.members m possible c
-known_source set possible (Below j) c = tt
-known_source set possible (Above j) c = tt
-
-tree_known : (model : Program) (set : SetValue) (path : List Branch) (t : Tree) → All (IsPossibleIn set) set.members → IsTreeProof model set.members path t → All (IsKnownNode set) (preorder t)
-tree_known model set path (Tip shares) possible c =
-    All-cons (IsKnownNode set) (Leaf (record { shares = shares })) []
-    (All-weaker (IsThere model set.members path) (λ (s : Share). IsKnownSource set s.source) (λ s there. known_source set possible s.source there.from) shares c.there)
-    (All-nil (IsKnownNode set))
-tree_known model set path (Fork j k lower upper) possible p =
-    let marked : IsMarked model set.members j = p.0 in
-    All-cons (IsKnownNode set) (Split j k) (preorder lower ++ preorder upper)
-    (All-contains (IsPossibleIn set) set.members (Whole j) possible marked.in_set)
-    (All-append (IsKnownNode set) (preorder lower) (preorder upper) (tree_known model set (path ++ at_most j k ∷ []) lower possible p.1) (tree_known model set (path ++ at_least j (k +ℤ pos 1) ∷ []) upper possible p.2))
-
-pub known_nodes : (model : Program) (set : SetValue) (nodes : List Node) → set.members ≡ filter (has set.members) (possible_in set) → IsProof model set.members nodes → All (IsKnownNode set) nodes
-known_nodes model set nodes is p = subst (All (IsKnownNode set)) p.listed (tree_known model set [] p.tree (all_possible set is) p.proves)
 
 -- the members that a proof uses, as a set tells them
 pub used_tells : (set : SetValue) (nodes : List Node) (m : Member) → Contains set.members m → has (used_set set nodes).members m ≡ list_any (node_uses m) nodes

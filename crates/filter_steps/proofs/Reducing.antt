@@ -14,8 +14,7 @@ use Rattle.certs.specs.declared.solving.Verdict.TheVariants.{Feasible, Infeasibl
 use Rattle.certs.specs.Checks.{IsSetOf}
 use Rattle.certs.specs.Named.{used_set}
 use Rattle.certs.specs.Proof.{IsProof}
-use Rattle.certs.specs.Tales.{IsVerdict}
-use Rattle.filter_steps.specs.Isolated.{IsPointFor}
+use Rattle.certs.specs.Tales.{IsPointOf, IsVerdict}
 use Rattle.filter_steps.specs.Reductions.{IsReduction, Tried, stays, goes}
 use Rattle.filter_steps.proofs.Sets.{rest_in_order, rest_is_part, rest_is_possible}
 use Rattle.filter_steps.proofs.Proofs.{proof_without, used_tells}
@@ -57,8 +56,8 @@ refuted model left used before m removed left_now used_now proof proof_now r e p
     same_reduction model removed left_now (used_set removed proof.nodes) used_now proof.nodes proof_now.nodes f u (ap (λ (x : Proof). x.nodes) q) (reduction_starts model removed proof.nodes sized is order p)
 
 -- ---- what was asked
-pub point_of_verdict : (model : Program) (members : List Member) (v : Verdict) (p : Point) → v ≡ Feasible p → IsVerdict model members v → IsPointFor model members p
-point_of_verdict model members v p e h = let k = subst (IsVerdict model members) e h in record { each_column = k.0; satisfies = k.1 }
+pub point_of_verdict : (model : Program) (members : List Member) (v : Verdict) (p : Point) → v ≡ Feasible p → IsVerdict model members v → IsPointOf model members p
+point_of_verdict model members v p e h = subst (IsVerdict model members) e h
 
 pub proof_of_verdict : (model : Program) (members : List Member) (v : Verdict) (p : Proof) → v ≡ Infeasible p → IsVerdict model members v → IsProof model members p.nodes
 proof_of_verdict model members v p e h = subst (IsVerdict model members) e h
@@ -79,7 +78,7 @@ on_ok_both (Ok a) P Q R f h k = f h k
 on_ok_both (Err e) P Q R f h k = tt
 
 -- ---- what became of the member
-pub tried_stays : (model : Program) (left now : SetValue) (before after : List Point) (m : Member) (p : Point) → IsPointFor model (set_without left m).members p → now ≡ left → after ≡ before ++ p ∷ []
+pub tried_stays : (model : Program) (left now : SetValue) (before after : List Point) (m : Member) (p : Point) → IsPointOf model (set_without left m).members p → now ≡ left → after ≡ before ++ p ∷ []
     → Tried model left before m now after
 tried_stays model left now before after m p h e w = subst (λ s. Tried model left before m s after) (sym e) (subst (Tried model left before m left) (sym w) (stays p h))
 

@@ -11,14 +11,9 @@ use Rattle.lp_model.proofs.Marked.{possible_is, is_what_it_has}
 use Rattle.lp_model.proofs.Orders.{not_itself}
 use Rattle.lp_model.proofs.Sets.{same_members, same_self, has_of_contains}
 use Rattle.certs.proofs.HasLists.{agree_on, has_kept}
+use Rattle.certs.proofs.Possible.{all_possible}
 
--- the members of a set may be in it
-pub all_possible : (set : SetValue) → set.members ≡ filter (has set.members) (possible_in set) → All (IsPossibleIn set) set.members
-all_possible set is =
-    let every : All (IsPossibleIn set) (possible_in set) = All-weaker (Contains (possible_in set)) (IsPossibleIn set) (λ m c. possible_is set.rows set.columns m c) (possible_in set) (All-contains_itself (possible_in set)) in
-    subst (All (IsPossibleIn set)) (sym is) (All-filter (has set.members) (IsPossibleIn set) (possible_in set) every)
-
--- and each of them
+-- each member of a set may be in it
 pub is_possible : (set : SetValue) (m : Member) → set.members ≡ filter (has set.members) (possible_in set) → Contains set.members m → IsPossibleIn set m
 is_possible set m is c = All-contains (IsPossibleIn set) set.members m (all_possible set is) c
 

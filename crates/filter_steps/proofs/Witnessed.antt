@@ -7,7 +7,8 @@ use Rattle.lp_model.proofs.Points.{common_denominator}
 use Rattle.lp_model.proofs.Sets.{part_law, part_without}
 use Rattle.rational.specs.Linear.{Assignment}
 use Rattle.certs.specs.declared.evidence.Point.{Point}
-use Rattle.filter_steps.specs.Isolated.{without, IsPointFor, AreWitnesses}
+use Rattle.certs.specs.Tales.{IsPointOf}
+use Rattle.filter_steps.specs.Isolated.{without, AreWitnesses}
 
 -- Each point suits the elements around its own: those before it, and those after it in the list and behind the list.
 abbrev pub EachSuits : {X P : Type 0} → (List X → P → Type 0) → List X → List X → List X → List P → Type 0
@@ -73,18 +74,18 @@ module _ {X P : Type 0} (Suits : List X → P → Type 0) where
       subst (λ z. Suits z (get_or points i d)) (append_assoc front (y ∷ []) (without list i ++ back)) (each_suits (front ++ y ∷ []) list back points h.1 i d (let g : i < length points = omega arith in g))
 
 -- ---- points for members
-pub weaker_point : (model : Program) (a b c : List Member) (p : Point) → IsPointFor model (a ++ (b ++ c)) p → IsPointFor model (a ++ c) p
+pub weaker_point : (model : Program) (a b c : List Member) (p : Point) → IsPointOf model (a ++ (b ++ c)) p → IsPointOf model (a ++ c) p
 weaker_point model a b c p h = record { each_column = h.each_column; satisfies = part_law model (a ++ c) (a ++ (b ++ c)) (part_without a b c) (values_at p.values) h.satisfies }
 
 -- what has a point can be satisfied
-pub satisfiable_by : (model : Program) (members : List Member) (p : Point) → IsPointFor model members p → IsSatisfiable model members
+pub satisfiable_by : (model : Program) (members : List Member) (p : Point) → IsPointOf model members p → IsSatisfiable model members
 satisfiable_by model members p h =
     let q = common_denominator p.values in
     let same : ◌≡◌ {A = Assignment} (coordinate q.0) (values_at p.values) = λ i. λ j. q.1 j i in
     record { point = q.0; satisfies = subst (Satisfies model members) (sym same) h.satisfies }
 
-pub are_witnesses : (model : Program) (members : List Member) (points : List Point) → EachSuits (IsPointFor model) [] members [] points → AreWitnesses model members points
+pub are_witnesses : (model : Program) (members : List Member) (points : List Point) → EachSuits (IsPointOf model) [] members [] points → AreWitnesses model members points
 are_witnesses model members points h = record {
-  as_many = as_many (IsPointFor model) [] members [] points h;
-  each = λ i d l. subst (λ z. IsPointFor model z (get_or points i d)) (append-nil (without members i)) (each_suits (IsPointFor model) [] members [] points h i d l);
+  as_many = as_many (IsPointOf model) [] members [] points h;
+  each = λ i d l. subst (λ z. IsPointOf model z (get_or points i d)) (append-nil (without members i)) (each_suits (IsPointOf model) [] members [] points h i d l);
 }

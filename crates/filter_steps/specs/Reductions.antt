@@ -10,7 +10,7 @@ use Rattle.certs.specs.declared.evidence.Node.{Node}
 use Rattle.certs.specs.Checks.{IsSetOf}
 use Rattle.certs.specs.Named.{node_uses}
 use Rattle.certs.specs.Proof.{IsProof}
-use Rattle.filter_steps.specs.Isolated.{IsPointFor}
+use Rattle.certs.specs.Tales.{IsPointOf}
 
 -- a set of members of the program, in order; a proof that no point satisfies it; and which of its members the proof uses
 pub record IsReduction (model : Program) (left used : SetValue) (nodes : List Node) : Type 0 where
@@ -23,5 +23,5 @@ pub record IsReduction (model : Program) (left used : SetValue) (nodes : List No
 
 -- A member was tried: it stays, with a point that satisfies all others as its witness; or it is taken out.
 pub data Tried (model : Program) (left : SetValue) (witnesses : List Point) (m : Member) : SetValue → List Point → Type 0 where
-  stays : (p : Point) → IsPointFor model (set_without left m).members p → Tried model left witnesses m left (witnesses ++ p ∷ [])
+  stays : (p : Point) → IsPointOf model (set_without left m).members p → Tried model left witnesses m left (witnesses ++ p ∷ [])
   goes : Tried model left witnesses m (set_without left m) witnesses

@@ -1,11 +1,10 @@
 //! A set that is being reduced.
-ghost use Rattle.std.specs.Prelude.{◌≡◌, ◌≤◌, ◌+◌, ◌++◌, [], ◌∷◌, true, Some, All, Contains, IfErr, IfOk, List, OnOk};
-ghost use Rattle.lp_model.specs.declared.members.Member.{Member as OneMember};
+ghost use Rattle.std.specs.Prelude.{◌≡◌, ◌⊎◌, ◌++◌, [], ◌∷◌, true, All, Contains, IfErr, IfOk, OnOk};
 ghost use Rattle.lp_model.specs.MemberSets.{IsPossibleIn, set_with, set_without};
+ghost use Rattle.certs.specs.Answers.{AnswersAt, IsAnsweredProof};
 ghost use Rattle.certs.specs.Named.{IsKnownNode, used_set};
-ghost use Rattle.certs.specs.Tales.{FirstCore};
 ghost use Rattle.certs.specs.declared.solving.Stop.TheVariants.{Memory};
-ghost use Rattle.filter_steps.specs.Isolated.{IsStoppedAt};
+ghost use Rattle.filter_steps.specs.Isolated.{IsJust, IsLeft, IsStoppedAt};
 ghost use Rattle.filter_steps.specs.Reductions.{IsReduction, Tried};
 
 use certs::{Irreducible, MemberSet, Oracle, Point, Proof, Stop, Verdict, members_used};
@@ -102,21 +101,15 @@ pub fn try_without<O: Oracle>(
     reduction: &mut Reduction,
     member: Member,
 ) -> Result<(), Stop>
-    requires reduced { IsReduction (O.model oracle.old) reduction.old.left reduction.old.used reduction.old.proof.nodes }
+    requires reduced { IsReduction (O.state oracle.old).model reduction.old.left reduction.old.used reduction.old.proof.nodes }
     requires there { Contains reduction.old.left.members member }
-    requires served { O.serves oracle.old (set_without reduction.old.left member).members ≡ true }
-    ensures reduced { OnOk result (IsReduction (O.model oracle.old) reduction.new.left reduction.new.used reduction.new.proof.nodes) }
-    ensures tried { OnOk result (Tried (O.model oracle.old) reduction.old.left reduction.old.witnesses.items member reduction.new.left reduction.new.witnesses.items) }
-    ensures stop { IfErr result (IsStoppedAt (λ asked. asked ≡ (set_without reduction.old.left member).members) (O.stops oracle.old) (O.stops oracle.new)) }
-    ensures quiet { OnOk result (O.stops oracle.new ≡ O.stops oracle.old) }
-
-    // At most one ask more; the rest of the tale stays.
-    ensures asks { O.asks oracle.old ≤ O.asks oracle.new }
-    ensures few { O.asks oracle.new ≤ O.asks oracle.old + 1 }
-    ensures first_core { (first : FirstCore) → O.first_core oracle.old ≡ Some first → O.first_core oracle.new ≡ Some first }
-    ensures model { O.model oracle.new ≡ O.model oracle.old }
-    ensures budgets { O.budgets oracle.new ≡ O.budgets oracle.old }
-    ensures serves { (s : List OneMember) → O.serves oracle.new s ≡ O.serves oracle.old s }
+    requires served { (O.state oracle.old).serves (set_without reduction.old.left member).members ≡ true }
+    ensures reduced { OnOk result (IsReduction (O.state oracle.old).model reduction.new.left reduction.new.used reduction.new.proof.nodes) }
+    ensures tried { OnOk result (Tried (O.state oracle.old).model reduction.old.left reduction.old.witnesses.items member reduction.new.left reduction.new.witnesses.items) }
+    ensures proof { OnOk result ((reduction.new.proof ≡ reduction.old.proof) ⊎ IsAnsweredProof (AnswersAt O.answers (O.state oracle.old)) reduction.new.proof.nodes) }
+    ensures stop { IfErr result (IsStoppedAt IsJust O.answers (set_without reduction.old.left member).members (O.state oracle.old) (O.state oracle.new)) }
+    ensures quiet { OnOk result ((O.state oracle.new).tale.stops ≡ (O.state oracle.old).tale.stops) }
+    ensures left { IsLeft 1 (O.state oracle.old) (O.state oracle.new) }
 {
     let is_used = reduction.used.contains(member);
     reduction.left.remove(member);

@@ -2,7 +2,7 @@
 ghost use Rattle.std.specs.Prelude.{◌≡◌, true, None, IfOk};
 ghost use Rattle.lp_model.specs.Members.{is_mark};
 ghost use Rattle.certs.specs.Checks.{IsSetOf};
-ghost use Rattle.linear_oracle.specs.Value.{is_linear};
+ghost use Rattle.certs.specs.Answers.{is_linear};
 
 use certs::{Combo, Irreducible, MemberSet, Oracle, Point, Share, Shares, Source, Stop, Values};
 use filter_steps::listed;
@@ -49,9 +49,10 @@ fn answer(alloc: Global, plan: Plan) -> Result<TableAnswer, AllocError> {
             }))
         }
         Plan::WithB(row) => {
-            let shares = Vec::from_slice(alloc, &[share(row, Side::Up), share(1, Side::Lo)])?;
+            let (other, b) = (share(row, Side::Up), share(1, Side::Lo));
+            let shares = if row < 1 { [other, b] } else { [b, other] };
             Ok(TableAnswer::Leaf(Combo {
-                shares: Shares::new(shares),
+                shares: Shares::new(Vec::from_slice(alloc, &shares)?),
             }))
         }
         Plan::Spent => Ok(TableAnswer::Spent),
@@ -90,9 +91,9 @@ fn isolated<O: Oracle>(
     oracle: &mut O,
     set: &MemberSet,
 ) -> Result<Irreducible, Stop>
-    requires same { IsSetOf (O.model oracle.old) set.now }
-    requires served { O.serves oracle.old set.now.members ≡ true }
-    requires fresh { O.first_core oracle.old ≡ None }
+    requires same { IsSetOf (O.state oracle.old).model set.now }
+    requires served { (O.state oracle.old).serves set.now.members ≡ true }
+    requires fresh { (O.state oracle.old).tale.first_core ≡ None }
 {
     match filter {
         Filter::Deletion => deletion_filter::isolate(alloc, oracle, set),
@@ -171,7 +172,7 @@ pub fn said(
     let set = active(alloc, &model, without_b)?;
     let mut oracle = TableOracle::new(alloc, &model, answers(alloc, plans)?);
     let result = isolated(alloc, filter, &mut oracle, &set);
-    say(alloc, &result, oracle.asks())
+    say(alloc, &result, oracle.tale().asks())
 }
 
 // An answer, and how often it took an ask.
@@ -216,5 +217,5 @@ pub fn said_by_runs(alloc: Global, filter: Filter, without_b: bool) -> Result<St
     }
     let mut oracle = LinearOracle::new(alloc, &model, 100);
     let result = isolated(alloc, filter, &mut oracle, &set);
-    say(alloc, &result, oracle.asks())
+    say(alloc, &result, oracle.tale().asks())
 }

@@ -4,7 +4,7 @@
 ghost use Rattle.std.specs.Prelude.{◌≡◌, true, None, IfOk};
 ghost use Rattle.lp_model.specs.Members.{is_mark};
 ghost use Rattle.certs.specs.Checks.{IsSetOf};
-ghost use Rattle.linear_oracle.specs.Value.{is_linear};
+ghost use Rattle.certs.specs.Answers.{is_linear};
 
 use certs::{Irreducible, MemberSet, Oracle, Stop};
 use filter_steps::listed;
@@ -75,9 +75,9 @@ fn isolated<O: Oracle>(
     oracle: &mut O,
     set: &MemberSet,
 ) -> Result<Irreducible, Stop>
-    requires same { IsSetOf (O.model oracle.old) set.now }
-    requires served { O.serves oracle.old set.now.members ≡ true }
-    requires fresh { O.first_core oracle.old ≡ None }
+    requires same { IsSetOf (O.state oracle.old).model set.now }
+    requires served { (O.state oracle.old).serves set.now.members ≡ true }
+    requires fresh { (O.state oracle.old).tale.first_core ≡ None }
 {
     match filter {
         Filter::Deletion => deletion_filter::isolate(alloc, oracle, set),
@@ -129,7 +129,7 @@ fn search(alloc: Global, model: &Model, filter: Filter) -> Result<Told, AllocErr
     let mut oracle = LinearOracle::new(alloc, model, PIVOTS);
     let given = isolated(alloc, filter, &mut oracle, &set);
     Ok(Told {
-        asks: oracle.asks(),
+        asks: oracle.tale().asks(),
         pivots: oracle.pivots_made(),
         end: word(&given),
         size: size(&given),

@@ -1,5 +1,5 @@
 //! Ends of runs, as a node has them.
-ghost use Rattle.std.specs.Prelude.{◌≡◌, ◌≤◌, ◌<◌, ℕ, [], false, true, None, Some, Err, All, IfErr, IfOk, List, length, map};
+ghost use Rattle.std.specs.Prelude.{◌≡◌, ◌≤◌, ◌<◌, ℕ, [], false, true, None, Some, Err, All, IfOk, List, length, map};
 ghost use Rattle.frac128.specs.Calculation.{first_wide};
 ghost use Rattle.frac128.specs.Limit.{limit};
 ghost use Rattle.lp_model.specs.Program.{Program};
@@ -14,12 +14,10 @@ ghost use Rattle.certs.specs.Solves.{RunEnds};
 ghost use Rattle.certs.specs.Tableau.{IsTableauOf, IsWellFormedSystem};
 ghost use Rattle.certs.specs.Tales.{IsNodeEnd, IsNodeSite};
 ghost use Rattle.certs.specs.Turns.{limited, settle_choice, settle_values};
-ghost use Rattle.certs.specs.declared.solving.Stop.TheVariants.{Memory};
 ghost use Rattle.dictionary.specs.Value.{tableau_of};
 ghost use Rattle.simplex.specs.Ends.{IsEnd, end_of};
 ghost use Rattle.simplex.specs.declared.settling.Settled.TheVariants.{Feasible, Infeasible};
 ghost use Rattle.linear_oracle.specs.Ended.{HasEnded};
-ghost use Rattle.linear_oracle.specs.Value.{IsStopOf};
 
 use certs::{
     Branch, Combo, MemberSet, NodeEnd, Path, Shares, Side, Site, SiteKind, Stop, named_combo,
@@ -36,8 +34,7 @@ pub(crate) fn point_end(alloc: Global, dictionary: &Dictionary<Frac>) -> Result<
     requires columns { dictionary.now.columns ≤ limited (tableau_of dictionary.now) }
     requires settled { IsEnd Feasible (settle_choice (tableau_of dictionary.now)) }
     requires narrow { first_wide limit (settle_values (tableau_of dictionary.now)) ≡ None }
-    ensures end { (model : Program) (set : List OneMember) (path : List OneBranch) (pivots : ℕ) → HasEnded (plain_system model set path false) pivots dictionary.now IsFeasible → IsNodeEnd model set path pivots result }
-    ensures memory { IfErr result (λ stop. stop ≡ Memory) }
+    ensures { (model : Program) (set : List OneMember) (path : List OneBranch) (pivots : ℕ) → HasEnded (plain_system model set path false) pivots dictionary.now IsFeasible → IsNodeEnd model set path pivots result }
 {
     match point_of(alloc, dictionary) {
         Ok(point) => Ok(NodeEnd::Point(point)),
@@ -64,8 +61,7 @@ pub(crate) fn cut_end(
     requires columns { dictionary.now.columns ≤ limited (tableau_of dictionary.now) }
     requires blocked { IsEnd (Infeasible variable) (settle_choice (tableau_of dictionary.now)) }
     requires narrow { first_wide limit (settle_values (tableau_of dictionary.now)) ≡ None }
-    ensures end { (pivots : ℕ) → HasEnded (plain_system model.now set.now.members path.now false) pivots dictionary.now (IsInfeasible variable) → IsNodeEnd model.now set.now.members path.now pivots result }
-    ensures memory { IfErr result (λ stop. stop ≡ Memory) }
+    ensures { (pivots : ℕ) → HasEnded (plain_system model.now set.now.members path.now false) pivots dictionary.now (IsInfeasible variable) → IsNodeEnd model.now set.now.members path.now pivots result }
 {
     let Ok(combo) = combo_of(alloc, dictionary, variable) else {
         return Err(Stop::Memory);
@@ -88,8 +84,7 @@ pub(crate) fn crossing_end(
     requires known { All (λ b. b.column < length model.now.columns) path.now }
     requires fitting { All IsFitting path.now }
     requires crosses { first_crossing (plain_system model.now set.now.members path.now false) ≡ Some variable }
-    ensures end { (pivots : ℕ) → IsNodeEnd model.now set.now.members path.now pivots result }
-    ensures memory { IfErr result (λ stop. stop ≡ Memory) }
+    ensures { (pivots : ℕ) → IsNodeEnd model.now set.now.members path.now pivots result }
 {
     let Ok(combo) = crossing_combo(alloc, model.column_count(), variable) else {
         return Err(Stop::Memory);
@@ -114,10 +109,9 @@ fn crossing_combo(alloc: Global, columns: u32, variable: u32) -> Result<Combo, A
     })
 }
 
-/// The stop of a run, with its site. The site's sets are of the program that the set is of.
+/// The stop of a run, with its site.
 pub(crate) fn stop_end(alloc: Global, set: &MemberSet, path: &[Branch], stop: RunStop) -> Stop
-    ensures end { (model : Program) (pivots : ℕ) → RunEnds (plain_system model set.now.members path.now false) pivots (end_of (Err stop)) → IsNodeEnd model set.now.members path.now pivots (Err result) }
-    ensures of_model { (model : Program) → IsSetOf model set.now → IsStopOf model result }
+    ensures { (model : Program) (pivots : ℕ) → IsSetOf model set.now → RunEnds (plain_system model set.now.members path.now false) pivots (end_of (Err stop)) → IsNodeEnd model set.now.members path.now pivots (Err result) }
 {
     let Ok(site) = settle_site(alloc, set, path) else {
         return Stop::Memory;
@@ -130,9 +124,7 @@ pub(crate) fn stop_end(alloc: Global, set: &MemberSet, path: &[Branch], stop: Ru
 
 // The site of a set's plain system on a path.
 fn settle_site(alloc: Global, set: &MemberSet, path: &[Branch]) -> Result<Site, AllocError>
-    ensures site { IfOk result (IsNodeSite set.now.members path.now) }
-    ensures set { IfOk result (λ site. site.set ≡ set.now) }
-    ensures enforced { IfOk result (λ site. site.enforced ≡ record set.now { members = [] }) }
+    ensures { (model : Program) → IsSetOf model set.now → IfOk result (IsNodeSite model set.now.members path.now) }
 {
     Ok(Site {
         kind: SiteKind::Settle,

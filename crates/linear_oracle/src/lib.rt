@@ -4,11 +4,9 @@
 mod crossings;
 mod ends;
 mod oracle;
-mod records;
 mod solve;
 
 pub use oracle::LinearOracle;
-pub use records::{CoreRecord, StopRecord};
 
 #[cfg(test)]
 mod tests;

@@ -1,67 +1,52 @@
 //! The oracle.
-ghost use Rattle.std.specs.Prelude.{◌≡◌, ◌≤◌, ◌<◌, ◌^◌, [], ◌∷◌, true, None, Ok, All, IfErr, IfOk, IfSome, List, length};
-ghost use Rattle.std.specs.Option.{option_map};
+ghost use Rattle.std.specs.Prelude.{◌≡◌, ◌≤◌, ◌<◌, ◌^◌, [], ◌∷◌, true, Ok, All, IfErr, IfOk, List, ℕ, Result as Outcome, length};
 ghost use Rattle.lp_model.specs.declared.members.Member.{Member as OneMember};
-ghost use Rattle.lp_model.specs.Satisfaction.{IsPart};
+ghost use Rattle.lp_model.specs.Program.{Program};
+ghost use Rattle.certs.specs.Answers.{IsPlainAnswer, IsPlainVerdict, is_linear};
 ghost use Rattle.certs.specs.Checks.{IsSetOf};
-ghost use Rattle.certs.specs.Named.{IsKnownNode, IsKnownSource};
-ghost use Rattle.certs.specs.Sites.{Budgets};
-ghost use Rattle.certs.specs.Tales.{IsSiteWithin, IsVerdict, core_of, first_core_after, one_more, stops_after};
-ghost use Rattle.certs.specs.declared.solving.Stop.TheVariants.{Memory};
-ghost use Rattle.linear_oracle.specs.Value.{OracleValue, IsLeafOf, IsPlainCore, IsPlainStop, IsPlainVerdict, is_linear};
+ghost use Rattle.certs.specs.Tales.{IsNodeEnd, asked_after, no_tale};
+ghost use Rattle.certs.proofs.PlainAnswers.{linear_part, plain_holds, plain_ordered, plain_within};
+ghost use Rattle.linear_oracle.specs.Value.{OracleValue, state_of};
 
-use crate::records::{CoreRecord, StopRecord, answered};
 use crate::solve::solve;
 use certs::{
-    Branch, BranchAsk, Combo, MemberSet, Node, NodeEnd, Nodes, Oracle, Proof, Stop, Verdict,
-    members_used,
+    Branch, BranchAsk, Combo, MemberSet, Node, NodeEnd, Nodes, Oracle, Proof, Stop, Tale, Verdict,
 };
 use lp_model::Model;
 use std::alloc::{AllocError, Global};
 
-/// An oracle for sets without marks. Each ask is one run of the set's plain system, with so many pivots. What it tells
-/// of its stops and of its first core is so of those runs.
+/// An oracle for sets without marks. Each ask is one run of the set's plain system, with so many pivots.
 #[derive(Drop)]
 pub struct LinearOracle<'a> {
     model: &'a Model,
     pivots: u64,
-    asks: u64,
     made: u64,
-    stops: Vec<StopRecord>,
-    first: Option<CoreRecord>,
+    tale: Tale,
 }
 
 impl<'a> std::marker::Model for LinearOracle<'a> {
-    ghost use Rattle.linear_oracle.specs.Value.{OracleValue, IsTrueTale};
+    ghost use Rattle.std.specs.Prelude.{◌<◌, ◌^◌};
+    ghost use Rattle.linear_oracle.specs.Value.{OracleValue};
 
     ghost Value = { OracleValue };
 
-    ghost view = { λ o. record { model = o.model.now; pivots = o.pivots; asks = o.asks; made = o.made; stops = o.stops.items; first = o.first } };
+    ghost view = { λ o. record { model = o.model.now; pivots = o.pivots; made = o.made; tale = o.tale } };
 
-    ghost invariant = { λ o. IsTrueTale o.model.now o.pivots o.stops.items o.first };
+    ghost invariant = { λ o. o.pivots < 2 ^ 63 };
 }
 
 impl<'a> LinearOracle<'a> {
     /// An oracle for a program, which may spend so many pivots in each run. It was asked nothing yet.
     pub fn new(alloc: Global, model: &'a Model, pivots: u64) -> LinearOracle<'a>
         requires { pivots < 2 ^ 63 }
-        ensures { result ≡ record { model = model.now; pivots = pivots; asks = 0; made = 0; stops = []; first = None } }
+        ensures { result ≡ record { model = model.now; pivots = pivots; made = 0; tale = no_tale } }
     {
         LinearOracle {
             model,
             pivots,
-            asks: 0,
             made: 0,
-            stops: Vec::new(alloc),
-            first: None,
+            tale: Tale::new(alloc),
         }
-    }
-
-    /// How often it was asked.
-    pub fn asks(&self) -> u64
-        ensures { result ≡ self.now.asks }
-    {
-        self.asks
     }
 
     /// How many pivots its runs made so far, for measurements; it stays at its greatest value once there.
@@ -71,63 +56,40 @@ impl<'a> LinearOracle<'a> {
         self.made
     }
 
-    /// Its stops, in order: each is that of the run of the asked set's plain system.
-    pub fn stops(&self) -> &[StopRecord]
-        ensures stops { result.now ≡ self.now.stops }
-        ensures plain { All (IsPlainStop self.now.model self.now.pivots) self.now.stops }
+    /// What it tells of its calls.
+    pub fn tale(&self) -> &Tale
+        ensures { result.now ≡ self.now.tale }
     {
-        self.stops.as_slice()
-    }
-
-    /// The members that the first infeasible verdict used: those of the proof by the run of the asked set's plain system.
-    pub fn first_core(&self) -> Option<&CoreRecord>
-        ensures first { option_map (λ r. r.now) result ≡ self.now.first }
-        ensures plain { IfSome self.now.first (IsPlainCore self.now.model self.now.pivots) }
-    {
-        self.first.as_ref()
+        &self.tale
     }
 }
 
 impl Oracle for LinearOracle<'_> {
-    ghost model = { λ o. o.model };
+    ghost state = { state_of };
 
-    ghost budgets = { λ o. record { pivots = o.pivots; nodes = 0 } };
+    ghost answers = { λ model budgets set result. IsPlainAnswer model budgets.pivots set result };
 
-    ghost serves = { λ o set. is_linear set };
+    ghost holds = { λ model budgets set verdict h. plain_holds model budgets.pivots set verdict h };
 
-    ghost asks = { λ o. o.asks };
+    ghost ordered = { λ model budgets set proof h. plain_ordered model budgets.pivots set proof h };
 
-    ghost stops = { λ o. o.stops };
+    ghost within = { λ model budgets set stop h. plain_within model budgets.pivots set stop h };
 
-    ghost first_core = { λ o. o.first };
+    ghost parts = { λ oracle set part of h. linear_part set part of h };
 
     fn ask(&mut self, alloc: Global, set: &MemberSet) -> Result<Verdict, Stop>
         requires same { IsSetOf self.old.model set.now }
         requires served { is_linear set.now.members ≡ true }
-        ensures verdict { IfOk result (IsVerdict self.old.model set.now.members) }
-        ensures within { IfErr result (IsSiteWithin set.now.members) }
-        ensures asks { self.new.asks ≡ one_more self.old.asks }
-        ensures stops { self.new.stops ≡ stops_after self.old.stops set.now.members [] result }
-        ensures first_core { self.new.first ≡ first_core_after self.old.first set.now.members result }
-        ensures model { self.new.model ≡ self.old.model }
-        ensures budgets { self.new.pivots ≡ self.old.pivots }
-        ensures serves { (s : List OneMember) → is_linear s ≡ is_linear s }
-        ensures parts { (s part : List OneMember) → IsPart part s → is_linear s ≡ true → is_linear part ≡ true }
-        // How the run of the set's plain system ends.
-        ensures plain { IsPlainVerdict self.old.model set.now.members self.old.pivots result }
+        ensures answered { IsPlainAnswer self.old.model self.old.pivots set.now.members result }
+        ensures told { state_of self.new ≡ asked_after (state_of self.old) set.now.members result }
         ensures made { self.old.made ≤ self.new.made }
     {
-        self.asks = self.asks.saturating_add(1);
-        // That the members of a set are possible members is told with their count.
-        let _count = set.count();
-        let end = match solve(alloc, self.model, set, &[], self.pivots, &mut self.made) {
-            Ok(end) => end,
-            Err(stop) => return Err(answered(alloc, &mut self.stops, set, stop)),
-        };
-        match end {
-            NodeEnd::Point(point) => Ok(Verdict::Feasible(point)),
-            NodeEnd::Cut(combo) => refuted(alloc, &mut self.first, set, combo),
-        }
+        // That the program is well formed, and that the set's members are ones of it, is told with their counts.
+        let _rows = self.model.row_count();
+        let _members = set.count();
+        let end = solve(alloc, self.model, set, &[], self.pivots, &mut self.made);
+        let answer = verdict_of(alloc, end);
+        self.tale.tell(alloc, set, answer)
     }
 }
 
@@ -142,29 +104,24 @@ impl BranchAsk for LinearOracle<'_> {
     }
 }
 
-// The infeasible verdict of a combination. Its members are kept where none were; where memory is refused nothing is.
-fn refuted(
-    alloc: Global,
-    first: &mut Option<CoreRecord>,
-    set: &MemberSet,
-    combo: Combo,
-) -> Result<Verdict, Stop>
-    requires { All (λ s. IsKnownSource set.now s.source) combo.shares }
-    ensures leaf { IfOk result (IsLeafOf combo) }
-    ensures err { IfErr result (λ stop. stop ≡ Memory) }
-    ensures first_core { first.new ≡ first_core_after first.old set.now.members result }
+// The verdict of the end of a run on no path.
+fn verdict_of(alloc: Global, end: Result<NodeEnd, Stop>) -> Result<Verdict, Stop>
+    ensures { (model : Program) (set : List OneMember) (pivots : ℕ) → IsNodeEnd model set [] pivots end → IsPlainVerdict model set pivots result }
 {
-    let Ok(proof) = leaf_proof(alloc, combo) else {
-        return Err(Stop::Memory);
-    };
-    if first.is_some() {
-        return Ok(Verdict::Infeasible(proof));
+    match end? {
+        NodeEnd::Point(point) => Ok(Verdict::Feasible(point)),
+        NodeEnd::Cut(combo) => leaf_verdict(alloc, combo),
     }
-    let Ok(core) = core_record(alloc, set, &proof) else {
-        return Err(Stop::Memory);
-    };
-    *first = Some(core);
-    Ok(Verdict::Infeasible(proof))
+}
+
+// The infeasible verdict of a combination.
+fn leaf_verdict(alloc: Global, combo: Combo) -> Result<Verdict, Stop>
+    ensures { (model : Program) (set : List OneMember) (pivots : ℕ) → IsNodeEnd model set [] pivots (Ok (NodeEnd.Cut combo)) → IsPlainVerdict model set pivots result }
+{
+    match leaf_proof(alloc, combo) {
+        Ok(proof) => Ok(Verdict::Infeasible(proof)),
+        Err(_) => Err(Stop::Memory),
+    }
 }
 
 // The proof whose one node is a leaf.
@@ -175,16 +132,5 @@ fn leaf_proof(alloc: Global, combo: Combo) -> Result<Proof, AllocError>
     nodes.push(Node::Leaf(combo))?;
     Ok(Proof {
         nodes: Nodes::new(nodes),
-    })
-}
-
-// The members of the set that a proof uses, and the set.
-fn core_record(alloc: Global, set: &MemberSet, proof: &Proof) -> Result<CoreRecord, AllocError>
-    requires { All (IsKnownNode set.now) proof.now.nodes }
-    ensures { IfOk result (λ kept. kept ≡ record { core = core_of set.now.members proof.now.nodes; asked = set.now.members }) }
-{
-    Ok(CoreRecord {
-        core: members_used(alloc, set, proof)?,
-        asked: set.copy(alloc)?,
     })
 }

@@ -1,5 +1,5 @@
 //! The run of the plain system of a set on a path.
-ghost use Rattle.std.specs.Prelude.{◌≡◌, ◌<◌, ◌≤◌, ◌^◌, false, true, All, IfErr, IfOk, None, length};
+ghost use Rattle.std.specs.Prelude.{◌≡◌, ◌<◌, ◌≤◌, ◌^◌, false, true, All, IfOk, None, length};
 ghost use Rattle.lp_model.specs.Program.{IsWellFormed};
 ghost use Rattle.lp_model.specs.Shown.{most_columns, most_rows};
 ghost use Rattle.certs.specs.Checks.{IsSetOf};
@@ -8,8 +8,6 @@ ghost use Rattle.certs.specs.Plain.{first_crossing as least_crossing, plain_syst
 ghost use Rattle.certs.specs.Tableau.{IsTableauOf, IsWellFormedSystem, start_basis, variables};
 ghost use Rattle.certs.specs.Tales.{IsNodeEnd};
 ghost use Rattle.dictionary.specs.Value.{tableau_of};
-ghost use Rattle.linear_oracle.specs.Ended.{Shows};
-ghost use Rattle.linear_oracle.specs.Value.{IsStopOf};
 
 use crate::crossings::first_crossing;
 use crate::ends::{crossing_end, cut_end, point_end, stop_end};
@@ -38,15 +36,11 @@ pub(crate) fn solve(
     requires fitting { All IsFitting path.now }
     requires budget { pivots < 2 ^ 63 }
     ensures end { IsNodeEnd model.now set.now.members path.now pivots result }
-    ensures shows { IfOk result (Shows model.now set.now.members path.now) }
-    ensures stop { IfErr result (IsStopOf model.now) }
     ensures made { made.old ≤ made.new }
 {
-    // With the counts it is told that the program is well formed, that it has few rows and columns, and that the set's
-    // members may be in it.
+    // With the counts it is told that the program is well formed, and that it has few rows and columns.
     let _rows = model.row_count();
     let _columns = model.column_count();
-    let _members = set.count();
     let Ok(system) = plain_system(alloc, model, set, path, false) else {
         return Err(Stop::Memory);
     };
@@ -76,8 +70,7 @@ fn settle_system(
     requires apart { least_crossing system.now ≡ None }
     requires formed { IsWellFormedSystem system.now }
     requires few { variables system.now < 2 ^ 31 }
-    ensures end { IsNodeEnd model.now set.now.members path.now pivots.old result }
-    ensures stop { IfErr result (IsStopOf model.now) }
+    ensures { IsNodeEnd model.now set.now.members path.now pivots.old result }
 {
     let Ok(mut dictionary) = started(alloc, system) else {
         return Err(Stop::Memory);

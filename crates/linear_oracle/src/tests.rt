@@ -4,11 +4,12 @@ ghost use Rattle.rational.specs.Rational.{zero_ℚ};
 ghost use Rattle.lp_model.specs.Program.{IsForm, IsWellFormedColumn};
 ghost use Rattle.lp_model.specs.Shown.{named_column};
 ghost use Rattle.certs.specs.Checks.{IsSetOf};
-ghost use Rattle.linear_oracle.specs.Value.{is_linear};
+ghost use Rattle.certs.specs.Answers.{is_linear};
 
 use super::*;
 use certs::{
-    Branch, BranchAsk, MemberSet, NodeEnd, Oracle, Share, Side, SiteKind, Source, Stop, Verdict,
+    Branch, BranchAsk, CoreRecord, MemberSet, NodeEnd, Oracle, Share, Side, SiteKind, Source, Stop,
+    StopRecord, Verdict,
 };
 use frac128::Frac;
 use lp_model::{Column, Member, Model, ModelStop, Row, Term, Terms, Weight};
@@ -251,8 +252,11 @@ fn told(
     end: &Result<Verdict, Stop>,
     oracle: &LinearOracle<'_>,
 ) -> Result<String, AllocError> {
-    let (word, asks, made) = (end_word(end), oracle.asks(), oracle.pivots_made());
-    let (stops, core) = (stops_word(oracle.stops()), core_word(oracle.first_core()));
+    let (word, asks, made) = (end_word(end), oracle.tale().asks(), oracle.pivots_made());
+    let (stops, core) = (
+        stops_word(oracle.tale().stops()),
+        core_word(oracle.tale().first_core()),
+    );
     format!(in alloc; "{word}, asks {asks}, pivots {made}, {stops}, {core}")
 }
 
@@ -322,7 +326,7 @@ fn cuts(alloc: Global) -> Result<bool, AllocError> {
         },
     ];
     let end = oracle.ask_with(alloc, &set, &path);
-    Ok(is_cut(&end) && oracle.asks() == 0)
+    Ok(is_cut(&end) && oracle.tale().asks() == 0)
 }
 
 #[test]

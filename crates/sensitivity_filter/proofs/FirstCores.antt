@@ -1,5 +1,5 @@
 -- The first core, and what is asked for inside it.
-use Rattle.std.proofs.Common.{◌≡◌, sym, ◌∙◌, ap, subst, List, Some, Ok, Err}
+use Rattle.std.proofs.Common.{◌≡◌, refl, sym, ◌∙◌, ap, subst, List, Some, Ok, Err, length, inl, inr}
 use Rattle.std.specs.Prelude.{Contains, Option, Result, IfErr, IfOk}
 use Rattle.std.specs.List.{list_any}
 use Rattle.std.proofs.lemmas.List.Elements.{All-weaker, All-contains, All-contains_itself, All-filter}
@@ -8,39 +8,63 @@ use Rattle.lp_model.specs.MemberSets.{SetValue}
 use Rattle.lp_model.specs.Program.{Program}
 use Rattle.lp_model.specs.Satisfaction.{IsPart}
 use Rattle.certs.specs.declared.evidence.Node.{Node}
+use Rattle.certs.specs.declared.evidence.Proof.{Proof}
 use Rattle.certs.specs.declared.solving.Irreducible.{Irreducible}
 use Rattle.certs.specs.declared.solving.Irreducible.TheVariants.{Set, Feasible}
 use Rattle.certs.specs.declared.solving.Stop.{Stop}
-use Rattle.certs.specs.Filter.{Late}
-use Rattle.certs.specs.Named.{node_uses, used_set}
-use Rattle.certs.specs.Tales.{FirstCore, core_of}
-use Rattle.filter_steps.specs.Isolated.{IfSet}
-use Rattle.sensitivity_filter.specs.Cores.{IsFirstCoreOf, IsLateOfCore}
+use Rattle.certs.specs.declared.solving.Verdict.{Verdict}
+use Rattle.certs.specs.declared.solving.Verdict.TheVariants.{Infeasible}
+use Rattle.certs.specs.Answers.{AnswersAt}
+use Rattle.certs.specs.Filter.{IsLateTest, Late}
+use Rattle.certs.specs.Named.{node_uses, used_members, used_set}
+use Rattle.certs.specs.Sites.{Budgets}
+use Rattle.certs.specs.Tales.{FirstCore, OracleState, asked_after}
+use Rattle.filter_steps.specs.Isolated.{IsReduced, IsStoppedAt}
+use Rattle.filter_steps.proofs.Answering.{stopped_later}
+use Rattle.sensitivity_filter.specs.Cores.{IsCoreTest, IsFirstCoreOf, IsLateOfCore, within}
 
 -- the members of a set that a proof uses are a part of it
-pub core_is_part : (set : List Member) (nodes : List Node) → IsPart (core_of set nodes) set
+pub core_is_part : (set : List Member) (nodes : List Node) → IsPart (used_members set nodes) set
 core_is_part set nodes = All-filter (λ m. list_any (node_uses m) nodes) (Contains set) set (All-contains_itself set)
 
-pub part_of_core : (set : SetValue) (nodes : List Node) (core : SetValue) (part : List Member) → core ≡ used_set set nodes → IsPart part core.members → IsPart part set.members
-part_of_core set nodes core part e h =
-    let inside : IsPart core.members set.members = subst (λ (s : SetValue). IsPart s.members set.members) (sym e) (core_is_part set.members nodes) in
-    All-weaker (Contains core.members) (Contains set.members) (λ m c. All-contains (Contains set.members) core.members m inside c) part h
+pub used_is_part : (set : SetValue) (nodes : List Node) (core : SetValue) → core ≡ used_set set nodes → IsPart core.members set.members
+used_is_part set nodes core e = subst (λ (s : SetValue). IsPart s.members set.members) (sym e) (core_is_part set.members nodes)
 
 -- what was told is the first core
-pub told_core : (set : SetValue) (nodes : List Node) (core : SetValue) (first : Option FirstCore) → core ≡ used_set set nodes → first ≡ Some (record { core = core_of set.members nodes; asked = set.members }) → IsFirstCoreOf set.members core.members first
-told_core set nodes core first e told = record {
-  part = part_of_core set nodes core core.members e (All-contains_itself core.members);
+pub told_core : (Answers : List Member → Result Verdict Stop → Type 0) (set : SetValue) (proof : Proof) (core : SetValue) (first : Option FirstCore) → core ≡ used_set set proof.nodes → Answers set.members (Ok (Infeasible proof))
+    → first ≡ Some (record { core = used_members set.members proof.nodes; asked = set.members }) → IsFirstCoreOf Answers first set.members core.members
+told_core Answers set proof core first e answered told = record {
+  part = used_is_part set proof.nodes core e;
+  answered = record { proof = proof; answered = answered; core_is = ap (λ (s : SetValue). s.members) e };
   told = told ∙ ap (λ (l : List Member). Some (record { core = l; asked = set.members })) (sym (ap (λ (s : SetValue). s.members) e));
 }
 
--- what a late filter leaves of it
-pub late_of_core : (model : Program) (set core : List Member) (first : Option FirstCore) → IsFirstCoreOf set core first → (answer : Result Irreducible Stop) → IfOk answer (IfSet (λ r. Late model core r.set.members))
-    → IfOk answer (IfSet (λ r. IsLateOfCore model set first r.set.members))
-late_of_core model set core first is (Ok (Set members witnesses proof)) h = record { core = core; is_core = is; late = h }
-late_of_core model set core first is (Ok (Feasible point)) h = tt
-late_of_core model set core first is (Err stop) h = tt
+module _ (answers : Program → Budgets → List Member → Result Verdict Stop → Type 0) where
+  -- what a late filter leaves of it
+  pub found_in_core : (state : OracleState) (first : Option FirstCore) (set core : List Member) (given : List Node) → IsFirstCoreOf (AnswersAt answers state) first set core → (result : Result Irreducible Stop)
+      → IfOk result (IsReduced Late answers state core given) → IfOk result (IsReduced (IsLateOfCore (AnswersAt answers state) first) answers state set given)
+  found_in_core state first set core given is (Ok (Set members witnesses proof)) h = record {
+    same = h.same;
+    kept = record { core = core; is_core = is; late = h.kept };
+    proof = h.proof;
+    told = h.told;
+    witnesses = h.witnesses;
+    irreducible = h.irreducible;
+  }
+  found_in_core state first set core given is (Ok (Feasible point)) h = absurd h
+  found_in_core state first set core given is (Err stop) h = tt
 
--- what follows for a stop
-pub on_err : {A E : Type 0} (P Q : E → Type 0) → ((e : E) → P e → Q e) → (r : Result A E) → IfErr r P → IfErr r Q
-on_err P Q f (Ok a) h = tt
-on_err P Q f (Err e) h = f e h
+  -- and where it stops
+  pub stopped_in_core : (before after : OracleState) (first : Option FirstCore) (set core : List Member) → IsFirstCoreOf (AnswersAt answers before) first set core → {A : Type 0} (result : Result A Stop)
+      → IfErr result (IsStoppedAt IsLateTest answers core before after) → IfErr result (IsStoppedAt (IsCoreTest (AnswersAt answers before) first) answers set before after)
+  stopped_in_core before after first set core is (Ok a) h = tt
+  stopped_in_core before after first set core is (Err stop) h =
+      stopped_later answers (IsCoreTest (AnswersAt answers before) first) IsLateTest set core before before after stop refl refl refl (λ asked t. within is t) h
+
+  -- after the ask for the whole set
+  pub stopped_after_ask : (before now after : OracleState) (first : Option FirstCore) (set : List Member) (verdict : Verdict) → now ≡ asked_after before set (Ok verdict) → {A : Type 0} (result : Result A Stop)
+      → IfErr result (IsStoppedAt (IsCoreTest (AnswersAt answers now) first) answers set now after) → IfErr result (IsStoppedAt (IsCoreTest (AnswersAt answers before) first) answers set before after)
+  stopped_after_ask before now after first set verdict e (Ok a) h = tt
+  stopped_after_ask before now after first set verdict e (Err stop) h =
+      stopped_later answers (IsCoreTest (AnswersAt answers before) first) (IsCoreTest (AnswersAt answers before) first) set set before (asked_after before set (Ok verdict)) after stop refl refl refl (λ asked t. t)
+      (subst (λ (s : OracleState). IsStoppedAt (IsCoreTest (AnswersAt answers s) first) answers set s after stop) e h)

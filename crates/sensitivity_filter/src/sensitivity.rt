@@ -1,12 +1,11 @@
 //! The sensitivity filter.
-ghost use Rattle.std.specs.Prelude.{◌≡◌, ◌≤◌, ◌+◌, ◌↔◌, false, true, None, Some, IfErr, IfOk, IsTrue, List, OnOk, length};
-ghost use Rattle.lp_model.specs.declared.members.Member.{Member as OneMember};
-ghost use Rattle.lp_model.specs.Satisfaction.{IsIrreducible, IsPart, IsSatisfiable};
+ghost use Rattle.std.specs.Prelude.{◌≡◌, ◌+◌, ◌↔◌, true, None, Some, Ok, IfErr, IfOk, IsTrue, OnOk, length};
+ghost use Rattle.lp_model.specs.Satisfaction.{IsSatisfiable};
+ghost use Rattle.certs.specs.Answers.{AnswersAt};
 ghost use Rattle.certs.specs.Checks.{IsSetOf};
-ghost use Rattle.certs.specs.Proof.{IsProof};
-ghost use Rattle.certs.specs.Tales.{core_of};
-ghost use Rattle.filter_steps.specs.Isolated.{AreWitnesses, IfFeasible, IfSet, IsPointFor, IsStoppedAt, is_feasible};
-ghost use Rattle.sensitivity_filter.specs.Cores.{IsCoreTest, IsFirstCoreOf, IsLateOfCore, core_length};
+ghost use Rattle.certs.specs.Named.{used_members};
+ghost use Rattle.filter_steps.specs.Isolated.{IsIsolation, IsLeft, IsReduced, IsStoppedAt, is_feasible};
+ghost use Rattle.sensitivity_filter.specs.Cores.{IsCoreTest, IsLateOfCore, core_length};
 
 use certs::{Irreducible, MemberSet, Oracle, Proof, Stop, Verdict, members_used};
 use deletion_filter::isolate_refuted;
@@ -28,26 +27,16 @@ pub fn isolate<O: Oracle>(
     oracle: &mut O,
     set: &MemberSet,
 ) -> Result<Irreducible, Stop>
-    requires same { IsSetOf (O.model oracle.old) set.now }
-    requires served { O.serves oracle.old set.now.members ≡ true }
-    requires fresh { O.first_core oracle.old ≡ None }
-    ensures late { IfOk result (IfSet (λ core. IsLateOfCore (O.model oracle.old) set.now.members (O.first_core oracle.new) core.set.members)) }
-    ensures proof { IfOk result (IfSet (λ core. IsProof (O.model oracle.old) core.set.members core.nodes)) }
-    ensures witnesses { IfOk result (IfSet (λ core. AreWitnesses (O.model oracle.old) core.set.members core.witnesses)) }
-    ensures irreducible { IfOk result (IfSet (λ core. IsIrreducible (O.model oracle.old) core.set.members)) }
-    ensures same { IfOk result (IfSet (λ core. IsSetOf (O.model oracle.old) core.set)) }
-    ensures point { IfOk result (IfFeasible (IsPointFor (O.model oracle.old) set.now.members)) }
+    requires same { IsSetOf (O.state oracle.old).model set.now }
+    requires served { (O.state oracle.old).serves set.now.members ≡ true }
+    requires fresh { (O.state oracle.old).tale.first_core ≡ None }
+    ensures found { IfOk result (IsIsolation (IsLateOfCore (AnswersAt O.answers (O.state oracle.old)) (O.state oracle.new).tale.first_core) O.answers (O.state oracle.old) set.now.members) }
     // A point comes exactly where the set can be satisfied.
-    ensures which { IfOk result (λ answer. IsTrue (is_feasible answer) ↔ IsSatisfiable (O.model oracle.old) set.now.members) }
-    ensures stop { IfErr result (IsStoppedAt (IsCoreTest (O.model oracle.old) set.now.members (O.first_core oracle.new)) (O.stops oracle.old) (O.stops oracle.new)) }
-    ensures quiet { OnOk result (O.stops oracle.new ≡ O.stops oracle.old) }
-
-    // At most one ask more than the first core has members; the rest of the tale stays.
-    ensures asks { O.asks oracle.old ≤ O.asks oracle.new }
-    ensures few { O.asks oracle.new ≤ O.asks oracle.old + core_length (O.first_core oracle.new) + 1 }
-    ensures model { O.model oracle.new ≡ O.model oracle.old }
-    ensures budgets { O.budgets oracle.new ≡ O.budgets oracle.old }
-    ensures serves { (s : List OneMember) → O.serves oracle.new s ≡ O.serves oracle.old s }
+    ensures which { IfOk result (λ answer. IsTrue (is_feasible answer) ↔ IsSatisfiable (O.state oracle.old).model set.now.members) }
+    ensures stop { IfErr result (IsStoppedAt (IsCoreTest (AnswersAt O.answers (O.state oracle.old)) (O.state oracle.new).tale.first_core) O.answers set.now.members (O.state oracle.old) (O.state oracle.new)) }
+    ensures quiet { OnOk result ((O.state oracle.new).tale.stops ≡ (O.state oracle.old).tale.stops) }
+    // At most one ask more than the first core has members.
+    ensures left { IsLeft (core_length (O.state oracle.new).tale.first_core + 1) (O.state oracle.old) (O.state oracle.new) }
 {
     let verdict = oracle.ask(alloc, set)?;
     match verdict {
@@ -63,23 +52,14 @@ fn isolate_core<O: Oracle>(
     set: &MemberSet,
     proof: Proof,
 ) -> Result<Irreducible, Stop>
-    requires same { IsSetOf (O.model oracle.old) set.now }
-    requires served { (part : List OneMember) → IsPart part set.now.members → O.serves oracle.old part ≡ true }
-    requires proof { IsProof (O.model oracle.old) set.now.members proof.nodes }
-    requires told { O.first_core oracle.old ≡ Some (record { core = core_of set.now.members proof.nodes; asked = set.now.members }) }
-    ensures set { IfOk result (λ answer. is_feasible answer ≡ false) }
-    ensures late { IfOk result (IfSet (λ core. IsLateOfCore (O.model oracle.old) set.now.members (O.first_core oracle.new) core.set.members)) }
-    ensures proof { IfOk result (IfSet (λ core. IsProof (O.model oracle.old) core.set.members core.nodes)) }
-    ensures witnesses { IfOk result (IfSet (λ core. AreWitnesses (O.model oracle.old) core.set.members core.witnesses)) }
-    ensures irreducible { IfOk result (IfSet (λ core. IsIrreducible (O.model oracle.old) core.set.members)) }
-    ensures same { IfOk result (IfSet (λ core. IsSetOf (O.model oracle.old) core.set)) }
-    ensures stop { IfErr result (IsStoppedAt (IsCoreTest (O.model oracle.old) set.now.members (O.first_core oracle.new)) (O.stops oracle.old) (O.stops oracle.new)) }
-    ensures quiet { OnOk result (O.stops oracle.new ≡ O.stops oracle.old) }
-    ensures asks { O.asks oracle.old ≤ O.asks oracle.new }
-    ensures few { O.asks oracle.new ≤ O.asks oracle.old + core_length (O.first_core oracle.new) }
-    ensures model { O.model oracle.new ≡ O.model oracle.old }
-    ensures budgets { O.budgets oracle.new ≡ O.budgets oracle.old }
-    ensures serves { (s : List OneMember) → O.serves oracle.new s ≡ O.serves oracle.old s }
+    requires same { IsSetOf (O.state oracle.old).model set.now }
+    requires served { (O.state oracle.old).serves set.now.members ≡ true }
+    requires answered { AnswersAt O.answers (O.state oracle.old) set.now.members (Ok (Verdict.Infeasible proof)) }
+    requires told { (O.state oracle.old).tale.first_core ≡ Some (record { core = used_members set.now.members proof.nodes; asked = set.now.members }) }
+    ensures found { IfOk result (IsReduced (IsLateOfCore (AnswersAt O.answers (O.state oracle.old)) (O.state oracle.new).tale.first_core) O.answers (O.state oracle.old) set.now.members proof.nodes) }
+    ensures stop { IfErr result (IsStoppedAt (IsCoreTest (AnswersAt O.answers (O.state oracle.old)) (O.state oracle.new).tale.first_core) O.answers set.now.members (O.state oracle.old) (O.state oracle.new)) }
+    ensures quiet { OnOk result ((O.state oracle.new).tale.stops ≡ (O.state oracle.old).tale.stops) }
+    ensures left { IsLeft (core_length (O.state oracle.new).tale.first_core) (O.state oracle.old) (O.state oracle.new) }
 {
     // That the members of the set may be in it is told with their count.
     let _count = set.count();

@@ -17,25 +17,24 @@ use Rattle.certs.specs.declared.solving.Stop.TheVariants.{Wide, Pivots, Nodes, L
 use Rattle.certs.specs.declared.solving.Verdict.{Verdict}
 use Rattle.certs.specs.declared.solving.Verdict.TheVariants.{Feasible, Infeasible}
 use Rattle.certs.specs.Checks.{outcome, point_steps, combination_steps}
-use Rattle.certs.specs.Tales.{Stopped, FirstCore}
+use Rattle.certs.specs.Order.{are_in_order}
+use Rattle.certs.specs.Tales.{OracleState, TaleValue}
 use Rattle.table_oracle.specs.declared.answers.TableAnswer.{TableAnswer}
 use Rattle.table_oracle.specs.declared.answers.TableAnswer.TheVariants.{Point, Leaf, Spent}
 
--- the program, the answers that are left, how often it was asked, its stops in order, and the first core
+-- the program, the answers that are left, and what it tells of its calls
 pub record TableValue : Type 0 where
   pub model : Program
   pub answers : List TableAnswer
-  pub asks : ℕ
-  pub stops : List Stopped
-  pub first : Option FirstCore
+  pub tale : TaleValue
+
+-- what callers see: it serves every set, and spends nothing
+abbrev pub state_of : TableValue → OracleState
+state_of o = record { model = o.model; budgets = record { pivots = 0; nodes = 0 }; serves = λ set. true; tale = o.tale }
 
 -- the site of just the set
 abbrev pub own_site : SetValue → Site
 own_site set = record { kind = Settle; set = set; enforced = record set { members = [] }; path = [] }
-
--- its stop, as it is told
-abbrev pub told_stop : SetValue → Stopped
-told_stop set = record { stop = Pivots (own_site set); set = set.members; enforced = [] }
 
 -- whether a check says yes
 abbrev pub is_yes : Checked → Bool
@@ -47,9 +46,9 @@ is_yes (TooWide operation) = false
 abbrev pub is_point : Program → List Member → OnePoint → Bool
 is_point model set point = (length point.values == length model.columns) && is_yes (outcome (point_steps model set (values_at point.values)))
 
--- whether the check of the combination says yes
+-- whether the check of the combination says yes, and its shares stand in order
 abbrev pub is_leaf : Program → List Member → Combo → Bool
-is_leaf model set combo = is_yes (outcome (combination_steps model set [] combo.shares))
+is_leaf model set combo = is_yes (outcome (combination_steps model set [] combo.shares)) && are_in_order combo.shares
 
 -- whether the first answer that is left is right for a set
 abbrev pub is_right : Program → List Member → List TableAnswer → Bool

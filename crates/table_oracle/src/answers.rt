@@ -3,7 +3,9 @@ ghost use Rattle.std.specs.Prelude.{◌≡◌, ◌∷◌, [], IfOk, length};
 ghost use Rattle.certs.specs.Checks.{IsSetOf};
 ghost use Rattle.table_oracle.specs.Value.{is_leaf as leaf_is_right, is_point as point_is_right, is_yes as check_says_yes};
 
-use certs::{Checked, Combo, MemberSet, Node, Nodes, Point, Proof, check_combo, check_point};
+use certs::{
+    Checked, Combo, MemberSet, Node, Nodes, Point, Proof, are_in_order, check_combo, check_point,
+};
 use frac128::Frac;
 use lp_model::Model;
 use std::alloc::{AllocError, Global};
@@ -26,7 +28,7 @@ pub(crate) fn is_point(model: &Model, set: &MemberSet, point: &Point) -> bool
     is_yes(check_point(model, set, point))
 }
 
-/// Whether the combination shows by its check that no point satisfies the set.
+/// Whether the combination shows by its check that no point satisfies the set, and its shares stand in order.
 pub(crate) fn is_leaf(
     alloc: Global,
     model: &Model,
@@ -37,7 +39,8 @@ pub(crate) fn is_leaf(
     ensures { IfOk result (λ b. b ≡ leaf_is_right model.now set.now.members combo.now) }
 {
     let mut sums = vec![in alloc; Frac::whole(0); model.column_count() as usize]?;
-    Ok(is_yes(check_combo(model, set, &[], combo, sums.as_mut_slice())))
+    let checked = check_combo(model, set, &[], combo, sums.as_mut_slice());
+    Ok(is_yes(checked) && are_in_order(combo.shares.as_slice()))
 }
 
 // Whether a check says yes.

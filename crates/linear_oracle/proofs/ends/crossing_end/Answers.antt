@@ -12,8 +12,8 @@ named_combo-requires-clause-of_system c =
     let shares : c.in-Ok.combo.shares ≡ map (named (length model.columns)) (crossing_shares c.args.variable) = c.in-Ok.ensures ∙ ap (λ n. map (named n) (crossing_shares c.args.variable)) c.column_count.ensures.count in
     of_plain model set path c.in-Ok.combo.shares (crossing_named model set path c.args.variable c.in-Ok.combo.shares c.requires.crosses shares)
 
-pub returns-in-Ok-named_combo-clause-end : goal.returns-in-Ok-named_combo-clause-end
-returns-in-Ok-named_combo-clause-end c = λ pivots.
+pub returns-in-Ok-named_combo : goal.returns-in-Ok-named_combo
+returns-in-Ok-named_combo c = λ pivots.
     (let model = c.args.model.now in
     let set = c.args.set.now.members in
     let path = c.args.path.now in

@@ -13,8 +13,8 @@ named_combo-requires-clause-of_system c =
     let path = c.args.path.now in
     of_plain model set path c.in-Ok.combo.shares (c.in-Ok.ensures.combination (plain_system model set path false) c.requires.formed (columns_are model set path ∙ sym c.requires.count) c.requires.is_of)
 
-pub returns-in-Ok-named_combo-clause-end : goal.returns-in-Ok-named_combo-clause-end
-returns-in-Ok-named_combo-clause-end c = λ pivots h.
+pub returns-in-Ok-named_combo : goal.returns-in-Ok-named_combo
+returns-in-Ok-named_combo c = λ pivots h.
     (let model = c.args.model.now in
     let set = c.args.set.now.members in
     let path = c.args.path.now in

@@ -2,8 +2,8 @@ use Rattle.std.proofs.Common.{◌∙◌, sym, subst, refl, ◌<◌}
 use Rattle.dictionary.specs.Value.{tableau_of}
 use Rattle.linear_oracle.proofs.ends.point_end.Goals as goal
 
-pub returns-in-Ok-clause-end : goal.returns-in-Ok-clause-end
-returns-in-Ok-clause-end c = λ model set path pivots h. record {
+pub returns-in-Ok : goal.returns-in-Ok
+returns-in-Ok c = λ model set path pivots h. record {
   last = c.args.dictionary.now.basis;
   run = h.run;
   here = record { tableau = tableau_of c.args.dictionary.now; is_of = h.is_of; at = refl };

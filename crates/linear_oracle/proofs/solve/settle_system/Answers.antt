@@ -7,17 +7,16 @@ use Rattle.simplex.specs.Ends.{HasRun, end_of}
 use Rattle.simplex.specs.declared.settling.Settled.{Settled}
 use Rattle.simplex.specs.declared.settling.Settled.TheVariants.{Infeasible}
 use Rattle.linear_oracle.specs.Ended.{HasEnded}
-use Rattle.linear_oracle.proofs.Answering.{memory_of_model}
 use Rattle.linear_oracle.proofs.Runs.{has_ended, run_ends}
 use Rattle.linear_oracle.proofs.Shares.{columns_are}
 use Rattle.linear_oracle.proofs.solve.settle_system.Goals as goal
 
-pub returns-in-Err-clause-end : goal.returns-in-Err-clause-end
-returns-in-Err-clause-end c =
+pub returns-in-Err : goal.returns-in-Err
+returns-in-Err c =
     let system = c.args.system.now in
     let start = c.in-Ok.dictionary in
     let new = c.settle.new in
-    c.stop_end.ensures.end c.args.model.now c.args.pivots.now
+    c.stop_end.ensures c.args.model.now c.args.pivots.now c.requires.same
     (subst (λ (s : LinearSystem). RunEnds s c.args.pivots.now (end_of (Err c.in-Err.stop))) c.requires.plain
     (run_ends system start new.dictionary c.args.pivots.now new.pivots new.turn (end_of (Err c.in-Err.stop)) c.requires.apart c.in-Ok.ensures.1.0 (c.in-Err.ensures.run system c.in-Ok.ensures.0)))
 
@@ -29,23 +28,14 @@ cut_end-requires-clause-count c =
     c.settle.ensures.columns ∙ c.in-Ok.ensures.1.1.0 ∙ ap (λ (s : LinearSystem). length s.columns) c.requires.plain
     ∙ columns_are c.args.model.now c.args.set.now.members c.args.path.now
 
-pub returns-clause-end : goal.returns-clause-end
-returns-clause-end c =
+pub returns : goal.returns
+returns c =
     let system = c.args.system.now in
     let start = c.in-Ok.dictionary in
     let new = c.settle.new in
     let v = c.in-Infeasible.variable in
     let run : HasRun limit system start.basis c.args.pivots.now 0 (end_of (Ok (Infeasible v))) new.dictionary new.pivots new.turn =
     subst (λ (z : Settled). HasRun limit system start.basis c.args.pivots.now 0 (end_of (Ok z)) new.dictionary new.pivots new.turn) c.in-Infeasible.is (c.in-Ok-settle.ensures.run system c.in-Ok.ensures.0) in
-    c.cut_end.ensures.end c.args.pivots.now
+    c.cut_end.ensures c.args.pivots.now
     (subst (λ (s : LinearSystem). HasEnded s c.args.pivots.now new.dictionary (end_of (Ok (Infeasible v)))) c.requires.plain
     (has_ended system start new.dictionary c.args.pivots.now new.pivots new.turn (end_of (Ok (Infeasible v))) c.requires.apart c.in-Ok.ensures.1.0 c.in-Ok-settle.ensures.ended.0 (c.settle.ensures.columns ∙ c.in-Ok.ensures.1.1.0) run))
-
-pub returns-in-Err-clause-stop : goal.returns-in-Err-clause-stop
-returns-in-Err-clause-stop c = c.stop_end.ensures.of_model c.args.model.now c.requires.same
-
-pub returns-in-Feasible-clause-stop : goal.returns-in-Feasible-clause-stop
-returns-in-Feasible-clause-stop c = memory_of_model c.args.model.now c.point_end.result c.point_end.ensures.memory
-
-pub returns-clause-stop : goal.returns-clause-stop
-returns-clause-stop c = memory_of_model c.args.model.now c.cut_end.result c.cut_end.ensures.memory

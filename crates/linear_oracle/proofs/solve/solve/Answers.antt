@@ -3,8 +3,6 @@ use Rattle.certs.specs.System.{LinearSystem}
 use Rattle.certs.specs.Tableau.{IsWellFormedSystem, variables}
 use Rattle.certs.specs.Plain.{first_crossing}
 use Rattle.certs.proofs.PlainForms.{plain_formed}
-use Rattle.linear_oracle.proofs.Answering.{memory_of_model}
-use Rattle.linear_oracle.proofs.Members.{members_for_model, shows_end}
 use Rattle.linear_oracle.proofs.Shares.{few_variables}
 use Rattle.linear_oracle.proofs.solve.solve.Goals as goal
 
@@ -15,12 +13,7 @@ first_crossing-requires c = record {
 }
 
 pub returns-in-Some-clause-end : goal.returns-in-Some-clause-end
-returns-in-Some-clause-end c = c.crossing_end.ensures.end c.args.pivots
-
-pub returns-in-Some-clause-shows : goal.returns-in-Some-clause-shows
-returns-in-Some-clause-shows c =
-    shows_end c.args.model.now c.args.set.now.members c.args.path.now c.args.pivots c.crossing_end.result c.row_count-rows.ensures.well_formed
-    (members_for_model c.args.model.now c.args.set.now c.requires.same c.count-members.ensures.possible) c.requires.known (c.crossing_end.ensures.end c.args.pivots)
+returns-in-Some-clause-end c = c.crossing_end.ensures c.args.pivots
 
 pub settle_system-end-requires-clause-formed : goal.settle_system-end-requires-clause-formed
 settle_system-end-requires-clause-formed c =
@@ -32,11 +25,3 @@ pub settle_system-end-requires-clause-few : goal.settle_system-end-requires-clau
 settle_system-end-requires-clause-few c =
     let l = few_variables c.args.model.now c.args.set.now.members c.args.path.now (let e = c.row_count-rows.ensures.count in let l = c.row_count-rows.ensures.few in omega (arith, e, l)) (let e = c.column_count-columns.ensures.count in let l = c.column_count-columns.ensures.few in omega (arith, e, l)) in
     subst (λ (s : LinearSystem). variables s < 2 ^ 31) (sym c.in-Ok.ensures) (omega (arith, l))
-
-pub returns-clause-shows : goal.returns-clause-shows
-returns-clause-shows c =
-    shows_end c.args.model.now c.args.set.now.members c.args.path.now c.args.pivots c.settle_system-end.result c.row_count-rows.ensures.well_formed
-    (members_for_model c.args.model.now c.args.set.now c.requires.same c.count-members.ensures.possible) c.requires.known c.settle_system-end.ensures.end
-
-pub returns-in-Some-clause-stop : goal.returns-in-Some-clause-stop
-returns-in-Some-clause-stop c = memory_of_model c.args.model.now c.crossing_end.result c.crossing_end.ensures.memory

@@ -1,7 +1,7 @@
 use Rattle.std.proofs.Common.{◌≡◌, refl, sym, subst, true}
 use Rattle.lp_model.specs.MemberSets.{SetValue}
 use Rattle.lp_model.specs.declared.members.Member.TheVariants.{Row}
-use Rattle.linear_oracle.specs.Value.{is_linear}
+use Rattle.certs.specs.Answers.{is_linear}
 use Rattle.linear_oracle.proofs.Answering.{with_linear}
 use Rattle.linear_oracle.proofs.tests.insert.Goals as goal
 
