@@ -11,3 +11,4 @@ mod Outcomes
 mod PlainPaths
 mod Examples
 mod Meaning
+mod Tables

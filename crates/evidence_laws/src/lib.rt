@@ -18,5 +18,5 @@ pub use laws::{
 pub use run_laws::{
     blocked_is_combination, combination_is_translated, flip_keeps_system, one_end, one_table,
     pivot_keeps_system, plain_cut_refutes, plain_is_formed, plain_point_keeps_path,
-    plain_point_satisfies, settled_is_solution, start_is_of_system,
+    plain_point_satisfies, settled_is_solution, start_is_of_system, tableau_is_table,
 };

@@ -5,10 +5,16 @@ ghost use Rattle.certs.specs.Runs.{OneEndLaw};
 ghost use Rattle.certs.specs.PlainLaws.{PlainCutLaw, PlainFormedLaw, PlainPathLaw, PlainPointLaw};
 ghost use Rattle.certs.specs.Tableau.{StartLaw, TableLaw};
 ghost use Rattle.certs.specs.Turns.{FlipLaw, PivotLaw};
+ghost use Rattle.evidence_laws.specs.Tables.{TermsLaw};
 
 /// The tableau at the start is one of the system.
 pub fn start_is_of_system()
     ensures { StartLaw }
+{}
+
+/// A tableau of a system, its rows as terms, is a table of it.
+pub fn tableau_is_table()
+    ensures { TermsLaw }
 {}
 
 /// A basis has one table.
