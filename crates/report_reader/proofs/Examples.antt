@@ -32,7 +32,8 @@ use Rattle.report_text.specs.declared.report.Answer.TheVariants.{Feasible, Infea
 use Rattle.report_text.specs.declared.report.Report.{Report}
 use Rattle.report_text.specs.Grammar.{Line, report_lines, text_of}
 use Rattle.report_reader.proofs.Endings.{pair_in_order, nothing_is_front, foot, NotFoot, body, body_is, needs_foot, needs_head, whole_ends}
-use Rattle.report_text.specs.Form.{IsNamedColumn, share_before, IsNamedMember, IsListed, IsUse, AreUses, IsReportFor}
+use Rattle.certs.specs.Order.{share_before}
+use Rattle.report_text.specs.Form.{IsNamedColumn, IsNamedMember, IsListed, IsUse, AreUses, IsReportFor}
 use Rattle.report_reader.specs.Reading.{Reads, IsFront, IsWhole, IsBadLine, IsTruncated}
 
 abbrev term : ℕ → ℤ → Term

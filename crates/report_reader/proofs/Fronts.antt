@@ -37,7 +37,8 @@ use Rattle.report_reader.specs.declared.drafts.Draft.{Draft}
 use Rattle.report_text.specs.Turns.{after}
 use Rattle.report_text.specs.Grammar.{column_name, entries_lines}
 use Rattle.report_text.proofs.InTurn.{gathered-push, AllEntries-push, numbered-push}
-use Rattle.report_text.specs.Form.{is_word, IsNamedColumn, IsNamedMember, IsWithinLimit, IsUse, AreUses, IsListed, IsOneLeaf, IsPointFor, IsAnswerFor, IsEntryFor, AreEntriesFor, can_answer, share_before}
+use Rattle.certs.specs.Order.{share_before}
+use Rattle.report_text.specs.Form.{is_word, IsNamedColumn, IsNamedMember, IsWithinLimit, IsUse, AreUses, IsListed, IsOneLeaf, IsPointFor, IsAnswerFor, IsEntryFor, AreEntriesFor, can_answer}
 use Rattle.report_reader.specs.Phrases.{IsPhraseFor, phrase_line}
 use Rattle.report_reader.specs.Drafts.{filled, point_of, leaf_of, set_of, answer_of, only_if, witnessed_with, site_without, with_left_out, left_out_next, at_site, stop_begun, stop_with, extended, placed, between, advanced, AreValues, AreMembers, AreWitnesses, IsFound, IsOneMore, AreLeftOut, IsStopPart, Asks, IsPartFor, IsDraftFor}
 use Rattle.report_reader.proofs.Said.{value_phrases, point_phrases, proof_phrases, witness_phrases, without_phrase, site_phrases, answer_front, answer_end, entry_phrases, entries_phrases, body_phrases, entries_spelled}

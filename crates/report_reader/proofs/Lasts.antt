@@ -16,7 +16,7 @@ use Rattle.lp_model.specs.Members.{comes_before, is_same, IsInOrder}
 use Rattle.certs.specs.declared.evidence.Source.{Source}
 use Rattle.certs.specs.declared.evidence.Source.TheVariants.{Member as Of, Below, Above}
 use Rattle.certs.specs.declared.evidence.Share.{Share}
-use Rattle.report_text.specs.Form.{share_before, side_before, member_side_before}
+use Rattle.certs.specs.Order.{share_before, side_before, member_side_before}
 
 module _ {X : Type 0} (before : X → X → Bool) (over : (x y z : X) → before x y ≡ true → before y z ≡ true → before x z ≡ true) where
   pub last_decides : (xs : List X) (l x : X) → AllPairs (λ y z. IsTrue (before y z)) xs → slice_get xs (length xs - 1) ≡ Some l → before l x ≡ list_all (λ y. before y x) xs

@@ -39,7 +39,8 @@ use Rattle.report_reader.specs.declared.drafts.Stage.{Stage}
 use Rattle.report_reader.specs.declared.drafts.Draft.{Draft}
 use Rattle.lp_model.specs.MemberSets.{SetValue, empty_set}
 use Rattle.report_text.specs.Grammar.{left_out}
-use Rattle.report_text.specs.Form.{IsListed, IsOneLeaf, IsPointFor, IsSettleSite, IsStopFor, IsAnswerFor, IsEntryFor, AreEntriesFor, AreNumbered, IsReportFor, can_answer, share_before}
+use Rattle.certs.specs.Order.{share_before}
+use Rattle.report_text.specs.Form.{IsListed, IsOneLeaf, IsPointFor, IsSettleSite, IsStopFor, IsAnswerFor, IsEntryFor, AreEntriesFor, AreNumbered, IsReportFor, can_answer}
 use Rattle.report_reader.specs.Drafts.{filled, point_of, leaf_of, set_of, only_if, with_value, witnessed_with, site_without, with_left_out, left_out_next, at_site, stop_begun, extended, placed, advanced, nothing_read}
 use Rattle.report_reader.proofs.LeftOut.{left_in_order, left_active, set_twice}
 

@@ -1,9 +1,10 @@
 //! Lists with one element more, and the points, sets, proofs and answers that they are.
-ghost use Rattle.std.specs.Prelude.{◌≡◌, ◌≤◌, IfOk, All, AllPairs, IsTrue, length};
+ghost use Rattle.std.specs.Prelude.{◌≡◌, ◌≤◌, IfOk, All, length};
 ghost use Rattle.lp_model.specs.Members.{IsInOrder};
 ghost use Rattle.lp_model.specs.MemberSets.{IsMemberFor};
 ghost use Rattle.report_text.specs.Grammar.{left_out};
-ghost use Rattle.report_text.specs.Form.{share_before, IsNamedMember};
+ghost use Rattle.certs.specs.Order.{AreSharesInOrder};
+ghost use Rattle.report_text.specs.Form.{IsNamedMember};
 ghost use Rattle.report_reader.specs.Drafts.{filled, point_of, leaf_of, set_of, answer_of, with_value, with_member, with_share, with_left_out, site_without, IsFound, AreLeftOut};
 ghost use Rattle.certs.specs.declared.solving.Stop.TheVariants.{Wide as TooWide, Pivots as Spent};
 
@@ -85,7 +86,7 @@ pub(crate) fn add_left_out(
 
 /// The shares with one more, where it comes after all of them.
 pub(crate) fn add_share(shares: Shares, share: Share) -> Result<Option<Shares>, AllocError>
-    requires { AllPairs (λ s t. IsTrue (share_before s.source s.side t.source t.side)) shares }
+    requires { AreSharesInOrder shares }
     ensures { IfOk result (λ s. s ≡ with_share shares share) }
 {
     if !share_follows(shares.as_slice(), share.source, share.side) {

@@ -12,7 +12,7 @@ use text_fields::{FieldStop, Line, Span, fields};
 use thiserror::Error;
 
 // The most pivots that a budget may be.
-const MOST_PIVOTS: u64 = 1_000_000;
+pub(crate) const MOST_PIVOTS: u64 = 1_000_000;
 
 /// Why a line was not read as a command: it is none, or memory was refused.
 #[derive(Clone, Copy, PartialEq, Eq, Debug, Error)]

@@ -1,6 +1,6 @@
 //! What a phrase makes of a part of an answer.
-ghost use Rattle.std.specs.Prelude.{◌≡◌, ◌≤◌, ◌++◌, ◌∷◌, [], IfOk, AllPairs, IsTrue, length};
-ghost use Rattle.report_text.specs.Form.{share_before};
+ghost use Rattle.std.specs.Prelude.{◌≡◌, ◌≤◌, ◌++◌, ◌∷◌, [], IfOk, length};
+ghost use Rattle.certs.specs.Order.{AreSharesInOrder};
 ghost use Rattle.lp_model.specs.Members.{IsInOrder};
 ghost use Rattle.report_reader.specs.Phrases.{IsPhraseFor};
 ghost use Rattle.report_reader.specs.Drafts.{members_of, point_of, witnessed_with, extended, IsFound, IsPartFor};
@@ -246,7 +246,7 @@ fn follow_leaf(
     phrase: Phrase,
 ) -> Result<Option<Next>, AllocError>
     requires found { IsFound model.now command.now found }
-    requires in_order { AllPairs (λ s t. IsTrue (share_before s.source s.side t.source t.side)) shares }
+    requires in_order { AreSharesInOrder shares }
     ensures { IfOk result (λ n. n ≡ extended model.now command.now (Part.Leaf found shares) phrase) }
 {
     match phrase {

@@ -7,6 +7,7 @@ ghost use Rattle.report_text.specs.Grammar.{method_word};
 ghost use Rattle.report_reader.specs.Phrases.{Says};
 ghost use Rattle.report_reader.specs.Words.{Finds, IsSpelled, IsFractionSaid};
 
+use crate::commands::MOST_PIVOTS;
 use crate::keywords::{leading_keyword, lone_phrase};
 use crate::naming::{column_of, count_of, fraction_of, member_of, side_of};
 use crate::parts::{Words, cut, split_words};
@@ -18,9 +19,6 @@ use certs::{Share, Source};
 use frac128::Frac;
 use lp_model::{Model, Note, Side};
 use report_text::{Command, Method};
-
-// The most pivots that a budget may be.
-const MOST_PIVOTS: u64 = 1_000_000;
 
 // A method.
 fn method_of(word: &[u8]) -> Option<Method>

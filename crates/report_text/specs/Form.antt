@@ -1,5 +1,5 @@
 -- Which reports stand in the grammar: what is asked of their names, numbers and order.
-use Rattle.std.specs.Prelude.{◌≡◌, ◌≢◌, ℕ, ◌+◌, ◌^◌, ◌<◌, ◌≤◌, nat_lt, nat_le, Bool, true, false, ◌&&◌, ◌||◌, IsTrue, List, [], ◌∷◌, ◌++◌, length, filter, None, All, AllPairs}
+use Rattle.std.specs.Prelude.{◌≡◌, ◌≢◌, ℕ, ◌+◌, ◌^◌, ◌<◌, ◌≤◌, nat_lt, Bool, true, false, ◌&&◌, List, [], ◌∷◌, ◌++◌, length, filter, None, All}
 use Rattle.std.specs.List.{list_all}
 use Rattle.report_text.specs.Names.{is_shown}
 use Rattle.rational.specs.Rational.{ℚ, zero_ℚ, ◌<ℚ◌}
@@ -9,7 +9,7 @@ use Rattle.lp_model.specs.Program.{Program, noted_column}
 use Rattle.lp_model.specs.declared.members.Member.{Member}
 use Rattle.lp_model.specs.declared.members.Side.{Side}
 use Rattle.lp_model.specs.declared.members.Side.TheVariants.{Lo, Up}
-use Rattle.lp_model.specs.Members.{comes_before, is_same, has, active_members, IsInOrder}
+use Rattle.lp_model.specs.Members.{has, active_members, IsInOrder}
 use Rattle.lp_model.specs.MemberSets.{SetValue, IsMemberFor, empty_set}
 use Rattle.lp_model.specs.Satisfaction.{values_at}
 use Rattle.certs.specs.declared.evidence.Source.{Source}
@@ -20,6 +20,7 @@ use Rattle.certs.specs.declared.evidence.Combo.{Combo}
 use Rattle.certs.specs.declared.evidence.Node.TheVariants.{Leaf}
 use Rattle.certs.specs.declared.evidence.Proof.{Proof}
 use Rattle.certs.specs.Checks.{IsSetOf}
+use Rattle.certs.specs.Order.{AreSharesInOrder}
 use Rattle.certs.specs.declared.solving.SiteKind.TheVariants.{Settle}
 use Rattle.certs.specs.declared.solving.Site.{Site}
 use Rattle.certs.specs.declared.solving.Stop.{Stop}
@@ -80,29 +81,10 @@ pub record IsUse (model : Program) (s : Share) : Type 0 where
   pub positive : zero_ℚ <ℚ s.weight
   pub fits : IsWithinLimit s.weight
 
--- the lower side stands before the upper one
-abbrev pub side_before : Side → Side → Bool
-side_before Lo Up = true
-side_before _ _ = false
-
--- a member's side stands before another's, by member order and then `lo` before `up`
-abbrev pub member_side_before : Member → Side → Member → Side → Bool
-member_side_before m side n other = comes_before m n || (is_same m n && side_before side other)
-
--- what stands before what: the members' sides, then the branches by column, below before above
-abbrev pub share_before : Source → Side → Source → Side → Bool
-share_before (Of m) side (Of n) other = member_side_before m side n other
-share_before (Of m) side _ other = true
-share_before _ side (Of n) other = false
-share_before (Below j) side (Below k) other = nat_lt j k
-share_before (Below j) side (Above k) other = nat_le j k
-share_before (Above j) side (Below k) other = nat_lt j k
-share_before (Above j) side (Above k) other = nat_lt j k
-
 -- shares in their order, none twice
 pub record AreUses (model : Program) (shares : List Share) : Type 0 where
   pub each : All (IsUse model) shares
-  pub in_order : AllPairs (λ s t. IsTrue (share_before s.source s.side t.source t.side)) shares
+  pub in_order : AreSharesInOrder shares
 
 -- a proof of one leaf
 pub record IsOneLeaf (model : Program) (proof : Proof) : Type 0 where
