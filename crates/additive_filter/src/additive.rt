@@ -62,8 +62,7 @@ fn isolate_refuted<O: Oracle>(
     // At most one ask for each member.
     ensures left { IsLeft (length set.now.members) (O.state oracle.old) (O.state oracle.new) }
 {
-    // That the members of the set may be in it, and stand in order, is told with their count.
-    let _count = set.count();
+    set.stands_in_order();
     let Ok(mut front) = listed(alloc, set) else {
         return Err(Stop::Memory);
     };

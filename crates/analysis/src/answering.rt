@@ -97,8 +97,7 @@ fn refuted(
     ensures right { (budgets : Allowed) → IfOk result (IsChecked model.now budgets) }
     ensures known { IfOk result (IsKnownAnswer model.now) }
 {
-    // That the members of a set are possible members is told with their count.
-    let _count = set.count();
+    set.stands_in_order();
     let used = members_used(alloc, set, &proof)?;
     Ok(Answer::Infeasible(used, proof))
 }

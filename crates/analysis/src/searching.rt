@@ -71,12 +71,11 @@ pub(crate) fn stopped(stop: Stop) -> Result<Answer, AllocError>
 {
     match stop {
         Stop::Wide(site, turn, wide) => {
-            // That the members of a set are possible members is told with their count.
-            let _count = site.set.count();
+            site.set.stands_in_order();
             Ok(Answer::Stopped(Stop::Wide(site, turn, wide)))
         }
         Stop::Pivots(site) => {
-            let _count = site.set.count();
+            site.set.stands_in_order();
             Ok(Answer::Stopped(Stop::Pivots(site)))
         }
         Stop::Nodes(_) | Stop::Large(_) => unreachable!(),

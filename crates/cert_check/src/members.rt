@@ -25,7 +25,7 @@ pub(crate) fn used_members(
     for share in shares {
         insert_source(&mut used, share.source);
     }
-    let _count = used.count();
+    used.stands_in_order();
     Ok(used)
 }
 
@@ -52,9 +52,8 @@ pub(crate) fn check_members(
     requires short { start + length printed.now.members < 4294967296 }
     ensures { Says (first_stop (paired_trials (is_active_use model.now) start printed.now.members used.now.members)) result }
 {
-    // That the members stand in order is told with their count.
-    let _printed = printed.count();
-    let _used = used.count();
+    printed.stands_in_order();
+    used.stands_in_order();
     let mut line = start;
     let mut after = None;
     while let Some(member) = printed.next(after) {

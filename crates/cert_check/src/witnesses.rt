@@ -33,8 +33,7 @@ pub(crate) fn check_witnesses(
         × (line ≡ start + length (flat_map (witness_lines model.now) (zip members.now.members witnesses.now))))
         (IsStop (first_stop (witness_trials model.now members.now.members start (zip members.now.members witnesses.now)))) }
 {
-    // That the members stand in order is told with their count.
-    let _count = members.count();
+    members.stands_in_order();
     let mut line = start;
     let mut after = None;
     for witness in witnesses {
@@ -64,8 +63,7 @@ fn check_witness(
     ensures says { Says (first_stop (witness_trials model.now members.old.members line ((member, witness.now) ∷ []))) result }
     ensures stays { members.new ≡ members.old }
 {
-    // That the set is what it has of the possible members is told with their count.
-    let _count = members.count();
+    members.stands_in_order();
     if !model.is_active(member) {
         return Err(Stop::Rejected(line));
     }

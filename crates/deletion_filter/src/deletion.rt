@@ -64,8 +64,7 @@ pub fn isolate_refuted<O: Oracle>(
     // At most one ask for each member.
     ensures left { IsLeft (length set.now.members) (O.state oracle.old) (O.state oracle.new) }
 {
-    // That the members of the set may be in it, and stand in order, is told with their count.
-    let _count = set.count();
+    set.stands_in_order();
     let Ok(mut reduction) = Reduction::new(alloc, set, proof) else {
         return Err(Stop::Memory);
     };

@@ -9,8 +9,7 @@ use std::alloc::{AllocError, Global};
 pub fn listed(alloc: Global, set: &MemberSet) -> Result<Vec<Member>, AllocError>
     ensures { IfOk result (λ list. list.items ≡ set.now.members) }
 {
-    // That the members of the set may be in it, and stand in order, is told with their count.
-    let _count = set.count();
+    set.stands_in_order();
     let mut list = Vec::new(alloc);
     let mut after = None;
     while let Some(member) = set.next(after) {

@@ -84,9 +84,9 @@ impl Oracle for LinearOracle<'_> {
         ensures told { state_of self.new ≡ asked_after (state_of self.old) set.now.members result }
         ensures made { self.old.made ≤ self.new.made }
     {
-        // That the program is well formed, and that the set's members are ones of it, is told with their counts.
+        // That the program is well formed is told with its count of rows.
         let _rows = self.model.row_count();
-        let _members = set.count();
+        set.stands_in_order();
         let end = solve(alloc, self.model, set, &[], self.pivots, &mut self.made);
         let answer = verdict_of(alloc, end);
         self.tale.tell(alloc, set, answer)

@@ -447,8 +447,7 @@ fn print_members(model: &Model, set: &MemberSet, into: &mut Vec<u8>) -> Result<(
     ensures text { OnOk result (into.new.items ≡ into.old.items ++ text_of (map (member_line model.now) set.now.members)) }
     ensures front { Keeps into.old.items into.new.items }
 {
-    // That the members stand in order is told with their count.
-    let _count = set.count();
+    set.stands_in_order();
     let mut after = None;
     while let Some(member) = set.next(after) {
         print_member(model, member, into)?;
@@ -485,7 +484,7 @@ fn print_witnesses(
     ensures text { OnOk result (into.new.items ≡ into.old.items ++ text_of (flat_map (witness_lines model.now) (zip set.now.members witnesses.now))) }
     ensures front { Keeps into.old.items into.new.items }
 {
-    let _count = set.count();
+    set.stands_in_order();
     let mut after = None;
     for witness in witnesses {
         let Some(member) = set.next(after) else {

@@ -61,8 +61,7 @@ fn isolate_core<O: Oracle>(
     ensures quiet { OnOk result ((O.state oracle.new).tale.stops ≡ (O.state oracle.old).tale.stops) }
     ensures left { IsLeft (core_length (O.state oracle.new).tale.first_core) (O.state oracle.old) (O.state oracle.new) }
 {
-    // That the members of the set may be in it is told with their count.
-    let _count = set.count();
+    set.stands_in_order();
     let Ok(core) = members_used(alloc, set, &proof) else {
         return Err(Stop::Memory);
     };

@@ -76,8 +76,7 @@ impl Oracle for TableOracle<'_> {
         ensures next { IsNext self.old.model set.now self.old.answers result }
         ensures answers { self.new.answers ≡ drop 1 self.old.answers }
     {
-        // That the members of the set may be in it is told with their count.
-        let _count = set.count();
+        set.stands_in_order();
         let answer = judged(alloc, self.model, &mut self.answers, set);
         self.tale.tell(alloc, set, answer)
     }

@@ -24,7 +24,7 @@ pub returns-in_default-clause-left : goal.returns-in_default-clause-left
 returns-in_default-clause-left g c = left_as_it_was (length c.args.set.now.members) (g.O.Oracle.state c.args.oracle.now)
 
 pub new-requires : goal.new-requires
-new-requires g c = known_nodes (g.O.Oracle.state c.args.oracle.now).model c.args.set.now c.args.proof.nodes c.count-count.ensures.possible c.requires.proof
+new-requires g c = known_nodes (g.O.Oracle.state c.args.oracle.now).model c.args.set.now c.args.proof.nodes c.stands_in_order.ensures.possible c.requires.proof
 
 pub returns-in_default-new-clause-stop : goal.returns-in_default-new-clause-stop
 returns-in_default-new-clause-stop g c =
@@ -44,7 +44,7 @@ loop-member-init g c =
     record {
       state = state_starts model set.members c.in-Ok.front.items r.left.members r.witnesses.items whole (ap (λ (s : SetValue). s.members) c.in-Ok-new.ensures.left) c.in-Ok-new.ensures.witnesses;
       reduced = same_reduction model set r.left (used_set set c.args.proof.nodes) r.used c.args.proof.nodes r.proof.nodes c.in-Ok-new.ensures.left c.in-Ok-new.ensures.used (ap (λ (p : Proof). p.nodes) c.in-Ok-new.ensures.proof)
-          (reduction_starts model set c.args.proof.nodes c.requires.same c.count-count.ensures.possible c.count-count.ensures.in_order c.requires.proof);
+          (reduction_starts model set c.args.proof.nodes c.requires.same c.stands_in_order.ensures.possible c.stands_in_order.ensures.in_order c.requires.proof);
       told = inl (ap (λ (p : Proof). p.nodes) c.in-Ok-new.ensures.proof);
       quiet = refl;
       left = so_far_at_first (length set.members) (length c.in-Ok.front.items) state (ap length whole);

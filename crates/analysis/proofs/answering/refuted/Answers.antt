@@ -5,7 +5,7 @@ use Rattle.analysis.proofs.Refuting.{refutes, known_nodes, printed_nodes, used_o
 use Rattle.analysis.proofs.answering.refuted.Goals as goal
 
 pub members_used-requires : goal.members_used-requires
-members_used-requires c = known_nodes c.args.model.now c.args.set.now c.args.proof c.requires.whole (all_possible c.args.set.now c.count-count.ensures.possible) c.requires.leaf
+members_used-requires c = known_nodes c.args.model.now c.args.set.now c.args.proof c.requires.whole (all_possible c.args.set.now c.stands_in_order.ensures.possible) c.requires.leaf
 
 pub returns-clause-right : goal.returns-clause-right
 returns-clause-right c = λ budgets. refutes c.args.model.now c.args.proof c.in_ok-used.used c.requires.leaf c.requires.ordered (subst (λ s. c.in_ok-used.used ≡ used_set s c.args.proof.nodes) c.requires.whole c.in_ok-used.ensures)
@@ -13,5 +13,5 @@ returns-clause-right c = λ budgets. refutes c.args.model.now c.args.proof c.in_
 pub returns-clause-known : goal.returns-clause-known
 returns-clause-known c = (
   used_of_model c.args.model.now c.args.set.now c.args.proof.nodes c.in_ok-used.used c.requires.whole c.in_ok-used.ensures,
-  printed_nodes c.args.model.now c.args.set.now c.args.proof c.requires.whole (all_possible c.args.set.now c.count-count.ensures.possible) c.requires.leaf,
+  printed_nodes c.args.model.now c.args.set.now c.args.proof c.requires.whole (all_possible c.args.set.now c.stands_in_order.ensures.possible) c.requires.leaf,
 )

@@ -20,4 +20,4 @@ loop-share-preserved c =
 pub returns-clause-used : goal.returns-clause-used
 returns-clause-used c =
     let i = c.loop-share.invariant in
-    sym (named_all c.args.model.now c.args.shares.now c.loop-share.share-index c.loop-share.used c.loop-share-test.false i.rows i.columns c.count-count.ensures.possible) ∙ i.left
+    sym (named_all c.args.model.now c.args.shares.now c.loop-share.share-index c.loop-share.used c.loop-share-test.false i.rows i.columns c.stands_in_order.ensures.possible) ∙ i.left

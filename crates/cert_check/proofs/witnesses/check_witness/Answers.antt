@@ -7,4 +7,4 @@ pub returns-clause-stays : goal.returns-clause-stays
 returns-clause-stays c =
     c.insert.ensures
     ∙ (ap (λ (set : SetValue). set_with set c.args.member) c.remove.ensures
-    ∙ put_back c.args.members.now c.args.member c.count-count.ensures.possible c.requires.there)
+    ∙ put_back c.args.members.now c.args.member c.stands_in_order.ensures.possible c.requires.there)

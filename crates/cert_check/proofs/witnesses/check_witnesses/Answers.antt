@@ -32,12 +32,12 @@ unreachable-requires c =
 pub check_witness-requires-clause-there : goal.check_witness-requires-clause-there
 check_witness-requires-clause-there c =
     subst (λ (s : SetValue). has s.members c.in-Some.member ≡ true) (sym c.loop-witness.invariant.others)
-    (found_has c.args.members.now c.loop-witness.after c.in-Some.member c.count-count.ensures.possible (sym c.next.ensures ∙ c.in-Some.is))
+    (found_has c.args.members.now c.loop-witness.after c.in-Some.member c.stands_in_order.ensures.possible (sym c.next.ensures ∙ c.in-Some.is))
 
 pub check_witness-requires-clause-possible : goal.check_witness-requires-clause-possible
 check_witness-requires-clause-possible c =
     subst (λ (s : SetValue). IsPossibleIn s c.in-Some.member) (sym c.loop-witness.invariant.others)
-    (next_possible c.args.members.now c.loop-witness.after c.in-Some.member c.count-count.ensures.possible (sym c.next.ensures ∙ c.in-Some.is))
+    (next_possible c.args.members.now c.loop-witness.after c.in-Some.member c.stands_in_order.ensures.possible (sym c.next.ensures ∙ c.in-Some.is))
 
 pub returns-in_err-check_witness : goal.returns-in_err-check_witness
 returns-in_err-check_witness c =
@@ -50,33 +50,33 @@ returns-in_err-check_witness c =
     let p = err_from_is_err_and c.from_residual.result c.from_residual.ensures.1 in
     rw (p.1, p.2)
     (stop_of _ _ s i.invariant.left
-    (witness_stops model set c.args.witnesses.now i.after i.witness-index m w c.count-count.ensures.in_order (sym c.next.ensures ∙ c.in-Some.is) c.loop-witness-test.true c.witness-item.is set i.line s
+    (witness_stops model set c.args.witnesses.now i.after i.witness-index m w c.stands_in_order.ensures.in_order (sym c.next.ensures ∙ c.in-Some.is) c.loop-witness-test.true c.witness-item.is set i.line s
     (stop_of _ _ s (ap (λ (v : SetValue). first_stop (witness_trials model v.members i.line ((m, w) ∷ []))) i.invariant.others) c.in_err-check_witness.ensures.says)))
 
 pub check_witness-requires-clause-short : goal.check_witness-requires-clause-short
 check_witness-requires-clause-short c =
     let i = c.loop-witness in
-    let step = lines_step c.args.model.now c.args.members.now.members c.args.witnesses.now i.after i.witness-index c.in-Some.member c.witness-item.result c.count-count.ensures.in_order (sym c.next.ensures ∙ c.in-Some.is) c.loop-witness-test.true c.witness-item.is in
+    let step = lines_step c.args.model.now c.args.members.now.members c.args.witnesses.now i.after i.witness-index c.in-Some.member c.witness-item.result c.stands_in_order.ensures.in_order (sym c.next.ensures ∙ c.in-Some.is) c.loop-witness-test.true c.witness-item.is in
     omega (arith, step, i.invariant.line, c.requires.short)
 
 pub overflow_cast-line : goal.overflow_cast-line
 overflow_cast-line c =
     let i = c.loop-witness in
-    let step = lines_step c.args.model.now c.args.members.now.members c.args.witnesses.now i.after i.witness-index c.in-Some.member c.witness-item.result c.count-count.ensures.in_order (sym c.next.ensures ∙ c.in-Some.is) c.loop-witness-test.true c.witness-item.is in
+    let step = lines_step c.args.model.now c.args.members.now.members c.args.witnesses.now i.after i.witness-index c.in-Some.member c.witness-item.result c.stands_in_order.ensures.in_order (sym c.next.ensures ∙ c.in-Some.is) c.loop-witness-test.true c.witness-item.is in
     let count : c.count_values.result ≡ length (filter (λ v. not (eq_ℚ v zero_ℚ)) c.witness-item.result.values) = c.count_values.ensures ∙ ap (λ l. length (filter (λ v. not (eq_ℚ v zero_ℚ)) l)) c.as_slice.ensures in
     omega (arith, step, count, i.invariant.line, c.requires.short)
 
 pub overflow_add-line : goal.overflow_add-line
 overflow_add-line c =
     let i = c.loop-witness in
-    let step = lines_step c.args.model.now c.args.members.now.members c.args.witnesses.now i.after i.witness-index c.in-Some.member c.witness-item.result c.count-count.ensures.in_order (sym c.next.ensures ∙ c.in-Some.is) c.loop-witness-test.true c.witness-item.is in
+    let step = lines_step c.args.model.now c.args.members.now.members c.args.witnesses.now i.after i.witness-index c.in-Some.member c.witness-item.result c.stands_in_order.ensures.in_order (sym c.next.ensures ∙ c.in-Some.is) c.loop-witness-test.true c.witness-item.is in
     let count : c.count_values.result ≡ length (filter (λ v. not (eq_ℚ v zero_ℚ)) c.witness-item.result.values) = c.count_values.ensures ∙ ap (λ l. length (filter (λ v. not (eq_ℚ v zero_ℚ)) l)) c.as_slice.ensures in
     omega (arith, step, count, i.invariant.line, c.requires.short)
 
 pub overflow_add-line-in-loop-witness : goal.overflow_add-line-in-loop-witness
 overflow_add-line-in-loop-witness c =
     let i = c.loop-witness in
-    let step = lines_step c.args.model.now c.args.members.now.members c.args.witnesses.now i.after i.witness-index c.in-Some.member c.witness-item.result c.count-count.ensures.in_order (sym c.next.ensures ∙ c.in-Some.is) c.loop-witness-test.true c.witness-item.is in
+    let step = lines_step c.args.model.now c.args.members.now.members c.args.witnesses.now i.after i.witness-index c.in-Some.member c.witness-item.result c.stands_in_order.ensures.in_order (sym c.next.ensures ∙ c.in-Some.is) c.loop-witness-test.true c.witness-item.is in
     let count : c.count_values.result ≡ length (filter (λ v. not (eq_ℚ v zero_ℚ)) c.witness-item.result.values) = c.count_values.ensures ∙ ap (λ l. length (filter (λ v. not (eq_ℚ v zero_ℚ)) l)) c.as_slice.ensures in
     omega (arith, step, count, i.invariant.line, c.requires.short)
 
@@ -88,14 +88,14 @@ loop-witness-preserved c =
     let i = c.loop-witness in
     let m = c.in-Some.member in
     let w = c.witness-item.result in
-    let order = c.count-count.ensures.in_order in
+    let order = c.stands_in_order.ensures.in_order in
     let there = sym c.next.ensures ∙ c.in-Some.is in
     let step = lines_step model set witnesses i.after i.witness-index m w order there c.loop-witness-test.true c.witness-item.is in
     let count : c.count_values.result ≡ length (filter (λ v. not (eq_ℚ v zero_ℚ)) w.values) = c.count_values.ensures ∙ ap (λ l. length (filter (λ v. not (eq_ℚ v zero_ℚ)) l)) c.as_slice.ensures in
     let both : 2 + c.count_values.result ≡ 2 + length (filter (λ v. not (eq_ℚ v zero_ℚ)) w.values) = ap (λ k. 2 + k) count in
     let says : first_stop (witness_trials model set i.line ((m, w) ∷ [])) ≡ None = sym (ap (λ (v : SetValue). first_stop (witness_trials model v.members i.line ((m, w) ∷ []))) i.invariant.others) ∙ c.in_ok-check_witness.ensures.says in
     record {
-      possible = next_possible c.args.members.now i.after m c.count-count.ensures.possible there;
+      possible = next_possible c.args.members.now i.after m c.stands_in_order.ensures.possible there;
       others = c.in_ok-check_witness.ensures.stays ∙ i.invariant.others;
       each = each_step model set witnesses i.after i.witness-index m w order there c.loop-witness-test.true c.witness-item.is i.invariant.each;
       line = omega (arith, step, count, i.invariant.line);

@@ -18,7 +18,7 @@ use Rattle.deletion_filter.proofs.LateStates.{IsLateState, asked_is_part, asked_
 use Rattle.deletion_filter.proofs.deletion.isolate_refuted.Goals as goal
 
 pub new-requires : goal.new-requires
-new-requires g c = known_nodes (g.O.Oracle.state c.args.oracle.now).model c.args.set.now c.args.proof.nodes c.count-count.ensures.possible c.requires.proof
+new-requires g c = known_nodes (g.O.Oracle.state c.args.oracle.now).model c.args.set.now c.args.proof.nodes c.stands_in_order.ensures.possible c.requires.proof
 
 pub returns-in_default-clause-stop : goal.returns-in_default-clause-stop
 returns-in_default-clause-stop g c =
@@ -40,7 +40,7 @@ loop-member-init g c =
       state = subst (λ (l : List Member). IsLateState model set.members l r.left.members r.witnesses.items) (sym all)
           (state_starts model set.members r.left.members r.witnesses.items (ap (λ (s : SetValue). s.members) c.in-Ok.ensures.left) c.in-Ok.ensures.witnesses);
       reduced = same_reduction model set r.left (used_set set c.args.proof.nodes) r.used c.args.proof.nodes r.proof.nodes c.in-Ok.ensures.left c.in-Ok.ensures.used (ap (λ (p : Proof). p.nodes) c.in-Ok.ensures.proof)
-          (reduction_starts model set c.args.proof.nodes c.requires.same c.count-count.ensures.possible c.count-count.ensures.in_order c.requires.proof);
+          (reduction_starts model set c.args.proof.nodes c.requires.same c.stands_in_order.ensures.possible c.stands_in_order.ensures.in_order c.requires.proof);
       told = inl (ap (λ (p : Proof). p.nodes) c.in-Ok.ensures.proof);
       quiet = refl;
       left = so_far_at_first (length set.members) (length (filter (follows None) set.members)) state (ap length all);
@@ -56,7 +56,7 @@ try_without-requires-clause-there g c =
     let model = (g.O.Oracle.state c.args.oracle.now).model in
     let set = c.args.set.now.members in
     let r = c.loop-member.reduction in
-    let step = next_step c.loop-member.after set c.in-Some.member c.count-count.ensures.in_order (sym c.next.ensures ∙ c.in-Some.is) in
+    let step = next_step c.loop-member.after set c.in-Some.member c.stands_in_order.ensures.in_order (sym c.next.ensures ∙ c.in-Some.is) in
     next_is_left model set c.in-Some.member (filter (follows (Some c.in-Some.member)) set) r.left.members r.witnesses.items
     (subst (λ (l : List Member). IsLateState model set l r.left.members r.witnesses.items) step c.loop-member.invariant.state)
 
@@ -66,7 +66,7 @@ try_without-requires-clause-served g c =
     let set = c.args.set.now.members in
     let r = c.loop-member.reduction in
     let asked = (set_without r.left c.in-Some.member).members in
-    let step = next_step c.loop-member.after set c.in-Some.member c.count-count.ensures.in_order (sym c.next.ensures ∙ c.in-Some.is) in
+    let step = next_step c.loop-member.after set c.in-Some.member c.stands_in_order.ensures.in_order (sym c.next.ensures ∙ c.in-Some.is) in
     let part = asked_is_part model set c.in-Some.member (filter (follows (Some c.in-Some.member)) set) r.left r.witnesses.items
     (subst (λ (l : List Member). IsLateState model set l r.left.members r.witnesses.items) step c.loop-member.invariant.state) c.loop-member.invariant.reduced.in_order in
     ap (λ f. f asked) c.loop-member.invariant.left.left.serves ∙ g.met.O.Oracle.parts c.args.oracle.now set asked part c.requires.served
@@ -79,7 +79,7 @@ returns-in_err-try_without-clause-stop g c =
     let set = c.args.set.now.members in
     let r = c.loop-member.reduction in
     let asked = (set_without r.left c.in-Some.member).members in
-    let step = next_step c.loop-member.after set c.in-Some.member c.count-count.ensures.in_order (sym c.next.ensures ∙ c.in-Some.is) in
+    let step = next_step c.loop-member.after set c.in-Some.member c.stands_in_order.ensures.in_order (sym c.next.ensures ∙ c.in-Some.is) in
     let test = asked_is_test first.model set c.in-Some.member (filter (follows (Some c.in-Some.member)) set) r.left r.witnesses.items
     (subst (λ (l : List Member). IsLateState first.model set l r.left.members r.witnesses.items) step c.loop-member.invariant.state) c.loop-member.invariant.reduced.in_order in
     let p = err_from_is_err_and c.from_residual.result c.from_residual.ensures.1 in
@@ -91,7 +91,7 @@ returns-in_err-try_without-clause-stop g c =
 pub returns-in_err-try_without-clause-left : goal.returns-in_err-try_without-clause-left
 returns-in_err-try_without-clause-left g c =
     let set = c.args.set.now.members in
-    let step = next_step c.loop-member.after set c.in-Some.member c.count-count.ensures.in_order (sym c.next.ensures ∙ c.in-Some.is) in
+    let step = next_step c.loop-member.after set c.in-Some.member c.stands_in_order.ensures.in_order (sym c.next.ensures ∙ c.in-Some.is) in
     let rest = filter (follows (Some c.in-Some.member)) set in
     let state = g.O.Oracle.state in
     left_so_far (length set) (length rest) (state c.args.oracle.now) (state c.try_without.new.oracle)
@@ -99,7 +99,7 @@ returns-in_err-try_without-clause-left g c =
     c.loop-member.invariant.left c.try_without.ensures.left)
 
 pub loop-member-smaller : goal.loop-member-smaller
-loop-member-smaller g c = fewer_follow c.args.set.now.members c.loop-member.after c.in-Some.member c.count-count.ensures.in_order (sym c.next.ensures ∙ c.in-Some.is)
+loop-member-smaller g c = fewer_follow c.args.set.now.members c.loop-member.after c.in-Some.member c.stands_in_order.ensures.in_order (sym c.next.ensures ∙ c.in-Some.is)
 
 pub loop-member-preserved : goal.loop-member-preserved
 loop-member-preserved g c =
@@ -109,12 +109,12 @@ loop-member-preserved g c =
     let r = c.loop-member.reduction in
     let now = c.try_without.new.reduction in
     let rest = filter (follows (Some c.in-Some.member)) set in
-    let step = next_step c.loop-member.after set c.in-Some.member c.count-count.ensures.in_order (sym c.next.ensures ∙ c.in-Some.is) in
+    let step = next_step c.loop-member.after set c.in-Some.member c.stands_in_order.ensures.in_order (sym c.next.ensures ∙ c.in-Some.is) in
     let left = c.loop-member.invariant.left.left in
     let reduced = subst (λ (m : Program). IsReduction m now.left now.used now.proof.nodes) left.model c.in_ok-try_without.ensures.reduced in
     let tried = subst (λ (m : Program). Tried m r.left r.witnesses.items c.in-Some.member now.left now.witnesses.items) left.model c.in_ok-try_without.ensures.tried in
     record {
-      possible = next_possible c.args.set.now c.loop-member.after c.in-Some.member c.count-count.ensures.possible (sym c.next.ensures ∙ c.in-Some.is);
+      possible = next_possible c.args.set.now c.loop-member.after c.in-Some.member c.stands_in_order.ensures.possible (sym c.next.ensures ∙ c.in-Some.is);
       state = state_tried model set c.in-Some.member rest r.left now.left r.witnesses.items now.witnesses.items now.proof.nodes
           (subst (λ (l : List Member). IsLateState model set l r.left.members r.witnesses.items) step c.loop-member.invariant.state) c.loop-member.invariant.reduced.in_order tried reduced.proof;
       reduced = reduced;

@@ -10,16 +10,16 @@ loop-member-init c =
     record { possible = tt; list = ap (λ (l : List Member). l ++ filter (follows None) set) c.new-list.ensures.items ∙ all_follow set }
 
 pub loop-member-smaller : goal.loop-member-smaller
-loop-member-smaller c = fewer_follow c.args.set.now.members c.loop-member.after c.in-Some.member c.count-count.ensures.in_order (sym c.next.ensures ∙ c.in-Some.is)
+loop-member-smaller c = fewer_follow c.args.set.now.members c.loop-member.after c.in-Some.member c.stands_in_order.ensures.in_order (sym c.next.ensures ∙ c.in-Some.is)
 
 pub loop-member-preserved : goal.loop-member-preserved
 loop-member-preserved c =
     let set = c.args.set.now.members in
-    let step = next_step c.loop-member.after set c.in-Some.member c.count-count.ensures.in_order (sym c.next.ensures ∙ c.in-Some.is) in
+    let step = next_step c.loop-member.after set c.in-Some.member c.stands_in_order.ensures.in_order (sym c.next.ensures ∙ c.in-Some.is) in
     let rest = filter (follows (Some c.in-Some.member)) set in
     let list = c.loop-member.list.items in
     record {
-      possible = next_possible c.args.set.now c.loop-member.after c.in-Some.member c.count-count.ensures.possible (sym c.next.ensures ∙ c.in-Some.is);
+      possible = next_possible c.args.set.now c.loop-member.after c.in-Some.member c.stands_in_order.ensures.possible (sym c.next.ensures ∙ c.in-Some.is);
       list = ap (λ (l : List Member). l ++ rest) c.in_ok-push.ensures.items ∙ (append_assoc list (c.in-Some.member ∷ []) rest ∙ (ap (λ (l : List Member). list ++ l) (sym step) ∙ c.loop-member.invariant.list));
     }
 

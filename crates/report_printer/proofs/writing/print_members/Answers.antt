@@ -15,18 +15,18 @@ loop-member-init c = record {
 pub print_member-requires : goal.print_member-requires
 print_member-requires c =
     known_member c.args.model.now c.args.set.now c.in-Some.member c.requires
-    (next_possible c.args.set.now c.loop-member.after c.in-Some.member c.count-count.ensures.possible (sym c.next.ensures ∙ c.in-Some.is))
+    (next_possible c.args.set.now c.loop-member.after c.in-Some.member c.stands_in_order.ensures.possible (sym c.next.ensures ∙ c.in-Some.is))
 
 pub loop-member-smaller : goal.loop-member-smaller
-loop-member-smaller c = fewer_follow c.args.set.now.members c.loop-member.after c.in-Some.member c.count-count.ensures.in_order (sym c.next.ensures ∙ c.in-Some.is)
+loop-member-smaller c = fewer_follow c.args.set.now.members c.loop-member.after c.in-Some.member c.stands_in_order.ensures.in_order (sym c.next.ensures ∙ c.in-Some.is)
 
 pub loop-member-preserved : goal.loop-member-preserved
 loop-member-preserved c =
     let there = sym c.next.ensures ∙ c.in-Some.is in
     record {
-      possible = next_possible c.args.set.now c.loop-member.after c.in-Some.member c.count-count.ensures.possible there;
+      possible = next_possible c.args.set.now c.loop-member.after c.in-Some.member c.stands_in_order.ensures.possible there;
       kept = keeps_on _ _ _ c.loop-member.invariant.kept c.in_ok-print_member.ensures.front;
-      left = goes_on _ _ _ _ _ _ c.in_ok-print_member.ensures.text (members_left c.args.model.now c.args.set.now.members c.loop-member.after c.in-Some.member c.count-count.ensures.in_order there) c.loop-member.invariant.left;
+      left = goes_on _ _ _ _ _ _ c.in_ok-print_member.ensures.text (members_left c.args.model.now c.args.set.now.members c.loop-member.after c.in-Some.member c.stands_in_order.ensures.in_order there) c.loop-member.invariant.left;
     }
 
 pub returns-clause-text : goal.returns-clause-text

@@ -18,17 +18,17 @@ returns-in_default-clause-text c = witnesses_ended c.args.model.now c.args.set.n
 pub print_witness-requires-clause-member : goal.print_witness-requires-clause-member
 print_witness-requires-clause-member c =
     known_member c.args.model.now c.args.set.now c.in-Some.member c.requires.set
-    (next_possible c.args.set.now c.loop-witness.after c.in-Some.member c.count-count.ensures.possible (sym c.next.ensures ∙ c.in-Some.is))
+    (next_possible c.args.set.now c.loop-witness.after c.in-Some.member c.stands_in_order.ensures.possible (sym c.next.ensures ∙ c.in-Some.is))
 
 pub loop-witness-preserved : goal.loop-witness-preserved
 loop-witness-preserved c =
     let there = sym c.next.ensures ∙ c.in-Some.is in
     record {
-      possible = next_possible c.args.set.now c.loop-witness.after c.in-Some.member c.count-count.ensures.possible there;
+      possible = next_possible c.args.set.now c.loop-witness.after c.in-Some.member c.stands_in_order.ensures.possible there;
       kept = keeps_on _ _ _ c.loop-witness.invariant.kept c.in_ok-print_witness.ensures.front;
       left =
           goes_on _ _ _ _ _ _ c.in_ok-print_witness.ensures.text
-          (witnesses_left c.args.model.now c.args.set.now.members c.args.witnesses.now c.loop-witness.after c.loop-witness.witness-index c.in-Some.member c.witness-item.result c.count-count.ensures.in_order there c.loop-witness-test.true c.witness-item.is)
+          (witnesses_left c.args.model.now c.args.set.now.members c.args.witnesses.now c.loop-witness.after c.loop-witness.witness-index c.in-Some.member c.witness-item.result c.stands_in_order.ensures.in_order there c.loop-witness-test.true c.witness-item.is)
           c.loop-witness.invariant.left;
     }
 

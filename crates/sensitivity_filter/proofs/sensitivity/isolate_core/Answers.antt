@@ -15,7 +15,7 @@ pub members_used-requires : goal.members_used-requires
 members_used-requires g c =
     let state = g.O.Oracle.state c.args.oracle.now in
     let set = c.args.set.now in
-    known_nodes state.model set c.args.proof.nodes c.count-count.ensures.possible (g.met.O.Oracle.holds state.model state.budgets set.members (Infeasible c.args.proof) c.requires.answered)
+    known_nodes state.model set c.args.proof.nodes c.stands_in_order.ensures.possible (g.met.O.Oracle.holds state.model state.budgets set.members (Infeasible c.args.proof) c.requires.answered)
 
 pub returns-in_default-clause-stop : goal.returns-in_default-clause-stop
 returns-in_default-clause-stop g c =
