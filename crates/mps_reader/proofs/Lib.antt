@@ -14,3 +14,4 @@ pub mod Firsts
 pub mod Said
 pub mod Runs
 pub mod Fits
+pub mod Summed

@@ -1,5 +1,5 @@
 -- The lines of a text, one after another.
-use Rattle.std.proofs.Common.{◌≡◌, ℕ, ◌+◌, ◌-◌, ◌<◌, ◌≤◌, ◌^◌, min, max, Bool, true, false, cond, ◌||◌, List, [], ◌∷◌, ◌++◌, Option, Some, None, Result, MatchResult, length, map, drop, refl, sym, ap, ◌∙◌, subst, arith, true≢false, append_assoc, append-nil}
+use Rattle.std.proofs.Common.{◌≡◌, ℕ, ◌+◌, ◌-◌, ◌≤◌, max, true, false, cond, ◌||◌, List, [], ◌∷◌, ◌++◌, Option, Some, None, length, map, drop, refl, sym, ap, ◌∙◌, subst, arith, append_assoc, append-nil}
 use Rattle.std.proofs.lemmas.List.{length-drop}
 use Rattle.std.specs.List.{list_any, filter_map, cons_option, last_or}
 use Rattle.std.specs.Option.{option_or, option_map_or}
@@ -15,11 +15,10 @@ use Rattle.text_fields.specs.declared.faults.ReadFault.TheVariants.{Stop, Memory
 use Rattle.mps_lines.specs.declared.sections.Section.{Section}
 use Rattle.mps_lines.specs.declared.sections.Section.TheVariants.{Start, End}
 use Rattle.mps_lines.specs.Sections.{is_section}
-use Rattle.mps_lines.specs.Records.{Record, heading_of, section_after, is_last, record_after, records_after, records}
+use Rattle.mps_lines.specs.Records.{Record, heading_of, section_after, is_last, record_after, records_after}
 use Rattle.mps_lines.specs.Contexts.{Context, context_of}
 use Rattle.mps_lines.specs.declared.contexts.Context.{Context as ContextRead}
-use Rattle.mps_lines.specs.declared.lines.Said.{Said}
-use Rattle.mps_lines.specs.Said.{Says, IsRefusal, context_shown, record_at, steps_said}
+use Rattle.mps_lines.specs.Said.{IsRefusal, context_shown, record_at}
 use Rattle.mps_lines.specs.Steps.{Step, Placed, Refused, placed, steps_of, steps_after, all_steps, ending}
 use Rattle.mps_reader.specs.declared.tables.Reader.{Reader}
 use Rattle.mps_reader.specs.Faults.{fault, first_fault, mps_fault}

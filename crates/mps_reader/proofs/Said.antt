@@ -1,9 +1,9 @@
 -- A result of one step as a result of the steps of a line.
-use Rattle.std.proofs.Common.{◌≡◌, ℕ, List, [], ◌∷◌, ◌++◌, Option, Some, None, Result, Ok, Err, MatchResult, map}
+use Rattle.std.proofs.Common.{ℕ, [], ◌∷◌, Result, Ok, Err}
 use Rattle.text_fields.specs.declared.faults.ReadFault.{ReadFault}
-use Rattle.mps_lines.specs.Steps.{Step, placed}
+use Rattle.mps_lines.specs.Steps.{Step}
 use Rattle.mps_reader.specs.declared.tables.Reader.{Reader}
-use Rattle.mps_reader.specs.Held.{Holds, Takes}
+use Rattle.mps_reader.specs.Held.{Takes}
 use Rattle.mps_reader.specs.Lines.{TakesAll}
 use Rattle.mps_reader.proofs.Firsts.{first_is, one_taken}
 

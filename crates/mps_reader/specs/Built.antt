@@ -14,14 +14,15 @@ use Rattle.name_map.specs.Names.{name_at}
 use Rattle.mps_lines.specs.Steps.{Step}
 use Rattle.mps_reader.specs.declared.tables.Reader.{Reader}
 use Rattle.mps_reader.specs.Tables.{is_free}
-use Rattle.mps_reader.specs.Sides.{row_sides}
-use Rattle.mps_reader.specs.Held.{Holds, row_names_held, column_names_held, kind_held, right_held}
+use Rattle.mps_reader.specs.Sides.{row_sides, is_range_wide}
+use Rattle.mps_reader.specs.Held.{Holds, tables, MakeSides, row_names_held, column_names_held, kind_held, right_held}
 use Rattle.mps_reader.specs.Gathered.{factor_kept, terms_to, listed, listed_where}
 
--- a reader that keeps what some steps say
+-- a reader that keeps what some steps say, whose ranges make sides that fit
 pub record IsRead (reader : Reader) : Type 0 where
   pub steps : List Step
   pub holds : Holds reader steps
+  pub sides : MakeSides (tables steps)
 
 -- ---- columns
 -- the upper bound of a column
@@ -117,7 +118,11 @@ pub record AreNames (names : List (List ℕ)) : Type 0 where
   pub apart : IsDistinct bytes_eq names
   pub short : All (λ name. length name ≤ longest_name) names
 
--- each place is one of a row or a column, their names may be added, and there are few columns and few rows that are not free
+-- the side that the range of a row makes fits, where the row has a range and is not free
+abbrev pub HasSides : Reader → ℕ → Type 0
+HasSides reader row = is_free (kind_held reader row) ≡ false → IfSome (lookup (nat_eq row) reader.ranges.entries) (λ range. is_range_wide (kind_held reader row) (right_held reader row) range ≡ false)
+
+-- each place is one of a row or a column, their names may be added, there are few columns and few rows that are not free, and their sides fit
 pub record IsSound (reader : Reader) : Type 0 where
   pub few : length reader.columns ≤ most_columns
   pub few_rows : length (listed_where (is_kept_held reader) (row_held reader) (length reader.rows)) ≤ most_rows
@@ -125,3 +130,4 @@ pub record IsSound (reader : Reader) : Type 0 where
   pub columns : AreNames (column_names_held reader)
   pub entries : All (λ e. (e.0.0 < length reader.rows) × (e.0.1 < length reader.columns)) reader.entries.entries
   pub objective : IfSome reader.objective (λ row. row < length reader.rows)
+  pub sides : (row : ℕ) → row < length reader.rows → HasSides reader row

@@ -22,7 +22,7 @@ use Rattle.mps_lines.specs.declared.shapes.BoundKind.{BoundKind}
 use Rattle.mps_lines.specs.Shapes.{Figure, Bounded}
 use Rattle.mps_lines.specs.Steps.{Step}
 use Rattle.mps_reader.specs.Tables.{RowRecord, ColumnRecord, EntryRecord, is_free, is_entry_at, fitting_value, bound_in, figure_of, sets_lower, sets_upper, makes_whole, senses_of, rows_of, columns_of, entries_of, sides_of, ranges_of, bounds_of}
-use Rattle.mps_reader.specs.Sides.{Move, lower_set, upper_set}
+use Rattle.mps_reader.specs.Sides.{Move, lower_set, upper_set, is_range_wide}
 use Rattle.mps_reader.specs.Sides.Move.{Down, Up, Stays}
 use Rattle.mps_reader.specs.Faults.{fault, is_no_number, is_wide_side}
 use Rattle.mps_reader.specs.declared.tables.Reader.{Reader}
@@ -75,6 +75,24 @@ is_dropped_among rows name = is_free_among rows name && not (option_map_or (byte
 -- the bound of a column whose kind sets this
 abbrev pub setting_among : (BoundKind → Bool) → List Bounded → List ℕ → Option Bounded
 setting_among sets bounds column = find (λ b. bytes_eq column b.column && sets b.kind) bounds
+
+-- the kind of a row
+abbrev pub kind_among : List RowRecord → List ℕ → Option RowKind
+kind_among rows name = option_map (λ r. r.kind) (find (λ r. bytes_eq name r.name) rows)
+
+-- the right side of a row: 0 where none is given, and none where it is huge
+abbrev pub side_among : List Figure → List ℕ → Option ℚ
+side_among sides name = option_map_or (λ f. bound_in f.number) (figure_of sides name) (Some zero_ℚ)
+
+-- the row of a range is declared, and where it is not free the side that the range makes fits
+pub record MakesSide (rows : List RowRecord) (sides : List Figure) (name : List ℕ) (range : Figure) : Type 0 where
+  pub kind : RowKind
+  pub declared : kind_among rows name ≡ Some kind
+  pub fits : is_free_among rows name ≡ false → IfSome (literal_in range.number) (λ literal. is_range_wide kind (side_among sides name) literal ≡ false)
+
+-- each range makes a side that fits
+abbrev pub MakeSides : Tables → Type 0
+MakeSides t = (name : List ℕ) → IfSome (figure_of t.ranges name) (MakesSide t.rows t.sides name)
 
 -- ---- what is kept
 -- a row by its name and kind

@@ -5,9 +5,10 @@ ghost use Rattle.lp_model.specs.Shown.{named_column};
 ghost use Rattle.name_map.specs.Names.{name_at};
 ghost use Rattle.mps_lines.specs.Steps.{Step};
 ghost use Rattle.mps_reader.specs.Meaning.{program_of};
-ghost use Rattle.mps_reader.specs.Held.{Holds, column_names_held};
+ghost use Rattle.mps_reader.specs.Tables.{is_free};
+ghost use Rattle.mps_reader.specs.Held.{Holds, kind_held, column_names_held};
 ghost use Rattle.mps_reader.specs.Gathered.{terms_shown};
-ghost use Rattle.mps_reader.specs.Built.{AreTermsFrom, IsRead, IsSound, upper_held, is_negative_bound, is_removed_held, lower_held, whole_held, column_held, columns_to, terms_held, sides_held, rows_to, is_kept_held, objective_held, program_held};
+ghost use Rattle.mps_reader.specs.Built.{AreTermsFrom, IsRead, IsSound, HasSides, upper_held, is_negative_bound, is_removed_held, lower_held, whole_held, column_held, columns_to, terms_held, sides_held, rows_to, is_kept_held, objective_held, program_held};
 
 use crate::numbers::is_less;
 use crate::sides::{Sides, right_at, sides_of, sides_with};
@@ -125,16 +126,21 @@ fn put_column(
     Ok(())
 }
 
-// The sides of the row at a place.
-fn sides_at(reader: &Reader, row: usize) -> Option<Sides>
-    requires { row < length reader.now.rows }
-    ensures { IfSome result (λ sides. (sides.lower, sides.upper) ≡ sides_held reader.now row) }
+// The sides of the row at a place, which is not free.
+fn sides_at(reader: &Reader, row: usize) -> Sides
+    requires within { row < length reader.now.rows }
+    requires kept { is_free (kind_held reader.now row) ≡ false }
+    requires fits { HasSides reader.now row }
+    ensures { (result.lower, result.upper) ≡ sides_held reader.now row }
 {
     let kind = kind_at(reader, row);
     let right = right_at(reader, row);
-    match reader.ranges.get(&row) {
-        Some(range) => sides_with(kind, right, range),
-        None => Some(sides_of(kind, right)),
+    let Some(range) = reader.ranges.get(&row) else {
+        return sides_of(kind, right);
+    };
+    match sides_with(kind, right, range) {
+        Some(sides) => sides,
+        None => unreachable!(),
     }
 }
 
@@ -155,9 +161,7 @@ fn put_row(
     if is_free_kind(kind_at(reader, index)) {
         return Ok(());
     }
-    let Some(sides) = sides_at(reader, index) else {
-        return Err(AllocError);
-    };
+    let sides = sides_at(reader, index);
     let row = Row {
         terms: Terms::new(terms),
         lo: sides.lower,

@@ -1,5 +1,6 @@
 use Rattle.std.proofs.Common.{◌∙◌}
 use Rattle.mps_reader.proofs.Meant.{program_is, places_within, few_are}
+use Rattle.mps_reader.proofs.Summed.{sides_fit}
 use Rattle.mps_reader.proofs.program.make_program.Goals as goal
 
 pub build-requires : goal.build-requires
@@ -13,6 +14,7 @@ build-requires c =
       columns = record { apart = c.names_differ-2.ensures; short = h.columns.short };
       entries = places_within reader.rows reader.columns reader.entries.entries h.entries.within;
       objective = h.rows.objective_within;
+      sides = sides_fit reader c.requires.steps h c.names_differ.ensures c.requires.sides;
     }
 
 pub returns : goal.returns

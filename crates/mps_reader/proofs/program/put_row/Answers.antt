@@ -22,7 +22,7 @@ returns-in-Ok c =
     let named = name_is (row_names_held reader) c.args.index c.name.result.now c.name.ensures in
     let terms = c.new.ensures ∙ c.requires.terms in
     row_more reader c.args.index c.args.model.now c.add_row.new.self _ c.requires.before (ap not (ap is_free (sym c.kind_at.ensures) ∙ sym c.is_free_kind.ensures ∙ c.if-is_free_kind.false))
-    (λ k. let r : NamedRow = record { name = named k; terms = terms k; lower = (c.in-Some.ensures k).0; upper = (c.in-Some.ensures k).1; active = true; weight = Soft (c.whole.ensures k) } in r)
+    (λ k. let r : NamedRow = record { name = named k; terms = terms k; lower = (c.sides_at-sides.ensures k).0; upper = (c.sides_at-sides.ensures k).1; active = true; weight = Soft (c.whole.ensures k) } in r)
     c.in-Ok.ensures.answer.2
 
 pub want-requires : goal.want-requires
@@ -33,3 +33,9 @@ want-requires c =
     memory_alone (row_names c.args.model.now) most_rows name
     (row_fits reader c.requires.sound c.args.index c.requires.within kept c.args.model.now c.requires.before name (name_is (row_names_held reader) c.args.index name c.name.ensures))
     c.in-Err.stop c.in-Err.ensures.answer
+
+pub sides_at-sides-requires-clause-kept : goal.sides_at-sides-requires-clause-kept
+sides_at-sides-requires-clause-kept c = ap is_free (sym c.kind_at.ensures) ∙ sym c.is_free_kind.ensures ∙ c.if-is_free_kind.false
+
+pub sides_at-sides-requires-clause-fits : goal.sides_at-sides-requires-clause-fits
+sides_at-sides-requires-clause-fits c = c.requires.sound.sides c.args.index c.requires.within

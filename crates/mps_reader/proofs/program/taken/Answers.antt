@@ -1,4 +1,4 @@
-use Rattle.std.proofs.Common.{sym, ap, ◌∙◌, List, slice_index_or, []}
+use Rattle.std.proofs.Common.{ap, ◌∙◌, List, slice_index_or, []}
 use Rattle.std.proofs.lemmas.List.{map-set, get_or-set_other}
 use Rattle.rational.specs.Linear.{Term}
 use Rattle.std.specs.Global.{Vec}

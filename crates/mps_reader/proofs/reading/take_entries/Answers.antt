@@ -1,13 +1,13 @@
-use Rattle.std.proofs.Common.{◌≡◌, ◌++◌, ◌∷◌, [], List, ℕ, Bool, None, sym, ap, subst, map, ◌∙◌}
+use Rattle.std.proofs.Common.{◌≡◌, ◌++◌, ◌∷◌, [], List, ℕ, Bool, None, ap, subst, map, ◌∙◌}
 use Rattle.std.proofs.lemmas.Result.{err_from_is_err_and}
-use Rattle.name_map.specs.Names.{StandsAt, name_at, names_of}
+use Rattle.name_map.specs.Names.{name_at, names_of}
 use Rattle.text_fields.specs.declared.faults.ReadFault.{ReadFault}
 use Rattle.mps_lines.specs.Shapes.{Figure}
 use Rattle.mps_lines.specs.Said.{figure_shown, figures_said}
 use Rattle.mps_lines.specs.Steps.{Step, ToColumn, ToEntry, placed}
 use Rattle.mps_reader.specs.declared.tables.Reader.{Reader}
 use Rattle.mps_reader.specs.Faults.{fault}
-use Rattle.mps_reader.specs.Held.{Holds, IsStepStop, column_names_held}
+use Rattle.mps_reader.specs.Held.{Holds, IsStepStop}
 use Rattle.mps_reader.proofs.Firsts.{first_is, all_then, stop_then, first_stops, only_one, second_stops, both_taken}
 use Rattle.mps_reader.proofs.reading.take_entries.Goals as goal
 
