@@ -3,3 +3,7 @@ pub mod Unambiguous
 pub mod Statuses
 pub mod Decided
 pub mod Counts
+pub mod ShownBytes
+pub mod LpNames
+pub mod MpsNames
+pub mod Named

@@ -8,3 +8,4 @@ pub mod Scripts
 pub mod Said
 pub mod Run
 pub mod Steps
+pub mod NamesAreWords
