@@ -169,8 +169,7 @@ pub fn members_used(alloc: Global, set: &MemberSet, proof: &Proof) -> Result<Mem
     for node in proof.nodes.as_slice() {
         insert_used(set, node, &mut used);
     }
-    // That the members of a set are possible members in their order is told with their count.
-    let _count = set.count();
+    set.stands_in_order();
     Ok(used)
 }
 

@@ -1,7 +1,6 @@
 //! The order in which the shares of a combination stand.
 ghost use Rattle.std.specs.Prelude.{◌≡◌};
 ghost use Rattle.std.specs.List.{list_all};
-ghost use Rattle.lp_model.specs.Members.{kind, place, comes_before as stands_before};
 ghost use Rattle.lp_model.specs.declared.members.Side.{Side as OneSide};
 ghost use Rattle.certs.specs.Order.{are_in_order as all_in_order, member_side_before, share_before};
 ghost use Rattle.certs.specs.declared.evidence.Source.TheVariants.{Member as OfMember, Below as OfBelow, Above as OfAbove};
@@ -9,42 +8,11 @@ ghost use Rattle.certs.specs.declared.evidence.Source.TheVariants.{Member as OfM
 use crate::evidence::{Share, Source};
 use lp_model::{Member, Side};
 
-// The rank of a member's kind.
-fn kind_of(member: Member) -> u32
-    ensures { result ≡ kind member }
-{
-    match member {
-        Member::Row(_) => 0,
-        Member::Lower(_) => 1,
-        Member::Upper(_) => 2,
-        Member::Whole(_) => 3,
-    }
-}
-
-// The number of a member in its kind.
-fn place_of(member: Member) -> u32
-    ensures { result ≡ place member }
-{
-    match member {
-        Member::Row(index) | Member::Lower(index) | Member::Upper(index) | Member::Whole(index) => {
-            index
-        }
-    }
-}
-
-// Whether a member stands before another.
-fn comes_before(first: Member, second: Member) -> bool
-    ensures { result ≡ stands_before first second }
-{
-    kind_of(first) < kind_of(second)
-        || kind_of(first) == kind_of(second) && place_of(first) < place_of(second)
-}
-
 // Whether a member's side stands before that of another: by the members, and then the lower side first.
 fn side_comes_before(first: Member, side: Side, second: Member, other: Side) -> bool
     ensures { result ≡ member_side_before first side second other }
 {
-    comes_before(first, second) || first == second && side == Side::Lo && other == Side::Up
+    first < second || first == second && side < other
 }
 
 // Whether a member's side stands before a share: it does before every branch.

@@ -38,8 +38,7 @@ fn members_hold(model: &Model, set: &MemberSet, values: &[Frac]) -> Result<bool,
     requires { length values.now ≡ length model.now.columns }
     ensures { checked_of result ≡ outcome (point_steps model.now set.now.members (values_at values.now)) }
 {
-    // That the members stand in order is told with their count.
-    let _count = set.count();
+    set.stands_in_order();
     let mut after = None;
     while let Some(member) = set.next(after) {
         let holds = member_holds(model, member, values)?;

@@ -93,11 +93,9 @@ impl MemberSet {
         self.marks[place] = false;
     }
 
-    /// How many members the set has. They are possible members, and stand in order.
+    /// How many members the set has.
     pub fn count(&self) -> u64
-        ensures count { result ≡ length self.now.members }
-        ensures possible { self.now.members ≡ filter (has self.now.members) (possible_in self.now) }
-        ensures in_order { IsInOrder self.now.members }
+        ensures { result ≡ length self.now.members }
     {
         let mut count: u64 = 0;
         for place in 0..self.marks.len() {

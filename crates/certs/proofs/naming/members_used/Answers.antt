@@ -33,4 +33,4 @@ returns c =
     let set = c.args.set.now in
     let nodes = c.args.proof.now.nodes in
     let all : length nodes ≤ c.loop-node.node-index = subst (λ (l : List Node). length l ≤ c.loop-node.node-index) c.as_slice-node-items.ensures c.loop-node-test.false in
-    part_all set c.loop-node.used nodes c.count-count.ensures.possible (subst (λ (l : List Node). IsPartBy set (λ m. list_any (node_uses m) l) c.loop-node.used) (take_all c.loop-node.node-index nodes all) c.loop-node.invariant.part)
+    part_all set c.loop-node.used nodes c.stands_in_order.ensures.possible (subst (λ (l : List Node). IsPartBy set (λ m. list_any (node_uses m) l) c.loop-node.used) (take_all c.loop-node.node-index nodes all) c.loop-node.invariant.part)

@@ -17,27 +17,27 @@ loop-member-init c = record {
 -- src/points.rt:44:21
 pub returns-in_err-holds : goal.returns-in_err-holds
 returns-in_err-holds c =
-    let step = next_decides c.args.model.now c.args.set.now.members (values_at c.args.values.now) c.loop-member.after c.in-Some.member (Wide c.in_err-holds.field-0.0) c.count-count.ensures.in_order (sym c.next.ensures ∙ c.in-Some.is) c.in_err-holds.ensures in
+    let step = next_decides c.args.model.now c.args.set.now.members (values_at c.args.values.now) c.loop-member.after c.in-Some.member (Wide c.in_err-holds.field-0.0) c.stands_in_order.ensures.in_order (sym c.next.ensures ∙ c.in-Some.is) c.in_err-holds.ensures in
     let p = err_from_is_err_and c.from_residual.result c.from_residual.ensures.1 in
     rw (p.1, p.2) (sym step ∙ c.loop-member.invariant.left)
 
 -- src/points.rt:46:13
 pub returns-then-not-holds : goal.returns-then-not-holds
 returns-then-not-holds c =
-    let step = next_decides c.args.model.now c.args.set.now.members (values_at c.args.values.now) c.loop-member.after c.in-Some.member (checked_of (Ok c.in_ok-holds.holds)) c.count-count.ensures.in_order (sym c.next.ensures ∙ c.in-Some.is) c.in_ok-holds.ensures in
+    let step = next_decides c.args.model.now c.args.set.now.members (values_at c.args.values.now) c.loop-member.after c.in-Some.member (checked_of (Ok c.in_ok-holds.holds)) c.stands_in_order.ensures.in_order (sym c.next.ensures ∙ c.in-Some.is) c.in_ok-holds.ensures in
     let rest = outcome (point_steps c.args.model.now (filter (follows (Some c.in-Some.member)) c.args.set.now.members) (values_at c.args.values.now)) in
     sym (step ∙ ap (λ b. go_on (checked_of (Ok b)) rest) c.if-not-holds.true) ∙ c.loop-member.invariant.left
 
 -- src/points.rt:43:5
 pub loop-member-smaller : goal.loop-member-smaller
-loop-member-smaller c = fewer_follow c.args.set.now.members c.loop-member.after c.in-Some.member c.count-count.ensures.in_order (sym c.next.ensures ∙ c.in-Some.is)
+loop-member-smaller c = fewer_follow c.args.set.now.members c.loop-member.after c.in-Some.member c.stands_in_order.ensures.in_order (sym c.next.ensures ∙ c.in-Some.is)
 
 -- src/points.rt:43:5
 pub loop-member-preserved : goal.loop-member-preserved
 loop-member-preserved c = record {
-  possible = next_possible c.args.set.now c.loop-member.after c.in-Some.member c.count-count.ensures.possible (sym c.next.ensures ∙ c.in-Some.is);
+  possible = next_possible c.args.set.now c.loop-member.after c.in-Some.member c.stands_in_order.ensures.possible (sym c.next.ensures ∙ c.in-Some.is);
   left =
-      let step = next_decides c.args.model.now c.args.set.now.members (values_at c.args.values.now) c.loop-member.after c.in-Some.member (checked_of (Ok c.in_ok-holds.holds)) c.count-count.ensures.in_order (sym c.next.ensures ∙ c.in-Some.is) c.in_ok-holds.ensures in
+      let step = next_decides c.args.model.now c.args.set.now.members (values_at c.args.values.now) c.loop-member.after c.in-Some.member (checked_of (Ok c.in_ok-holds.holds)) c.stands_in_order.ensures.in_order (sym c.next.ensures ∙ c.in-Some.is) c.in_ok-holds.ensures in
       let rest = outcome (point_steps c.args.model.now (filter (follows (Some c.in-Some.member)) c.args.set.now.members) (values_at c.args.values.now)) in
       sym (step ∙ ap (λ b. go_on (checked_of (Ok b)) rest) c.if-not-holds.false) ∙ c.loop-member.invariant.left;
 }

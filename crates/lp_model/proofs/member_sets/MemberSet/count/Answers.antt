@@ -23,19 +23,9 @@ loop-place-preserved c =
       }
     ]
 
-pub returns-clause-count : goal.returns-clause-count
-returns-clause-count c =
+pub returns : goal.returns
+returns c =
     let i = c.self.inside in
     let done = subst (λ (n : ℕ). n ≤ c.loop-place.place) (c.len-place-end.ensures ∙ i.marks.ok.0) c.loop-place-test.false in
     c.loop-place.invariant.counted
     ∙ (count_end i.rows i.columns i.marks.items c.self.invariant.each c.loop-place.place done ∙ ap (λ (s : SetValue). length s.members) c.self.view_is)
-
-pub returns-clause-possible : goal.returns-clause-possible
-returns-clause-possible c =
-    let i = c.self.inside in
-    subst (λ (s : SetValue). s.members ≡ filter (has s.members) (possible_in s)) c.self.view_is (is_what_it_has (is_marked i.rows i.columns i.marks.items) (members_for i.rows i.columns))
-
-pub returns-clause-in_order : goal.returns-clause-in_order
-returns-clause-in_order c =
-    let i = c.self.inside in
-    subst (λ (s : SetValue). IsInOrder s.members) c.self.view_is (in_order i.rows i.columns i.marks.items c.self.invariant.each)
