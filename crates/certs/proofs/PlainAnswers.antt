@@ -1,5 +1,5 @@
 -- Answers by runs of plain systems: the laws of an oracle that gives them.
-use Rattle.std.proofs.Common.{◌≡◌, ◌<◌, ℕ, sym, ◌∙◌, ap, subst, Bool, true, false, true≢false, get_or, not, List, [], ◌∷◌, length, Ok, Err}
+use Rattle.std.proofs.Common.{◌≡◌, ◌<◌, ℕ, sym, ◌∙◌, ap, subst, Bool, true, false, true≢false, get_or, not, List, [], length, Ok, Err}
 use Rattle.std.specs.Prelude.{All, Contains}
 use Rattle.std.specs.List.{list_any}
 use Rattle.std.proofs.lemmas.Bool.{false_from_ne_true, not-true}
@@ -10,7 +10,6 @@ use Rattle.lp_model.specs.Members.{is_mark}
 use Rattle.lp_model.specs.Program.{Program}
 use Rattle.lp_model.specs.Satisfaction.{IsPart}
 use Rattle.certs.specs.declared.evidence.Branch.{Branch}
-use Rattle.certs.specs.declared.evidence.Node.{Node}
 use Rattle.certs.specs.declared.evidence.Node.TheVariants.{Leaf}
 use Rattle.certs.specs.declared.evidence.Proof.{Proof}
 use Rattle.certs.specs.declared.solving.Stop.{Stop}

@@ -3,7 +3,7 @@ use Rattle.std.proofs.Common.{◌≡◌, ◌+◌, ◌-◌, ◌<◌, ◌≤◌, r
 use Rattle.std.specs.Prelude.{All, AllPairs, IsTrue, ◌⊎◌, flat_map, slice_index}
 use Rattle.std.proofs.Math.Bool.{or-true}
 use Rattle.std.specs.List.{list_all}
-use Rattle.std.proofs.lemmas.Bool.{and_parts, le-ltb, ltb-true, ltb-false}
+use Rattle.std.proofs.lemmas.Bool.{and_parts, le-ltb, ltb-true}
 use Rattle.std.proofs.lemmas.List.{length-map}
 use Rattle.std.proofs.lemmas.List.Elements.{All-nil, All-cons, All-head, All-tail, All-append, All-filter, All-get_or, All-map, All-weaker, filter_passes}
 use Rattle.std.proofs.lemmas.List.Kept.{AllPairs-cons, AllPairs-filter}
@@ -18,13 +18,12 @@ use Rattle.lp_model.proofs.Sets.{same_self}
 use Rattle.certs.specs.declared.evidence.Source.{Source}
 use Rattle.certs.specs.declared.evidence.Source.TheVariants.{Member as Of, Below, Above}
 use Rattle.certs.specs.declared.evidence.Share.{Share}
-use Rattle.certs.specs.Ended.{blocked_multiple, blocked_shares, is_upper, numbers_from, share_for, shares_for}
-use Rattle.certs.specs.Named.{arranged, bound_of, is_above, is_below, is_member, member_of, named, on_column, program_shares, stands_for, translated}
+use Rattle.certs.specs.Ended.{blocked_multiple, is_upper, numbers_from, share_for, shares_for}
+use Rattle.certs.specs.Named.{arranged, bound_of, is_above, is_below, is_member, named, on_column, program_shares, stands_for, translated}
 use Rattle.certs.specs.Order.{AreSharesInOrder, are_in_order, share_before, side_before}
 use Rattle.certs.specs.Plain.{column_limits, crossing_shares, plain_row, plain_system, rows_in}
 use Rattle.certs.specs.Solves.{BlocksWith, CrossesWith, IsPlainCut}
 use Rattle.certs.specs.System.{LinearSystem, VariableShare}
-use Rattle.certs.specs.Tableau.{Tableau}
 use Rattle.certs.proofs.Translated.{length_mapped}
 
 -- ---- lists whose elements stand in pairs

@@ -1,9 +1,8 @@
 -- The members of a set may be in it, and so may those that a proof of it names.
 use lib.IntN.{pos, ◌+ℤ◌}
-use Rattle.std.proofs.Common.{◌≡◌, ◌<◌, sym, subst, suc, List, [], ◌∷◌, ◌++◌, length, filter, arith}
+use Rattle.std.proofs.Common.{◌≡◌, sym, subst, List, [], ◌∷◌, ◌++◌, length, filter}
 use Rattle.std.specs.Prelude.{All, Contains}
 use Rattle.std.proofs.lemmas.List.Elements.{All-append, All-cons, All-contains, All-contains_itself, All-filter, All-nil, All-weaker}
-use Rattle.lp_model.specs.declared.members.Member.{Member}
 use Rattle.lp_model.specs.declared.members.Member.TheVariants.{Whole}
 use Rattle.lp_model.specs.Members.{has}
 use Rattle.lp_model.specs.MemberSets.{SetValue, IsMemberFor, IsPossibleIn, possible_in}

@@ -1,12 +1,7 @@
--- The members of a set, one after another.
-use Rattle.std.proofs.Common.{◌≡◌, ◌<◌, refl, sym, ◌∙◌, ap, subst, ℕ, zero, suc, Bool, true, false, cond, List, [], ◌∷◌, ◌++◌, length, filter, find, Option, Some, None, arith}
-use Rattle.std.specs.Prelude.{All}
-use Rattle.std.proofs.lemmas.List.Elements.{All-head, All-tail, All-nil, All-append, All-push, All-filter, All-weaker}
+-- The members of a set, one after another, and what a check of each gives.
+use Rattle.std.proofs.Common.{◌≡◌, sym, ap, Bool, true, false, cond, List, [], ◌∷◌, Option, Some, None, ℕ}
 use Rattle.lp_model.specs.declared.members.Member.{Member}
-use Rattle.lp_model.specs.declared.members.Member.TheVariants.{Row, Lower, Upper, Whole}
-use Rattle.lp_model.specs.Members.{comes_before, numbered, IsInOrder, has}
-use Rattle.lp_model.proofs.Orders.{over, back, not_itself}
-use Rattle.lp_model.specs.MemberSets.{SetValue, IsMemberFor, IsPossibleIn, members_for, possible_in, follows, next_after}
+pub use Rattle.lp_model.proofs.Walk.{found_in, next_step, none_follow, all_follow, next_possible, fewer_follow}
 use Rattle.rational.specs.Linear.{Assignment}
 use Rattle.lp_model.specs.Program.{Program}
 use Rattle.lp_model.specs.Evaluation.{member_operations}
@@ -16,97 +11,6 @@ use Rattle.frac128.specs.Calculation.{first_wide}
 use Rattle.certs.specs.declared.evidence.Checked.{Checked}
 use Rattle.certs.specs.declared.evidence.Checked.TheVariants.{Yes, No, Wide}
 use Rattle.certs.specs.Checks.{Step, unless_wide, outcome_within, outcome, holds_test, point_steps}
-
--- ---- lists in order
-pairs_head : (m : Member) (list : List Member) → IsInOrder (m ∷ list) → All (λ n. comes_before m n ≡ true) list
-pairs_head m list h k d l = h 0 (suc k) d (omega arith) (omega arith)
-
-pairs_tail : (m : Member) (list : List Member) → IsInOrder (m ∷ list) → IsInOrder list
-pairs_tail m list h i j d lt l = h (suc i) (suc j) d (omega arith) (omega arith)
-
--- a test that each passes keeps all
-keeps_all : (test : Member → Bool) (list : List Member) → All (λ n. test n ≡ true) list → filter test list ≡ list
-keeps_all test [] h = refl
-keeps_all test (n ∷ list) h = ap (λ b. cond b (n ∷ filter test list) (filter test list)) (All-head (λ m. test m ≡ true) n list h) ∙ ap (λ l. n ∷ l) (keeps_all test list (All-tail (λ m. test m ≡ true) n list h))
-
--- what a look-up gives, by the first test
-looked : (test : Member → Bool) (n : Member) (list : List Member) (o : Option Member) (b : Bool) → test n ≡ b → find test (n ∷ list) ≡ o → cond b (Some n) (find test list) ≡ o
-looked test n list o b t e = ap (λ c. cond c (Some n) (find test list)) (sym t) ∙ e
-
-kept : (test : Member → Bool) (n : Member) (list : List Member) (b : Bool) → test n ≡ b → filter test (n ∷ list) ≡ cond b (n ∷ filter test list) (filter test list)
-kept test n list b t = ap (λ c. cond c (n ∷ filter test list) (filter test list)) t
-
-same_some : (m n : Member) → Some m ≡ Some n → m ≡ n
-same_some m n e = cc
-
--- what is found is in the list
-pub found_in : (test : Member → Bool) (list : List Member) (m : Member) → find test list ≡ Some m → (P : Member → Type 0) → All P list → P m
-found_in test [] m e P h = absurd (cc)
-found_in test (n ∷ list) m e P h = by (test n) refl (λ rest. found_in test list m rest P (All-tail P n list h))
-  where
-    by : (b : Bool) → test n ≡ b → (find test list ≡ Some m → P m) → P m
-    by true t rest = subst P (same_some n m (looked test n list (Some m) true t e)) (All-head P n list h)
-    by false t rest = rest (looked test n list (Some m) false t e)
-
--- what comes after a member that follows follows too
-later : (after : Option Member) (n k : Member) → follows after n ≡ true → comes_before n k ≡ true → follows after k ≡ true
-later None n k t h = refl
-later (Some a) n k t h = over a n k t h
-
--- after the one that is found comes what follows it
-pub next_step : (after : Option Member) (list : List Member) (m : Member) → IsInOrder list → find (follows after) list ≡ Some m → filter (follows after) list ≡ m ∷ filter (follows (Some m)) list
-next_step after [] m order e = absurd (cc)
-next_step after (n ∷ list) m order e = by (follows after n) refl (λ rest. next_step after list m (pairs_tail n list order) rest)
-  where
-    tail : All (λ k. comes_before n k ≡ true) list
-    tail = pairs_head n list order
-
-    never : follows (Some m) m ≡ false
-    never = not_itself m
-
-    by : (b : Bool) → follows after n ≡ b → (find (follows after) list ≡ Some m → filter (follows after) list ≡ m ∷ filter (follows (Some m)) list) → filter (follows after) (n ∷ list) ≡ m ∷ filter (follows (Some m)) (n ∷ list)
-    by true t rest =
-        let same = same_some n m (looked (follows after) n list (Some m) true t e) in
-        let all = keeps_all (follows after) list (All-weaker (λ k. comes_before n k ≡ true) (λ k. follows after k ≡ true) (λ k h. later after n k t h) list tail) in
-        let own = keeps_all (follows (Some n)) list tail in
-        kept (follows after) n list true t ∙ ap (λ l. n ∷ l) (all ∙ sym own)
-        ∙ ap (λ k. k ∷ filter (follows (Some k)) list) same
-        ∙ ap (λ l. m ∷ l) (sym (kept (follows (Some m)) n list false (subst (λ (k : Member). follows (Some m) k ≡ false) (sym same) never)))
-    by false t rest =
-        let found = looked (follows after) n list (Some m) false t e in
-        let before = found_in (follows after) list m found (λ k. comes_before n k ≡ true) tail in
-        kept (follows after) n list false t ∙ rest found ∙ ap (λ l. m ∷ l) (sym (kept (follows (Some m)) n list false (back n m before)))
-
--- at the end nothing follows
-pub none_follow : (after : Option Member) (list : List Member) → find (follows after) list ≡ None → filter (follows after) list ≡ []
-none_follow after [] e = refl
-none_follow after (n ∷ list) e = by (follows after n) refl (λ rest. none_follow after list rest)
-  where
-    by : (b : Bool) → follows after n ≡ b → (find (follows after) list ≡ None → filter (follows after) list ≡ []) → filter (follows after) (n ∷ list) ≡ []
-    by true t rest = let wrong : Some n ≡ None = looked (follows after) n list None true t e in absurd (cc)
-    by false t rest = kept (follows after) n list false t ∙ rest (looked (follows after) n list None false t e)
-
--- at the start all follow
-pub all_follow : (list : List Member) → filter (follows None) list ≡ list
-all_follow list = keeps_all (follows None) list (λ k d l. refl)
-
--- ---- possible members
-numbered_all : (P : Member → Type 0) (make : ℕ → Member) (n : ℕ) → ((i : ℕ) → i < n → P (make i)) → All P (numbered make n)
-numbered_all P make zero h = All-nil P
-numbered_all P make (suc n) h = All-push P (numbered make n) (make n) (numbered_all P make n (λ i l. h i (omega arith))) (h n (omega arith))
-
-possible_all : (rows columns : ℕ) → All (IsMemberFor rows columns) (members_for rows columns)
-possible_all rows columns =
-    let P = IsMemberFor rows columns in
-    All-append P (numbered Row rows) (numbered Lower columns ++ (numbered Upper columns ++ numbered Whole columns)) (numbered_all P Row rows (λ i l. l))
-    (All-append P (numbered Lower columns) (numbered Upper columns ++ numbered Whole columns) (numbered_all P Lower columns (λ i l. l))
-    (All-append P (numbered Upper columns) (numbered Whole columns) (numbered_all P Upper columns (λ i l. l)) (numbered_all P Whole columns (λ i l. l))))
-
--- the next member is a possible one
-pub next_possible : (set : SetValue) (after : Option Member) (m : Member) → set.members ≡ filter (has set.members) (possible_in set) → next_after set after ≡ Some m → IsPossibleIn set m
-next_possible set after m is e =
-    let all = subst (All (IsPossibleIn set)) (sym is) (All-filter (has set.members) (IsPossibleIn set) (possible_in set) (possible_all set.rows set.columns)) in
-    found_in (follows after) set.members m e (IsPossibleIn set) all
 
 -- ---- what the first step gives, and the rest
 -- a yes goes on
@@ -124,14 +28,6 @@ by_first (Some o) t rest a e = ap (λ c. go_on c rest) e
 first_decides : (most : ℕ) (s : Step) (rest : List Step) (a : Checked) → outcome_within most (s ∷ []) ≡ a → outcome_within most (s ∷ rest) ≡ go_on a (outcome_within most rest)
 first_decides most s rest a e = by_first (first_wide most s.operations) s.passes (outcome_within most rest) a e
 
--- the next member decides, or those after it do
-pub next_decides : (model : Program) (list : List Member) (x : Assignment) (after : Option Member) (m : Member) (a : Checked)
-    → IsInOrder list → find (follows after) list ≡ Some m → a ≡ outcome (point_steps model (m ∷ []) x)
-    → outcome (point_steps model (filter (follows after) list) x) ≡ go_on a (outcome (point_steps model (filter (follows (Some m)) list) x))
-next_decides model list x after m a order e k =
-    ap (λ l. outcome (point_steps model l x)) (next_step after list m order e)
-    ∙ first_decides limit (record { operations = member_operations model m x; passes = holds_test model x m }) (point_steps model (filter (follows (Some m)) list) x) a (sym k)
-
--- fewer follow
-pub fewer_follow : (list : List Member) (after : Option Member) (m : Member) → IsInOrder list → find (follows after) list ≡ Some m → length (filter (follows (Some m)) list) < length (filter (follows after) list)
-fewer_follow list after m order e = subst (λ (l : List Member). length (filter (follows (Some m)) list) < length l) (sym (next_step after list m order e)) (omega arith)
+-- the first member decides, or those after it do
+pub member_decides : (model : Program) (m : Member) (rest : List Member) (x : Assignment) (a : Checked) → a ≡ outcome (point_steps model (m ∷ []) x) → outcome (point_steps model (m ∷ rest) x) ≡ go_on a (outcome (point_steps model rest x))
+member_decides model m rest x a k = first_decides limit (record { operations = member_operations model m x; passes = holds_test model x m }) (point_steps model rest x) a (sym k)

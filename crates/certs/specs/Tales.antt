@@ -5,7 +5,6 @@ use Rattle.lp_model.specs.Program.{Program}
 use Rattle.lp_model.specs.Members.{has}
 use Rattle.lp_model.specs.MemberSets.{SetValue}
 use Rattle.lp_model.specs.Satisfaction.{Satisfies, values_at, IsPart}
-use Rattle.certs.specs.declared.evidence.Node.{Node}
 use Rattle.certs.specs.declared.evidence.Point.{Point as OnePoint}
 use Rattle.certs.specs.declared.evidence.Branch.{Branch}
 use Rattle.certs.specs.declared.solving.Site.{Site}
@@ -17,7 +16,6 @@ use Rattle.certs.specs.declared.solving.NodeEnd.{NodeEnd}
 use Rattle.certs.specs.declared.solving.NodeEnd.TheVariants.{Point, Cut}
 use Rattle.certs.specs.declared.solving.Stretched.{Stretched}
 use Rattle.certs.specs.declared.solving.Stretched.TheVariants.{Met, Stretched as Further, Cut as Refuted}
-use Rattle.certs.specs.declared.solving.SiteKind.{SiteKind}
 use Rattle.certs.specs.declared.solving.SiteKind.TheVariants.{Settle, Stretch}
 use Rattle.certs.specs.Checks.{IsSetOf}
 use Rattle.certs.specs.Combination.{IsCombination}

@@ -38,14 +38,10 @@ fn members_hold(model: &Model, set: &MemberSet, values: &[Frac]) -> Result<bool,
     requires { length values.now ≡ length model.now.columns }
     ensures { checked_of result ≡ outcome (point_steps model.now set.now.members (values_at values.now)) }
 {
-    set.stands_in_order();
-    let mut after = None;
-    while let Some(member) = set.next(after) {
-        let holds = member_holds(model, member, values)?;
-        if !holds {
+    for member in set.iter() {
+        if !member_holds(model, member, values)? {
             return Ok(false);
         }
-        after = Some(member);
     }
     Ok(true)
 }

@@ -68,10 +68,8 @@ pub fn isolate_refuted<O: Oracle>(
     let Ok(mut reduction) = Reduction::new(alloc, set, proof) else {
         return Err(Stop::Memory);
     };
-    let mut after = None;
-    while let Some(member) = set.next(after) {
+    for member in set.iter() {
         try_without(alloc, oracle, &mut reduction, member)?;
-        after = Some(member);
     }
     Ok(reduction.into_answer())
 }

@@ -9,12 +9,9 @@ use std::alloc::{AllocError, Global};
 pub fn listed(alloc: Global, set: &MemberSet) -> Result<Vec<Member>, AllocError>
     ensures { IfOk result (λ list. list.items ≡ set.now.members) }
 {
-    set.stands_in_order();
     let mut list = Vec::new(alloc);
-    let mut after = None;
-    while let Some(member) = set.next(after) {
+    for member in set.iter() {
         list.push(member)?;
-        after = Some(member);
     }
     Ok(list)
 }

@@ -55,6 +55,10 @@ follows (Some m) n = comes_before m n
 abbrev pub next_after : SetValue → Option Member → Option Member
 next_after set after = find (follows after) set.members
 
+-- those of its members that come after the given one
+abbrev pub members_after : SetValue → Option Member → List Member
+members_after set after = filter (follows after) set.members
+
 -- ---- how the code keeps a set: one mark for each possible member, in order
 -- how many possible members there are
 abbrev pub place_count : ℕ → ℕ → ℕ

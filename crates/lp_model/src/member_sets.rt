@@ -1,6 +1,6 @@
 //! Sets of members.
 ghost use Rattle.std.specs.Prelude.{◌≡◌, ◌<◌, ◌≤◌, Option, MatchOption, IfOk, [], ⊤, filter, length};
-ghost use Rattle.lp_model.specs.Members.{has, IsInOrder};
+ghost use Rattle.lp_model.specs.Members.{has, IsInOrder, possible_members};
 ghost use Rattle.lp_model.specs.Shown.{most_rows, most_columns};
 ghost use Rattle.lp_model.specs.MemberSets.{possible_in, IsMemberFor, IsPossibleIn, empty_set, active_set, set_with, set_without, next_after, place_count, place_in, place_after};
 
@@ -114,6 +114,16 @@ impl MemberSet {
         let _ = self.marks.len();
     }
 
+    /// Its members, one by one, in member order.
+    pub fn iter(&self) -> Members<'_>
+        ensures { result ≡ self.now.members }
+    {
+        Members {
+            set: self,
+            after: None,
+        }
+    }
+
     /// The first member of the set that comes after the given one in member order, or its first member where none is
     /// given.
     pub fn next(&self, after: Option<Member>) -> Option<Member>
@@ -130,7 +140,99 @@ impl MemberSet {
     }
 }
 
+/// The members of a set that are still to come, in member order. From [`MemberSet::iter`].
+///
+/// Contracts see the list of them.
+#[derive(Drop)]
+pub struct Members<'a> {
+    set: &'a MemberSet,
+    after: Option<Member>,
+}
+
+impl<'a> std::marker::Model for Members<'a> {
+    ghost use Rattle.std.specs.Prelude.{List, MatchOption, ⊤};
+    ghost use Rattle.lp_model.specs.Members.{Member as OneMember};
+    ghost use Rattle.lp_model.specs.MemberSets.{IsPossibleIn, members_after};
+
+    ghost Value = { List OneMember };
+
+    ghost view = { λ s. members_after s.set.now s.after };
+
+    ghost invariant = { λ s. MatchOption s.after ⊤ (IsPossibleIn s.set.now) };
+}
+
+impl<'a> Iterator for Members<'a> {
+    ghost use Rattle.std.specs.Iterator.{YieldsFirst, item_count};
+
+    type Item = Member;
+
+    ghost next_gives = { YieldsFirst (λ members. members) };
+
+    ghost remaining = { item_count (λ members. members) };
+
+    fn next(&mut self) -> Option<Member> {
+        self.set.stands_in_order();
+        let member = self.set.next(self.after)?;
+        self.after = Some(member);
+        Some(member)
+    }
+}
+
+/// The members that a program may have and that are still to come, in member order. From [`Model::possible_members`].
+///
+/// Contracts see the list of them.
+#[derive(Drop)]
+pub struct PossibleMembers {
+    rows: u32,
+    columns: u32,
+    place: usize,
+}
+
+impl std::marker::Model for PossibleMembers {
+    ghost use Rattle.std.specs.Prelude.{List, ◌≤◌, drop};
+    ghost use Rattle.lp_model.specs.Members.{Member as OneMember};
+    ghost use Rattle.lp_model.specs.Shown.{most_rows, most_columns};
+    ghost use Rattle.lp_model.specs.MemberSets.{members_for};
+
+    ghost Value = { List OneMember };
+
+    ghost view = { λ s. drop s.place (members_for s.rows s.columns) };
+
+    ghost invariant = { λ s. (s.rows ≤ most_rows) × (s.columns ≤ most_columns) };
+}
+
+impl Iterator for PossibleMembers {
+    ghost use Rattle.std.specs.Iterator.{YieldsFirst, item_count};
+
+    type Item = Member;
+
+    ghost next_gives = { YieldsFirst (λ members. members) };
+
+    ghost remaining = { item_count (λ members. members) };
+
+    fn next(&mut self) -> Option<Member> {
+        if self.place >= count_places(self.rows, self.columns) {
+            return None;
+        }
+        let member = member_at(self.rows, self.columns, self.place);
+        self.place += 1;
+        Some(member)
+    }
+}
+
 impl Model {
+    /// Each member that the program may have, whether it has it or not: every row, and both bounds and the mark of every
+    /// column.
+    pub fn possible_members(&self) -> PossibleMembers
+        ensures { result ≡ possible_members self.now }
+    {
+        PossibleMembers {
+            rows: self.row_count(),
+            columns: self.column_count(),
+            place: 0,
+        }
+    }
+
     /// The set of the active members.
     pub fn members(&self, alloc: Global) -> Result<MemberSet, AllocError>
         ensures { IfOk result (λ set. set ≡ active_set self.now) }

@@ -2,14 +2,13 @@ use Rattle.std.proofs.Common.{◌≡◌, refl, sym, ◌∙◌, ap, subst, List, 
 use Rattle.std.specs.Prelude.{◌⊎◌}
 use Rattle.std.proofs.lemmas.Result.{err_from_is_err_and}
 use Rattle.lp_model.specs.declared.members.Member.{Member}
-use Rattle.lp_model.specs.MemberSets.{SetValue, follows, set_without}
+use Rattle.lp_model.specs.MemberSets.{SetValue, set_without}
 use Rattle.lp_model.specs.Program.{Program}
 use Rattle.certs.specs.declared.evidence.Proof.{Proof}
 use Rattle.certs.specs.declared.evidence.Point.{Point}
 use Rattle.certs.specs.Filter.{IsLateTest}
 use Rattle.certs.specs.Named.{used_set}
 use Rattle.certs.proofs.Possible.{known_nodes}
-use Rattle.certs.proofs.Walk.{all_follow, fewer_follow, next_possible, next_step, none_follow}
 use Rattle.filter_steps.specs.Isolated.{IsJust}
 use Rattle.filter_steps.specs.Reductions.{IsReduction, Tried}
 use Rattle.filter_steps.proofs.Answering.{left_as_it_was, left_so_far, no_memory, proof_told, so_far_at_first, so_far_one_more, stopped_later}
@@ -34,16 +33,15 @@ loop-member-init g c =
     let model = state.model in
     let set = c.args.set.now in
     let r = c.in-Ok.reduction in
-    let all = all_follow set.members in
+    let all = c.into_iter-member-iterator.ensures.into_iter_gives ∙ c.iter-member-items.ensures in
     record {
-      possible = tt;
       state = subst (λ (l : List Member). IsLateState model set.members l r.left.members r.witnesses.items) (sym all)
           (state_starts model set.members r.left.members r.witnesses.items (ap (λ (s : SetValue). s.members) c.in-Ok.ensures.left) c.in-Ok.ensures.witnesses);
       reduced = same_reduction model set r.left (used_set set c.args.proof.nodes) r.used c.args.proof.nodes r.proof.nodes c.in-Ok.ensures.left c.in-Ok.ensures.used (ap (λ (p : Proof). p.nodes) c.in-Ok.ensures.proof)
           (reduction_starts model set c.args.proof.nodes c.requires.same c.stands_in_order.ensures.possible c.stands_in_order.ensures.in_order c.requires.proof);
       told = inl (ap (λ (p : Proof). p.nodes) c.in-Ok.ensures.proof);
       quiet = refl;
-      left = so_far_at_first (length set.members) (length (filter (follows None) set.members)) state (ap length all);
+      left = so_far_at_first (length set.members) (length c.into_iter-member-iterator.result) state (ap length all);
     }
 
 pub try_without-requires-clause-reduced : goal.try_without-requires-clause-reduced
@@ -56,8 +54,8 @@ try_without-requires-clause-there g c =
     let model = (g.O.Oracle.state c.args.oracle.now).model in
     let set = c.args.set.now.members in
     let r = c.loop-member.reduction in
-    let step = next_step c.loop-member.after set c.in-Some.member c.stands_in_order.ensures.in_order (sym c.next.ensures ∙ c.in-Some.is) in
-    next_is_left model set c.in-Some.member (filter (follows (Some c.in-Some.member)) set) r.left.members r.witnesses.items
+    let step = c.in-Some.ensures.steps in
+    next_is_left model set c.in-Some.member c.next.new.self r.left.members r.witnesses.items
     (subst (λ (l : List Member). IsLateState model set l r.left.members r.witnesses.items) step c.loop-member.invariant.state)
 
 pub try_without-requires-clause-served : goal.try_without-requires-clause-served
@@ -66,8 +64,8 @@ try_without-requires-clause-served g c =
     let set = c.args.set.now.members in
     let r = c.loop-member.reduction in
     let asked = (set_without r.left c.in-Some.member).members in
-    let step = next_step c.loop-member.after set c.in-Some.member c.stands_in_order.ensures.in_order (sym c.next.ensures ∙ c.in-Some.is) in
-    let part = asked_is_part model set c.in-Some.member (filter (follows (Some c.in-Some.member)) set) r.left r.witnesses.items
+    let step = c.in-Some.ensures.steps in
+    let part = asked_is_part model set c.in-Some.member c.next.new.self r.left r.witnesses.items
     (subst (λ (l : List Member). IsLateState model set l r.left.members r.witnesses.items) step c.loop-member.invariant.state) c.loop-member.invariant.reduced.in_order in
     ap (λ f. f asked) c.loop-member.invariant.left.left.serves ∙ g.met.O.Oracle.parts c.args.oracle.now set asked part c.requires.served
 
@@ -79,8 +77,8 @@ returns-in_err-try_without-clause-stop g c =
     let set = c.args.set.now.members in
     let r = c.loop-member.reduction in
     let asked = (set_without r.left c.in-Some.member).members in
-    let step = next_step c.loop-member.after set c.in-Some.member c.stands_in_order.ensures.in_order (sym c.next.ensures ∙ c.in-Some.is) in
-    let test = asked_is_test first.model set c.in-Some.member (filter (follows (Some c.in-Some.member)) set) r.left r.witnesses.items
+    let step = c.in-Some.ensures.steps in
+    let test = asked_is_test first.model set c.in-Some.member c.next.new.self r.left r.witnesses.items
     (subst (λ (l : List Member). IsLateState first.model set l r.left.members r.witnesses.items) step c.loop-member.invariant.state) c.loop-member.invariant.reduced.in_order in
     let p = err_from_is_err_and c.from_residual.result c.from_residual.ensures.1 in
     let left = c.loop-member.invariant.left.left in
@@ -91,15 +89,12 @@ returns-in_err-try_without-clause-stop g c =
 pub returns-in_err-try_without-clause-left : goal.returns-in_err-try_without-clause-left
 returns-in_err-try_without-clause-left g c =
     let set = c.args.set.now.members in
-    let step = next_step c.loop-member.after set c.in-Some.member c.stands_in_order.ensures.in_order (sym c.next.ensures ∙ c.in-Some.is) in
-    let rest = filter (follows (Some c.in-Some.member)) set in
+    let step = c.in-Some.ensures.steps in
+    let rest = c.next.new.self in
     let state = g.O.Oracle.state in
     left_so_far (length set) (length rest) (state c.args.oracle.now) (state c.try_without.new.oracle)
-    (so_far_one_more (length set) (length (filter (follows c.loop-member.after) set)) (length rest) (state c.args.oracle.now) (state c.loop-member.oracle) (state c.try_without.new.oracle) (ap length step)
+    (so_far_one_more (length set) (length c.loop-member.member-iterator) (length rest) (state c.args.oracle.now) (state c.loop-member.oracle) (state c.try_without.new.oracle) (ap length step)
     c.loop-member.invariant.left c.try_without.ensures.left)
-
-pub loop-member-smaller : goal.loop-member-smaller
-loop-member-smaller g c = fewer_follow c.args.set.now.members c.loop-member.after c.in-Some.member c.stands_in_order.ensures.in_order (sym c.next.ensures ∙ c.in-Some.is)
 
 pub loop-member-preserved : goal.loop-member-preserved
 loop-member-preserved g c =
@@ -108,19 +103,18 @@ loop-member-preserved g c =
     let set = c.args.set.now.members in
     let r = c.loop-member.reduction in
     let now = c.try_without.new.reduction in
-    let rest = filter (follows (Some c.in-Some.member)) set in
-    let step = next_step c.loop-member.after set c.in-Some.member c.stands_in_order.ensures.in_order (sym c.next.ensures ∙ c.in-Some.is) in
+    let rest = c.next.new.self in
+    let step = c.in-Some.ensures.steps in
     let left = c.loop-member.invariant.left.left in
     let reduced = subst (λ (m : Program). IsReduction m now.left now.used now.proof.nodes) left.model c.in_ok-try_without.ensures.reduced in
     let tried = subst (λ (m : Program). Tried m r.left r.witnesses.items c.in-Some.member now.left now.witnesses.items) left.model c.in_ok-try_without.ensures.tried in
     record {
-      possible = next_possible c.args.set.now c.loop-member.after c.in-Some.member c.stands_in_order.ensures.possible (sym c.next.ensures ∙ c.in-Some.is);
       state = state_tried model set c.in-Some.member rest r.left now.left r.witnesses.items now.witnesses.items now.proof.nodes
           (subst (λ (l : List Member). IsLateState model set l r.left.members r.witnesses.items) step c.loop-member.invariant.state) c.loop-member.invariant.reduced.in_order tried reduced.proof;
       reduced = reduced;
       told = proof_told g.O.Oracle.answers (state c.args.oracle.now) (state c.loop-member.oracle) c.args.proof.nodes r.proof now.proof left.model left.budgets c.loop-member.invariant.told c.in_ok-try_without.ensures.proof;
       quiet = c.in_ok-try_without.ensures.quiet ∙ c.loop-member.invariant.quiet;
-      left = so_far_one_more (length set) (length (filter (follows c.loop-member.after) set)) (length rest) (state c.args.oracle.now) (state c.loop-member.oracle) (state c.try_without.new.oracle) (ap length step)
+      left = so_far_one_more (length set) (length c.loop-member.member-iterator) (length rest) (state c.args.oracle.now) (state c.loop-member.oracle) (state c.try_without.new.oracle) (ap length step)
           c.loop-member.invariant.left c.in_ok-try_without.ensures.left;
     }
 
@@ -129,7 +123,7 @@ returns-clause-found g c =
     let model = (g.O.Oracle.state c.args.oracle.now).model in
     let set = c.args.set.now.members in
     let r = c.loop-member.reduction in
-    let none = none_follow c.loop-member.after set (sym c.next.ensures ∙ c.in_default-next.is) in
+    let none = c.in-None.ensures.steps.0 in
     let state = subst (λ (l : List Member). IsLateState model set l r.left.members r.witnesses.items) none c.loop-member.invariant.state in
     let late = late_in_the_end model set r.left.members r.witnesses.items state in
     let reduced = c.loop-member.invariant.reduced in
@@ -145,4 +139,4 @@ returns-clause-found g c =
 
 pub returns-clause-left : goal.returns-clause-left
 returns-clause-left g c =
-    left_so_far (length c.args.set.now.members) (length (filter (follows c.loop-member.after) c.args.set.now.members)) (g.O.Oracle.state c.args.oracle.now) (g.O.Oracle.state c.loop-member.oracle) c.loop-member.invariant.left
+    left_so_far (length c.args.set.now.members) (length c.loop-member.member-iterator) (g.O.Oracle.state c.args.oracle.now) (g.O.Oracle.state c.loop-member.oracle) c.loop-member.invariant.left

@@ -1,6 +1,5 @@
-use Rattle.std.proofs.Common.{◌≡◌, MatchOption, filter, length}
-use Rattle.std.specs.Prelude.{◌⊎◌, ⊤}
-use Rattle.lp_model.specs.MemberSets.{IsPossibleIn, follows}
+use Rattle.std.proofs.Common.{◌≡◌, length}
+use Rattle.std.specs.Prelude.{◌⊎◌}
 use Rattle.certs.specs.Answers.{AnswersAt, IsAnsweredProof}
 use Rattle.filter_steps.specs.Reductions.{IsReduction}
 use Rattle.filter_steps.proofs.Answering.{IsLeftSoFar}
@@ -13,13 +12,9 @@ invariant-loop-member g l =
     let oracle = g.O.Oracle in
     let first = oracle.state l.fn.oracle in
     record {
-      possible : MatchOption l.after ⊤ (IsPossibleIn l.set);
-      state : IsLateState first.model l.set.members (filter (follows l.after) l.set.members) l.reduction.left.members l.reduction.witnesses.items;
+      state : IsLateState first.model l.set.members l.member-iterator l.reduction.left.members l.reduction.witnesses.items;
       reduced : IsReduction first.model l.reduction.left l.reduction.used l.reduction.proof.nodes;
       told : (l.reduction.proof.nodes ≡ l.fn.proof.nodes) ⊎ IsAnsweredProof (AnswersAt oracle.answers first) l.reduction.proof.nodes;
       quiet : (oracle.state l.oracle).tale.stops ≡ first.tale.stops;
-      left : IsLeftSoFar (length l.set.members) (length (filter (follows l.after) l.set.members)) first (oracle.state l.oracle);
+      left : IsLeftSoFar (length l.set.members) (length l.member-iterator) first (oracle.state l.oracle);
     }
-
-abbrev pub decreases-loop-member : goal.decreases-loop-member
-decreases-loop-member g l = length (filter (follows l.after) l.set.members)

@@ -1,8 +1,6 @@
 use Rattle.std.proofs.Common.{◌∙◌, ◌<◌, ◌≤◌, subst, ap, ℕ, true, false, length, arith}
-use Rattle.lp_model.specs.Members.{has, IsInOrder}
-use Rattle.lp_model.specs.MemberSets.{SetValue, members_for, is_marked, possible_in}
-use Rattle.std.specs.Prelude.{◌≡◌, filter}
-use Rattle.lp_model.proofs.Marked.{mark_read, count_next, count_end, is_what_it_has, in_order}
+use Rattle.lp_model.specs.MemberSets.{SetValue}
+use Rattle.lp_model.proofs.Marked.{mark_read, count_next, count_end}
 use Rattle.lp_model.proofs.member_sets.MemberSet.count.Goals as goal
 use Rattle.lp_model.proofs.member_sets.MemberSet.count.Goals.{then-index, else-index}
 
