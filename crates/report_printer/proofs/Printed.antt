@@ -75,7 +75,8 @@ members_ended model set after done start e h = sym (append-nil done) ∙ (ap (λ
 pub witnesses_ended : (model : Program) (set : List Member) (witnesses : List Point) (after : Option Member) (i : ℕ) (done start : List ℕ) → find (follows after) set ≡ None → done ++ text_of (flat_map (witness_lines model) (zip (filter (follows after) set) (drop i witnesses))) ≡ start → done ≡ start
 witnesses_ended model set witnesses after i done start e h = sym (append-nil done) ∙ (ap (λ (l : List Member). done ++ text_of (flat_map (witness_lines model) (zip l (drop i witnesses)))) (sym (none_follow after set e)) ∙ h)
 
-zip_none : (ms : List Member) (ws : List Point) → ws ≡ [] → zip ms ws ≡ []
+-- without witnesses there is no member with one
+pub zip_none : (ms : List Member) (ws : List Point) → ws ≡ [] → zip ms ws ≡ []
 zip_none [] ws e = refl
 zip_none (m ∷ ms) [] e = refl
 zip_none (m ∷ ms) (w ∷ ws) e = absurd (cc)

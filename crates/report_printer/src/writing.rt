@@ -8,10 +8,12 @@ ghost use Rattle.certs.specs.Checks.{IsSetOf};
 ghost use Rattle.lp_model.specs.Program.{noted_column};
 ghost use Rattle.lp_model.specs.Members.{has, is_active as is_in_force};
 ghost use Rattle.report_text.specs.Grammar.{◌then◌, column_name, name_of, kind_word, member_line, value_line, value_lines, point_lines, side_word, source_text, use_line, node_lines, proof_lines, op_word, site_word, without_line, left_out, site_lines, step_line, operation_line, stop_lines, witness_lines, answer_lines, method_word, command_text, entry_lines, note_line, text_of};
+ghost use Rattle.report_text.specs.Form.{IsCount, IsOperation, IsWithinLimit};
+ghost use Rattle.report_printer.specs.Numbers.{HasNumbersWithin, HasValuesWithin, HasWeightsWithin, HasWitnessesWithin, IsCoreWithin, IsProofWithin, IsStopWithin};
 ghost use Rattle.report_printer.specs.Printing.{CanPrintLaw, PartsLaw, ended, head_lines, foot_lines, IsKnownMember, IsKnownSource, IsKnownNode, IsKnownProof, IsKnownPoint, IsKnownCore, IsKnownStop, IsKnownAnswer, Keeps, missing_text};
 
 use certs::{Node, Point, Proof, Share, Site, SiteKind, Source, Stop};
-use frac128::{Frac, Op, Wide};
+use frac128::{Exact, Frac, Op, Wide};
 use itoa::Buffer;
 use lp_model::{Member, MemberSet, Model, Note, Side};
 use report_text::{Answer, Command, Core, Method};
@@ -136,7 +138,10 @@ fn print_nonzero(
     requires { column < length model.now.columns }
     ensures text { OnOk result (into.new.items ≡ into.old.items ++ text_of (value_lines model.now column (value ∷ []))) }
     ensures front { Keeps into.old.items into.new.items }
+    ensures within { IsWithinLimit value }
 {
+    // That the value is within the limit is told with its widening.
+    let _value = value.widen();
     if value == Frac::whole(0) {
         return Ok(());
     }
@@ -148,6 +153,7 @@ fn print_point(model: &Model, point: &Point, into: &mut Vec<u8>) -> Result<(), A
     requires { IsKnownPoint model.now point.now }
     ensures text { OnOk result (into.new.items ≡ into.old.items ++ text_of (point_lines model.now point.now)) }
     ensures front { Keeps into.old.items into.new.items }
+    ensures within { OnOk result (HasValuesWithin point.now) }
 {
     push_line(b"point", into)?;
     let values = point.values.as_slice();
@@ -211,7 +217,10 @@ fn print_use(model: &Model, share: &Share, into: &mut Vec<u8>) -> Result<(), All
     requires { IsKnownSource model.now share.now.source }
     ensures text { OnOk result (into.new.items ≡ into.old.items ++ ended (use_line model.now share.now)) }
     ensures front { Keeps into.old.items into.new.items }
+    ensures within { IsWithinLimit share.now.weight }
 {
+    // That the weight is within the limit is told with its widening.
+    let _weight = share.weight.widen();
     push_word(b"use", into)?;
     push_source(model, share.source, share.side, into)?;
     push_fraction(share.weight, into)
@@ -222,6 +231,7 @@ fn print_leaf(model: &Model, shares: &[Share], into: &mut Vec<u8>) -> Result<(),
     requires { All (λ s. IsKnownSource model.now s.source) shares.now }
     ensures text { OnOk result (into.new.items ≡ into.old.items ++ text_of (codes "leaf" ∷ map (use_line model.now) shares.now)) }
     ensures front { Keeps into.old.items into.new.items }
+    ensures within { OnOk result (All (λ s. IsWithinLimit s.weight) shares.now) }
 {
     push_line(b"leaf", into)?;
     for share in shares {
@@ -246,6 +256,7 @@ fn print_node(model: &Model, node: &Node, into: &mut Vec<u8>) -> Result<(), Allo
     requires { IsKnownNode model.now node.now }
     ensures text { OnOk result (into.new.items ≡ into.old.items ++ text_of (node_lines model.now node.now)) }
     ensures front { Keeps into.old.items into.new.items }
+    ensures within { OnOk result (HasWeightsWithin node.now) }
 {
     match node {
         Node::Split { column, at } => print_split(model, *column, *at, into),
@@ -258,6 +269,7 @@ fn print_proof(model: &Model, proof: &Proof, into: &mut Vec<u8>) -> Result<(), A
     requires { IsKnownProof model.now proof.now }
     ensures text { OnOk result (into.new.items ≡ into.old.items ++ text_of (proof_lines model.now proof.now)) }
     ensures front { Keeps into.old.items into.new.items }
+    ensures within { OnOk result (IsProofWithin proof.now) }
 {
     push_line(b"proof", into)?;
     for node in proof.nodes.as_slice() {
@@ -372,7 +384,11 @@ fn print_step(step: u64, into: &mut Vec<u8>) -> Result<(), AllocError>
 fn print_operation(operation: &Wide, into: &mut Vec<u8>) -> Result<(), AllocError>
     ensures text { OnOk result (into.new.items ≡ into.old.items ++ ended (operation_line operation.now)) }
     ensures front { Keeps into.old.items into.new.items }
+    ensures within { IsOperation operation.now }
 {
+    // That the operands are within the limit is told with their widening.
+    let _left = operation.left.widen();
+    let _right = operation.right.widen();
     push_word(b"operation", into)?;
     push_word(op_name(operation.op).as_bytes(), into)?;
     operation.left.print(into)?;
@@ -391,6 +407,7 @@ fn print_wide(
     requires { IsSetOf model.now site.now.set }
     ensures text { OnOk result (into.new.items ≡ into.old.items ++ text_of (stop_lines model.now (Stop.Wide site.now step operation.now))) }
     ensures front { Keeps into.old.items into.new.items }
+    ensures within { OnOk result (IsStopWithin (Stop.Wide site.now step operation.now)) }
 {
     push_line(b"too wide", into)?;
     print_site(model, site, into)?;
@@ -420,6 +437,7 @@ fn print_spent(
 fn print_large(size: u64, into: &mut Vec<u8>) -> Result<(), AllocError>
     ensures text { OnOk result (into.new.items ≡ into.old.items ++ text_of ((codes "too large" then decimal size) ∷ codes "end" ∷ [])) }
     ensures front { Keeps into.old.items into.new.items }
+    ensures within { IsCount size }
 {
     push_word(b"too large", into)?;
     push_count(size, into)?;
@@ -431,6 +449,7 @@ fn print_stop(model: &Model, stop: &Stop, into: &mut Vec<u8>) -> Result<(), Allo
     requires { IsKnownStop model.now stop.now }
     ensures text { OnOk result (into.new.items ≡ into.old.items ++ text_of (stop_lines model.now stop.now)) }
     ensures front { Keeps into.old.items into.new.items }
+    ensures within { OnOk result (IsStopWithin stop.now) }
 {
     match stop {
         Stop::Wide(site, step, operation) => print_wide(model, site, *step, operation, into),
@@ -467,6 +486,7 @@ fn print_witness(
     requires witness { IsKnownPoint model.now witness.now }
     ensures text { OnOk result (into.new.items ≡ into.old.items ++ text_of (witness_lines model.now (member, witness.now))) }
     ensures front { Keeps into.old.items into.new.items }
+    ensures within { OnOk result (HasValuesWithin witness.now) }
 {
     print_member(model, member, into)?;
     print_point(model, witness, into)
@@ -483,6 +503,7 @@ fn print_witnesses(
     requires points { All (IsKnownPoint model.now) witnesses.now }
     ensures text { OnOk result (into.new.items ≡ into.old.items ++ text_of (flat_map (witness_lines model.now) (zip set.now.members witnesses.now))) }
     ensures front { Keeps into.old.items into.new.items }
+    ensures within { OnOk result (HasWitnessesWithin set.now.members witnesses.now) }
 {
     set.stands_in_order();
     let mut after = None;
@@ -501,6 +522,7 @@ fn print_feasible(model: &Model, point: &Point, into: &mut Vec<u8>) -> Result<()
     requires { IsKnownPoint model.now point.now }
     ensures text { OnOk result (into.new.items ≡ into.old.items ++ text_of (answer_lines model.now (Answer.Feasible point.now))) }
     ensures front { Keeps into.old.items into.new.items }
+    ensures within { OnOk result (HasValuesWithin point.now) }
 {
     push_line(b"feasible", into)?;
     print_point(model, point, into)?;
@@ -518,6 +540,7 @@ fn print_infeasible(
     requires proof { IsKnownProof model.now proof.now }
     ensures text { OnOk result (into.new.items ≡ into.old.items ++ text_of (answer_lines model.now (Answer.Infeasible set.now proof.now))) }
     ensures front { Keeps into.old.items into.new.items }
+    ensures within { OnOk result (IsProofWithin proof.now) }
 {
     push_line(b"infeasible", into)?;
     print_members(model, set, into)?;
@@ -531,6 +554,7 @@ fn print_irreducible(model: &Model, core: &Core, into: &mut Vec<u8>) -> Result<(
     requires { IsKnownCore model.now core.now }
     ensures text { OnOk result (into.new.items ≡ into.old.items ++ text_of (answer_lines model.now (Answer.Irreducible core.now))) }
     ensures front { Keeps into.old.items into.new.items }
+    ensures within { OnOk result (IsCoreWithin core.now) }
 {
     push_line(b"irreducible", into)?;
     print_witnesses(model, &core.members, core.witnesses.as_slice(), into)?;
@@ -544,6 +568,7 @@ fn put_answer(model: &Model, answer: &Answer, into: &mut Vec<u8>) -> Result<(), 
     requires { IsKnownAnswer model.now answer.now }
     ensures text { OnOk result (into.new.items ≡ into.old.items ++ text_of (answer_lines model.now answer.now)) }
     ensures front { Keeps into.old.items into.new.items }
+    ensures within { OnOk result (HasNumbersWithin answer.now) }
 {
     match answer {
         Answer::Feasible(point) => print_feasible(model, point, into),
@@ -605,6 +630,7 @@ fn put_entry(
     requires { IsKnownAnswer model.now answer.now }
     ensures text { (line : ℕ) → OnOk result (into.new.items ≡ into.old.items ++ text_of (entry_lines model.now (record { command = command.now; answer = answer.now; line = line }))) }
     ensures front { Keeps into.old.items into.new.items }
+    ensures within { OnOk result (HasNumbersWithin answer.now) }
 {
     push_word(b"command", into)?;
     put_command(command, into)?;
@@ -681,7 +707,8 @@ pub fn print_command(command: &Command, into: &mut Vec<u8>) -> Result<(), AllocE
 }
 
 /// Appends the lines of an answer to a command. As yet none is printed otherwise for one command than for another.
-/// Where memory is refused, the bytes are those that were there.
+/// Fractions are printed whose parts are at most 2^127 - 1, and counts below 2^64. Where memory is refused, the bytes are
+/// those that were there.
 pub fn print_answer(
     model: &Model,
     _command: &Command,
@@ -691,13 +718,15 @@ pub fn print_answer(
     requires { IsKnownAnswer model.now answer.now }
     ensures text { OnOk result (into.new.items ≡ into.old.items ++ text_of (answer_lines model.now answer.now)) }
     ensures kept { OnErr result (into.new.items ≡ into.old.items) }
+    ensures within { OnOk result (HasNumbersWithin answer.now) }
 {
     let start = into.len();
     let printed = put_answer(model, answer, into);
     take_back(printed, start, into)
 }
 
-/// Appends the lines of a command and its answer. Where memory is refused, the bytes are those that were there.
+/// Appends the lines of a command and its answer, with the numbers that `print_answer` prints. Where memory is refused,
+/// the bytes are those that were there.
 pub fn print_entry(
     model: &Model,
     command: &Command,
@@ -707,6 +736,7 @@ pub fn print_entry(
     requires { IsKnownAnswer model.now answer.now }
     ensures text { (line : ℕ) → OnOk result (into.new.items ≡ into.old.items ++ text_of (entry_lines model.now (record { command = command.now; answer = answer.now; line = line }))) }
     ensures kept { OnErr result (into.new.items ≡ into.old.items) }
+    ensures within { OnOk result (HasNumbersWithin answer.now) }
 {
     let start = into.len();
     let printed = put_entry(model, command, answer, into);

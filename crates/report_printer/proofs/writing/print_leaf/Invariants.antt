@@ -1,11 +1,14 @@
-use Rattle.std.proofs.Common.{◌≡◌, ◌++◌, map, drop}
+use Rattle.std.proofs.Common.{◌≡◌, ◌<◌, ◌++◌, ℕ, map, drop, get_or}
+use Rattle.certs.specs.declared.evidence.Share.{Share}
+use Rattle.report_text.specs.Form.{IsWithinLimit}
 use Rattle.report_text.specs.Grammar.{use_line, text_of}
 use Rattle.report_printer.specs.Printing.{Keeps}
 use Rattle.report_printer.proofs.writing.print_leaf.Given as goal
 
--- what was there stays, and the lines that are left complete the text
+-- what was there stays, the lines that are left complete the text, and the weights so far are within the limit
 abbrev pub invariant-loop-share : goal.invariant-loop-share
 invariant-loop-share l = record {
   kept : Keeps l.fn.into.items l.into.items;
   left : l.into.items ++ text_of (map (use_line l.model) (drop l.share-index l.shares)) ≡ l.initial.into.items ++ text_of (map (use_line l.model) l.shares);
+  within : (k : ℕ) (d : Share) → k < l.share-index → IsWithinLimit (get_or l.shares k d).weight;
 }

@@ -1,4 +1,4 @@
-use Rattle.std.proofs.Common.{sym, append-nil, [], ◌∷◌}
+use Rattle.std.proofs.Common.{sym, append-nil, [], ◌∷◌, arith}
 use Rattle.std.specs.Prelude.{codes}
 use Rattle.report_text.specs.Grammar.{site_lines, step_line, operation_line}
 use Rattle.report_printer.proofs.Kept.{keeps_more}
@@ -18,4 +18,8 @@ returns c =
     let two = line_more middle _ _ (step ∷ []) operation one c.in_ok-print_operation.ensures.text in
     let back = line_more middle _ _ (step ∷ operation ∷ []) (codes "end") two c.in_ok-push_line-2.ensures.text in
     let text = lines_more start middle _ (codes "too wide" ∷ site) (step ∷ operation ∷ codes "end" ∷ []) front back in
-    record { text = text; front = keeps_more start _ _ text }
+    record {
+      text = text;
+      front = keeps_more start _ _ text;
+      within = (omega (arith, c.ranges.step), c.in_ok-print_operation.ensures.within);
+    }
