@@ -1,5 +1,5 @@
 -- What filters give as answers.
-use Rattle.std.proofs.Common.{◌≡◌, refl, sym, ◌∙◌, ap, subst, ℕ, false, true≢false, List, [], append_assoc, append-nil, length, Ok, Err, inl, inr}
+use Rattle.std.proofs.Common.{◌≡◌, refl, sym, subst, false, true≢false, List, [], append_assoc, append-nil, length, Ok, Err, inl, inr}
 use Rattle.std.specs.Prelude.{All, Contains, IfErr, IfOk, Option, None, Result}
 use Rattle.std.proofs.lemmas.List.Elements.{All-contains, All-contains_itself, All-filter, All-weaker}
 use Rattle.lp_model.specs.declared.members.Member.{Member}
@@ -7,7 +7,7 @@ use Rattle.lp_model.specs.declared.members.Member.TheVariants.{Whole}
 use Rattle.lp_model.specs.Program.{Program}
 use Rattle.lp_model.specs.Members.{active_members, is_active, is_mark, possible_members}
 use Rattle.lp_model.specs.MemberSets.{SetValue, IsPossibleIn, active_set}
-use Rattle.lp_model.specs.Satisfaction.{IsIrreducible, IsPart, IsSatisfiable}
+use Rattle.lp_model.specs.Satisfaction.{IsPart, IsSatisfiable}
 use Rattle.lp_model.proofs.Marked.{possible_is}
 use Rattle.certs.specs.declared.evidence.Proof.{Proof}
 use Rattle.certs.specs.declared.evidence.Share.{Share}
@@ -15,7 +15,6 @@ use Rattle.certs.specs.declared.evidence.Source.{Source}
 use Rattle.certs.specs.declared.evidence.Source.TheVariants.{Member as Of, Below, Above}
 use Rattle.certs.specs.declared.solving.Irreducible.{Irreducible}
 use Rattle.certs.specs.declared.solving.Irreducible.TheVariants.{Set, Feasible as AtPoint}
-use Rattle.certs.specs.Checks.{IsSetOf}
 use Rattle.certs.specs.Combination.{IsCombination, IsFrom, IsThere}
 use Rattle.certs.specs.Filter.{Early, IsEarlyTest, IsLateTest, Late}
 use Rattle.certs.specs.Proof.{IsMarked, IsProof, IsTreeProof, Tree, preorder}
@@ -31,12 +30,12 @@ use Rattle.certs.proofs.PlainAnswers.{plain_ordered}
 use Rattle.filter_steps.specs.Isolated.{IsIsolation, IsStoppedAt}
 use Rattle.filter_steps.proofs.Reached.{early_part, late_part, part_of_part}
 use Rattle.linear_oracle.specs.Value.{OracleValue, state_of}
-use Rattle.sensitivity_filter.specs.Cores.{IsFirstCoreOf, IsCoreTest as IsToldTest, IsLateOfCore as IsLateOfTold, whole as it_is_whole, within as it_is_within}
+use Rattle.sensitivity_filter.specs.Cores.{IsCoreTest as IsToldTest, IsLateOfCore as IsLateOfTold, whole as it_is_whole, within as it_is_within}
 use Rattle.report_text.specs.declared.report.Answer.{Answer}
 use Rattle.report_text.specs.declared.report.Core.{Core}
 use Rattle.report_printer.specs.Printing.{IsKnownAnswer, IsKnownCore, IsKnownNode}
-use Rattle.analysis.specs.Answers.{IsAnswerOf, IsLeafProof, IsStopAnswer, answer_of}
-use Rattle.analysis.specs.Right.{IsCore, IsCoreTest, IsIsolated, IsLateOfCore, IsRightCore}
+use Rattle.analysis.specs.Answers.{IsAnswerOf, IsFoundInOrder, IsLeafProof, IsStopAnswer, answer_of}
+use Rattle.analysis.specs.Right.{IsCoreTest, IsIsolated, IsLateOfCore, IsRightCore}
 use Rattle.analysis.proofs.Refuting.{printed_nodes}
 use Rattle.analysis.proofs.Stopping.{PlainAnswers, filter_stop, fresh_oracle, isolated_stop, known_stopped}
 
@@ -83,22 +82,25 @@ answered_order model budgets nodes h = subst AreLeavesInOrder (sym h.nodes_are) 
 -- is right to a search
 pub found_is_right : (IsLeft : Program → List Member → List Member → Type 0) (IsKept IsTest : List Member → Type 0) (state : OracleState) (budgets : Budgets) (found : Irreducible)
     → ((k : List Member) → IsLeft state.model (active_members state.model) k → IsKept k) → ((k : List Member) → IsLeft state.model (active_members state.model) k → IsPart k (active_members state.model))
-    → IsIsolation IsLeft PlainAnswers state (active_members state.model) found → IsIsolated IsKept IsTest state.model budgets (answer_of found)
-found_is_right IsLeft IsKept IsTest state budgets (Set members witnesses proof) kept part h = (
+    → IsFoundInOrder found → IsIsolation IsLeft PlainAnswers state (active_members state.model) found → IsIsolated IsKept IsTest state.model budgets (answer_of found)
+found_is_right IsLeft IsKept IsTest state budgets (Set members witnesses proof) kept part order h = (
   record {
     of_model = h.same;
     active = part members.members h.kept;
+    in_order = order;
     proves = h.proof;
     ordered = answered_order state.model state.budgets proof.nodes h.told;
     witnesses = h.witnesses;
     irreducible = h.irreducible;
+    rounds = refl;
+    price = refl;
   },
   kept members.members h.kept,
 )
-found_is_right IsLeft IsKept IsTest state budgets (AtPoint point) kept part h = h
+found_is_right IsLeft IsKept IsTest state budgets (AtPoint point) kept part order h = h
 
 -- ---- and can be printed
-possible_members_are : (model : Program) → All (IsPossibleIn (active_set model)) (active_members model)
+pub possible_members_are : (model : Program) → All (IsPossibleIn (active_set model)) (active_members model)
 possible_members_are model =
     All-filter (is_active model) (IsPossibleIn (active_set model)) (possible_members model)
     (All-weaker (Contains (possible_members model)) (IsPossibleIn (active_set model)) (λ m c. possible_is (length model.rows) (length model.columns) m c) (possible_members model) (All-contains_itself (possible_members model)))
@@ -118,7 +120,7 @@ combination_of_more model part set shares h c = record {
 }
 
 -- without marks a proof is one leaf
-leaf_of_tree : (model : Program) (part : List Member) (proof : Proof) → IsPart part (active_members model) → All (λ m. is_mark m ≡ false) (active_members model)
+pub leaf_of_tree : (model : Program) (part : List Member) (proof : Proof) → IsPart part (active_members model) → All (λ m. is_mark m ≡ false) (active_members model)
     → (tree : Tree) → preorder tree ≡ proof.nodes → IsTreeProof model part [] tree → IsLeafProof model proof
 leaf_of_tree model part proof h linear (Tip shares) e c = record { combo = record { shares = shares }; leaf = sym e; combination = combination_of_more model part (active_members model) shares h c }
 leaf_of_tree model part proof h linear (Fork j k lower upper) e p =
@@ -145,15 +147,15 @@ pub found_answer : (IsLeft : OracleState → Program → List Member → List Me
     → old ≡ fresh_oracle model budgets.pivots → set ≡ active_set model → All (λ m. is_mark m ≡ false) (active_members model)
     → ((k : List Member) → IsLeft (state_of (fresh_oracle model budgets.pivots)) model (active_members model) k → IsKept k)
     → ((s : OracleState) (k : List Member) → IsLeft s model (active_members model) k → IsPart k (active_members model))
-    → answer ≡ answer_of found → IsIsolation (IsLeft (state_of old)) PlainAnswers (state_of old) set.members found → IsIsolated IsKept IsTest model budgets answer × IsKnownAnswer model answer
+    → (answer ≡ answer_of found) × IsFoundInOrder found → IsIsolation (IsLeft (state_of old)) PlainAnswers (state_of old) set.members found → IsIsolated IsKept IsTest model budgets answer × IsKnownAnswer model answer
 found_answer IsLeft IsKept IsTest model set budgets old found answer fresh whole linear kept part is h =
     let first : OracleState = state_of (fresh_oracle model budgets.pivots) in
     let given : IsIsolation (IsLeft first) PlainAnswers first (active_members model) found =
     subst (λ (s : SetValue). IsIsolation (IsLeft first) PlainAnswers first s.members found) whole
     (subst (λ (o : OracleValue). IsIsolation (IsLeft (state_of o)) PlainAnswers (state_of o) set.members found) fresh h) in
-    let right : IsIsolated IsKept IsTest model budgets (answer_of found) = found_is_right (IsLeft first) IsKept IsTest first budgets found kept (part first) given in (
-      subst (IsIsolated IsKept IsTest model budgets) (sym is) right,
-      subst (IsKnownAnswer model) (sym is) (found_is_known IsKept IsTest model budgets found linear right),
+    let right : IsIsolated IsKept IsTest model budgets (answer_of found) = found_is_right (IsLeft first) IsKept IsTest first budgets found kept (part first) is.1 given in (
+      subst (IsIsolated IsKept IsTest model budgets) (sym is.0) right,
+      subst (IsKnownAnswer model) (sym is.0) (found_is_known IsKept IsTest model budgets found linear right),
     )
 
 -- and the answer for what it gives, a stop included

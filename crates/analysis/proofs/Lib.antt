@@ -5,3 +5,4 @@ pub mod Stopping
 pub mod Found
 pub mod Sofar
 pub mod Report
+pub mod InGrammar

@@ -1,15 +1,14 @@
 -- The members that a leaf uses: its combination is one of them alone.
-use Rattle.std.proofs.Common.{◌≡◌, ◌<◌, ℕ, zero, suc, refl, sym, ◌∙◌, ap, subst, Bool, true, true≢false, ◌||◌, List, [], ◌∷◌, length, filter, arith}
+use Rattle.std.proofs.Common.{◌≡◌, ◌<◌, ℕ, zero, suc, refl, sym, ◌∙◌, ap, subst, Bool, true, true≢false, ◌||◌, List, [], ◌∷◌, length, arith}
 use Rattle.std.specs.Prelude.{All, Contains, IsSome}
 use Rattle.std.specs.List.{list_any}
 use Rattle.std.proofs.lemmas.Bool.{or_right}
 use Rattle.std.proofs.Math.Bool.{or-false}
-use Rattle.std.proofs.lemmas.List.Elements.{All-weaker, All-contains, All-contains_itself, All-filter, All-nil, All-cons}
+use Rattle.std.proofs.lemmas.List.Elements.{All-weaker, All-contains, All-contains_itself, All-nil, All-cons}
 use Rattle.lp_model.specs.declared.members.Member.{Member}
 use Rattle.lp_model.specs.Program.{Program, IsWellFormed}
-use Rattle.lp_model.specs.Members.{active_members, has}
-use Rattle.lp_model.specs.MemberSets.{SetValue, IsPossibleIn, active_set, possible_in}
-use Rattle.lp_model.proofs.Marked.{possible_is}
+use Rattle.lp_model.specs.Members.{active_members}
+use Rattle.lp_model.specs.MemberSets.{SetValue, IsPossibleIn, active_set}
 use Rattle.lp_model.proofs.Sets.{Contains-filter, same_self}
 use Rattle.certs.specs.declared.evidence.Source.{Source}
 use Rattle.certs.specs.declared.evidence.Source.TheVariants.{Member as Of, Below, Above}
@@ -29,7 +28,6 @@ use Rattle.certs.specs.Named.{IsKnownNode, IsKnownSource, node_uses, used_set}
 use Rattle.certs.specs.declared.evidence.Branch.{Branch}
 use Rattle.certs.proofs.Sides.{all_both}
 use Rattle.certs.proofs.PlainCuts.{plain_cut}
-use Rattle.certs.proofs.Possible.{all_possible}
 use Rattle.certs.specs.Answers.{IsPlainProof}
 use Rattle.certs.specs.Order.{AreLeavesInOrder}
 use Rattle.report_printer.specs.Printing.{IsKnownSource as IsPrintedSource, IsKnownNode as IsPrintedNode}
@@ -98,11 +96,11 @@ known_nodes model set proof whole all leaf =
     (All-nil (IsKnownNode set)))
 
 -- on no path there are no branches
-no_below : (model : Program) (j : ℕ) (side : Side) → IsSome (source_number model [] (Below j) side) → ⊥
+pub no_below : (model : Program) (j : ℕ) (side : Side) → IsSome (source_number model [] (Below j) side) → ⊥
 no_below model j Lo h = absurd (true≢false (sym h))
 no_below model j Up h = absurd (true≢false (sym h))
 
-no_above : (model : Program) (j : ℕ) (side : Side) → IsSome (source_number model [] (Above j) side) → ⊥
+pub no_above : (model : Program) (j : ℕ) (side : Side) → IsSome (source_number model [] (Above j) side) → ⊥
 no_above model j Lo h = absurd (true≢false (sym h))
 no_above model j Up h = absurd (true≢false (sym h))
 

@@ -11,15 +11,16 @@ use Rattle.analysis.specs.declared.pieces.Want.TheVariants.{Memory, Fault}
 use Rattle.report_text.specs.Grammar.{entries_lines}
 use Rattle.report_printer.specs.Printing.{head_lines, foot_lines}
 use Rattle.analysis.specs.Puts.{PutWhole, PutFailed}
-use Rattle.analysis.specs.Right.{Right}
+use Rattle.analysis.specs.Right.{IsGiven}
 use Rattle.analysis.specs.Written.{head_text, entries_text, foot_text, whole_text, IsAnalysis}
 use Rattle.analysis.specs.Pieces.{Answers, EntryPut, EntriesPut, ReportPut, TextPut, entry_text}
 use Rattle.analysis.proofs.Entries.{text_append}
+use Rattle.analysis.proofs.InGrammar.{AllInGrammar}
 use Rattle.analysis.proofs.Putting.{put_two, put_then_none, failed_after, failed_longer}
 
 -- a right answer whose entry was not put whole
 pub entry_err : {K : Type 0} (faults : K → ℕ) (taken : K → Option (List ℕ)) (old new : K) (model : Program) (b : Budgets) (c : Command) (a : Answer) (text : List ℕ) (w : Want)
-    → Right model b c a → text ≡ entry_text model c a → TextPut faults taken old new text (Err w) → EntryPut faults taken old new model b c (Err w)
+    → IsGiven model b c a → text ≡ entry_text model c a → TextPut faults taken old new text (Err w) → EntryPut faults taken old new model b c (Err w)
 entry_err faults taken old new model b c a text Fault r e p = (a, (r, subst (PutFailed faults taken old new) e p))
 entry_err faults taken old new model b c a text Memory r e p = p
 
@@ -78,16 +79,17 @@ module _ {K : Type 0} (faults : K → ℕ) (taken : K → Option (List ℕ)) (ol
       )
 
   -- ---- what it comes to
-  pub whole_is : (new : K) (stopped : Bool) (status : ℕ) → status ≡ cond stopped 1 0 → ReportPut faults taken old new model commands (Ok stopped) → IsAnalysis faults taken old new model commands status
-  whole_is new stopped status e (a, p) = record {
+  pub whole_is : (new : K) (stopped : Bool) (status : ℕ) → AllInGrammar model commands → status ≡ cond stopped 1 0 → ReportPut faults taken old new model commands (Ok stopped) → IsAnalysis faults taken old new model commands status
+  whole_is new stopped status form e (a, p) = record {
     entries = a.answers.entries;
     right = a.answers.right;
     numbered = a.answers.numbered;
+    form = form a.answers;
     written = inl (record { all = a.all; status_is = e ∙ ap (λ (b : Bool). cond b 1 0) a.stopped_is; put = p });
   }
 
-  pub fault_is : (new : K) → ReportPut faults taken old new model commands (Err Fault) → IsAnalysis faults taken old new model commands 4
-  fault_is new (a, p) = record { entries = a.entries; right = a.right; numbered = a.numbered; written = inr (inl (record { status_is = refl; put = p })) }
+  pub fault_is : (new : K) → AllInGrammar model commands → ReportPut faults taken old new model commands (Err Fault) → IsAnalysis faults taken old new model commands 4
+  fault_is new form (a, p) = record { entries = a.entries; right = a.right; numbered = a.numbered; form = form a; written = inr (inl (record { status_is = refl; put = p })) }
 
-  pub want_is : (new : K) → ReportPut faults taken old new model commands (Err Memory) → IsAnalysis faults taken old new model commands 7
-  want_is new (a, p) = record { entries = a.entries; right = a.right; numbered = a.numbered; written = inr (inr (record { status_is = refl; put = p })) }
+  pub want_is : (new : K) → AllInGrammar model commands → ReportPut faults taken old new model commands (Err Memory) → IsAnalysis faults taken old new model commands 7
+  want_is new form (a, p) = record { entries = a.entries; right = a.right; numbered = a.numbered; form = form a; written = inr (inr (record { status_is = refl; put = p })) }

@@ -15,7 +15,7 @@ use Rattle.report_text.proofs.InTurn.{commands_push, AllEntries-push, numbered-p
 use Rattle.analysis.specs.declared.pieces.Want.{Want}
 use Rattle.analysis.specs.declared.pieces.Want.TheVariants.{Memory, Fault}
 use Rattle.analysis.specs.Puts.{PutWhole, PutFailed, PutsNothing}
-use Rattle.analysis.specs.Right.{Right, AreRight, IsRightAfter, budgets_after, budgets_in_force, first_budgets}
+use Rattle.analysis.specs.Right.{IsGiven, AreRight, IsRightAfter, budgets_after, budgets_in_force, first_budgets}
 use Rattle.analysis.specs.Written.{entries_text, is_stop}
 use Rattle.analysis.specs.Pieces.{EntryPut, EntriesPut, entry_text}
 use Rattle.analysis.proofs.Putting.{put_two, put_then_none, failed_after}
@@ -53,10 +53,10 @@ module _ {K : Type 0} (faults : K → ℕ) (taken : K → Option (List ℕ)) (ol
     more_first : entry_commands (h.entries ++ next_entry h.entries c a ∷ []) ≡ take (n + 1) commands
     more_first = commands_push h.entries (next_entry h.entries c a) ∙ ap (λ (l : List Command). l ++ c ∷ []) h.first ∙ sym (one_more n c d within is)
 
-    more_each : Right (after model (entry_commands h.entries)) b c a → AllEntries (IsRightAfter model) [] (h.entries ++ next_entry h.entries c a ∷ [])
+    more_each : IsGiven (after model (entry_commands h.entries)) b c a → AllEntries (IsRightAfter model) [] (h.entries ++ next_entry h.entries c a ∷ [])
     more_each r =
         AllEntries-push (IsRightAfter model) [] h.entries (next_entry h.entries c a) h.each
-        (subst (λ (x : Budgets). Right (after model (entry_commands h.entries)) x c a) (h.budgets_are ∙ ap budgets_in_force (sym h.first)) r)
+        (subst (λ (x : Budgets). IsGiven (after model (entry_commands h.entries)) x c a) (h.budgets_are ∙ ap budgets_in_force (sym h.first)) r)
 
   -- answers to the first commands are right ones to the commands
   front_right : (n : ℕ) (entries : List Entry) → entry_commands entries ≡ take n commands → AllEntries (IsRightAfter model) [] entries → AreRight model commands entries

@@ -2,7 +2,7 @@
 use Rattle.std.specs.Prelude.{◌≡◌, ⊤, List, [], ◌∷◌, None, filter, Result, Ok, Err}
 use Rattle.lp_model.specs.declared.members.Member.{Member}
 use Rattle.lp_model.specs.Program.{Program}
-use Rattle.lp_model.specs.Members.{active_members, has}
+use Rattle.lp_model.specs.Members.{active_members, has, IsInOrder}
 use Rattle.lp_model.specs.MemberSets.{possible_in}
 use Rattle.certs.specs.declared.evidence.Combo.{Combo}
 use Rattle.certs.specs.declared.evidence.Node.TheVariants.{Leaf}
@@ -54,9 +54,14 @@ IsToldStop (Nodes site) answer = ⊥
 IsToldStop (Large size) answer = ⊥
 IsToldStop Memory answer = ⊥
 
--- the answer is what a filter gives
+-- the members of a set that a filter gives stand in order
+abbrev pub IsFoundInOrder : Irreducible → Type 0
+IsFoundInOrder (Set members witnesses proof) = IsInOrder members.members
+IsFoundInOrder (AtPoint point) = ⊤
+
+-- the answer is what a filter gives, with its members in order
 abbrev pub IsAnswerOf : Result Irreducible Stop → Answer → Type 0
-IsAnswerOf (Ok found) answer = answer ≡ answer_of found
+IsAnswerOf (Ok found) answer = (answer ≡ answer_of found) × IsFoundInOrder found
 IsAnswerOf (Err stop) answer = IsToldStop stop answer
 
 -- the answer is a stop of a set that passes the test

@@ -1,4 +1,5 @@
 pub mod Puts
+pub mod NamesAreWords
 pub mod Right
 pub mod Written
 pub mod Pieces

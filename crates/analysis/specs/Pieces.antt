@@ -11,7 +11,7 @@ use Rattle.analysis.specs.declared.pieces.Want.TheVariants.{Memory, Fault}
 use Rattle.analysis.specs.Puts.{PutWhole, PutFailed, PutsNothing}
 use Rattle.report_text.specs.declared.report.Entry.{Entry}
 use Rattle.report_text.specs.Form.{AreNumbered}
-use Rattle.analysis.specs.Right.{Right, AreRight}
+use Rattle.analysis.specs.Right.{IsGiven, AreRight}
 use Rattle.analysis.specs.Written.{is_stop, head_text, entries_text, foot_text, whole_text}
 
 -- the text of an entry; the number of its line is not part of it
@@ -20,8 +20,8 @@ entry_text model command answer = text_of (entry_lines model (record { command =
 
 -- A right answer was put whole, or a front of it; or nothing was for want of memory. With the whole it is told whether it is a stop.
 abbrev pub EntryPut : {K : Type 0} → (K → ℕ) → (K → Option (List ℕ)) → K → K → Program → Budgets → Command → Result Bool Want → Type 0
-EntryPut faults taken old new model budgets command (Ok stopped) = (answer : Answer) × (Right model budgets command answer × ((stopped ≡ is_stop answer) × PutWhole faults taken old new (entry_text model command answer)))
-EntryPut faults taken old new model budgets command (Err Fault) = (answer : Answer) × (Right model budgets command answer × PutFailed faults taken old new (entry_text model command answer))
+EntryPut faults taken old new model budgets command (Ok stopped) = (answer : Answer) × (IsGiven model budgets command answer × ((stopped ≡ is_stop answer) × PutWhole faults taken old new (entry_text model command answer)))
+EntryPut faults taken old new model budgets command (Err Fault) = (answer : Answer) × (IsGiven model budgets command answer × PutFailed faults taken old new (entry_text model command answer))
 EntryPut faults taken old new model budgets command (Err Memory) = PutsNothing faults taken old new
 
 -- a text was put whole or a front of it, or nothing for want of memory

@@ -1,8 +1,8 @@
 -- What it is for an answer to be right: of the program, within the budgets in force, to its command.
-use Rattle.std.specs.Prelude.{◌≡◌, ◌⊎◌, List, [], ◌++◌, fold, length}
+use Rattle.std.specs.Prelude.{◌≡◌, ◌⊎◌, List, [], ◌++◌, fold, None}
 use Rattle.lp_model.specs.Program.{Program}
 use Rattle.lp_model.specs.declared.members.Member.{Member}
-use Rattle.lp_model.specs.Members.{active_members}
+use Rattle.lp_model.specs.Members.{active_members, IsInOrder}
 use Rattle.lp_model.specs.MemberSets.{SetValue, active_set}
 use Rattle.lp_model.specs.Satisfaction.{IsPart, IsIrreducible}
 use Rattle.certs.specs.declared.evidence.Proof.{Proof}
@@ -28,6 +28,7 @@ use Rattle.report_text.specs.declared.report.Answer.TheVariants.{Feasible, Infea
 use Rattle.report_text.specs.declared.report.Entry.{Entry}
 use Rattle.report_text.specs.Turns.{after, entry_commands, AllEntries}
 use Rattle.report_text.specs.Form.{IsSettleSite}
+use Rattle.report_printer.specs.Numbers.{HasNumbersWithin}
 
 -- ---- answers
 -- The proof is one of the printed members, the shares of each leaf stand in order, and these are the active members that it uses.
@@ -61,14 +62,17 @@ IsChecked model budgets (Stopped stop) = IsRightStop (IsWhole model) model budge
 IsChecked model budgets _ = ⊥
 
 -- ---- irreducible sets
--- Active members that are irreducible: the proof is one of them, with the shares of each leaf in order, and for each of them its own witness satisfies all the others.
+-- Active members in order that are irreducible: the proof is one of them, with the shares of each leaf in order, and for each of them its own witness satisfies all the others. Neither rounds nor a price are given as yet.
 pub record IsRightCore (model : Program) (core : Core) : Type 0 where
   pub of_model : IsSetOf model core.members
   pub active : IsPart core.members.members (active_members model)
+  pub in_order : IsInOrder core.members.members
   pub proves : IsProof model core.members.members core.proof.nodes
   pub ordered : AreLeavesInOrder core.proof.nodes
   pub witnesses : AreWitnesses model core.members.members core.witnesses
   pub irreducible : IsIrreducible model core.members.members
+  pub rounds : core.rounds ≡ None
+  pub price : core.price ≡ None
 
 -- what is right to a search that leaves such members and asks for such sets
 abbrev pub IsIsolated : (List Member → Type 0) → (List Member → Type 0) → Program → Budgets → Answer → Type 0
@@ -116,9 +120,14 @@ abbrev pub budgets_in_force : List Command → Budgets
 budgets_in_force before = fold budgets_after first_budgets before
 
 -- ---- entries
--- the entry's answer is right of the program after the commands before it, within the budgets then in force
+-- an answer is right, and its numbers are fractions within the limit and counts of 64 bits
+pub record IsGiven (model : Program) (budgets : Budgets) (command : Command) (answer : Answer) : Type 0 where
+  pub right : Right model budgets command answer
+  pub numbers : HasNumbersWithin answer
+
+-- such is the entry's answer, of the program after the commands before it, within the budgets then in force
 abbrev pub IsRightAfter : Program → List Command → Entry → Type 0
-IsRightAfter model before e = Right (after model before) (budgets_in_force before) e.command e.answer
+IsRightAfter model before e = IsGiven (after model before) (budgets_in_force before) e.command e.answer
 
 -- The entries answer the first commands, and each of them is right; the rest of the commands may be without answers.
 pub record AreRight (model : Program) (commands : List Command) (entries : List Entry) : Type 0 where

@@ -7,9 +7,11 @@ use Rattle.report_text.specs.declared.report.Command.{Command}
 use Rattle.report_text.specs.declared.report.Answer.{Answer}
 use Rattle.report_text.specs.declared.report.Answer.TheVariants.{Stopped}
 use Rattle.report_text.specs.declared.report.Entry.{Entry}
+use Rattle.report_text.specs.declared.report.Report.{Report}
 use Rattle.report_text.specs.Grammar.{entries_lines, report_lines, text_of}
 use Rattle.report_printer.specs.Printing.{head_lines, foot_lines}
-use Rattle.report_text.specs.Form.{AreNumbered}
+use Rattle.report_text.specs.Form.{AreNumbered, IsReportFor}
+use Rattle.analysis.specs.NamesAreWords.{HasWords}
 use Rattle.analysis.specs.Right.{AreRight}
 
 -- ---- the text
@@ -25,9 +27,13 @@ entries_text model entries = text_of (entries_lines model [] entries)
 abbrev pub foot_text : List ℕ
 foot_text = text_of foot_lines
 
--- the whole text of a report with these entries
+-- the report of these entries, with the program's notes
+abbrev pub report_of : Program → List Entry → Report
+report_of model entries = record { notes = model.notes; entries = entries }
+
+-- its whole text
 abbrev pub whole_text : Program → List Entry → List ℕ
-whole_text model entries = text_of (report_lines model (record { notes = model.notes; entries = entries }))
+whole_text model entries = text_of (report_lines model (report_of model entries))
 
 -- ---- the status
 -- whether an answer is a stop
@@ -56,9 +62,10 @@ pub record IsWant {K : Type 0} (faults : K → ℕ) (taken : K → Option (List 
   pub status_is : status ≡ 7
   pub put : PutWhole faults taken old new (head_text model ++ entries_text model entries) ⊎ PutsNothing faults taken old new
 
--- The entries are right, each with the number of its line, and what is written is their text as far as the status tells.
+-- The entries are right, each with the number of its line, and where all names are words they are a report in the grammar; what is written is their text as far as the status tells.
 pub record IsAnalysis {K : Type 0} (faults : K → ℕ) (taken : K → Option (List ℕ)) (old new : K) (model : Program) (commands : List Command) (status : ℕ) : Type 0 where
   pub entries : List Entry
   pub right : AreRight model commands entries
   pub numbered : AreNumbered model [] (2 + length model.notes) entries
+  pub form : HasWords model → IsReportFor model (report_of model entries)
   pub written : IsWhole faults taken old new model commands entries status ⊎ (IsCut faults taken old new model commands entries status ⊎ IsWant faults taken old new model entries status)

@@ -36,12 +36,15 @@ impl From<AllocError> for Want {
 /// - 4: a put failed; a front of the report is put.
 /// - 7: want of memory; the head and the entries of the first commands are put, or nothing.
 ///
-/// The program has no active marks.
+/// What is put whole is a report in the grammar, where all names of the program are words. The program has no active
+/// marks.
 pub fn analyse<W: Sink>(alloc: Global, model: &Model, script: &Script, out: &mut W) -> u8
     requires linear { All (λ m. is_mark m ≡ false) (active_members model.now) }
     requires built { All IsCommand script.now }
     ensures { IsAnalysis W.faults W.taken out.old out.new model.now script.now result }
 {
+    // That the program is well formed is told with the count.
+    let _rows = model.row_count();
     match put_report(alloc, model, script.commands.as_slice(), out) {
         Ok(stopped) => status(stopped),
         Err(Want::Fault) => 4,

@@ -2,7 +2,7 @@
 ghost use Rattle.std.specs.Prelude.{◌≡◌, ◌<◌, ◌^◌, All, IfErr, IfOk, false};
 ghost use Rattle.lp_model.specs.Members.{active_members, is_mark};
 ghost use Rattle.report_printer.specs.Printing.{IsKnownAnswer};
-ghost use Rattle.analysis.specs.Answers.{IsAnswerOf, IsRunStop, IsToldStop, answer_of, budgets_of};
+ghost use Rattle.analysis.specs.Answers.{IsAnswerOf, IsFoundInOrder, IsRunStop, IsToldStop, answer_of, budgets_of};
 ghost use Rattle.analysis.specs.Right.{IsFound};
 
 use crate::answering::Budgets;
@@ -46,20 +46,24 @@ fn concluded(given: Result<Irreducible, Stop>) -> Result<Answer, AllocError>
 
 // What a filter finds, as an answer.
 fn isolated(found: Irreducible) -> Answer
-    ensures { result ≡ answer_of found }
+    ensures given { result ≡ answer_of found }
+    ensures in_order { IsFoundInOrder found }
 {
     match found {
         Irreducible::Set {
             members,
             witnesses,
             proof,
-        } => Answer::Irreducible(Core {
-            members,
-            witnesses: Witnesses::new(witnesses),
-            proof,
-            rounds: None,
-            price: None,
-        }),
+        } => {
+            members.stands_in_order();
+            Answer::Irreducible(Core {
+                members,
+                witnesses: Witnesses::new(witnesses),
+                proof,
+                rounds: None,
+                price: None,
+            })
+        }
         Irreducible::Feasible(point) => Answer::Feasible(point),
     }
 }

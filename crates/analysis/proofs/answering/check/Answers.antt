@@ -1,11 +1,8 @@
-use Rattle.std.proofs.Common.{◌≡◌, ap, sym, subst, not, false, List, Ok, Err, inl, inr}
-use Rattle.std.specs.Prelude.{All, IfOk}
-use Rattle.std.proofs.lemmas.List.Elements.{All-contains_itself}
+use Rattle.std.proofs.Common.{◌≡◌, ap, sym, subst, not, false, Ok}
+use Rattle.std.specs.Prelude.{All}
 use Rattle.std.proofs.lemmas.List.Folds.{list_any_none}
-use Rattle.lp_model.specs.declared.members.Member.{Member}
-use Rattle.lp_model.specs.Members.{active_members, is_mark}
+use Rattle.lp_model.specs.Members.{is_mark}
 use Rattle.lp_model.specs.MemberSets.{SetValue}
-use Rattle.lp_model.specs.Satisfaction.{IsPart}
 use Rattle.certs.specs.declared.solving.Verdict.{Verdict}
 use Rattle.certs.specs.declared.solving.Verdict.TheVariants.{Feasible, Infeasible}
 use Rattle.certs.specs.Answers.{IsPlainAnswer}
@@ -13,9 +10,8 @@ use Rattle.certs.specs.Tales.{IsPointOf}
 use Rattle.certs.proofs.PlainAnswers.{plain_holds, plain_ordered}
 use Rattle.linear_oracle.specs.Value.{OracleValue}
 use Rattle.analysis.specs.Answers.{budgets_of}
-use Rattle.analysis.specs.Right.{IsWhole}
 use Rattle.analysis.proofs.Refuting.{leaf_proof}
-use Rattle.analysis.proofs.Stopping.{checked_stop, known_stopped, run_stop, stop_of_ask}
+use Rattle.analysis.proofs.Stopping.{checked_stop, stop_of_ask}
 use Rattle.analysis.proofs.answering.check.Goals as goal
 
 pub ask-requires-clause-served : goal.ask-requires-clause-served

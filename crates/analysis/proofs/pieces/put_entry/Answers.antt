@@ -12,10 +12,10 @@ returns-in_err-put g c =
     let a = c.in_ok-answer.answer in
     let text = c.as_slice.ensures.value ∙ (c.in_ok-print_entry.ensures.text 0 ∙ ap (λ (x : List ℕ). x ++ entry_text c.args.model.now c.args.command.now a) c.new-text.ensures.items) in
     rw (p.1, p.2)
-    (entry_err g.W.Sink.faults g.W.Sink.taken c.args.out.now c.put.new.out c.args.model.now (budgets_of c.args.budgets) c.args.command.now a c.as_slice.result.now _ c.in_ok-answer.ensures.right text c.in_err-put.ensures)
+    (entry_err g.W.Sink.faults g.W.Sink.taken c.args.out.now c.put.new.out c.args.model.now (budgets_of c.args.budgets) c.args.command.now a c.as_slice.result.now _ (record { right = c.in_ok-answer.ensures.right; numbers = c.in_ok-print_entry.ensures.within }) text c.in_err-put.ensures)
 
 pub returns : goal.returns
 returns g c =
     let a = c.in_ok-answer.answer in
     let text = c.as_slice.ensures.value ∙ (c.in_ok-print_entry.ensures.text 0 ∙ ap (λ (x : List ℕ). x ++ entry_text c.args.model.now c.args.command.now a) c.new-text.ensures.items) in
-    (a, (c.in_ok-answer.ensures.right, (c.is_stop.ensures, subst (PutWhole g.W.Sink.faults g.W.Sink.taken c.args.out.now c.put.new.out) text c.in_ok-put.ensures)))
+    (a, (record { right = c.in_ok-answer.ensures.right; numbers = c.in_ok-print_entry.ensures.within }, (c.is_stop.ensures, subst (PutWhole g.W.Sink.faults g.W.Sink.taken c.args.out.now c.put.new.out) text c.in_ok-put.ensures)))

@@ -1,0 +1,216 @@
+-- Right answers stand in the grammar of reports, where all names are words.
+use Rattle.std.proofs.Common.{◌≡◌, ◌≢◌, ◌<◌, ◌≤◌, ◌+◌, refl, sym, subst, ℕ, true, false, not, List, [], ◌∷◌, ◌++◌, length, get_or, zip, inl, inr, arith}
+use Rattle.std.specs.Prelude.{All, Contains, IsSome, IsTrue}
+use Rattle.std.specs.List.{list_any}
+use Rattle.std.proofs.lemmas.Bool.{cases_lt}
+use Rattle.std.proofs.lemmas.List.{get_or_past}
+use Rattle.std.proofs.lemmas.List.Elements.{All-contains, All-contains_itself, All-cons, All-filter, All-head, All-nil, All-tail, All-weaker}
+use Rattle.std.proofs.lemmas.List.Kept.{AllPairs-filter}
+use Rattle.rational.specs.Rational.{zero_ℚ}
+use Rattle.lp_model.specs.declared.members.Member.{Member}
+use Rattle.lp_model.specs.declared.members.Member.TheVariants.{Row, Lower, Upper, Whole}
+use Rattle.lp_model.specs.declared.members.Side.{Side}
+use Rattle.lp_model.specs.Program.{Program, IsWellFormed, empty_column, empty_row, noted_column}
+use Rattle.lp_model.specs.Members.{active_members, comes_before, has, is_mark}
+use Rattle.lp_model.specs.MemberSets.{SetValue, IsMemberFor, IsPossibleIn, active_set}
+use Rattle.lp_model.specs.Satisfaction.{IsPart, values_at}
+use Rattle.lp_model.proofs.Sets.{members_law}
+use Rattle.certs.specs.declared.evidence.Combo.{Combo}
+use Rattle.certs.specs.declared.evidence.Node.{Node}
+use Rattle.certs.specs.declared.evidence.Node.TheVariants.{Leaf}
+use Rattle.certs.specs.declared.evidence.Point.{Point}
+use Rattle.certs.specs.declared.evidence.Proof.{Proof}
+use Rattle.certs.specs.declared.evidence.Source.{Source}
+use Rattle.certs.specs.declared.evidence.Source.TheVariants.{Member as Of, Below, Above}
+use Rattle.certs.specs.declared.solving.Site.{Site}
+use Rattle.certs.specs.declared.solving.Stop.{Stop}
+use Rattle.certs.specs.declared.solving.Stop.TheVariants.{Wide as TooWide, Pivots as Spent, Nodes, Large, Memory}
+use Rattle.certs.specs.Combination.{IsCombination, IsFrom, source_number}
+use Rattle.certs.specs.Named.{node_uses, used_set}
+use Rattle.certs.specs.Order.{AreLeavesInOrder, IsNodeInOrder}
+use Rattle.certs.specs.Proof.{IsProof}
+use Rattle.certs.specs.Sites.{Budgets}
+use Rattle.certs.specs.Tales.{IsPointOf}
+use Rattle.filter_steps.specs.Isolated.{without}
+use Rattle.report_text.specs.declared.report.Method.{Method}
+use Rattle.report_text.specs.declared.report.Method.TheVariants.{Deletion, Additive, Sensitivity}
+use Rattle.report_text.specs.declared.report.Core.{Core}
+use Rattle.report_text.specs.declared.report.Command.{Command}
+use Rattle.report_text.specs.declared.report.Command.TheVariants.{Check, Iis, Pivots}
+use Rattle.report_text.specs.declared.report.Answer.{Answer}
+use Rattle.report_text.specs.declared.report.Answer.TheVariants.{Feasible, Infeasible, Irreducible, Done, Stopped}
+use Rattle.report_text.specs.declared.report.Entry.{Entry}
+use Rattle.report_text.specs.Turns.{AllEntries, entry_commands}
+use Rattle.report_text.specs.Grammar.{column_name}
+use Rattle.report_text.specs.Form.{is_word, IsNamedColumn, IsNamedMember, IsListed, IsWithinLimit, IsPointFor, IsNamedSource, IsUse, IsOneLeaf, IsSettleSite, IsSiteFor, IsStopFor, IsCoreFor, IsAnswerFor, IsCommand, IsEntryFor, IsReportFor, AreEntriesFor, AreNumbered, can_answer}
+use Rattle.report_printer.specs.Numbers.{HasNumbersWithin, HasValuesWithin, HasWeightsWithin, HasWitnessesWithin, IsCoreWithin, IsProofWithin, IsStopWithin}
+use Rattle.analysis.specs.NamesAreWords.{HasWords}
+use Rattle.analysis.specs.Answers.{IsLeafProof}
+use Rattle.analysis.specs.Right.{AreRight, IsChecked, IsIsolated, IsRefutation, IsRightAfter, IsRightCore, IsRightStop, IsWhole, Right, budgets_in_force}
+use Rattle.analysis.specs.Pieces.{Answers}
+use Rattle.analysis.specs.Written.{report_of}
+use Rattle.analysis.proofs.Found.{leaf_of_tree, possible_members_are}
+use Rattle.analysis.proofs.Refuting.{no_above, no_below}
+
+-- ---- lists
+front_of : {A : Type 0} (P : A → Type 0) (xs ys : List A) → All P (xs ++ ys) → All P xs
+front_of P [] ys h = All-nil P
+front_of P (x ∷ xs) ys h = All-cons P x xs (All-head P x (xs ++ ys) h) (front_of P xs ys (All-tail P x (xs ++ ys) h))
+
+-- where there are as many witnesses as members, all of them are some member's
+each_within : (members : List Member) (witnesses : List Point) → length witnesses ≡ length members → HasWitnessesWithin members witnesses → All HasValuesWithin witnesses
+each_within [] [] e h = All-nil HasValuesWithin
+each_within (m ∷ ms) [] e h = All-nil HasValuesWithin
+each_within [] (w ∷ ws) e h = absurd (omega arith)
+each_within (m ∷ ms) (w ∷ ws) e h =
+    let rest : length ws ≡ length ms = omega arith in
+    All-cons HasValuesWithin w ws (All-head (λ (p : Member × Point). HasValuesWithin p.1) (m, w) (zip ms ws) h) (each_within ms ws rest (All-tail (λ (p : Member × Point). HasValuesWithin p.1) (m, w) (zip ms ws) h))
+
+module _ (model : Program) (words : HasWords model) (linear : All (λ m. is_mark m ≡ false) (active_members model)) where
+  -- ---- names
+  named_column : (j : ℕ) → j < length model.columns → IsNamedColumn model j
+  named_column j l = record { known = l; word = words.columns j empty_column l }
+
+  named_member : (m : Member) → IsMemberFor (length model.rows) (length model.columns) m → IsNamedMember model m
+  named_member (Row i) l = record { known = l; word = words.rows i empty_row l }
+  named_member (Lower j) l = record { known = l; word = words.columns j empty_column l }
+  named_member (Upper j) l = record { known = l; word = words.columns j empty_column l }
+  named_member (Whole j) l = record { known = l; word = words.columns j empty_column l }
+
+  -- each active member has one, and so has each member of a part
+  active_named : All (IsNamedMember model) (active_members model)
+  active_named = All-weaker (IsPossibleIn (active_set model)) (IsNamedMember model) named_member (active_members model) (possible_members_are model)
+
+  part_named : (part : List Member) → IsPart part (active_members model) → All (IsNamedMember model) part
+  part_named part h = All-weaker (Contains (active_members model)) (IsNamedMember model) (λ m c. All-contains (IsNamedMember model) (active_members model) m active_named c) part h
+
+  -- ---- points
+  value_named : (p : Point) → length p.values ≡ length model.columns → (j : ℕ) → values_at p.values j ≢ zero_ℚ → is_word (column_name model j) ≡ true
+  value_named p e j nonzero =
+      elim (cases_lt j (length model.columns)) [
+        | inl l ↦ (named_column j l).word
+        | inr l ↦ absurd (nonzero (get_or_past p.values j zero_ℚ (subst (λ (n : ℕ). n ≤ j) (sym e) l)))
+      ]
+
+  point_form : (members : List Member) (p : Point) → IsPointOf model members p → HasValuesWithin p → IsPointFor model p
+  point_form members p h within = record { len = h.each_column; fits = within; named = value_named p h.each_column }
+
+  -- ---- proofs
+  source_named : (source : Source) (side : Side) → IsFrom (active_members model) source → IsSome (source_number model [] source side) → IsNamedSource model source side
+  source_named (Of m) side from number = All-contains (IsNamedMember model) (active_members model) m active_named from
+  source_named (Below j) side from number = absurd (no_below model j side number)
+  source_named (Above j) side from number = absurd (no_above model j side number)
+
+  are_uses : (combo : Combo) → IsCombination model (active_members model) [] combo.shares → All (λ s. IsWithinLimit s.weight) combo.shares → All (IsUse model) combo.shares
+  are_uses combo h within k d l =
+      let share = get_or combo.shares k d in
+      let there = h.there k d l in
+      record { named = source_named share.source share.side there.from there.number; positive = h.positive k d l; fits = within k d l }
+
+  one_leaf : (proof : Proof) → IsLeafProof model proof → AreLeavesInOrder proof.nodes → IsProofWithin proof → IsOneLeaf model proof
+  one_leaf proof h ordered within = record {
+    combo = h.combo;
+    one = h.leaf;
+    uses = record {
+      each = are_uses h.combo h.combination (All-head HasWeightsWithin (Leaf h.combo) [] (subst (All HasWeightsWithin) h.leaf within));
+      in_order = All-head IsNodeInOrder (Leaf h.combo) [] (subst (All IsNodeInOrder) h.leaf ordered);
+    };
+  }
+
+  proof_form : (part : List Member) (proof : Proof) → IsPart part (active_members model) → IsProof model part proof.nodes → AreLeavesInOrder proof.nodes → IsProofWithin proof → IsOneLeaf model proof
+  proof_form part proof h p ordered within = one_leaf proof (leaf_of_tree model part proof h linear p.tree p.listed p.proves) ordered within
+
+  -- ---- the members that a proof uses
+  used_part : (nodes : List Node) → IsPart (used_set (active_set model) nodes).members (active_members model)
+  used_part nodes = All-filter (λ (m : Member). list_any (node_uses m) nodes) (Contains (active_members model)) (active_members model) (All-contains_itself (active_members model))
+
+  used_listed : (nodes : List Node) → IsListed model (used_set (active_set model) nodes)
+  used_listed nodes = record {
+    of_model = record { rows = refl; columns = refl };
+    named = part_named (used_set (active_set model) nodes).members (used_part nodes);
+    in_order = AllPairs-filter (λ m n. IsTrue (comes_before m n)) (λ (m : Member). list_any (node_uses m) nodes) (active_members model) (members_law model).0;
+  }
+
+  refutation_form : (printed : SetValue) (proof : Proof) → IsRefutation model printed proof → IsProofWithin proof → IsListed model printed × IsOneLeaf model proof
+  refutation_form printed proof h within = (
+    subst (IsListed model) (sym h.used) (used_listed proof.nodes),
+    proof_form printed.members proof (subst (λ (set : SetValue). IsPart set.members (active_members model)) (sym h.used) (used_part proof.nodes)) h.proves h.ordered within,
+  )
+
+  -- ---- irreducible sets
+  core_form : (core : Core) → IsRightCore model core → IsCoreWithin core → IsCoreFor model core
+  core_form core h within = record {
+    members = record { of_model = h.of_model; named = part_named core.members.members h.active; in_order = h.in_order };
+    each = h.witnesses.as_many;
+    points = λ k d l.
+        point_form (without core.members.members k) (get_or core.witnesses k d) (h.witnesses.each k d l)
+        (each_within core.members.members core.witnesses h.witnesses.as_many within.witnesses k d l);
+    proof = proof_form core.members.members core.proof h.active h.proves h.ordered within.proof;
+    rounds = h.rounds;
+    price = h.price;
+  }
+
+  -- ---- stops
+  site_form : (site : Site) → IsSettleSite model site → IsSiteFor model site
+  site_form site h = record { settle = h; named = All-filter (λ (m : Member). not (has site.set.members m)) (IsNamedMember model) (active_members model) active_named }
+
+  stop_form : (IsTest : List Member → Type 0) (budgets : Budgets) (stop : Stop) → IsRightStop IsTest model budgets stop → IsStopWithin stop → IsStopFor model stop
+  stop_form IsTest budgets (TooWide site k o) h within = (site_form site h.0.settle, within)
+  stop_form IsTest budgets (Spent site) h within = site_form site h.0.settle
+  stop_form IsTest budgets (Nodes site) h within = absurd h
+  stop_form IsTest budgets (Large size) h within = absurd h
+  stop_form IsTest budgets Memory h within = absurd h
+
+  -- ---- answers
+  -- of a kind that the command may have, and in its form
+  abbrev IsAnswerTo : Command → Answer → Type 0
+  IsAnswerTo command answer = (can_answer command answer ≡ true) × IsAnswerFor model answer
+
+  checked_form : (budgets : Budgets) (answer : Answer) → IsChecked model budgets answer → HasNumbersWithin answer → IsAnswerTo Check answer
+  checked_form budgets (Feasible p) h within = (refl, point_form (active_members model) p h within)
+  checked_form budgets (Infeasible printed proof) h within = (refl, refutation_form printed proof h within)
+  checked_form budgets (Irreducible core) h within = absurd h
+  checked_form budgets Done h within = absurd h
+  checked_form budgets (Stopped stop) h within = (refl, stop_form (IsWhole model) budgets stop h within)
+
+  isolated_form : (IsKept IsTest : List Member → Type 0) (method : Method) (budgets : Budgets) (answer : Answer) → IsIsolated IsKept IsTest model budgets answer → HasNumbersWithin answer → IsAnswerTo (Iis method) answer
+  isolated_form IsKept IsTest method budgets (Feasible p) h within = (refl, point_form (active_members model) p h within)
+  isolated_form IsKept IsTest method budgets (Infeasible printed proof) h within = absurd h
+  isolated_form IsKept IsTest method budgets (Irreducible core) h within = (refl, core_form core h.0 within)
+  isolated_form IsKept IsTest method budgets Done h within = absurd h
+  isolated_form IsKept IsTest method budgets (Stopped stop) h within = (refl, stop_form IsTest budgets stop h within)
+
+  answer_form : (budgets : Budgets) (command : Command) (answer : Answer) → Right model budgets command answer → HasNumbersWithin answer → IsAnswerTo command answer
+  answer_form budgets Check answer h within = checked_form budgets answer h within
+  answer_form budgets (Iis Deletion) answer h within = isolated_form _ _ Deletion budgets answer h within
+  answer_form budgets (Iis Additive) answer h within = isolated_form _ _ Additive budgets answer h within
+  answer_form budgets (Iis Sensitivity) answer h within = isolated_form _ _ Sensitivity budgets answer h within
+  answer_form budgets (Pivots n) answer h within = subst (IsAnswerTo (Pivots n)) (sym h) (refl, tt)
+
+  -- ---- reports
+  entry_form : (before : List Command) (e : Entry) → IsCommand e.command → IsRightAfter model before e → IsEntryFor model e
+  entry_form before e built h =
+      let form = answer_form (budgets_in_force before) e.command e.answer h.right h.numbers in
+      record { command = built; kind = form.0; answer = form.1 }
+
+  entries_form : (before : List Command) (entries : List Entry) → All IsCommand (entry_commands entries) → AllEntries (IsRightAfter model) before entries → AreEntriesFor model before entries
+  entries_form before [] built h = tt
+  entries_form before (e ∷ entries) built h = (
+    entry_form before e (All-head IsCommand e.command (entry_commands entries) built) h.0,
+    entries_form (before ++ e.command ∷ []) entries (All-tail IsCommand e.command (entry_commands entries) built) h.1,
+  )
+
+  -- right entries with the numbers of their lines are a report
+  in_grammar : (commands : List Command) (entries : List Entry) → IsWellFormed model → All IsCommand commands → AreRight model commands entries → AreNumbered model [] (2 + length model.notes) entries → IsReportFor model (report_of model entries)
+  in_grammar commands entries formed built h numbered = record {
+    notes = All-weaker (λ note. noted_column note < length model.columns) (λ note. IsNamedColumn model (noted_column note)) (λ note l. named_column (noted_column note) l) model.notes formed.notes;
+    entries = entries_form [] entries (front_of IsCommand (entry_commands entries) h.rest (subst (All IsCommand) h.first built)) h.each;
+    numbered = numbered;
+  }
+
+-- where all names are words, all answers are reports in the grammar
+abbrev pub AllInGrammar : Program → List Command → Type 0
+AllInGrammar model commands = (a : Answers model commands) → HasWords model → IsReportFor model (report_of model a.entries)
+
+pub all_in_grammar : (model : Program) (commands : List Command) → IsWellFormed model → All (λ m. is_mark m ≡ false) (active_members model) → All IsCommand commands → AllInGrammar model commands
+all_in_grammar model commands formed linear built a words = in_grammar model words linear commands a.entries formed built a.right a.numbered
