@@ -29,11 +29,7 @@ use Rattle.lp_reader.specs.Program.{rows_from, column_of, program_of}
 use Rattle.lp_reader.specs.Meaning.{lp_program}
 use Rattle.report_text.specs.Names.{is_shown}
 use Rattle.report_text.specs.Form.{is_word}
-<<<<<<< dc92888
-use Rattle.iis_run.specs.NamesAreWords.{HasWords}
-=======
 use Rattle.analysis.specs.NamesAreWords.{HasWords}
->>>>>>> f77de4f
 use Rattle.iis_run.proofs.ShownBytes.{word_byte_shown, all_weaker, all_front, word, decimal_shown}
 
 abbrev IsWord : List ℕ → Type 0

@@ -26,11 +26,7 @@ use Rattle.mps_reader.specs.Tables.{RowRecord, ColumnRecord, row_in, rows_of, ke
 use Rattle.mps_reader.specs.Meaning.{named_row_of, named_column_of, program_of, mps_program}
 use Rattle.report_text.specs.Names.{is_shown}
 use Rattle.report_text.specs.Form.{is_word}
-<<<<<<< dc92888
-use Rattle.iis_run.specs.NamesAreWords.{HasWords}
-=======
 use Rattle.analysis.specs.NamesAreWords.{HasWords}
->>>>>>> f77de4f
 use Rattle.iis_run.proofs.ShownBytes.{field_byte_shown, word}
 
 abbrev IsWord : List ℕ → Type 0

@@ -4,11 +4,7 @@ use Rattle.lp_model.specs.Program.{Program}
 use Rattle.model_files.specs.declared.formats.Format.{Format}
 use Rattle.model_files.specs.declared.formats.Format.TheVariants.{Mps, Lp}
 use Rattle.model_files.specs.Formats.{Declares, format_of, format_program}
-<<<<<<< dc92888
-use Rattle.iis_run.specs.NamesAreWords.{HasWords}
-=======
 use Rattle.analysis.specs.NamesAreWords.{HasWords}
->>>>>>> f77de4f
 use Rattle.iis_run.proofs.LpNames.{lp_words}
 use Rattle.iis_run.proofs.MpsNames.{mps_words}
 

@@ -23,14 +23,15 @@ use Rattle.iis_run.specs.declared.endings.Ending.{Ending}
 use Rattle.iis_run.specs.declared.endings.Ending.TheVariants.{Usage, ReadFault, TooLong, Memory, ModelRefused, BadReport, CutReport, BadScript, Checked}
 use Rattle.report_text.specs.declared.report.Command.{Command}
 use Rattle.analysis.specs.Puts.{PutWhole}
-use Rattle.analysis.specs.Written.{IsAnalysis, IsWhole, IsCut, IsWant, is_stop}
+use Rattle.analysis.specs.NamesAreWords.{HasWords}
+use Rattle.analysis.specs.Written.{IsAnalysis, IsWhole, IsCut, IsWant, is_stop, report_of, whole_text}
 use Rattle.iis_run.specs.Causes.{IsModelOf, AreReported, IsTrueReport}
 use Rattle.iis_run.specs.Scripts.{IsCommands, CallsForScript}
 use Rattle.iis_run.specs.Said.{IsSaid, EndsInWant, Ends, line_of, status_of, status_after_fault}
-use Rattle.iis_run.specs.Run.{name_of, HasFailed, IsTooLong, AreTold, Calls, AskedFor, IsAskedSession, IsCaused, IsEnded, IsAnalysed, IsRun, HasFetchStop, IsModelRefused, IsTextRefused, IsAnswered, IsDone, IsAccepted, IsUnsettled, IsRefuted, IsBorneOut, IsCalm, IsToldAs, IsToldSession, Settles}
+use Rattle.iis_run.specs.Run.{name_of, HasFailed, IsTooLong, AreTold, Calls, AskedFor, IsAskedSession, IsCaused, IsEnded, IsAnalysed, IsRun, HasFetchStop, IsModelRefused, IsTextRefused, IsAnswered, IsDone, IsAccepted, IsUnsettled, IsRefuted, IsBorneOut, IsWrittenReport, IsReadBack, IsCalm, IsToldAs, IsToldSession, Settles}
 use Rattle.iis_run.specs.declared.plans.Plan.{Plan}
 use Rattle.iis_run.specs.declared.plans.Plan.TheVariants.{Say, Answer}
-use Rattle.iis_run.specs.Steps.{IsPlanned, Follows}
+use Rattle.iis_run.specs.Steps.{IsPlanned, IsReady, Follows}
 use Rattle.iis_run.proofs.Unambiguous.{one_ending, none_called, none_called_as_told, one_session, the_report}
 
 -- ---- the ending by its status
@@ -308,11 +309,11 @@ module _ {K : Type 0} (faults : K → ℕ) (taken : K → Option (List ℕ)) (ol
   abbrev AnswerStatus : Program → List Command → ℕ → Type 0
   AnswerStatus p commands status = ((stopped : Bool) × ((status ≡ cond stopped 1 0) × IsAnswered faults taken old new p commands stopped)) ⊎ (((status ≡ 4) × Rose (faults old) (faults new)) ⊎ (status ≡ 7))
 
-  answer_status : (p : Program) (commands : List Command) (status : ℕ) → IsAnalysis faults taken old new p commands status → AnswerStatus p commands status
-  answer_status p commands status a = by a.written
+  answer_status : (p : Program) (commands : List Command) (status : ℕ) → HasWords p → IsAnalysis faults taken old new p commands status → AnswerStatus p commands status
+  answer_status p commands status words a = by a.written
     where
       by : IsWhole faults taken old new p commands a.entries status ⊎ (IsCut faults taken old new p commands a.entries status ⊎ IsWant faults taken old new p a.entries status) → AnswerStatus p commands status
-      by (inl whole) = inl (list_any (λ e. is_stop e.answer) a.entries, (whole.status_is, record { entries = a.entries; right = a.right; numbered = a.numbered; all = whole.all; stops = refl; put = whole.put }))
+      by (inl whole) = inl (list_any (λ e. is_stop e.answer) a.entries, (whole.status_is, record { entries = a.entries; right = a.right; form = a.form words; all = whole.all; stops = refl; put = whole.put }))
       by (inr (inl cut)) = inr (inl (cut.status_is, cut.put.rose))
       by (inr (inr want)) = inr (inr want.status_is)
 
@@ -358,7 +359,7 @@ module _ {S K : Type 0} (file : S → List ℕ → Option (List ℕ)) (fetch_fau
   its_own request status n run four seven h = own_status put_faults out_old out_new run.ending status n four seven h (its request status run)
 
   its_answers : (request : Option Request) (status : ℕ) → (run : Analysed request status) → AnswerStatus put_faults taken out_old out_new run.program run.commands status
-  its_answers request status run = answer_status put_faults taken out_old out_new run.program run.commands status run.written
+  its_answers request status run = answer_status put_faults taken out_old out_new run.program run.commands status run.words run.written
 
   -- a status that no analysis has
   unanswered : (request : Option Request) (status n : ℕ) → Analysed request status → n ≢ 0 → n ≢ 1 → n ≢ 4 → n ≢ 7 → status ≡ n → ⊥
@@ -506,6 +507,28 @@ module _ {S K : Type 0} (file : S → List ℕ → Option (List ℕ)) (fetch_fau
   borne_out_clause request status (inr run) (inl h) = done request status false (IsBorneOut (file shelf_old)) run h (λ model script d. tt)
   borne_out_clause request status (inr run) (inr h) = done request status true (IsBorneOut (file shelf_old)) run h (λ model script d. tt)
 
+  -- what an analysis writes whole is read
+  done_read : (model script : List ℕ) (stopped : Bool) → IsDone (file shelf_old) put_faults taken out_old out_new model script stopped → IsReadBack (file shelf_old) taken out_old out_new (Some (Request.Analyse model script))
+  done_read model script stopped d = by (file shelf_old model) d.session.declares
+    where
+      read : IsWrittenReport taken out_old out_new d.program
+      read = record { text = whole_text d.program d.answered.entries; written = d.answered.put.bytes; report = report_of d.program d.answered.entries; reads = record { form = d.answered.form; text = refl } }
+
+      by : (m : Option (List ℕ)) → IfSome m (λ b. IsModelOf model b d.program) → IfSome m (λ b. (program : Program) → Declares model b program → IsWrittenReport taken out_old out_new program)
+      by None h = tt
+      by (Some b) h = λ program declares. subst (IsWrittenReport taken out_old out_new) (meaning.one model b d.program program h.declares declares) read
+
+  unread : (request : Option Request) (e : Ending) → ((model script : List ℕ) → Calls (file shelf_old) (Request.Analyse model script) e → ⊥) → AskedFor (file shelf_old) request e → IsReadBack (file shelf_old) taken out_old out_new request
+  unread None e none asked = asked
+  unread (Some (Request.Verify model report)) e none asked = tt
+  unread (Some (Request.Analyse model script)) e none asked = absurd (none model script asked)
+
+  pub read_back_clause : (request : Option Request) (status : ℕ) → Run request status → (status ≡ 0) ⊎ (status ≡ 1) → IsReadBack (file shelf_old) taken out_old out_new request
+  read_back_clause request status (inl run) (inl h) = let a = accepts request status run h in unread request (Checked (Accepted a.0 0)) (λ model script c. c) a.1
+  read_back_clause request status (inl run) (inr h) = let a = leaves request status run h in unread request (Checked (Accepted a.0 a.1.0)) (λ model script c. c) a.1.1.1
+  read_back_clause request status (inr run) (inl h) = done request status false (IsReadBack (file shelf_old) taken out_old out_new) run h (λ model script d. done_read model script false d)
+  read_back_clause request status (inr run) (inr h) = done request status true (IsReadBack (file shelf_old) taken out_old out_new) run h (λ model script d. done_read model script true d)
+
   pub bounds_clause : (request : Option Request) (status : ℕ) → Run request status → status ≤ 8
   bounds_clause request status (inl run) = by (its request status run)
     where
@@ -539,7 +562,7 @@ module _ {S K : Type 0} (file : S → List ℕ → Option (List ℕ)) (fetch_fau
       by : (run.ending ≡ Memory) ⊎ Calls (file shelf_old) q run.ending → ((stopped : Bool) × ((status ≡ cond stopped 1 0) × IsAnswered put_faults taken out_old out_new p commands stopped)) ⊎ (status ≡ 7)
       by (inl memory) = inr (of_want (subst (λ (e : Ending). Ends put_faults taken out_old out_new e status) memory run.written))
       by (inr cause) = absurd (told_uncalled (file shelf_old) q p commands run.ending told cause)
-  answers q status (inr run) p commands calm told = by (answer_status put_faults taken out_old out_new p commands status its_own_answers)
+  answers q status (inr run) p commands calm told = by (answer_status put_faults taken out_old out_new p commands status (subst HasWords same.0 run.words) its_own_answers)
     where
       same : (run.program ≡ p) × (run.commands ≡ commands)
       same = told_same (file shelf_old) q run.program p run.commands commands run.asked told
@@ -559,6 +582,6 @@ module _ {S K : Type 0} (file : S → List ℕ → Option (List ℕ)) (fetch_fau
   settles_clause (Some q) status run = record { ends = λ f. ends q status run f; answers = λ p commands. answers q status run p commands }
 
   -- what follows a plan is a run
-  pub planned_run : (request : Option Request) (status : ℕ) (plan : Plan) → IsPlanned (file shelf_old) (fetch_faults shelf_old) (fetch_faults shelf_new) request plan → Follows put_faults taken out_old out_new plan status → Run request status
-  planned_run request status (Say ending) cause written = inl (record { ending = ending; cause = cause; written = written })
-  planned_run request status (Answer program commands) session written = inr (record { program = program; commands = commands; asked = session; written = written })
+  pub planned_run : (request : Option Request) (status : ℕ) (plan : Plan) → IsReady plan → IsPlanned (file shelf_old) (fetch_faults shelf_old) (fetch_faults shelf_new) request plan → Follows put_faults taken out_old out_new plan status → Run request status
+  planned_run request status (Say ending) ready cause written = inl (record { ending = ending; cause = cause; written = written })
+  planned_run request status (Answer program commands) ready session written = inr (record { program = program; commands = commands; asked = session; words = ready.1; written = written })

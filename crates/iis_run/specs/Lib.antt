@@ -8,4 +8,3 @@ pub mod Scripts
 pub mod Said
 pub mod Run
 pub mod Steps
-pub mod NamesAreWords

@@ -1,5 +1,5 @@
 -- The endings of a run, with their causes and what is written.
-use Rattle.std.specs.Prelude.{◌≡◌, ◌≢◌, ◌<◌, ◌+◌, ◌⊎◌, ⊤, ℕ, Bool, true, false, cond, List, [], length, Option, Some, None, IfSome}
+use Rattle.std.specs.Prelude.{◌≡◌, ◌≢◌, ◌<◌, ◌⊎◌, ⊤, ℕ, Bool, true, false, cond, List, ◌++◌, length, Option, Some, None, option_map, IfSome}
 use Rattle.std.specs.List.{list_any}
 use Rattle.frac128.specs.declared.Wide.{Wide as Operation}
 use Rattle.lp_model.specs.Program.{Program}
@@ -9,13 +9,14 @@ use Rattle.report_text.specs.declared.report.Command.{Command}
 use Rattle.report_text.specs.declared.report.Entry.{Entry}
 use Rattle.report_text.specs.declared.report.Report.{Report as Entries}
 use Rattle.report_reader.specs.Reading.{Reads}
-use Rattle.report_text.specs.Form.{AreNumbered}
+use Rattle.report_text.specs.Form.{IsReportFor}
 use Rattle.cert_check.specs.declared.outcome.Outcome.{Outcome}
 use Rattle.cert_check.specs.declared.outcome.Outcome.TheVariants.{Accepted, Rejected, Wide}
 use Rattle.iis_edge.specs.Causes.{Rose, KeepsCounts}
 use Rattle.analysis.specs.Puts.{PutWhole}
+use Rattle.analysis.specs.NamesAreWords.{HasWords}
 use Rattle.analysis.specs.Right.{AreRight}
-use Rattle.analysis.specs.Written.{IsAnalysis, is_stop, whole_text}
+use Rattle.analysis.specs.Written.{IsAnalysis, is_stop, report_of, whole_text}
 use Rattle.iis_run.specs.Words.{Request}
 use Rattle.iis_run.specs.Limits.{limit_of}
 use Rattle.iis_run.specs.Causes.{IsModel, IsModelOf, IsTrueReport, CallsFor, IsToldFor}
@@ -100,11 +101,12 @@ pub record IsEnded {S K : Type 0} (file : S → List ℕ → Option (List ℕ)) 
   pub cause : IsCaused (file shelf_old) (fetch_faults shelf_old) (fetch_faults shelf_new) request ending
   pub written : Ends put_faults taken out_old out_new ending status
 
--- an analysis of the program by the commands that the files are
+-- an analysis of the program by the commands that the files are; the names of the program are words
 pub record IsAnalysed {K : Type 0} (file : List ℕ → Option (List ℕ)) (put_faults : K → ℕ) (taken : K → Option (List ℕ)) (out_old out_new : K) (request : Option Request) (status : ℕ) : Type 0 where
   pub program : Program
   pub commands : List Command
   pub asked : IsAskedSession file request program commands
+  pub words : HasWords program
   pub written : IsAnalysis put_faults taken out_old out_new program commands status
 
 -- an ending is said, or the commands are answered
@@ -129,11 +131,11 @@ pub record IsTextRefused (file : List ℕ → Option (List ℕ)) (request : Opti
   pub refused : (ending ≡ CutReport) ⊎ (((n : ℕ) × (ending ≡ BadReport n)) ⊎ ((n : ℕ) × (ending ≡ BadScript n)))
   pub asked : AskedFor file request ending
 
--- all commands are answered rightly, the whole text is written, and some answer is a stop or none is
+-- all commands are answered rightly, by a report that stands in the grammar, the whole text is written, and some answer is a stop or none is
 pub record IsAnswered {K : Type 0} (put_faults : K → ℕ) (taken : K → Option (List ℕ)) (out_old out_new : K) (program : Program) (commands : List Command) (stopped : Bool) : Type 0 where
   pub entries : List Entry
   pub right : AreRight program commands entries
-  pub numbered : AreNumbered program [] (2 + length program.notes) entries
+  pub form : IsReportFor program (report_of program entries)
   pub all : length entries ≡ length commands
   pub stops : list_any (λ e. is_stop e.answer) entries ≡ stopped
   pub put : PutWhole put_faults taken out_old out_new (whole_text program entries)
@@ -165,6 +167,19 @@ IsBorneOut file (Some (Request.Verify model report)) =
     IfSome (file model) (λ m. IfSome (file report) (λ r.
     (program : Program) (entries : Entries) → Declares model m program → Reads program r entries → IsTrueReport program entries))
 IsBorneOut file (Some (Request.Analyse model script)) = ⊤
+
+-- what was written, where it is told, is read as a report on the program
+pub record IsWrittenReport {K : Type 0} (taken : K → Option (List ℕ)) (out_old out_new : K) (program : Program) : Type 0 where
+  pub text : List ℕ
+  pub written : taken out_new ≡ option_map (λ b. b ++ text) (taken out_old)
+  pub report : Entries
+  pub reads : Reads program text report
+
+-- under `analyse` so it is, for the program that the told model declares
+abbrev pub IsReadBack : {K : Type 0} → (List ℕ → Option (List ℕ)) → (K → Option (List ℕ)) → K → K → Option Request → Type 0
+IsReadBack file taken out_old out_new None = ⊥
+IsReadBack file taken out_old out_new (Some (Request.Verify model report)) = ⊤
+IsReadBack file taken out_old out_new (Some (Request.Analyse model script)) = IfSome (file model) (λ m. (program : Program) → Declares model m program → IsWrittenReport taken out_old out_new program)
 
 -- the check of told files came out as a refusal, on a line of the report
 pub record IsRefuted (file : List ℕ → Option (List ℕ)) (request : Option Request) : Type 0 where

@@ -2,8 +2,9 @@
 ghost use Rattle.std.specs.Prelude.{◌≡◌, ◌⊎◌, ◌≤◌, ◌↔◌, ℕ, List, None};
 ghost use Rattle.iis_edge.specs.Causes.{KeepsCounts, Rose};
 ghost use Rattle.iis_run.specs.Words.{request_of};
-ghost use Rattle.iis_run.specs.Run.{IsRun, HasFetchStop, IsModelRefused, IsTextRefused, IsAccepted, IsUnsettled, IsRefuted, IsBorneOut, Settles};
+ghost use Rattle.iis_run.specs.Run.{IsRun, HasFetchStop, IsModelRefused, IsTextRefused, IsAccepted, IsUnsettled, IsRefuted, IsBorneOut, IsReadBack, Settles};
 ghost use Rattle.model_files.specs.Reading.{IsMarkless};
+ghost use Rattle.analysis.specs.NamesAreWords.{HasWords};
 ghost use Rattle.iis_run.specs.Steps.{IsPlanned, IsQuietPlan, IsReady, IsScriptPlan, IsSecondPlan, Follows};
 
 use crate::endings::Ending;
@@ -18,7 +19,8 @@ use std::alloc::Global;
 
 // Fetches the script and plans the answers to it.
 fn plan_answers<S: Shelf>(alloc: Global, model: Model, shelf: &mut S, name: &str) -> Plan
-    requires { IsMarkless model }
+    requires markless { IsMarkless model }
+    requires words { HasWords model }
     ensures planned { IsScriptPlan model (S.file shelf.old name.now) (S.faults shelf.old name.now) (S.faults shelf.new name.now) result }
     ensures quiet { IsQuietPlan (S.faults shelf.old) (S.faults shelf.new) result }
     ensures ready { IsReady result }
@@ -33,7 +35,8 @@ fn plan_answers<S: Shelf>(alloc: Global, model: Model, shelf: &mut S, name: &str
 
 // Fetches the second file: a report is checked, and the answers to a script are planned.
 fn plan_second<S: Shelf>(alloc: Global, model: Model, shelf: &mut S, verb: Verb, name: &str) -> Plan
-    requires { IsMarkless model }
+    requires markless { IsMarkless model }
+    requires words { HasWords model }
     ensures planned { IsSecondPlan verb model (S.file shelf.old name.now) (S.faults shelf.old name.now) (S.faults shelf.new name.now) result }
     ensures quiet { IsQuietPlan (S.faults shelf.old) (S.faults shelf.new) result }
     ensures ready { IsReady result }
@@ -85,7 +88,8 @@ fn follow<W: Sink>(alloc: Global, plan: Plan, out: &mut W) -> u8
 /// - 0: under `verify` the report is accepted: `accepted settled N unsettled 0` for its N entries. What each of them
 ///   claims of the model is true. Under `analyse` the whole report is written, and no answer is a stop.
 /// - 1: under `verify` the same with some entries that are stops: `accepted settled N unsettled M`. Under `analyse` the
-///   whole report is written, and some answer is a stop.
+///   whole report is written, and some answer is a stop. A report that is written whole is one that `verify` reads, where
+///   it is within the limit of reports.
 /// - 2: the words are none of the forms; the usage line.
 /// - 3: `read fault WHICH`, only where the shelf's count of faults of that file's own name rose; or `too long WHICH`,
 ///   exactly where a told file is longer than its limit.
@@ -119,6 +123,8 @@ pub fn run<S: Shelf, W: Sink>(alloc: Global, words: &[String], shelf: &mut S, ou
     ensures unsettled { result ≡ 1 → IsUnsettled (S.file shelf.old) W.faults W.taken out.old out.new (request_of words.now) }
     // What an accepted report claims of the model is true.
     ensures borne_out { (result ≡ 0) ⊎ (result ≡ 1) → IsBorneOut (S.file shelf.old) (request_of words.now) }
+    // What an analysis writes whole is a report on the model that `verify` reads, where it is within the limit of reports.
+    ensures read_back { (result ≡ 0) ⊎ (result ≡ 1) → IsReadBack (S.file shelf.old) W.taken out.old out.new (request_of words.now) }
     // No other status is answered.
     ensures statuses { result ≤ 8 }
     // Where no fetch and no put fails, what the told files call for is done, or there is want of memory.

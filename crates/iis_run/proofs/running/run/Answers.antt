@@ -1,6 +1,6 @@
 use Rattle.iis_run.specs.Words.{request_of}
 use Rattle.iis_run.proofs.Counts.{plan_kept, plan_quiet}
-use Rattle.iis_run.proofs.Statuses.{planned_run, usage_clause, fetch_stop_clause, write_fault_clause, model_clause, alone_clause, text_clause, accepted_clause, unsettled_clause, refuted_clause, borne_out_clause, bounds_clause, settles_clause}
+use Rattle.iis_run.proofs.Statuses.{planned_run, usage_clause, fetch_stop_clause, write_fault_clause, model_clause, alone_clause, text_clause, accepted_clause, unsettled_clause, refuted_clause, borne_out_clause, read_back_clause, bounds_clause, settles_clause}
 use Rattle.iis_run.proofs.running.run.Goals as goal
 
 pub returns : goal.returns
@@ -14,7 +14,7 @@ returns g c =
     let out = c.args.out.now in
     let out' = c.follow.new.out in
     let request = request_of c.args.words.now in
-    let run = planned_run file fetches puts taken shelf shelf' out out' request c.follow.result c.decide-plan.result c.decide-plan.ensures.planned c.follow.ensures in
+    let run = planned_run file fetches puts taken shelf shelf' out out' request c.follow.result c.decide-plan.result c.decide-plan.ensures.ready c.decide-plan.ensures.planned c.follow.ensures in
     record {
       usage = usage_clause file fetches puts taken shelf shelf' out out' request c.follow.result run;
       fetch_stop = fetch_stop_clause file fetches puts taken shelf shelf' out out' request c.follow.result run;
@@ -27,6 +27,7 @@ returns g c =
       accepted = accepted_clause file fetches puts taken shelf shelf' out out' request c.follow.result run;
       unsettled = unsettled_clause file fetches puts taken shelf shelf' out out' request c.follow.result run;
       borne_out = borne_out_clause file fetches puts taken shelf shelf' out out' request c.follow.result run;
+      read_back = read_back_clause file fetches puts taken shelf shelf' out out' request c.follow.result run;
       statuses = bounds_clause file fetches puts taken shelf shelf' out out' request c.follow.result run;
       settles = settles_clause file fetches puts taken shelf shelf' out out' request c.follow.result run;
       fetch_counts = c.decide-plan.ensures.counts;
