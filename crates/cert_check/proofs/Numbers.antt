@@ -1,7 +1,6 @@
 -- How many lines there are.
-use Rattle.std.proofs.Common.{◌≡◌, ◌≤◌, ◌<◌, ◌+◌, refl, ap, ℕ, suc, Bool, true, false, cond, not, List, [], ◌∷◌, ◌++◌, length, filter, map, flat_map, codes, length-append, arith}
+use Rattle.std.proofs.Common.{◌≡◌, ◌≤◌, ◌<◌, ◌+◌, refl, ℕ, suc, List, [], ◌∷◌, ◌++◌, length, map, flat_map, codes, length-append, arith}
 use Rattle.std.proofs.lemmas.List.{length-map}
-use Rattle.rational.specs.Rational.{ℚ, zero_ℚ, eq_ℚ}
 use Rattle.lp_model.specs.Program.{Program}
 use Rattle.lp_model.specs.MemberSets.{SetValue}
 use Rattle.certs.specs.declared.evidence.Proof.{Proof}
@@ -11,19 +10,10 @@ use Rattle.report_text.specs.declared.report.Entry.{Entry}
 use Rattle.report_text.specs.Turns.{after}
 use Rattle.report_text.specs.declared.report.Report.{Report}
 use Rattle.report_text.specs.declared.report.Answer.TheVariants.{Infeasible, Irreducible}
-use Rattle.report_text.specs.Grammar.{Line, text_of, value_line, value_lines, member_line, witness_lines, proof_lines, answer_lines, note_line, entry_lines, entries_lines, report_lines}
+use Rattle.report_text.specs.Grammar.{Line, text_of, member_line, witness_lines, proof_lines, answer_lines, note_line, entry_lines, entries_lines, report_lines}
 use Rattle.report_text.specs.Form.{AreNumbered}
 use Rattle.cert_check.specs.Trials.{witnesses_of}
 use Rattle.cert_check.specs.Uses.{AreShort}
-
--- a line for each value that is not 0
-pub value_count : (model : Program) (j : ℕ) (values : List ℚ) → length (value_lines model j values) ≡ length (filter (λ v. not (eq_ℚ v zero_ℚ)) values)
-value_count model j [] = refl
-value_count model j (v ∷ values) = by (eq_ℚ v zero_ℚ) (value_count model (suc j) values)
-  where
-    by : (b : Bool) → length (value_lines model (suc j) values) ≡ length (filter (λ v. not (eq_ℚ v zero_ℚ)) values) → length (cond b (value_lines model (suc j) values) (value_line model j v ∷ value_lines model (suc j) values)) ≡ length (cond (not b) (v ∷ filter (λ v. not (eq_ℚ v zero_ℚ)) values) (filter (λ v. not (eq_ℚ v zero_ℚ)) values))
-    by true e = e
-    by false e = ap suc e
 
 -- the members are fewer than the lines
 pub members_fit : (model : Program) (set : SetValue) (proof : Proof) → length set.members ≤ length (answer_lines model (Infeasible set proof))

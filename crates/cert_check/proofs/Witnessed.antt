@@ -1,26 +1,17 @@
 -- Members with their witnesses: where the trials of those that are left stop the check, and how many lines they have.
-use Rattle.std.proofs.Common.{◌≡◌, ◌<◌, ◌+◌, refl, sym, ◌∙◌, ap, ℕ, suc, not, List, [], ◌∷◌, length, drop, get_or, filter, find, zip, flat_map, length-append, Option, Some, None, arith}
+use Rattle.std.proofs.Common.{◌≡◌, ◌<◌, ◌+◌, sym, ◌∙◌, ap, ℕ, suc, List, [], ◌∷◌, length, drop, get_or, filter, find, zip, flat_map, length-append, Option, Some, None, arith}
 use Rattle.std.proofs.lemmas.List.{at_drop_more}
-use Rattle.rational.specs.Rational.{zero_ℚ, eq_ℚ}
 use Rattle.lp_model.specs.declared.members.Member.{Member}
 use Rattle.lp_model.specs.Program.{Program}
 use Rattle.lp_model.specs.Members.{IsInOrder}
 use Rattle.lp_model.specs.MemberSets.{follows}
 use Rattle.certs.specs.declared.evidence.Point.{Point}
 use Rattle.certs.proofs.Walk.{all_follow, next_step, none_follow}
-use Rattle.report_text.specs.Grammar.{value_lines, witness_lines}
+use Rattle.report_text.specs.Grammar.{witness_lines}
 use Rattle.cert_check.specs.declared.outcome.Stop.{Stop}
 use Rattle.cert_check.specs.Trials.{witness_trials}
 use Rattle.cert_check.specs.Stops.{first_stop, IsStop}
 use Rattle.cert_check.proofs.Firsts.{passed_over, stop_first, stop_of}
-use Rattle.cert_check.proofs.Numbers.{value_count}
-
--- the lines of a member and its witness
-pub witness_length : (model : Program) (m : Member) (w : Point) → length (witness_lines model (m, w)) ≡ 2 + length (filter (λ v. not (eq_ℚ v zero_ℚ)) w.values)
-witness_length model m w =
-    let values : length (value_lines model 0 w.values) ≡ length (filter (λ v. not (eq_ℚ v zero_ℚ)) w.values) = value_count model 0 w.values in
-    let h : length (witness_lines model (m, w)) ≡ suc (suc (length (value_lines model 0 w.values))) = refl in
-    omega (arith, h, values)
 
 module _ (model : Program) (set : List Member) (witnesses : List Point) (after : Option Member) (i : ℕ) where
   -- the members that follow, with the witnesses that are left
@@ -39,19 +30,18 @@ module _ (model : Program) (set : List Member) (witnesses : List Point) (after :
         stop_of _ _ s (sym (stands (λ l. first_stop (witness_trials model all n l))))
         (stop_first (witness_trials model all n ((m, w) ∷ [])) (witness_trials model all (n + length (witness_lines model (m, w))) (zip (filter (follows (Some m)) set) (drop (i + 1) witnesses))) s h)
 
-    pub witness_passes : (all : List Member) (n k : ℕ) → first_stop (witness_trials model all n ((m, w) ∷ [])) ≡ None → k ≡ 2 + length (filter (λ v. not (eq_ℚ v zero_ℚ)) w.values)
+    pub witness_passes : (all : List Member) (n k : ℕ) → first_stop (witness_trials model all n ((m, w) ∷ [])) ≡ None → k ≡ length (witness_lines model (m, w))
         → first_stop (witness_trials model all (n + k) (zip (filter (follows (Some m)) set) (drop (i + 1) witnesses))) ≡ first_stop (witness_trials model all n left_over)
     witness_passes all n k e count =
-        ap (λ (j : ℕ). first_stop (witness_trials model all (n + j) (zip (filter (follows (Some m)) set) (drop (i + 1) witnesses)))) (count ∙ sym (witness_length model m w))
+        ap (λ (j : ℕ). first_stop (witness_trials model all (n + j) (zip (filter (follows (Some m)) set) (drop (i + 1) witnesses)))) count
         ∙ sym (stands (λ l. first_stop (witness_trials model all n l))
         ∙ passed_over (witness_trials model all n ((m, w) ∷ [])) (witness_trials model all (n + length (witness_lines model (m, w))) (zip (filter (follows (Some m)) set) (drop (i + 1) witnesses))) e)
 
     pub lines_step : length (flat_map (witness_lines model) left_over)
-        ≡ (2 + length (filter (λ v. not (eq_ℚ v zero_ℚ)) w.values)) + length (flat_map (witness_lines model) (zip (filter (follows (Some m)) set) (drop (i + 1) witnesses)))
+        ≡ length (witness_lines model (m, w)) + length (flat_map (witness_lines model) (zip (filter (follows (Some m)) set) (drop (i + 1) witnesses)))
     lines_step =
         stands (λ l. length (flat_map (witness_lines model) l))
-        ∙ (length-append (witness_lines model (m, w)) (flat_map (witness_lines model) (zip (filter (follows (Some m)) set) (drop (i + 1) witnesses)))
-        ∙ ap (λ (j : ℕ). j + length (flat_map (witness_lines model) (zip (filter (follows (Some m)) set) (drop (i + 1) witnesses)))) (witness_length model m w))
+        ∙ length-append (witness_lines model (m, w)) (flat_map (witness_lines model) (zip (filter (follows (Some m)) set) (drop (i + 1) witnesses)))
 
     pub each_step : length (drop i witnesses) ≡ length (filter (follows after) set) → length (drop (i + 1) witnesses) ≡ length (filter (follows (Some m)) set)
     each_step e =

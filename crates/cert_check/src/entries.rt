@@ -13,7 +13,7 @@ use crate::witnesses::check_witnesses;
 use certs::{Combo, Node, Point, Proof, check_combo, check_point};
 use frac128::Frac;
 use lp_model::{MemberSet, Model};
-use report_text::{Answer, Core, Entry};
+use report_text::{Answer, Core, Entry, OPENING_LINES, PROOF_LINES};
 use std::alloc::Global;
 
 /// Checks the entries, in order.
@@ -73,7 +73,7 @@ fn check_feasible(model: &Model, active: &MemberSet, point: &Point, line: u32) -
     requires short { line + 2 < 4294967296 }
     ensures { Says (first_stop (feasible_trials model.now line point.now)) result }
 {
-    settle(line + 2, check_point(model, active, point))
+    settle(line + OPENING_LINES, check_point(model, active, point))
 }
 
 // Checks members and a proof that no point satisfies them.
@@ -95,9 +95,9 @@ fn check_infeasible(
     let Ok(used) = used_members(alloc, model, combo.shares.as_slice()) else {
         return Err(Stop::Memory);
     };
-    check_members(model, members, &used, line + 2)?;
+    let end = check_members(model, members, &used, line + OPENING_LINES)?;
     settle(
-        line + (3 + members.count() as u32),
+        end + PROOF_LINES,
         check_combo(model, members, &[], combo, sums),
     )
 }
@@ -119,9 +119,13 @@ fn check_core(
         return Err(Stop::Memory);
     };
     let witnesses = core.witnesses.as_slice();
-    let end = check_witnesses(model, &core.members, &mut others, witnesses, line + 2)?;
+    let start = line + OPENING_LINES;
+    let end = check_witnesses(model, &core.members, &mut others, witnesses, start)?;
     let combo = leaf_of(&core.proof);
-    settle(end + 1, check_combo(model, &core.members, &[], combo, sums))
+    settle(
+        end + PROOF_LINES,
+        check_combo(model, &core.members, &[], combo, sums),
+    )
 }
 
 // The combination of the one leaf.

@@ -1,9 +1,9 @@
 //! Whether printed members are active, and those that a proof uses.
-ghost use Rattle.std.specs.Prelude.{◌≡◌, ◌+◌, ◌<◌, ◌↔◌, ⊤, All, IfOk, IsTrue, MatchOption, Option, Some, length};
+ghost use Rattle.std.specs.Prelude.{◌≡◌, ◌+◌, ◌<◌, ◌↔◌, ⊤, All, IfOk, IsTrue, MatchOption, MatchResult, Option, Some, None, length};
 ghost use Rattle.lp_model.specs.MemberSets.{IsPossibleIn, next_after};
 ghost use Rattle.certs.specs.Checks.{IsSetOf};
 ghost use Rattle.cert_check.specs.Trials.{paired_trials, is_active_use, used_members as used_by};
-ghost use Rattle.cert_check.specs.Stops.{first_stop, Says};
+ghost use Rattle.cert_check.specs.Stops.{first_stop, IsStop};
 ghost use Rattle.cert_check.specs.Uses.{IsSourceFor, IsSourceIn, with_source};
 
 use crate::outcome::Stop;
@@ -40,17 +40,20 @@ fn insert_source(set: &mut MemberSet, source: Source)
 }
 
 /// Compares the printed members with the used ones position by position, the first on the given line. Each is to be
-/// active.
+/// active. It gives the number of the line after them.
 pub(crate) fn check_members(
     model: &Model,
     printed: &MemberSet,
     used: &MemberSet,
     start: u32,
-) -> Result<(), Stop>
+) -> Result<u32, Stop>
     requires printed { IsSetOf model.now printed.now }
     requires used { IsSetOf model.now used.now }
     requires short { start + length printed.now.members < 4294967296 }
-    ensures { Says (first_stop (paired_trials (is_active_use model.now) start printed.now.members used.now.members)) result }
+    ensures { MatchResult result
+        (λ line. (first_stop (paired_trials (is_active_use model.now) start printed.now.members used.now.members) ≡ None)
+        × (line ≡ start + length printed.now.members))
+        (IsStop (first_stop (paired_trials (is_active_use model.now) start printed.now.members used.now.members))) }
 {
     printed.stands_in_order();
     used.stands_in_order();
@@ -69,7 +72,7 @@ pub(crate) fn check_members(
     if used.next(after).is_some() {
         return Err(Stop::Rejected(line));
     }
-    Ok(())
+    Ok(line)
 }
 
 // Whether the member is the first of the set that comes after the given one.

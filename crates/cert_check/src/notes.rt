@@ -5,13 +5,14 @@ ghost use Rattle.cert_check.specs.Stops.{first_stop, Says};
 
 use crate::outcome::Stop;
 use lp_model::Note;
+use report_text::HEAD_LINES;
 
-/// Compares the notes position by position, of which the first stands on line 2.
+/// Compares the notes position by position, of which the first stands behind the head.
 pub(crate) fn check_notes(printed: &[Note], known: &[Note]) -> Result<(), Stop>
     requires { length printed.now < 2147483648 }
     ensures { Says (first_stop (paired_trials same_note 2 printed.now known.now)) result }
 {
-    let mut line: u32 = 2;
+    let mut line = 1 + HEAD_LINES;
     for place in 0..printed.len() {
         if place >= known.len() {
             return Err(Stop::Rejected(line));

@@ -1,6 +1,5 @@
 //! Whether the members of an irreducible set are active, and its witnesses satisfy the others.
-ghost use Rattle.std.specs.Prelude.{◌≡◌, ◌+◌, ◌<◌, ◌∷◌, [], All, IsTrue, MatchResult, length, zip, filter, flat_map, not};
-ghost use Rattle.rational.specs.Rational.{zero_ℚ, eq_ℚ};
+ghost use Rattle.std.specs.Prelude.{◌≡◌, ◌+◌, ◌<◌, ◌∷◌, [], All, IsTrue, MatchResult, length, zip, flat_map};
 ghost use Rattle.lp_model.specs.Members.{has};
 ghost use Rattle.lp_model.specs.MemberSets.{IsPossibleIn};
 ghost use Rattle.certs.specs.Checks.{IsSetOf};
@@ -10,8 +9,8 @@ ghost use Rattle.cert_check.specs.Stops.{first_stop, Says, IsStop};
 
 use crate::outcome::{Stop, settle};
 use certs::{Point, check_point};
-use frac128::Frac;
 use lp_model::{Member, MemberSet, Model};
+use report_text::{MEMBER_LINES, witness_length};
 
 /// Checks each member with its witness, the first on the given line. It gives the number of the line after them.
 ///
@@ -41,7 +40,7 @@ pub(crate) fn check_witnesses(
             unreachable!()
         };
         check_witness(model, others, member, witness, line)?;
-        line += 2 + count_values(witness.values.as_slice()) as u32;
+        line += witness_length(witness) as u32;
         after = Some(member);
     }
     Ok(line)
@@ -70,19 +69,5 @@ fn check_witness(
     members.remove(member);
     let found = check_point(model, members, witness);
     members.insert(member);
-    settle(line + 1, found)
-}
-
-// How many values are not 0.
-fn count_values(values: &[Frac]) -> u64
-    ensures { result ≡ length (filter (λ v. not (eq_ℚ v zero_ℚ)) values.now) }
-{
-    let zero = Frac::whole(0);
-    let mut count: u64 = 0;
-    for value in values {
-        if *value != zero {
-            count += 1;
-        }
-    }
-    count
+    settle(line + MEMBER_LINES, found)
 }

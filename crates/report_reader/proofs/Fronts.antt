@@ -1,9 +1,9 @@
 -- Each phrase that is taken stands behind what is read, and what is read is the front of a report.
-use Rattle.std.proofs.Common.{◌≡◌, ◌≢◌, ◌<◌, ◌≤◌, refl, sym, ap, subst, ◌∙◌, ℕ, zero, suc, ◌+◌, ◌-◌, Bool, true, false, cond, ◌&&◌, List, [], ◌∷◌, ◌++◌, length, append_assoc, append-nil, Option, Some, None, arith, ◌⊎◌, inl, inr}
+use Rattle.std.proofs.Common.{◌≡◌, ◌≢◌, ◌<◌, ◌≤◌, refl, sym, ap, subst, ◌∙◌, ℕ, zero, suc, ◌+◌, ◌-◌, Bool, true, false, cond, ◌&&◌, List, [], ◌∷◌, ◌++◌, length, append_assoc, append-nil, Some, None, arith, ◌⊎◌, inl, inr}
 use Rattle.std.specs.Prelude.{map, flat_map, zip, replicate, option_map, All, IsTrue, nat_le}
 use Rattle.std.specs.List.{list_all}
 use Rattle.std.proofs.lemmas.List.{length-append, length-replicate, length-map, map-append}
-use Rattle.std.proofs.lemmas.List.Elements.{All-nil, All-head, All-tail, All-append, All-push, All-replicate}
+use Rattle.std.proofs.lemmas.List.Elements.{All-nil, All-append, All-push, All-replicate}
 use Rattle.std.proofs.lemmas.List.Quantifiers.{all_pairs_push}
 use Rattle.std.proofs.lemmas.List.Concat.{flat_map-append}
 use Rattle.std.proofs.lemmas.List.Sums.{AllPass-from_list_all}
@@ -42,6 +42,7 @@ use Rattle.report_text.specs.Form.{is_word, IsNamedColumn, IsNamedMember, IsWith
 use Rattle.report_reader.specs.Phrases.{IsPhraseFor, phrase_line}
 use Rattle.report_reader.specs.Drafts.{filled, point_of, leaf_of, set_of, answer_of, only_if, witnessed_with, site_without, with_left_out, left_out_next, at_site, stop_begun, stop_with, extended, placed, between, advanced, AreValues, AreMembers, AreWitnesses, IsFound, IsOneMore, AreLeftOut, IsStopPart, Asks, IsPartFor, IsDraftFor}
 use Rattle.report_reader.proofs.Said.{value_phrases, point_phrases, proof_phrases, witness_phrases, without_phrase, site_phrases, answer_front, answer_end, entry_phrases, entries_phrases, body_phrases, entries_spelled}
+use Rattle.report_reader.proofs.Named.{told}
 use Rattle.report_reader.proofs.LeftOut.{none_left, left_twice, site_in_form}
 
 -- ---- what is read, as phrases
@@ -547,10 +548,6 @@ module _ (model : Program) where
       drawn (record { notes = notes; entries = entries; stage = Stage.Between }) Phrase.Foot (record { notes = notes; entries = entries; stage = Stage.Done }) next e
       (record { notes = h.notes; entries = h.entries; numbered = h.numbered; stage = tt }, refl)
   between_taken n notes entries _ next h k l e = absurd (cc)
-
-  told : {X Y : Type 0} (f : X → Y) (o : Option X) (y : Y) → option_map f o ≡ Some y → (x : X) × ((o ≡ Some x) × (f x ≡ y))
-  told f None y e = absurd (let s : None ≡ Some y = e in cc)
-  told f (Some x) y e = (x, (refl, (let s : Some (f x) ≡ Some y = e in cc)))
 
   -- within an answer
   answering_taken : (notes : List Note) (entries : List Entry) (question : Question) (part : Part) (p : Phrase) (next : Next)

@@ -1,8 +1,6 @@
 -- What the words of a value are, and what the words of a line are.
-use Rattle.std.proofs.Common.{◌≡◌, ◌≢◌, refl, sym, ap, ◌∙◌, ℕ, Bool, true, false, cond, List, [], ◌∷◌, Option, Some, None}
-use Rattle.std.specs.Prelude.{IfSome, find}
-use Rattle.std.specs.Str.{bytes_eq}
-use Rattle.std.proofs.lemmas.Slice.Eq.{bytes_eq-Decides}
+use Rattle.std.proofs.Common.{◌≡◌, ◌≢◌, refl, sym, ap, ◌∙◌, ℕ, List, [], ◌∷◌, Option, Some, None}
+use Rattle.std.specs.Prelude.{IfSome}
 use Rattle.report_reader.specs.Parts.{parts}
 use Rattle.rational.specs.Rational.{ℚ, zero_ℚ}
 use Rattle.lp_model.specs.Program.{Program}
@@ -11,6 +9,7 @@ use Rattle.report_reader.specs.declared.phrases.Phrase.{Phrase}
 use Rattle.report_reader.specs.declared.phrases.StopPhrase.{StopPhrase}
 use Rattle.report_reader.specs.Phrases.{keyword_text, keyword_of, details, Says}
 use Rattle.report_reader.specs.Words.{IsSpelled, IsColumnSaid, IsFractionSaid, Finds, leading_keywords, leading_said}
+use Rattle.report_reader.proofs.Named.{found_spelled}
 use Rattle.report_reader.proofs.Spelling.{some_parts, stop_apart, words_of_line, line_of_words}
 
 -- the column and the value that two words say
@@ -55,15 +54,7 @@ module _ (model : Program) (line first rest : List ℕ) (cut : parts 32 line ≡
 
   -- the keyword that a word is
   pub spelled_so : (k : Keyword) → leading_said first ≡ Some k → first ≡ keyword_text k
-  spelled_so k e = told leading_keywords e
-    where
-      told : (ks : List Keyword) → find (λ l. bytes_eq first (keyword_text l)) ks ≡ Some k → first ≡ keyword_text k
-      told [] e = absurd (let s : None ≡ Some k = e in cc)
-      told (l ∷ ks) e = by (bytes_eq first (keyword_text l)) refl (told ks) e
-        where
-          by : (b : Bool) → bytes_eq first (keyword_text l) ≡ b → (find (λ l. bytes_eq first (keyword_text l)) ks ≡ Some k → first ≡ keyword_text k) → cond b (Some l) (find (λ l. bytes_eq first (keyword_text l)) ks) ≡ Some k → first ≡ keyword_text k
-          by true t rest e = (bytes_eq-Decides first (keyword_text l)).0 t ∙ ap keyword_text (let s : Some l ≡ Some k = e in cc)
-          by false t rest e = rest e
+  spelled_so k e = found_spelled keyword_text leading_keywords first k e
 
   pub found_so : (k : Keyword) (result : Option Phrase) → leading_said first ≡ Some k → Finds (IsSpelled model k (parts 32 rest)) result → Finds (Says model line) result
   found_so k result e h = record { found = by result h.found; all = λ p s. h.all p (record { form = s.form; keyword = same (keyword_of p) (keyword_is p s); behind = (behind_first p s).1 }) }

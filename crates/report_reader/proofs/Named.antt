@@ -1,6 +1,6 @@
 -- Where a name stands among names that differ, and what single words say.
-use Rattle.std.proofs.Common.{◌≡◌, ◌≢◌, refl, sym, ap, subst, ◌∙◌, ℕ, zero, suc, ◌<◌, ◌≤◌, Bool, true, false, true≢false, cond, ltb, List, [], length, get_or, Option, Some, None, arith, position, ◌⊎◌, inl, inr}
-use Rattle.std.specs.Prelude.{map, AllPairs, Result, Ok, Err, codes}
+use Rattle.std.proofs.Common.{◌≡◌, ◌≢◌, refl, sym, ap, subst, ◌∙◌, ℕ, zero, suc, ◌<◌, ◌≤◌, Bool, true, false, true≢false, cond, ltb, List, [], ◌∷◌, length, get_or, Option, Some, None, arith, position, ◌⊎◌, inl, inr}
+use Rattle.std.specs.Prelude.{map, find, option_map, AllPairs, Result, Ok, Err, codes}
 use Rattle.std.specs.Option.{ok_or}
 use Rattle.std.specs.List.{position_or_len}
 use Rattle.std.specs.Str.{bytes_eq}
@@ -16,6 +16,24 @@ use Rattle.lp_model.specs.Program.{Program, NamedRow, NamedColumn, empty_row, em
 use Rattle.lp_model.specs.Shown.{row_names, column_names}
 use Rattle.report_text.specs.Form.{is_word}
 use Rattle.report_reader.specs.Words.{IsColumnSaid, IsMemberSaid}
+
+-- what a condition told
+pub told_if : {X : Type 0} (t : Bool) (o : Option X) (x : X) → cond t o None ≡ Some x → (t ≡ true) × (o ≡ Some x)
+told_if true o x e = (refl, e)
+told_if false o x e = absurd (let s : None ≡ Some x = e in cc)
+
+pub told : {X Y : Type 0} (f : X → Y) (o : Option X) (y : Y) → option_map f o ≡ Some y → (x : X) × ((o ≡ Some x) × (f x ≡ y))
+told f None y e = absurd (let s : None ≡ Some y = e in cc)
+told f (Some x) y e = (x, (refl, (let s : Some (f x) ≡ Some y = e in cc)))
+
+-- what is found by its text is spelled so
+pub found_spelled : {K : Type 0} (text : K → List ℕ) (ks : List K) (word : List ℕ) (k : K) → find (λ l. bytes_eq word (text l)) ks ≡ Some k → word ≡ text k
+found_spelled text [] word k e = absurd (let s : None ≡ Some k = e in cc)
+found_spelled text (l ∷ ks) word k e = by (bytes_eq word (text l)) refl (found_spelled text ks word k) e
+  where
+    by : (b : Bool) → bytes_eq word (text l) ≡ b → (find (λ m. bytes_eq word (text m)) ks ≡ Some k → word ≡ text k) → cond b (Some l) (find (λ m. bytes_eq word (text m)) ks) ≡ Some k → word ≡ text k
+    by true t rest e = (bytes_eq-Decides word (text l)).0 t ∙ ap text (same_Some l k e)
+    by false t rest e = rest e
 
 module _ {X : Type 0} (called : X → List ℕ) (items : List X) (past : X) where
   names : List (List ℕ)

@@ -6,6 +6,7 @@ use Rattle.std.specs.List.{position_or_len}
 use Rattle.std.specs.Char.{digit_value}
 use Rattle.std.specs.Str.Parse.{AllDigits}
 use Rattle.std.proofs.lemmas.Fmt.{decimal_is_IsNumeral_wide, decimal_injective}
+use Rattle.std.proofs.lemmas.Option.{same_Some}
 use Rattle.std.proofs.lemmas.Bool.{cases_eq, or_parts, ltb-false}
 use Rattle.std.proofs.lemmas.List.Elements.{All-head, All-tail}
 use Rattle.std.proofs.lemmas.List.{append_cancel_right}
@@ -34,15 +35,13 @@ use Rattle.certs.specs.declared.solving.SiteKind.TheVariants.{Settle, Improve, S
 use Rattle.frac128.specs.declared.Op.{Op}
 use Rattle.frac128.specs.declared.Op.TheVariants.{Plus, Minus, Times, Over}
 use Rattle.frac128.specs.declared.Wide.{Wide as Operation}
-use Rattle.report_text.specs.declared.report.Method.{Method}
-use Rattle.report_text.specs.declared.report.Method.TheVariants.{Deletion, Additive, Sensitivity}
 use Rattle.report_text.specs.declared.report.Command.{Command}
-use Rattle.report_text.specs.declared.report.Command.TheVariants.{Check, Iis, Pivots}
 use Rattle.report_reader.specs.declared.phrases.Keyword.{Keyword}
 use Rattle.report_reader.specs.declared.phrases.Phrase.{Phrase}
 use Rattle.report_reader.specs.declared.phrases.StopPhrase.{StopPhrase}
 use Rattle.report_text.specs.Form.{IsNamedColumn, IsNamedMember, IsNamedSource, IsWithinLimit, IsUse, IsCommand, IsOperation}
-use Rattle.report_text.specs.Grammar.{Line, column_name, name_of, kind_word, side_word, method_word, site_word, op_word, report_lines}
+use Rattle.report_text.specs.Grammar.{Line, column_name, name_of, kind_word, side_word, site_word, op_word, report_lines}
+use Rattle.report_reader.specs.Commands.{command_said}
 use Rattle.report_reader.specs.Reading.{OneReportLaw}
 use Rattle.report_reader.specs.Phrases.{keyword_text, keyword_of, source_words, stop_keyword, stop_details, details, phrase_line, IsStopPhrase, IsPhraseFor, Says}
 use Rattle.report_reader.specs.Words.{leading_said, lone_said}
@@ -51,6 +50,7 @@ use Rattle.report_reader.specs.declared.drafts.Draft.{Draft}
 use Rattle.report_reader.proofs.Said.{report_phrases, report_spelled, report_for}
 use Rattle.report_reader.proofs.Spelling.{stop_apart, words_of_line, parts_of_read}
 use Rattle.report_reader.proofs.Named.{one_place}
+use Rattle.report_reader.proofs.Scripted.{own_words}
 use Rattle.report_reader.proofs.Runs.{run, done, report_read}
 
 -- words that are known to differ
@@ -169,14 +169,6 @@ module _ (model : Program) (f : IsWellFormed model) where
   side_one Lo Up e = absurd (apart (codes "lo") (codes "up") refl e)
   side_one Up Lo e = absurd (apart (codes "up") (codes "lo") refl e)
 
-  method_one : (m n : Method) → method_word m ≡ method_word n → m ≡ n
-  method_one Deletion Deletion e = refl
-  method_one Additive Additive e = refl
-  method_one Sensitivity Sensitivity e = refl
-  method_one Deletion n e = absurd (apart (codes "deletion") (method_word n) refl e)
-  method_one Additive n e = absurd (apart (codes "additive") (method_word n) refl e)
-  method_one Sensitivity n e = absurd (apart (codes "sensitivity") (method_word n) refl e)
-
   -- ---- shares
   share_is : (a b : Source) (s t : Side) (v w : ℚ) → a ≡ b → s ≡ t → v ≡ w → (let x : Share = record { source = a; side = s; weight = v } in x) ≡ record { source = b; side = t; weight = w }
   share_is a b s t v w e g h = ap (λ c. record { source = c; side = s; weight = v }) e ∙ ap (λ c. record { source = b; side = c; weight = v }) g ∙ ap (λ c. record { source = b; side = t; weight = c }) h
@@ -208,12 +200,7 @@ module _ (model : Program) (f : IsWellFormed model) where
   note_one (LowerKept i) (LowerRemoved j) h k e = let last : codes "kept" ≡ codes "removed" = cc in absurd (apart (codes "kept") (codes "removed") refl last)
 
   command_one : (a b : Command) → IsCommand a → IsCommand b → details model (Phrase.Command a) ≡ details model (Phrase.Command b) → a ≡ b
-  command_one Check Check h k e = refl
-  command_one (Iis m) (Iis n) h k e = let words : method_word m ≡ method_word n = cc in ap Iis (method_one m n words)
-  command_one (Pivots m) (Pivots n) h k e = let words : decimal m ≡ decimal n = cc in ap Pivots (decimal_injective m n (let l : m ≤ 1000000 = h in omega arith) (let l : n ≤ 1000000 = k in omega arith) words)
-  command_one Check _ h k e = absurd (cc)
-  command_one (Iis m) _ h k e = absurd (cc)
-  command_one (Pivots m) _ h k e = absurd (cc)
+  command_one a b h k e = same_Some a b (sym (own_words a h) ∙ ap command_said e ∙ own_words b k)
 
   -- phrases of one keyword and one list of words behind it
   behind_one : (p q : Phrase) → IsPhraseFor model p → IsPhraseFor model q → keyword_of p ≡ keyword_of q → details model p ≡ details model q → p ≡ q

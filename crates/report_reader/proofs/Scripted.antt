@@ -1,16 +1,18 @@
--- What the text of a command is read as.
+-- What command words are, and what the text of a command is read as.
 use Rattle.std.proofs.Math.Numerals.{one-add}
-use Rattle.std.proofs.Common.{rules, sym, take, eqb-true, ◌≡◌, ◌≢◌, ℕ, ◌+◌, ◌^◌, ◌<◌, ◌≤◌, Bool, true, false, ◌&&◌, ◌||◌, cond, true≢false, List, [], ◌∷◌, ◌++◌, length, drop, get_or, Option, Some, None, refl, ap, ◌∙◌, arith, filter}
-use Rattle.std.specs.Prelude.{nat_lt, nat_le, codes, decimal, option_map}
+use Rattle.std.proofs.Common.{rules, sym, subst, take, eqb-true, ◌≡◌, ◌≢◌, ℕ, ◌+◌, ◌^◌, ◌<◌, ◌≤◌, Bool, true, false, ◌&&◌, ◌||◌, cond, true≢false, List, [], ◌∷◌, ◌++◌, length, drop, Option, Some, None, refl, ap, ◌∙◌, arith, filter}
+use Rattle.std.specs.Prelude.{nat_lt, ⊤, nat_le, codes, decimal, option_map, Result}
 use Rattle.std.specs.List.{All, list_all, list_any, position_or_len}
 use Rattle.std.specs.Str.{bytes_eq}
 use Rattle.std.specs.Char.{digit_value}
-use Rattle.std.specs.Str.Parse.{AllDigits}
-use Rattle.std.proofs.lemmas.Bool.{lt-ltb}
+use Rattle.std.specs.Result.{OkIff}
+use Rattle.std.specs.Str.Parse.{AllDigits, ParsesUnsigned}
+use Rattle.std.proofs.lemmas.Bool.{lt-ltb, and_parts}
+use Rattle.std.proofs.lemmas.Option.{same_Some}
+use Rattle.std.proofs.lemmas.Slice.Eq.{bytes_eq-Decides}
 use Rattle.std.proofs.lemmas.Bool.Decides.{nat_tests}
 use Rattle.std.proofs.lemmas.Fmt.{decimal_is_IsNumeral, length-decimal-le, decimal_nonempty, digits_decimal, digits_value-decimal}
-use Rattle.std.proofs.lemmas.Str.Parse.{IsNumeralModel, numerals_by_fold}
-use Rattle.std.proofs.lemmas.List.{at_drop_more, nil_from_length}
+use Rattle.std.proofs.lemmas.Str.Parse.{IsNumeralModel, numerals_by_fold, parse_digits}
 use Rattle.std.proofs.lemmas.List.Elements.{All-nil, All-cons}
 use Rattle.std.proofs.lemmas.List.Splits.{slice_split_none}
 use Rattle.lane_scan.specs.Bytes.{is_blank, is_foreign}
@@ -24,98 +26,155 @@ use Rattle.report_text.specs.declared.report.Command.TheVariants.{Check, Iis, Pi
 use Rattle.report_text.specs.declared.report.Method.{Method}
 use Rattle.report_text.specs.declared.report.Method.TheVariants.{Deletion, Additive, Sensitivity}
 use Rattle.report_text.specs.Form.{most_pivots, IsCommand}
-use Rattle.report_text.specs.Grammar.{command_text}
-use Rattle.report_reader.specs.Commands.{is_numeral, pivots_of, lone_command, method_of, iis_command, budget_command, command_said, unless_fault, command_of}
+use Rattle.report_text.specs.Grammar.{method_word, command_text}
+use Rattle.lp_model.specs.Program.{Program}
+use Rattle.report_reader.specs.declared.phrases.Keyword.{Keyword}
+use Rattle.report_reader.specs.declared.phrases.Phrase.{Phrase}
+use Rattle.report_reader.specs.Commands.{command_words, is_numeral, pivots_of, lone_command, method_of, iis_command, budget_command, command_said, unless_fault, command_of}
+use Rattle.report_reader.specs.Words.{Finds, IsSpelled, IsPlain}
+use Rattle.report_reader.proofs.Named.{told, told_if, found_spelled}
+use Rattle.report_reader.proofs.Spelling.{stop_apart}
 
 -- ---- the number of pivots
+pub own : IsNumeralModel (λ ds. list_all is_dec ds ≡ true) (number_after 0)
+unfolding number_after
+own = numerals_by_fold _ (search rules) number_after (search rules)
+
+-- what the standard library reads digits as
+pub parsed : (word text : List ℕ) (r : Result ℕ ⊤) → text ≡ word → list_all is_dec word ≡ true → ParsesUnsigned 64 10 text r → OkIff r ((0 < length word) × (number_of word < 2 ^ 64)) (number_of word)
+parsed word text r e h p = parse_digits own 64 word r (rw e at p) h
+
 by_tests : (a b c : Bool) (n : ℕ) → a ≡ true → b ≡ true → c ≡ true → cond ((a && b) && c) (Some n) None ≡ Some n
 by_tests a b c n e f g = rw (e, f, g) refl
 
--- no digits
-pub no_pivots-empty : (word : List ℕ) → length word ≡ 0 → pivots_of word ≡ None
-no_pivots-empty word e = ap pivots_of (nil_from_length word e)
-
--- a byte is no digit
-pub no_pivots-digits : (word : List ℕ) → list_all is_dec word ≡ false → pivots_of word ≡ None
-no_pivots-digits word e = by (nat_lt 0 (length word)) (list_all is_dec word) (nat_le (number_of word) most_pivots) e
+-- no digits, or too many
+pub no_pivots : (word : List ℕ) → (0 < length word → number_of word ≤ most_pivots → ⊥) → pivots_of word ≡ None
+no_pivots word h = by (nat_lt 0 (length word)) (list_all is_dec word) (nat_le (number_of word) most_pivots) refl refl
   where
-    by : (a b c : Bool) → b ≡ false → cond ((a && b) && c) (Some (number_of word)) None ≡ None
-    by true true c f = absurd (true≢false f)
-    by true false c f = refl
-    by false b c f = refl
-
--- too many
-pub no_pivots-many : (word : List ℕ) → ¬ (number_of word ≤ most_pivots) → pivots_of word ≡ None
-no_pivots-many word h = by (is_numeral word) (nat_le (number_of word) most_pivots) (grind (arith, nat_tests))
-  where
-    by : (a c : Bool) → c ≡ false → cond (a && c) (Some (number_of word)) None ≡ None
-    by true true f = absurd (true≢false f)
-    by true false f = refl
-    by false c f = refl
+    by : (a b c : Bool) → nat_lt 0 (length word) ≡ a → nat_le (number_of word) most_pivots ≡ c → cond ((a && b) && c) (Some (number_of word)) None ≡ None
+    by true true true e f = absurd (h (grind (arith, nat_tests)) (grind (arith, nat_tests)))
+    by true true false e f = refl
+    by true false c e f = refl
+    by false b c e f = refl
 
 -- as many as digits write
 pub some_pivots : (word : List ℕ) (n : ℕ) → length word ≢ 0 → list_all is_dec word ≡ true → number_of word ≡ n → n ≤ most_pivots → pivots_of word ≡ Some n
 some_pivots word n some digits e h =
     by_tests (nat_lt 0 (length word)) (list_all is_dec word) (nat_le (number_of word) most_pivots) (number_of word) (grind (arith, nat_tests)) digits (grind (arith, nat_tests)) ∙ ap Some e
 
--- one digit more
-pub digits-more : (word : List ℕ) (i : ℕ) (b : Bool) → i < length word → is_dec (get_or word i 0) ≡ b → list_all is_dec (drop i word) ≡ b && list_all is_dec (drop (i + 1) word)
-digits-more word i b h e = at_drop_more (list_all is_dec) word i 0 h ∙ ap (λ (t : Bool). t && list_all is_dec (drop (i + 1) word)) e
+pivots_within : (word : List ℕ) (n : ℕ) → pivots_of word ≡ Some n → n ≤ most_pivots
+pivots_within word n e =
+    let t = told_if (is_numeral word && nat_le (number_of word) most_pivots) (Some (number_of word)) n e in
+    let within = (and_parts (is_numeral word) (nat_le (number_of word) most_pivots) t.0).1 in
+    let same : number_of word ≡ n = same_Some (number_of word) n t.1 in
+    grind (arith, nat_tests)
 
-pub pivots_within : (word : List ℕ) (n : ℕ) → pivots_of word ≡ Some n → n ≤ most_pivots
-pivots_within word n e = by (is_numeral word) (nat_le (number_of word) most_pivots) refl e
-  where
-    by : (a c : Bool) → nat_le (number_of word) most_pivots ≡ c → cond (a && c) (Some (number_of word)) None ≡ Some n → n ≤ most_pivots
-    by true true f g = grind (arith, nat_tests)
-    by true false f g = grind arith
-    by false c f g = grind arith
+-- ---- the command that words are
+-- each word is the command's, but that the number may have zeros in front
+AreSaid : List (List ℕ) → Command → Type 0
+AreSaid words Check = words ≡ codes "check" ∷ []
+AreSaid words (Iis method) = words ≡ codes "iis" ∷ method_word method ∷ []
+AreSaid words (Pivots n) = (number : List ℕ) × ((words ≡ codes "budget" ∷ codes "pivots" ∷ number ∷ []) × (pivots_of number ≡ Some n))
 
--- ---- what a script may have
-none_built : (c : Command) → None ≡ Some c → IsCommand c
-none_built c e = grind arith
+lone_said : (a : List ℕ) (c : Command) → lone_command a ≡ Some c → AreSaid (a ∷ []) c
+unfolding AreSaid
+lone_said a c e =
+    let t = told_if (bytes_eq a (codes "check")) (Some Check) c e in
+    subst (AreSaid (a ∷ [])) (same_Some Check c t.1) (ap (λ w. w ∷ []) ((bytes_eq-Decides a (codes "check")).0 t.0))
 
-lone_built : (a : List ℕ) (c : Command) → lone_command a ≡ Some c → IsCommand c
-lone_built a Check e = tt
-lone_built a (Iis method) e = tt
-lone_built a (Pivots n) e = by (bytes_eq a (codes "check")) e
-  where
-    by : (t : Bool) → cond t (Some Check) None ≡ Some (Pivots n) → n ≤ most_pivots
-    by true g = grind arith
-    by false g = grind arith
+search_said : (a b : List ℕ) (c : Command) → iis_command a b ≡ Some c → AreSaid (a ∷ b ∷ []) c
+unfolding AreSaid
+search_said a b c e =
+    let t = told_if (bytes_eq a (codes "iis")) (option_map Iis (method_of b)) c e in
+    let m = told Iis (method_of b) c t.1 in
+    subst (AreSaid (a ∷ b ∷ [])) m.1.1
+    (ap (λ w. w ∷ b ∷ []) ((bytes_eq-Decides a (codes "iis")).0 t.0) ∙ ap (λ w. codes "iis" ∷ w ∷ []) (found_spelled method_word (Deletion ∷ Additive ∷ Sensitivity ∷ []) b m.0 m.1.0))
 
-search_built : (first second : List ℕ) (c : Command) → iis_command first second ≡ Some c → IsCommand c
-search_built first second Check e = tt
-search_built first second (Iis method) e = tt
-search_built first second (Pivots n) e = by (bytes_eq first (codes "iis")) (method_of second) e
-  where
-    by : (t : Bool) (found : Option Method) → cond t (option_map Iis found) None ≡ Some (Pivots n) → n ≤ most_pivots
-    by true None g = grind arith
-    by true (Some method) g = grind arith
-    by false found g = grind arith
+budget_said : (a b number : List ℕ) (c : Command) → budget_command a b number ≡ Some c → AreSaid (a ∷ b ∷ number ∷ []) c
+unfolding AreSaid
+budget_said a b number c e =
+    let t = told_if (bytes_eq a (codes "budget") && bytes_eq b (codes "pivots")) (option_map Pivots (pivots_of number)) c e in
+    let both = and_parts (bytes_eq a (codes "budget")) (bytes_eq b (codes "pivots")) t.0 in
+    let n = told Pivots (pivots_of number) c t.1 in
+    let words = ap (λ w. w ∷ b ∷ number ∷ []) ((bytes_eq-Decides a (codes "budget")).0 both.0) ∙ ap (λ w. codes "budget" ∷ w ∷ number ∷ []) ((bytes_eq-Decides b (codes "pivots")).0 both.1) in
+    subst (AreSaid (a ∷ b ∷ number ∷ [])) n.1.1 (number, (words, n.1.0))
 
-budget_built : (first second third : List ℕ) (c : Command) → budget_command first second third ≡ Some c → IsCommand c
-budget_built first second third c e = by (bytes_eq first (codes "budget") && bytes_eq second (codes "pivots")) (pivots_of third) (pivots_within third) c e
-  where
-    by : (t : Bool) (found : Option ℕ) → ((n : ℕ) → found ≡ Some n → n ≤ most_pivots) → (c : Command) → cond t (option_map Pivots found) None ≡ Some c → IsCommand c
-    by true None h c g = none_built c g
-    by true (Some n) h Check g = tt
-    by true (Some n) h (Iis method) g = tt
-    by true (Some n) h (Pivots m) g = h m (grind arith)
-    by false found h c g = none_built c g
+words_said : (words : List (List ℕ)) (c : Command) → command_said words ≡ Some c → AreSaid words c
+words_said [] c e = absurd (let s : None ≡ Some c = e in cc)
+words_said (a ∷ []) c e = lone_said a c e
+words_said (a ∷ b ∷ []) c e = search_said a b c e
+words_said (a ∷ b ∷ number ∷ []) c e = budget_said a b number c e
+words_said (a ∷ b ∷ third ∷ fourth ∷ words) c e = absurd (let s : None ≡ Some c = e in cc)
 
-said_built : (fields : List (List ℕ)) (c : Command) → command_said fields ≡ Some c → IsCommand c
-said_built [] c e = none_built c e
-said_built (first ∷ []) c e = lone_built first c e
-said_built (first ∷ second ∷ []) c e = search_built first second c e
-said_built (first ∷ second ∷ third ∷ []) c e = budget_built first second third c e
-said_built (first ∷ second ∷ third ∷ fourth ∷ fields) c e = none_built c e
+pub many_none : (words : List (List ℕ)) → 3 < length words → command_said words ≡ None
+many_none [] h = absurd (omega arith)
+many_none (a ∷ []) h = absurd (omega arith)
+many_none (a ∷ b ∷ []) h = absurd (omega arith)
+many_none (a ∷ b ∷ c ∷ []) h = absurd (omega arith)
+many_none (a ∷ b ∷ c ∷ d ∷ words) h = refl
+
+said_built : (words : List (List ℕ)) (c : Command) → command_said words ≡ Some c → IsCommand c
+unfolding AreSaid
+said_built words Check e = tt
+said_built words (Iis method) e = tt
+said_built words (Pivots n) e = let s = words_said words (Pivots n) e in pivots_within s.0 n s.1.1
 
 pub line_built : (line : List ℕ) (c : Command) → command_of line ≡ Some c → IsCommand c
 line_built line c e = by (field_fault line) e
   where
     by : (fault : Option TextKind) → unless_fault fault (command_said (fields_of line)) ≡ Some c → IsCommand c
     by None g = said_built (fields_of line) c g
-    by (Some fault) g = none_built c g
+    by (Some fault) g = absurd (let s : None ≡ Some c = g in cc)
+
+-- a command's own words
+own_number : (n : ℕ) → n ≤ most_pivots → pivots_of (decimal n) ≡ Some n
+own_number n h =
+    let small : n < 2 ^ 64 = omega arith in
+    let some : 0 < length (decimal n) = decimal_nonempty n small in
+    some_pivots (decimal n) n (λ e. omega arith) (digits_decimal own n small) (digits_value-decimal own n small) h
+
+pub own_words : (c : Command) → IsCommand c → command_said (command_words c) ≡ Some c
+own_words Check h = refl
+own_words (Iis Deletion) h = refl
+own_words (Iis Additive) h = refl
+own_words (Iis Sensitivity) h = refl
+own_words (Pivots n) h = ap (option_map Pivots) (own_number n h)
+
+-- ---- commands in reports
+-- words are those of the command that they are, where its number is printed so
+plain_words : (words : List (List ℕ)) (c : Command) → IsPlain words → command_said words ≡ Some c → words ≡ command_words c
+unfolding AreSaid
+plain_words words Check plain e = words_said words Check e
+plain_words words (Iis method) plain e = words_said words (Iis method) e
+plain_words words (Pivots n) plain e =
+    let s = words_said words (Pivots n) e in
+    let p : IsPlain (codes "budget" ∷ codes "pivots" ∷ s.0 ∷ []) = subst IsPlain s.1.0 plain in
+    let t = told_if (is_numeral s.0 && nat_le (number_of s.0) most_pivots) (Some (number_of s.0)) n s.1.1 in
+    let same : p.0 ≡ n = sym (ap number_of p.1.1 ∙ digits_value-decimal own p.0 p.1.0) ∙ same_Some (number_of s.0) n t.1 in
+    s.1.0 ∙ ap (λ w. codes "budget" ∷ codes "pivots" ∷ w ∷ []) (p.1.1 ∙ ap decimal same)
+
+own_plain : (c : Command) → IsCommand c → IsPlain (command_words c)
+own_plain Check h = tt
+own_plain (Iis method) h = tt
+own_plain (Pivots n) h = (n, (omega arith, refl))
+
+-- what words behind `command` say
+pub record CommandBehind (words : List (List ℕ)) (p : Phrase) : Type 0 where
+  pub command : Command
+  pub is : p ≡ Phrase.Command command
+  pub plain : IsPlain words
+  pub said : command_said words ≡ Some command
+
+pub command_behind : (model : Program) (words : List (List ℕ)) (p : Phrase) → IsSpelled model Keyword.Command words p → CommandBehind words p
+command_behind model words (Phrase.Command c) h = record { command = c; is = refl; plain = subst IsPlain (sym h.behind) (own_plain c h.form); said = ap command_said h.behind ∙ own_words c h.form }
+command_behind model words (Phrase.Stop s) h = absurd (stop_apart Keyword.Command s refl (sym h.keyword))
+command_behind model words _ h = absurd (let e = h.keyword in cc)
+
+pub command_found : (model : Program) (words : List (List ℕ)) (c : Command) → IsPlain words → command_said words ≡ Some c → Finds (IsSpelled model Keyword.Command words) (Some (Phrase.Command c))
+command_found model words c plain e = record {
+  found = record { form = said_built words c e; keyword = refl; behind = plain_words words c plain e };
+  all = λ p h. (let s = command_behind model words p h in let t : Some c ≡ Some s.command = sym e ∙ s.said in let i = s.is in cc);
+}
 
 -- ---- what no line is that is a command
 long_fault : (line : List ℕ) → is_long line ≡ true → field_fault line ≡ Some LongLine
@@ -187,10 +246,6 @@ digits-no_foreign : (ds : List ℕ) → AllDigits 10 ds → list_any is_foreign 
 digits-no_foreign [] h = refl
 digits-no_foreign (c ∷ ds) h = ap (λ (t : Bool). t || list_any is_foreign ds) (digit-no_foreign c h.0) ∙ digits-no_foreign ds h.1
 
-own : IsNumeralModel (λ ds. list_all is_dec ds ≡ true) (number_after 0)
-unfolding number_after
-own = numerals_by_fold _ (search rules) number_after (search rules)
-
 -- a word alone is the one field of its line
 word_alone : (word : List ℕ) → 0 < length word → All (λ c. is_blank c ≡ false) word → fields_of word ≡ word ∷ []
 unfolding fields_of
@@ -209,12 +264,8 @@ budget_faultless rest short e = by (is_long (codes "budget" ++ 32 ∷ (codes "pi
     by : (t b : Bool) → t ≡ false → b ≡ false → cond t (Some LongLine) (cond b (Some ForeignByte) None) ≡ None
     by t b f g = rw (f, g) refl
 
-budget_text : (rest : List ℕ) (n : ℕ) → field_fault (codes "budget" ++ 32 ∷ (codes "pivots" ++ 32 ∷ rest)) ≡ None → fields_of rest ≡ rest ∷ [] → pivots_of rest ≡ Some n → command_of (codes "budget" ++ 32 ∷ (codes "pivots" ++ 32 ∷ rest)) ≡ Some (Pivots n)
-budget_text rest n none fields number =
-    let line : List ℕ = codes "budget" ++ 32 ∷ (codes "pivots" ++ 32 ∷ rest) in
-    ap (λ (f : Option TextKind). unless_fault f (command_said (fields_of line))) none
-    ∙ ap command_said (budget_fields rest ∙ ap (λ (l : List (List ℕ)). codes "budget" ∷ codes "pivots" ∷ l) fields)
-    ∙ ap (option_map Pivots) number
+text_said : (c : Command) (line : List ℕ) → IsCommand c → field_fault line ≡ None → fields_of line ≡ command_words c → command_of line ≡ Some c
+text_said c line h none fields = ap (λ (f : Option TextKind). unless_fault f (command_said (fields_of line))) none ∙ ap command_said fields ∙ own_words c h
 
 check_text : command_of (codes "check") ≡ Some Check
 unfolding fields_of field_fault
@@ -232,8 +283,7 @@ own_text (Iis method) h = search_text method
 own_text (Pivots n) h =
     let small : n < 2 ^ 64 = omega arith in
     let digits = (decimal_is_IsNumeral n small).0.1 in
-    let some : 0 < length (decimal n) = decimal_nonempty n small in
-    budget_text (decimal n) n
+    let alone = word_alone (decimal n) (decimal_nonempty n small) (digits-no_blank (decimal n) digits) in
+    text_said (Pivots n) (command_text (Pivots n)) h
     (budget_faultless (decimal n) (length-decimal-le 7 n (omega arith) (omega arith) small) (digits-no_foreign (decimal n) digits))
-    (word_alone (decimal n) some (digits-no_blank (decimal n) digits))
-    (some_pivots (decimal n) n (λ e. omega arith) (digits_decimal own n small) (digits_value-decimal own n small) h)
+    (budget_fields (decimal n) ∙ ap (λ (l : List (List ℕ)). codes "budget" ∷ codes "pivots" ∷ l) alone)

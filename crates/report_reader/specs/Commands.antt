@@ -1,5 +1,5 @@
 -- What a line of a script says.
-use Rattle.std.specs.Prelude.{◌≡◌, ℕ, ◌<◌, ◌≤◌, ◌&&◌, nat_lt, nat_le, Bool, true, cond, List, [], ◌∷◌, length, codes, Option, Some, None, option_map, find}
+use Rattle.std.specs.Prelude.{◌≡◌, ℕ, ◌<◌, ◌&&◌, nat_lt, nat_le, Bool, true, cond, List, [], ◌∷◌, length, codes, decimal, Option, Some, None, option_map, find}
 use Rattle.std.specs.List.{list_all, list_any}
 use Rattle.std.specs.Str.{bytes_eq}
 use Rattle.lane_scan.specs.Bytes.{is_foreign}
@@ -17,6 +17,13 @@ use Rattle.report_reader.specs.declared.commands.CommandStop.TheVariants.{Bad, M
 use Rattle.report_text.specs.Grammar.{method_word, command_text}
 use Rattle.report_text.specs.Form.{most_pivots, IsCommand}
 
+-- the words of a command
+abbrev pub command_words : Command → List (List ℕ)
+command_words Check = codes "check" ∷ []
+command_words (Iis method) = codes "iis" ∷ method_word method ∷ []
+command_words (Pivots n) = codes "budget" ∷ codes "pivots" ∷ decimal n ∷ []
+
+-- ---- the words that are a command
 -- one digit or more
 abbrev pub is_numeral : List ℕ → Bool
 is_numeral word = nat_lt 0 (length word) && list_all is_dec word
@@ -25,7 +32,7 @@ is_numeral word = nat_lt 0 (length word) && list_all is_dec word
 abbrev pub pivots_of : List ℕ → Option ℕ
 pivots_of word = cond (is_numeral word && nat_le (number_of word) most_pivots) (Some (number_of word)) None
 
--- what one field says
+-- what one word says
 abbrev pub lone_command : List ℕ → Option Command
 lone_command word = cond (bytes_eq word (codes "check")) (Some Check) None
 
@@ -33,22 +40,23 @@ lone_command word = cond (bytes_eq word (codes "check")) (Some Check) None
 abbrev pub method_of : List ℕ → Option Method
 method_of word = find (λ m. bytes_eq word (method_word m)) (Deletion ∷ Additive ∷ Sensitivity ∷ [])
 
--- what two fields say
+-- what two words say
 abbrev pub iis_command : List ℕ → List ℕ → Option Command
 iis_command first second = cond (bytes_eq first (codes "iis")) (option_map Iis (method_of second)) None
 
--- what three fields say
+-- what three words say
 abbrev pub budget_command : List ℕ → List ℕ → List ℕ → Option Command
 budget_command first second third = cond (bytes_eq first (codes "budget") && bytes_eq second (codes "pivots")) (option_map Pivots (pivots_of third)) None
 
--- the command that fields are, where they are one
+-- the command that words are, where they are one: the fields of a script's line, and what stands behind `command` in a report's
 abbrev pub command_said : List (List ℕ) → Option Command
 command_said [] = None
 command_said (a ∷ []) = lone_command a
 command_said (a ∷ b ∷ []) = iis_command a b
 command_said (a ∷ b ∷ c ∷ []) = budget_command a b c
-command_said (a ∷ b ∷ c ∷ d ∷ fields) = None
+command_said (a ∷ b ∷ c ∷ d ∷ words) = None
 
+-- ---- the lines of scripts
 -- what is said, where there is no fault
 abbrev pub unless_fault : Option TextKind → Option Command → Option Command
 unless_fault None said = said

@@ -7,12 +7,12 @@ use Rattle.lp_model.specs.declared.parts.Note.TheVariants.{LowerRemoved, LowerKe
 use Rattle.certs.specs.declared.evidence.Source.{Source}
 use Rattle.certs.specs.declared.evidence.Source.TheVariants.{Member as Of, Below, Above}
 use Rattle.lp_model.specs.declared.members.Side.{Side}
-use Rattle.report_text.specs.declared.report.Command.TheVariants.{Check, Iis, Pivots}
 use Rattle.report_reader.specs.declared.phrases.Keyword.{Keyword}
 use Rattle.report_reader.specs.declared.phrases.Phrase.{Phrase}
 use Rattle.report_reader.specs.declared.phrases.StopPhrase.{StopPhrase}
-use Rattle.report_text.specs.Grammar.{Line, ◌then◌, column_name, name_of, kind_word, side_word, method_word, site_word, op_word}
+use Rattle.report_text.specs.Grammar.{Line, ◌then◌, column_name, name_of, kind_word, side_word, site_word, op_word}
 use Rattle.report_text.specs.Form.{IsNamedColumn, IsNamedMember, IsWithinLimit, IsUse, IsCommand, IsCount, IsOperation}
+use Rattle.report_reader.specs.Commands.{command_words}
 
 -- how a keyword is spelled
 abbrev pub keyword_text : Keyword → List ℕ
@@ -86,9 +86,7 @@ abbrev pub details : Program → Phrase → List (List ℕ)
 details model Phrase.Head = codes "report" ∷ codes "1" ∷ []
 details model (Phrase.Note (LowerRemoved j)) = column_name model j ∷ codes "lower" ∷ codes "removed" ∷ []
 details model (Phrase.Note (LowerKept j)) = column_name model j ∷ codes "lower" ∷ codes "kept" ∷ []
-details model (Phrase.Command Check) = codes "check" ∷ []
-details model (Phrase.Command (Iis method)) = codes "iis" ∷ method_word method ∷ []
-details model (Phrase.Command (Pivots n)) = codes "budget" ∷ codes "pivots" ∷ decimal n ∷ []
+details model (Phrase.Command command) = command_words command
 details model Phrase.Feasible = []
 details model Phrase.Infeasible = []
 details model Phrase.Irreducible = []

@@ -1,5 +1,5 @@
 -- What a word says, if it says something: the first of a list that is spelled so.
-use Rattle.std.specs.Prelude.{◌≡◌, ℕ, List, [], ◌∷◌, Option, Some, find, IfSome, decimal}
+use Rattle.std.specs.Prelude.{◌≡◌, ⊤, ℕ, List, [], ◌∷◌, Option, Some, find, IfSome, decimal}
 use Rattle.std.specs.Str.{bytes_eq}
 use Rattle.report_reader.specs.declared.phrases.Keyword.{Keyword}
 use Rattle.report_reader.specs.declared.phrases.Phrase.{Phrase}
@@ -57,6 +57,11 @@ IsFractionSaid text q = IsWithinLimit q × (text ≡ printed q)
 -- the count is printed so, in decimal without leading zeros
 abbrev pub IsCountSaid : List ℕ → ℕ → Type 0
 IsCountSaid text n = IsCount n × (text ≡ decimal n)
+
+-- a third word is a count as it is printed
+abbrev pub IsPlain : List (List ℕ) → Type 0
+IsPlain (first ∷ second ∷ number ∷ []) = (n : ℕ) × IsCountSaid number n
+IsPlain words = ⊤
 
 -- the side is spelled so
 abbrev pub IsSideSaid : List ℕ → Side → Type 0

@@ -1,18 +1,22 @@
-//! The commands of scripts.
-ghost use Rattle.std.specs.Prelude.{◌≡◌, ◌≤◌, All, length, map, IfOk, IfErr, IfSome, Some};
+//! The commands of scripts and of reports.
+ghost use Rattle.std.specs.Prelude.{◌≡◌, ◌≤◌, All, List, ℕ, length, map, IfOk, IfErr, IfSome, Some};
+ghost use Rattle.std.specs.List.{list_all};
+ghost use Rattle.frac128.specs.Literal.{is_dec};
 ghost use Rattle.text_fields.specs.Lines.{text_of};
 ghost use Rattle.text_fields.specs.Fields.{IsInside};
+ghost use Rattle.report_reader.specs.Parts.{AreWords};
 ghost use Rattle.report_text.specs.Form.{most_pivots, IsCommand};
 ghost use Rattle.report_reader.specs.Commands.{pivots_of, lone_command, method_of, iis_command, budget_command, command_said, command_of, command_stop, IsCommandStop, CommandLaw};
 ghost use Rattle.report_reader.specs.declared.commands.CommandStop.{CommandStop};
 
+use crate::parts::Words;
 use report_text::{Command, Method};
 use std::alloc::Global;
 use text_fields::{FieldStop, Line, Span, fields};
 use thiserror::Error;
 
 // The most pivots that a budget may be.
-pub(crate) const MOST_PIVOTS: u64 = 1_000_000;
+const MOST_PIVOTS: u64 = 1_000_000;
 
 /// Why a line was not read as a command: it is none, or memory was refused.
 #[derive(Clone, Copy, PartialEq, Eq, Debug, Error)]
@@ -34,24 +38,30 @@ impl From<FieldStop> for CommandStop {
     }
 }
 
+// Whether each byte is a digit.
+fn all_digits(word: &[u8]) -> bool
+    ensures { result ≡ list_all is_dec word.now }
+{
+    word.iter().all(|b| *b >= b'0' && *b <= b'9')
+}
+
 // The number of pivots that digits write.
 fn number_of_pivots(word: &[u8]) -> Option<u64>
     ensures { result ≡ pivots_of word.now }
 {
-    if word.is_empty() {
+    if !all_digits(word) {
         return None;
     }
-    let mut value: u64 = 0;
-    for b in word {
-        if *b < b'0' || *b > b'9' {
-            return None;
-        }
-        value = value * 10 + u64::from(*b - b'0');
-        if value > MOST_PIVOTS {
-            return None;
-        }
+    let Ok(digits) = str::from_utf8(word) else {
+        return None;
+    };
+    let Ok(pivots) = digits.parse::<u64>() else {
+        return None;
+    };
+    if pivots > MOST_PIVOTS {
+        return None;
     }
-    Some(value)
+    Some(pivots)
 }
 
 // `check`.
@@ -109,17 +119,33 @@ fn read_budget(first: &[u8], second: &[u8], third: &[u8]) -> Option<Command>
     Some(Command::Pivots(pivots))
 }
 
+/// The command that words are: `check`; or `iis` and `deletion`, `additive` or `sensitivity`; or `budget`, `pivots` and a
+/// number of at most 1,000,000 in one digit or more.
+pub(crate) fn command_in(words: Words<'_>) -> Option<Command>
+    ensures { (ws : List (List ℕ)) → AreWords words.entry ws → result ≡ command_said ws }
+{
+    match words {
+        Words::One(word) => read_lone(word),
+        Words::Two(first, second) => read_search(first, second),
+        Words::Three(first, second, third) => read_budget(first, second, third),
+        Words::Four(_, _, _, _) => None,
+        Words::More => None,
+    }
+}
+
 // What the fields say.
 fn read_fields(text: &[u8], spans: &[Span]) -> Option<Command>
     requires { All (IsInside text.now) spans.now }
     ensures { result ≡ command_said (map (text_of text.now) spans.now) }
 {
     match spans {
-        [word] => read_lone(word.text(text)),
-        [first, second] => read_search(first.text(text), second.text(text)),
-        [first, second, third] => {
-            read_budget(first.text(text), second.text(text), third.text(text))
-        }
+        [word] => command_in(Words::One(word.text(text))),
+        [first, second] => command_in(Words::Two(first.text(text), second.text(text))),
+        [first, second, third] => command_in(Words::Three(
+            first.text(text),
+            second.text(text),
+            third.text(text),
+        )),
         _ => None,
     }
 }

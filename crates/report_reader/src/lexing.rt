@@ -3,11 +3,10 @@ ghost use Rattle.std.specs.Prelude.{◌≡◌, List, [], ◌∷◌, ℕ};
 ghost use Rattle.report_reader.specs.Parts.{parts, AreWords};
 ghost use Rattle.rational.specs.Rational.{zero_ℚ, ◌<ℚ◌};
 ghost use Rattle.lp_model.specs.Program.{Program};
-ghost use Rattle.report_text.specs.Grammar.{method_word};
 ghost use Rattle.report_reader.specs.Phrases.{Says};
-ghost use Rattle.report_reader.specs.Words.{Finds, IsSpelled, IsFractionSaid};
+ghost use Rattle.report_reader.specs.Words.{Finds, IsSpelled, IsFractionSaid, IsPlain};
 
-use crate::commands::MOST_PIVOTS;
+use crate::commands::command_in;
 use crate::keywords::{leading_keyword, lone_phrase};
 use crate::naming::{column_of, count_of, fraction_of, member_of, side_of};
 use crate::parts::{Words, cut, split_words};
@@ -18,23 +17,6 @@ use crate::stop_words::{
 use certs::{Share, Source};
 use frac128::Frac;
 use lp_model::{Model, Note, Side};
-use report_text::{Command, Method};
-
-// A method.
-fn method_of(word: &[u8]) -> Option<Method>
-    ensures { Finds (λ m. word.now ≡ method_word m) result }
-{
-    if word == b"deletion".as_slice() {
-        return Some(Method::Deletion);
-    }
-    if word == b"additive".as_slice() {
-        return Some(Method::Additive);
-    }
-    if word == b"sensitivity".as_slice() {
-        return Some(Method::Sensitivity);
-    }
-    None
-}
 
 // `report end`.
 fn read_foot(word: &[u8]) -> Option<Phrase>
@@ -46,14 +28,14 @@ fn read_foot(word: &[u8]) -> Option<Phrase>
     None
 }
 
-// `command check`.
-fn read_check(word: &[u8]) -> Option<Phrase>
-    ensures { (model : Program) → Finds (IsSpelled model Keyword.Command (word.now ∷ [])) result }
+// A command, of which a third word is a count as it is printed.
+fn read_command(words: Words<'_>) -> Option<Phrase>
+    ensures { (model : Program) (ws : List (List ℕ)) → AreWords words.entry ws → IsPlain ws → Finds (IsSpelled model Keyword.Command ws) result }
 {
-    if word == b"check".as_slice() {
-        return Some(Phrase::Command(Command::Check));
-    }
-    None
+    let Some(command) = command_in(words) else {
+        return None;
+    };
+    Some(Phrase::Command(command))
 }
 
 // What one word says behind a keyword.
@@ -62,7 +44,7 @@ fn read_one(keyword: Keyword, word: &[u8]) -> Option<Phrase>
 {
     match keyword {
         Keyword::Report => read_foot(word),
-        Keyword::Command => read_check(word),
+        Keyword::Command => read_command(Words::One(word)),
         Keyword::Too => read_too(word),
         Keyword::Pivots => read_pivots(word),
         Keyword::Site => read_site(word),
@@ -79,19 +61,6 @@ fn read_head(first: &[u8], second: &[u8]) -> Option<Phrase>
         return Some(Phrase::Head);
     }
     None
-}
-
-// A command that looks for an irreducible set.
-fn read_command(first: &[u8], second: &[u8]) -> Option<Phrase>
-    ensures { (model : Program) → Finds (IsSpelled model Keyword.Command (first.now ∷ second.now ∷ [])) result }
-{
-    if first != b"iis".as_slice() {
-        return None;
-    }
-    let Some(method) = method_of(second) else {
-        return None;
-    };
-    Some(Phrase::Command(Command::Iis(method)))
 }
 
 // The value of a column, which is not 0.
@@ -126,7 +95,7 @@ fn read_two(model: &Model, keyword: Keyword, first: &[u8], second: &[u8]) -> Opt
 {
     match keyword {
         Keyword::Iisan => read_head(first, second),
-        Keyword::Command => read_command(first, second),
+        Keyword::Command => read_command(Words::Two(first, second)),
         Keyword::Value => read_value(model, first, second),
         Keyword::Member => read_member(model, first, second),
         Keyword::Without => read_without(model, first, second),
@@ -193,20 +162,14 @@ fn read_branch(model: &Model, which: &[u8], name: &[u8], number: &[u8]) -> Optio
     None
 }
 
-// A command that sets the budget of pivots.
+// A command with a number, which is written as it is printed.
 fn read_budget(first: &[u8], second: &[u8], third: &[u8]) -> Option<Phrase>
     ensures { (model : Program) → Finds (IsSpelled model Keyword.Command (first.now ∷ second.now ∷ third.now ∷ [])) result }
 {
-    if first != b"budget".as_slice() || second != b"pivots".as_slice() {
-        return None;
-    }
-    let Some(count) = count_of(third) else {
+    let Some(_) = count_of(third) else {
         return None;
     };
-    if count > MOST_PIVOTS {
-        return None;
-    }
-    Some(Phrase::Command(Command::Pivots(count)))
+    read_command(Words::Three(first, second, third))
 }
 
 // What three words say behind a keyword.

@@ -1,41 +1,22 @@
 //! What stands before what.
 ghost use Rattle.std.specs.Prelude.{◌≡◌};
 ghost use Rattle.std.specs.List.{list_all};
-ghost use Rattle.lp_model.specs.Members.{IsInOrder, kind, place, comes_before as stands_before};
+ghost use Rattle.lp_model.specs.Members.{IsInOrder, comes_before as stands_before};
 ghost use Rattle.certs.specs.Order.{AreSharesInOrder, share_before};
 
 use certs::{Share, Source, side_stands_before};
 use lp_model::{Member, Side};
 
-// The rank of a member's kind.
-fn kind_of(member: Member) -> u32
-    ensures { result ≡ kind member }
-{
-    match member {
-        Member::Row(_) => 0,
-        Member::Lower(_) => 1,
-        Member::Upper(_) => 2,
-        Member::Whole(_) => 3,
-    }
-}
-
-// The number of a member in its kind.
-fn place_of(member: Member) -> u32
-    ensures { result ≡ place member }
-{
-    match member {
-        Member::Row(index) | Member::Lower(index) | Member::Upper(index) | Member::Whole(index) => {
-            index
-        }
-    }
-}
-
-// Whether a member stands before another.
+// Whether a member stands before another: as its lower side does before the other's.
 fn comes_before(first: Member, second: Member) -> bool
     ensures { result ≡ stands_before first second }
 {
-    kind_of(first) < kind_of(second)
-        || kind_of(first) == kind_of(second) && place_of(first) < place_of(second)
+    side_stands_before(
+        Source::Member(first),
+        Side::Lo,
+        Source::Member(second),
+        Side::Lo,
+    )
 }
 
 /// Whether a member comes after all the members of a list.

@@ -1,2 +1,3 @@
+pub mod Lengths
 pub mod Filters
 pub mod InTurn

@@ -1,6 +1,8 @@
 //! Scripts and reports: their commands, answers and entries, and the grammar of a report's text.
 #![tactic(auto)]
 
+mod layout;
 mod report;
 
+pub use layout::{HEAD_LINES, MEMBER_LINES, OPENING_LINES, PROOF_LINES, witness_length};
 pub use report::{Answer, Command, Core, Entries, Entry, Method, Notes, Report, Script, Witnesses};

@@ -1,6 +1,6 @@
 use Rattle.std.proofs.Common.{◌≡◌, ◌+◌, sym, ◌∙◌, ap, true≢false, length, filter, suc, arith, Some, None}
 use Rattle.lp_model.specs.MemberSets.{follows}
-use Rattle.certs.proofs.Walk.{all_follow, next_step, fewer_follow, next_possible}
+use Rattle.certs.proofs.Walk.{all_follow, next_step, none_follow, fewer_follow, next_possible}
 use Rattle.cert_check.specs.Trials.{paired_trials, is_active_use}
 use Rattle.cert_check.specs.Stops.{first_stop}
 use Rattle.cert_check.proofs.Pairs.{inactive, not_used, used_next, used_goes_on, both_ended, in_range, some_of, none_of}
@@ -73,5 +73,10 @@ returns-then-is_some c =
 pub returns : goal.returns
 returns c =
     let none = none_of c.next-2.result (sym c.is_some.ensures ∙ c.if-is_some.false) in
-    sym c.loop-member.invariant.left
-    ∙ both_ended c.args.model.now c.loop-member.line c.args.printed.now.members c.args.used.now.members c.loop-member.after (sym c.next.ensures ∙ c.in_default.is) (sym c.next-2.ensures ∙ none)
+    let printed = c.args.printed.now.members in
+    let after = c.loop-member.after in
+    let ended = sym c.next.ensures ∙ c.in_default.is in
+    let nothing : length (filter (follows after) printed) ≡ 0 = ap length (none_follow after printed ended) in (
+      sym c.loop-member.invariant.left ∙ both_ended c.args.model.now c.loop-member.line printed c.args.used.now.members after ended (sym c.next-2.ensures ∙ none),
+      omega (arith, nothing, c.loop-member.invariant.line),
+    )

@@ -1,6 +1,5 @@
-use Rattle.std.proofs.Common.{◌≡◌, ◌+◌, sym, ◌∙◌, ap, subst, true, length, filter, not, flat_map, arith, None, [], ◌∷◌}
+use Rattle.std.proofs.Common.{◌≡◌, ◌+◌, sym, ◌∙◌, ap, subst, true, length, flat_map, arith, None, [], ◌∷◌}
 use Rattle.std.proofs.lemmas.Result.{err_from_is_err_and}
-use Rattle.rational.specs.Rational.{zero_ℚ, eq_ℚ}
 use Rattle.lp_model.specs.MemberSets.{SetValue, IsPossibleIn}
 use Rattle.lp_model.specs.Members.{has}
 use Rattle.certs.proofs.Walk.{all_follow, next_possible}
@@ -63,21 +62,14 @@ pub overflow_cast-line : goal.overflow_cast-line
 overflow_cast-line c =
     let i = c.loop-witness in
     let step = lines_step c.args.model.now c.args.members.now.members c.args.witnesses.now i.after i.witness-index c.in-Some.member c.witness-item.result c.stands_in_order.ensures.in_order (sym c.next.ensures ∙ c.in-Some.is) c.loop-witness-test.true c.witness-item.is in
-    let count : c.count_values.result ≡ length (filter (λ v. not (eq_ℚ v zero_ℚ)) c.witness-item.result.values) = c.count_values.ensures ∙ ap (λ l. length (filter (λ v. not (eq_ℚ v zero_ℚ)) l)) c.as_slice.ensures in
+    let count = c.witness_length.ensures c.args.model.now c.in-Some.member in
     omega (arith, step, count, i.invariant.line, c.requires.short)
 
 pub overflow_add-line : goal.overflow_add-line
 overflow_add-line c =
     let i = c.loop-witness in
     let step = lines_step c.args.model.now c.args.members.now.members c.args.witnesses.now i.after i.witness-index c.in-Some.member c.witness-item.result c.stands_in_order.ensures.in_order (sym c.next.ensures ∙ c.in-Some.is) c.loop-witness-test.true c.witness-item.is in
-    let count : c.count_values.result ≡ length (filter (λ v. not (eq_ℚ v zero_ℚ)) c.witness-item.result.values) = c.count_values.ensures ∙ ap (λ l. length (filter (λ v. not (eq_ℚ v zero_ℚ)) l)) c.as_slice.ensures in
-    omega (arith, step, count, i.invariant.line, c.requires.short)
-
-pub overflow_add-line-in-loop-witness : goal.overflow_add-line-in-loop-witness
-overflow_add-line-in-loop-witness c =
-    let i = c.loop-witness in
-    let step = lines_step c.args.model.now c.args.members.now.members c.args.witnesses.now i.after i.witness-index c.in-Some.member c.witness-item.result c.stands_in_order.ensures.in_order (sym c.next.ensures ∙ c.in-Some.is) c.loop-witness-test.true c.witness-item.is in
-    let count : c.count_values.result ≡ length (filter (λ v. not (eq_ℚ v zero_ℚ)) c.witness-item.result.values) = c.count_values.ensures ∙ ap (λ l. length (filter (λ v. not (eq_ℚ v zero_ℚ)) l)) c.as_slice.ensures in
+    let count = c.witness_length.ensures c.args.model.now c.in-Some.member in
     omega (arith, step, count, i.invariant.line, c.requires.short)
 
 pub loop-witness-preserved : goal.loop-witness-preserved
@@ -91,8 +83,7 @@ loop-witness-preserved c =
     let order = c.stands_in_order.ensures.in_order in
     let there = sym c.next.ensures ∙ c.in-Some.is in
     let step = lines_step model set witnesses i.after i.witness-index m w order there c.loop-witness-test.true c.witness-item.is in
-    let count : c.count_values.result ≡ length (filter (λ v. not (eq_ℚ v zero_ℚ)) w.values) = c.count_values.ensures ∙ ap (λ l. length (filter (λ v. not (eq_ℚ v zero_ℚ)) l)) c.as_slice.ensures in
-    let both : 2 + c.count_values.result ≡ 2 + length (filter (λ v. not (eq_ℚ v zero_ℚ)) w.values) = ap (λ k. 2 + k) count in
+    let count = c.witness_length.ensures c.args.model.now c.in-Some.member in
     let says : first_stop (witness_trials model set i.line ((m, w) ∷ [])) ≡ None = sym (ap (λ (v : SetValue). first_stop (witness_trials model v.members i.line ((m, w) ∷ []))) i.invariant.others) ∙ c.in_ok-check_witness.ensures.says in
     record {
       possible = next_possible c.args.members.now i.after m c.stands_in_order.ensures.possible there;
@@ -100,6 +91,6 @@ loop-witness-preserved c =
       each = each_step model set witnesses i.after i.witness-index m w order there c.loop-witness-test.true c.witness-item.is i.invariant.each;
       line = omega (arith, step, count, i.invariant.line);
       left =
-          witness_passes model set witnesses i.after i.witness-index m w order there c.loop-witness-test.true c.witness-item.is set i.line (2 + c.count_values.result) says both
+          witness_passes model set witnesses i.after i.witness-index m w order there c.loop-witness-test.true c.witness-item.is set i.line c.witness_length.result says count
           ∙ i.invariant.left;
     }

@@ -1,6 +1,6 @@
 use Rattle.std.proofs.Common.{◌≡◌, ◌+◌, ◌≤◌, length, filter, not, drop}
 use Rattle.rational.specs.Rational.{zero_ℚ, eq_ℚ}
-use Rattle.cert_check.proofs.witnesses.count_values.Given as goal
+use Rattle.report_text.proofs.layout.count_values.Given as goal
 
 -- those that are left are still to be counted
 abbrev pub invariant-loop-value : goal.invariant-loop-value

@@ -1,0 +1,45 @@
+//! How many lines the parts of a report have.
+ghost use Rattle.std.specs.Prelude.{◌≡◌, ◌≤◌, length, filter, not};
+ghost use Rattle.rational.specs.Rational.{zero_ℚ, eq_ℚ};
+ghost use Rattle.lp_model.specs.Program.{Program};
+ghost use Rattle.lp_model.specs.declared.members.Member.{Member as OneMember};
+ghost use Rattle.report_text.specs.Grammar.{witness_lines};
+
+use certs::Point;
+use frac128::Frac;
+
+/// How many lines stand before the notes: the head.
+pub const HEAD_LINES: u32 = 1;
+
+/// How many lines of an entry stand before its point, its members or its witnesses: that of the command, and that which
+/// tells what the answer is.
+pub const OPENING_LINES: u32 = 2;
+
+/// How many lines of a member with its witness stand before the point: that of the member.
+pub const MEMBER_LINES: u32 = 1;
+
+/// How many lines of a proof stand before its first leaf: that of the proof.
+pub const PROOF_LINES: u32 = 1;
+
+// How many values are not 0.
+fn count_values(values: &[Frac]) -> u64
+    ensures count { result ≡ length (filter (λ v. not (eq_ℚ v zero_ℚ)) values.now) }
+    ensures few { result ≤ length values.now }
+{
+    let zero = Frac::whole(0);
+    let mut count: u64 = 0;
+    for value in values {
+        if *value != zero {
+            count += 1;
+        }
+    }
+    count
+}
+
+/// How many lines a member with its witness has: one for the member, one for the point, and one for each value that is
+/// not 0.
+pub fn witness_length(witness: &Point) -> u64
+    ensures { (model : Program) (m : OneMember) → result ≡ length (witness_lines model (m, witness.now)) }
+{
+    2 + count_values(witness.values.as_slice())
+}
