@@ -29,6 +29,7 @@ use Rattle.report_reader.specs.declared.phrases.Phrase.{Phrase}
 use Rattle.report_reader.specs.declared.phrases.StopPhrase.{StopPhrase}
 use Rattle.report_reader.specs.declared.drafts.Found.{Found}
 use Rattle.report_reader.specs.declared.drafts.Question.{Question}
+use Rattle.report_reader.specs.declared.drafts.StopCause.{StopCause}
 use Rattle.report_reader.specs.declared.drafts.StopPart.{StopPart}
 use Rattle.report_reader.specs.declared.drafts.Part.{Part}
 use Rattle.report_reader.specs.declared.drafts.Next.{Next}
@@ -40,7 +41,7 @@ use Rattle.report_text.proofs.InTurn.{gathered-push, AllEntries-push, numbered-p
 use Rattle.certs.specs.Order.{share_before}
 use Rattle.report_text.specs.Form.{is_word, IsNamedColumn, IsNamedMember, IsWithinLimit, IsUse, AreUses, IsListed, IsOneLeaf, IsPointFor, IsAnswerFor, IsEntryFor, AreEntriesFor, can_answer}
 use Rattle.report_reader.specs.Phrases.{IsPhraseFor, phrase_line}
-use Rattle.report_reader.specs.Drafts.{filled, point_of, leaf_of, set_of, answer_of, only_if, witnessed_with, site_without, with_left_out, left_out_next, at_site, stop_begun, stop_with, extended, placed, between, advanced, AreValues, AreMembers, AreWitnesses, IsFound, IsOneMore, AreLeftOut, IsStopPart, Asks, IsPartFor, IsDraftFor}
+use Rattle.report_reader.specs.Drafts.{filled, point_of, leaf_of, set_of, answer_of, only_if, witnessed_with, site_without, stop_begun, stop_with, extended, placed, between, advanced, AreValues, AreMembers, AreWitnesses, IsFound, IsOneMore, AreLeftOut, IsStopPart, Asks, IsPartFor, IsDraftFor}
 use Rattle.report_reader.proofs.Said.{value_phrases, point_phrases, proof_phrases, witness_phrases, without_phrase, site_phrases, answer_front, answer_end, entry_phrases, entries_phrases, body_phrases, entries_spelled}
 use Rattle.report_reader.proofs.Named.{told}
 use Rattle.report_reader.proofs.LeftOut.{none_left, left_twice, site_in_form}
@@ -54,17 +55,20 @@ found_phrases (Found.Witnessed members witnesses) = Phrase.Irreducible ∷ flat_
 abbrev pub settle_phrase : Phrase
 settle_phrase = Phrase.Stop (StopPhrase.Site Settle)
 
--- what a stop says first, the site of its run, and the members left out
-abbrev pub begun_phrases : StopPhrase → List Member → List Phrase
-begun_phrases s left = Phrase.Stop s ∷ settle_phrase ∷ map without_phrase left
+-- what a stop says first
+abbrev pub opening : StopCause → StopPhrase
+opening StopCause.Wide = StopPhrase.Wide
+opening StopCause.Spent = StopPhrase.Spent
+
+-- the same, the site of its run, and the members left out
+abbrev pub begun_phrases : StopCause → List Member → List Phrase
+begun_phrases cause left = Phrase.Stop (opening cause) ∷ settle_phrase ∷ map without_phrase left
 
 abbrev pub stop_part_phrases : StopPart → List Phrase
-stop_part_phrases StopPart.Wide = Phrase.Stop StopPhrase.Wide ∷ []
-stop_part_phrases (StopPart.WideSite left) = begun_phrases StopPhrase.Wide left
-stop_part_phrases (StopPart.WideStep left k) = begun_phrases StopPhrase.Wide left ++ Phrase.Stop (StopPhrase.Step k) ∷ []
-stop_part_phrases (StopPart.WideOperation left k o) = begun_phrases StopPhrase.Wide left ++ Phrase.Stop (StopPhrase.Step k) ∷ Phrase.Stop (StopPhrase.Operation o) ∷ []
-stop_part_phrases StopPart.Spent = Phrase.Stop StopPhrase.Spent ∷ []
-stop_part_phrases (StopPart.SpentSite left) = begun_phrases StopPhrase.Spent left
+stop_part_phrases (StopPart.Begun cause) = Phrase.Stop (opening cause) ∷ []
+stop_part_phrases (StopPart.Site cause left) = begun_phrases cause left
+stop_part_phrases (StopPart.Step left k) = begun_phrases StopCause.Wide left ++ Phrase.Stop (StopPhrase.Step k) ∷ []
+stop_part_phrases (StopPart.Operation left k o) = begun_phrases StopCause.Wide left ++ Phrase.Stop (StopPhrase.Step k) ∷ Phrase.Stop (StopPhrase.Operation o) ∷ []
 
 abbrev pub part_phrases : Part → List Phrase
 part_phrases Part.Nothing = []
@@ -235,6 +239,11 @@ module _ (model : Program) where
   same_more : (a b : Part) → Next.More a ≡ Next.More b → a ≡ b
   same_more a b e = cc
 
+  -- a list that takes one element more, where it may
+  list_taken : {X : Type 0} (c : Command) (part : Part) (p : Phrase) (make : X → Part) (b : Bool) (x : X) (next : Part) → (b ≡ true → Took c part p (make x)) → option_map (λ y. Next.More (make y)) (only_if b x) ≡ Some (Next.More next)
+      → Took c part p next
+  list_taken c part p make b x next took e = let t = mapped_told (λ y. Next.More (make y)) b x (Next.More next) e in subst (Took c part p) (same_more (make x) next t.1) (took t.0)
+
   no_members : AreMembers model []
   no_members = record { named = All-nil (IsNamedMember model); in_order = λ i j d l m. absurd (omega arith) }
 
@@ -281,48 +290,30 @@ module _ (model : Program) where
   -- a stop, and a phrase
   begun_taken : (c : Command) (s : StopPhrase) (next : Part) → Asks c → stop_begun s ≡ Some (Next.More next) → Took c Part.Nothing (Phrase.Stop s) next
   unfolding Took
-  begun_taken c StopPhrase.Wide next asks e = subst (Took c Part.Nothing (Phrase.Stop StopPhrase.Wide)) (more_is (Part.Stop StopPart.Wide) next e) ((asks, tt), refl)
-  begun_taken c StopPhrase.Spent next asks e = subst (Took c Part.Nothing (Phrase.Stop StopPhrase.Spent)) (more_is (Part.Stop StopPart.Spent) next e) ((asks, tt), refl)
+  begun_taken c StopPhrase.Wide next asks e = subst (Took c Part.Nothing (Phrase.Stop StopPhrase.Wide)) (more_is (Part.Stop (StopPart.Begun StopCause.Wide)) next e) ((asks, tt), refl)
+  begun_taken c StopPhrase.Spent next asks e = subst (Took c Part.Nothing (Phrase.Stop StopPhrase.Spent)) (more_is (Part.Stop (StopPart.Begun StopCause.Spent)) next e) ((asks, tt), refl)
   begun_taken c _ next asks e = absurd (cc)
-
-  site_taken : (c : Command) (part then : StopPart) (p : Phrase) (next : Part) → Asks c × IsStopPart model then → stop_part_phrases then ≡ stop_part_phrases part ++ settle_phrase ∷ []
-      → at_site then p ≡ Some (Next.More next) → Took c (Part.Stop part) p next
-  unfolding Took
-  site_taken c part then (Phrase.Stop (StopPhrase.Site Settle)) next h k e = subst (Took c (Part.Stop part) settle_phrase) (more_is (Part.Stop then) next e) (h, k)
-  site_taken c part then (Phrase.Stop _) next h k e = absurd (cc)
-  site_taken c part then _ next h k e = absurd (cc)
-
-  without_taken : (c : Command) (s : StopPhrase) (make : List Member → StopPart) (left : List Member) (m : Member) (next : Part) → Asks c × AreLeftOut model left → IsNamedMember model m
-      → ((members : List Member) → AreLeftOut model members → IsStopPart model (make members)) → ((members : List Member) → stop_part_phrases (make members) ≡ begun_phrases s members)
-      → left_out_next make (with_left_out model left m) ≡ Some (Next.More next) → Took c (Part.Stop (make left)) (without_phrase m) next
-  unfolding Took
-  without_taken c s make left m next h named may said e =
-      let t = mapped_told (λ members. Next.More (Part.Stop (make members))) (is_active model m && list_all (λ n. comes_before n m) left) (left ++ m ∷ []) (Next.More next) e in
-      subst (Took c (Part.Stop (make left)) (without_phrase m)) (same_more (Part.Stop (make (left ++ m ∷ []))) next t.1) (
-        (h.0, may (left ++ m ∷ []) (left_taken left m h.1 named t.0)),
-        said (left ++ m ∷ []) ∙ ap (λ l. Phrase.Stop s ∷ settle_phrase ∷ l) (map_push without_phrase left m) ∙ ap (λ l. l ++ without_phrase m ∷ []) (sym (said left)),
-      )
 
   stop_taken : (c : Command) (part : StopPart) (p : Phrase) (next : Part) → Asks c × IsStopPart model part → IsPhraseFor model p → stop_with model part p ≡ Some (Next.More next) → Took c (Part.Stop part) p next
   unfolding Took
-  stop_taken c StopPart.Wide p next h k e = site_taken c StopPart.Wide (StopPart.WideSite []) p next (h.0, none_left model) refl e
-  stop_taken c (StopPart.WideSite left) (Phrase.Stop (StopPhrase.Without m)) next h k e = without_taken c StopPhrase.Wide (λ members. StopPart.WideSite members) left m next h k (λ members l. l) (λ members. refl) e
-  stop_taken c (StopPart.WideSite left) (Phrase.Stop (StopPhrase.Step n)) next h k e =
-      subst (Took c (Part.Stop (StopPart.WideSite left)) (Phrase.Stop (StopPhrase.Step n))) (more_is (Part.Stop (StopPart.WideStep left n)) next e) ((h.0, (h.1, k)), refl)
-  stop_taken c (StopPart.WideSite left) (Phrase.Stop _) next h k e = absurd (cc)
-  stop_taken c (StopPart.WideSite left) _ next h k e = absurd (cc)
-  stop_taken c (StopPart.WideStep left n) (Phrase.Stop (StopPhrase.Operation o)) next h k e =
-      subst (Took c (Part.Stop (StopPart.WideStep left n)) (Phrase.Stop (StopPhrase.Operation o))) (more_is (Part.Stop (StopPart.WideOperation left n o)) next e)
-      ((h.0, (h.1.0, (h.1.1, k))), sym (append_assoc (begun_phrases StopPhrase.Wide left) (Phrase.Stop (StopPhrase.Step n) ∷ []) (Phrase.Stop (StopPhrase.Operation o) ∷ [])))
-  stop_taken c (StopPart.WideStep left n) (Phrase.Stop _) next h k e = absurd (cc)
-  stop_taken c (StopPart.WideStep left n) _ next h k e = absurd (cc)
-  stop_taken c (StopPart.WideOperation left n o) Phrase.End next h k e = absurd (cc)
-  stop_taken c (StopPart.WideOperation left n o) _ next h k e = absurd (cc)
-  stop_taken c StopPart.Spent p next h k e = site_taken c StopPart.Spent (StopPart.SpentSite []) p next (h.0, none_left model) refl e
-  stop_taken c (StopPart.SpentSite left) (Phrase.Stop (StopPhrase.Without m)) next h k e = without_taken c StopPhrase.Spent (λ members. StopPart.SpentSite members) left m next h k (λ members l. l) (λ members. refl) e
-  stop_taken c (StopPart.SpentSite left) (Phrase.Stop _) next h k e = absurd (cc)
-  stop_taken c (StopPart.SpentSite left) Phrase.End next h k e = absurd (cc)
-  stop_taken c (StopPart.SpentSite left) _ next h k e = absurd (cc)
+  stop_taken c (StopPart.Begun cause) (Phrase.Stop (StopPhrase.Site Settle)) next h k e = subst (Took c (Part.Stop (StopPart.Begun cause)) settle_phrase) (more_is (Part.Stop (StopPart.Site cause [])) next e) ((h.0, none_left model), refl)
+  stop_taken c (StopPart.Begun cause) (Phrase.Stop _) next h k e = absurd (cc)
+  stop_taken c (StopPart.Begun cause) _ next h k e = absurd (cc)
+  stop_taken c (StopPart.Site cause left) (Phrase.Stop (StopPhrase.Without m)) next h k e =
+      list_taken c (Part.Stop (StopPart.Site cause left)) (without_phrase m) (λ members. Part.Stop (StopPart.Site cause members)) (is_active model m && list_all (λ n. comes_before n m) left) (left ++ m ∷ []) next
+      (λ t. ((h.0, left_taken left m h.1 k t), ap (λ l. Phrase.Stop (opening cause) ∷ settle_phrase ∷ l) (map_push without_phrase left m))) e
+  stop_taken c (StopPart.Site StopCause.Wide left) (Phrase.Stop (StopPhrase.Step n)) next h k e =
+      subst (Took c (Part.Stop (StopPart.Site StopCause.Wide left)) (Phrase.Stop (StopPhrase.Step n))) (more_is (Part.Stop (StopPart.Step left n)) next e) ((h.0, (h.1, k)), refl)
+  stop_taken c (StopPart.Site cause left) (Phrase.Stop _) next h k e = absurd (cc)
+  stop_taken c (StopPart.Site StopCause.Spent left) Phrase.End next h k e = absurd (cc)
+  stop_taken c (StopPart.Site cause left) _ next h k e = absurd (cc)
+  stop_taken c (StopPart.Step left n) (Phrase.Stop (StopPhrase.Operation o)) next h k e =
+      subst (Took c (Part.Stop (StopPart.Step left n)) (Phrase.Stop (StopPhrase.Operation o))) (more_is (Part.Stop (StopPart.Operation left n o)) next e)
+      ((h.0, (h.1.0, (h.1.1, k))), sym (append_assoc (begun_phrases StopCause.Wide left) (Phrase.Stop (StopPhrase.Step n) ∷ []) (Phrase.Stop (StopPhrase.Operation o) ∷ [])))
+  stop_taken c (StopPart.Step left n) (Phrase.Stop _) next h k e = absurd (cc)
+  stop_taken c (StopPart.Step left n) _ next h k e = absurd (cc)
+  stop_taken c (StopPart.Operation left n o) Phrase.End next h k e = absurd (cc)
+  stop_taken c (StopPart.Operation left n o) _ next h k e = absurd (cc)
 
   more_taken : (c : Command) (part : Part) (p : Phrase) (next : Part) → IsPartFor model c part → IsPhraseFor model p → extended model c part p ≡ Some (Next.More next) → Took c part p next
   unfolding Took
@@ -340,15 +331,12 @@ module _ (model : Program) where
   more_taken c Part.Feasible Phrase.Point next h k e = subst (Took c Part.Feasible Phrase.Point) (more_is (Part.Point []) next e) ((h, no_values), refl)
   more_taken c Part.Feasible _ next h k e = absurd (cc)
   more_taken c (Part.Point values) (Phrase.Value j v) next h k e =
-      let t = mapped_told (λ vs. Next.More (Part.Point vs)) (nat_le (length values) j) (filled j values ++ v ∷ []) (Next.More next) e in
-      let le : length values ≤ j = leb-true (length values) j t.0 in
-      subst (Took c (Part.Point values) (Phrase.Value j v)) (same_more (Part.Point (filled j values ++ v ∷ [])) next t.1)
-      ((h.0, value_taken values j v h.1 k le), ap (λ l. Phrase.Feasible ∷ Phrase.Point ∷ l) (value_said values j v le k.1.1))
+      list_taken c (Part.Point values) (Phrase.Value j v) (λ vs. Part.Point vs) (nat_le (length values) j) (filled j values ++ v ∷ []) next
+      (λ t. (let le : length values ≤ j = leb-true (length values) j t in ((h.0, value_taken values j v h.1 k le), ap (λ l. Phrase.Feasible ∷ Phrase.Point ∷ l) (value_said values j v le k.1.1)))) e
   more_taken c (Part.Point values) _ next h k e = absurd (cc)
   more_taken Check (Part.Listed (Found.Members members)) (Phrase.Member m) next h k e =
-      let t = mapped_told (λ ms. Next.More (Part.Listed (Found.Members ms))) (list_all (λ n. comes_before n m) members) (members ++ m ∷ []) (Next.More next) e in
-      subst (Took Check (Part.Listed (Found.Members members)) (Phrase.Member m)) (same_more (Part.Listed (Found.Members (members ++ m ∷ []))) next t.1)
-      (member_taken members m h k t.0, ap (λ l. Phrase.Infeasible ∷ l) (map_push Phrase.Member members m))
+      list_taken Check (Part.Listed (Found.Members members)) (Phrase.Member m) (λ ms. Part.Listed (Found.Members ms)) (list_all (λ n. comes_before n m) members) (members ++ m ∷ []) next
+      (λ t. (member_taken members m h k t, ap (λ l. Phrase.Infeasible ∷ l) (map_push Phrase.Member members m))) e
   more_taken (Iis method) (Part.Listed (Found.Members members)) p next h k e = absurd h
   more_taken (Pivots n) (Part.Listed (Found.Members members)) p next h k e = absurd h
   more_taken c (Part.Listed (Found.Members members)) Phrase.Proof next h k e = subst (Took c (Part.Listed (Found.Members members)) Phrase.Proof) (more_is (Part.Proof (Found.Members members)) next e) (h, refl)
@@ -359,13 +347,12 @@ module _ (model : Program) where
       ((h, no_values), sym (append_assoc (found_phrases (Found.Witnessed members witnesses)) (Phrase.Member m ∷ []) (Phrase.Point ∷ [])))
   more_taken c (Part.Member members witnesses m) _ next h k e = absurd (cc)
   more_taken c (Part.Witness members witnesses m values) (Phrase.Value j v) next h k e =
-      let t = mapped_told (λ vs. Next.More (Part.Witness members witnesses m vs)) (nat_le (length values) j) (filled j values ++ v ∷ []) (Next.More next) e in
-      let le : length values ≤ j = leb-true (length values) j t.0 in
-      subst (Took c (Part.Witness members witnesses m values) (Phrase.Value j v)) (same_more (Part.Witness members witnesses m (filled j values ++ v ∷ [])) next t.1) (
+      let front = found_phrases (Found.Witnessed members witnesses) in
+      list_taken c (Part.Witness members witnesses m values) (Phrase.Value j v) (λ vs. Part.Witness members witnesses m vs) (nat_le (length values) j) (filled j values ++ v ∷ []) next
+      (λ t. (let le : length values ≤ j = leb-true (length values) j t in (
         (h.0, value_taken values j v h.1 k le),
-        ap (λ l. found_phrases (Found.Witnessed members witnesses) ++ Phrase.Member m ∷ Phrase.Point ∷ l) (value_said values j v le k.1.1)
-            ∙ sym (append_assoc (found_phrases (Found.Witnessed members witnesses)) (Phrase.Member m ∷ Phrase.Point ∷ value_phrases 0 values) (Phrase.Value j v ∷ [])),
-      )
+        ap (λ l. front ++ Phrase.Member m ∷ Phrase.Point ∷ l) (value_said values j v le k.1.1) ∙ sym (append_assoc front (Phrase.Member m ∷ Phrase.Point ∷ value_phrases 0 values) (Phrase.Value j v ∷ [])),
+      ))) e
   more_taken c (Part.Witness members witnesses m values) p next h k e =
       let t = witnessed_taken c (members ++ m ∷ []) (witnesses ++ point_of model values ∷ []) p next (one_more_found c members witnesses m values h.0 h.1) k e in
       (t.0, t.1 ∙ ap (λ l. l ++ p ∷ []) (witnessed_said members witnesses m values (one_more_each c members witnesses m h.0)))
@@ -373,12 +360,12 @@ module _ (model : Program) where
       subst (Took c (Part.Proof found) Phrase.Leaf) (more_is (Part.Leaf found []) next e) ((h, no_uses), sym (append_assoc (found_phrases found) (Phrase.Proof ∷ []) (Phrase.Leaf ∷ [])))
   more_taken c (Part.Proof found) _ next h k e = absurd (cc)
   more_taken c (Part.Leaf found shares) (Phrase.Use s) next h k e =
-      let t = mapped_told (λ ss. Next.More (Part.Leaf found ss)) (list_all (λ u. share_before u.source u.side s.source s.side) shares) (shares ++ s ∷ []) (Next.More next) e in
-      subst (Took c (Part.Leaf found shares) (Phrase.Use s)) (same_more (Part.Leaf found (shares ++ s ∷ [])) next t.1) (
-        (h.0, share_taken shares s h.1 k t.0),
-        ap (λ l. found_phrases found ++ Phrase.Proof ∷ Phrase.Leaf ∷ l) (map_push Phrase.Use shares s)
-            ∙ sym (append_assoc (found_phrases found) (Phrase.Proof ∷ Phrase.Leaf ∷ map Phrase.Use shares) (Phrase.Use s ∷ [])),
-      )
+      let front = found_phrases found in
+      list_taken c (Part.Leaf found shares) (Phrase.Use s) (λ ss. Part.Leaf found ss) (list_all (λ u. share_before u.source u.side s.source s.side) shares) (shares ++ s ∷ []) next
+      (λ t. (
+        (h.0, share_taken shares s h.1 k t),
+        ap (λ l. front ++ Phrase.Proof ∷ Phrase.Leaf ∷ l) (map_push Phrase.Use shares s) ∙ sym (append_assoc front (Phrase.Proof ∷ Phrase.Leaf ∷ map Phrase.Use shares) (Phrase.Use s ∷ [])),
+      )) e
   more_taken c (Part.Leaf found shares) _ next h k e = absurd (cc)
 
   -- ---- answers
@@ -388,12 +375,6 @@ module _ (model : Program) where
     kind : can_answer c answer ≡ true
     form : IsAnswerFor model answer
     said : answer_front model answer ≡ part_phrases part
-
-  -- no answer ends with a site
-  no_site : (then : StopPart) (p : Phrase) (a : Answer) → at_site then p ≡ Some (Next.Whole a) → ⊥
-  no_site then (Phrase.Stop (StopPhrase.Site Settle)) a e = cc
-  no_site then (Phrase.Stop _) a e = cc
-  no_site then _ a e = cc
 
   whole_is : (a b : Answer) → Some (Next.Whole a) ≡ Some (Next.Whole b) → a ≡ b
   whole_is a b e = cc
@@ -429,10 +410,6 @@ module _ (model : Program) where
   not_whole : {X : Type 0} (make : X → Next) (b : Bool) (x : X) (a : Answer) → ((y : X) → Next.Whole a ≢ make y) → option_map make (only_if b x) ≡ Some (Next.Whole a) → ⊥
   not_whole make b x a differ e = let t = mapped_told make b x (Next.Whole a) e in differ x (sym t.1)
 
-  -- nor with a member that is left out
-  no_left : (make : List Member → StopPart) (left : List Member) (m : Member) (a : Answer) → left_out_next make (with_left_out model left m) ≡ Some (Next.Whole a) → ⊥
-  no_left make left m a e = not_whole (λ members. Next.More (Part.Stop (make members))) (is_active model m && list_all (λ n. comes_before n m) left) (left ++ m ∷ []) a (λ y s. cc) e
-
   -- a stop answers what asks for more than one line
   can_stop : (c : Command) (stop : Stop) → Asks c → can_answer c (Answer.Stopped stop) ≡ true
   can_stop Check stop h = refl
@@ -440,36 +417,35 @@ module _ (model : Program) where
   can_stop (Pivots n) stop h = absurd h
 
   -- the site of a stop is no more than what is read of it
-  site_said : (s : StopPhrase) (left : List Member) (rest : List Phrase) → AreLeftOut model left → Phrase.Stop s ∷ (site_phrases model (site_without model left) ++ rest) ≡ begun_phrases s left ++ rest
-  site_said s left rest h = ap (λ (l : List Member). Phrase.Stop s ∷ settle_phrase ∷ (map without_phrase l ++ rest)) (left_twice model left h)
+  site_said : (cause : StopCause) (left : List Member) (rest : List Phrase) → AreLeftOut model left → Phrase.Stop (opening cause) ∷ (site_phrases model (site_without model left) ++ rest) ≡ begun_phrases cause left ++ rest
+  site_said cause left rest h = ap (λ (l : List Member). Phrase.Stop (opening cause) ∷ settle_phrase ∷ (map without_phrase l ++ rest)) (left_twice model left h)
 
   stop_ends : (c : Command) (part : StopPart) (p : Phrase) (a : Answer) → Asks c × IsStopPart model part → stop_with model part p ≡ Some (Next.Whole a) → Ends c (Part.Stop part) p a
-  stop_ends c (StopPart.WideOperation left k o) Phrase.End a h e =
+  stop_ends c (StopPart.Operation left k o) Phrase.End a h e =
       let stop = TooWide (site_without model left) k o in
-      subst (Ends c (Part.Stop (StopPart.WideOperation left k o)) Phrase.End) (whole_is (Answer.Stopped stop) a e)
+      subst (Ends c (Part.Stop (StopPart.Operation left k o)) Phrase.End) (whole_is (Answer.Stopped stop) a e)
       (record {
         ended = refl;
         kind = can_stop c stop h.0;
         form = (site_in_form model left h.1.0, h.1.1);
-        said = site_said StopPhrase.Wide left (Phrase.Stop (StopPhrase.Step k) ∷ Phrase.Stop (StopPhrase.Operation o) ∷ []) h.1.0;
+        said = site_said StopCause.Wide left (Phrase.Stop (StopPhrase.Step k) ∷ Phrase.Stop (StopPhrase.Operation o) ∷ []) h.1.0;
       })
-  stop_ends c (StopPart.WideOperation left k o) _ a h e = absurd (cc)
-  stop_ends c (StopPart.SpentSite left) Phrase.End a h e =
+  stop_ends c (StopPart.Operation left k o) _ a h e = absurd (cc)
+  stop_ends c (StopPart.Site StopCause.Spent left) Phrase.End a h e =
       let stop = Spent (site_without model left) in
-      subst (Ends c (Part.Stop (StopPart.SpentSite left)) Phrase.End) (whole_is (Answer.Stopped stop) a e)
-      (record { ended = refl; kind = can_stop c stop h.0; form = site_in_form model left h.1; said = ap (λ (l : List Member). begun_phrases StopPhrase.Spent l) (left_twice model left h.1) })
-  stop_ends c (StopPart.SpentSite left) (Phrase.Stop (StopPhrase.Without m)) a h e = absurd (no_left (λ members. StopPart.SpentSite members) left m a e)
-  stop_ends c (StopPart.SpentSite left) (Phrase.Stop _) a h e = absurd (cc)
-  stop_ends c (StopPart.SpentSite left) _ a h e = absurd (cc)
-  stop_ends c StopPart.Wide p a h e = absurd (no_site (StopPart.WideSite []) p a e)
-  stop_ends c StopPart.Spent p a h e = absurd (no_site (StopPart.SpentSite []) p a e)
-  stop_ends c (StopPart.WideSite left) (Phrase.Stop (StopPhrase.Without m)) a h e = absurd (no_left (λ members. StopPart.WideSite members) left m a e)
-  stop_ends c (StopPart.WideSite left) (Phrase.Stop (StopPhrase.Step n)) a h e = absurd (cc)
-  stop_ends c (StopPart.WideSite left) (Phrase.Stop _) a h e = absurd (cc)
-  stop_ends c (StopPart.WideSite left) _ a h e = absurd (cc)
-  stop_ends c (StopPart.WideStep left n) (Phrase.Stop (StopPhrase.Operation o)) a h e = absurd (cc)
-  stop_ends c (StopPart.WideStep left n) (Phrase.Stop _) a h e = absurd (cc)
-  stop_ends c (StopPart.WideStep left n) _ a h e = absurd (cc)
+      subst (Ends c (Part.Stop (StopPart.Site StopCause.Spent left)) Phrase.End) (whole_is (Answer.Stopped stop) a e)
+      (record { ended = refl; kind = can_stop c stop h.0; form = site_in_form model left h.1; said = ap (λ (l : List Member). begun_phrases StopCause.Spent l) (left_twice model left h.1) })
+  stop_ends c (StopPart.Site cause left) (Phrase.Stop (StopPhrase.Without m)) a h e =
+      absurd (not_whole (λ members. Next.More (Part.Stop (StopPart.Site cause members))) (is_active model m && list_all (λ n. comes_before n m) left) (left ++ m ∷ []) a (λ y s. cc) e)
+  stop_ends c (StopPart.Site StopCause.Wide left) (Phrase.Stop (StopPhrase.Step n)) a h e = absurd (cc)
+  stop_ends c (StopPart.Site cause left) (Phrase.Stop _) a h e = absurd (cc)
+  stop_ends c (StopPart.Site cause left) _ a h e = absurd (cc)
+  stop_ends c (StopPart.Begun cause) (Phrase.Stop (StopPhrase.Site Settle)) a h e = absurd (cc)
+  stop_ends c (StopPart.Begun cause) (Phrase.Stop _) a h e = absurd (cc)
+  stop_ends c (StopPart.Begun cause) _ a h e = absurd (cc)
+  stop_ends c (StopPart.Step left n) (Phrase.Stop (StopPhrase.Operation o)) a h e = absurd (cc)
+  stop_ends c (StopPart.Step left n) (Phrase.Stop _) a h e = absurd (cc)
+  stop_ends c (StopPart.Step left n) _ a h e = absurd (cc)
 
   no_answer : (members : List Member) (witnesses : List Point) (p : Phrase) (a : Answer) → witnessed_with members witnesses p ≡ Some (Next.Whole a) → ⊥
   no_answer members witnesses (Phrase.Member m) a e =

@@ -24,6 +24,7 @@ use Rattle.report_reader.specs.declared.phrases.Phrase.{Phrase}
 use Rattle.report_reader.specs.declared.phrases.StopPhrase.{StopPhrase}
 use Rattle.report_reader.specs.declared.drafts.Found.{Found}
 use Rattle.report_reader.specs.declared.drafts.Question.{Question}
+use Rattle.report_reader.specs.declared.drafts.StopCause.{StopCause}
 use Rattle.report_reader.specs.declared.drafts.StopPart.{StopPart}
 use Rattle.report_reader.specs.declared.drafts.Part.{Part}
 use Rattle.report_reader.specs.declared.drafts.Next.{Next}
@@ -131,25 +132,21 @@ module _ (model : Program) where
     front_nothing (Iis method) e = more_back Part.Nothing Part.Feasible Phrase.Feasible tt (ap (λ d. extended model d Part.Nothing Phrase.Feasible) e) front_feasible
     front_nothing (Pivots n) e = last_back Part.Nothing Phrase.Done Answer.Done tt (ap (λ d. extended model d Part.Nothing Phrase.Done) e)
 
-    front_operation : (left : List Member) (k : ℕ) (o : Operation) → Within (Part.Stop (StopPart.WideOperation left k o))
-    front_operation left k o = end_back (Part.Stop (StopPart.WideOperation left k o)) (Answer.Stopped (TooWide (site_without model left) k o)) refl
+    front_operation : (left : List Member) (k : ℕ) (o : Operation) → Within (Part.Stop (StopPart.Operation left k o))
+    front_operation left k o = end_back (Part.Stop (StopPart.Operation left k o)) (Answer.Stopped (TooWide (site_without model left) k o)) refl
 
-    front_step : (left : List Member) (k : ℕ) → Within (Part.Stop (StopPart.WideStep left k))
-    front_step left k = more_back (Part.Stop (StopPart.WideStep left k)) (Part.Stop (StopPart.WideOperation left k zeros)) (Phrase.Stop (StopPhrase.Operation zeros)) zeros_fit refl (front_operation left k zeros)
+    front_step : (left : List Member) (k : ℕ) → Within (Part.Stop (StopPart.Step left k))
+    front_step left k = more_back (Part.Stop (StopPart.Step left k)) (Part.Stop (StopPart.Operation left k zeros)) (Phrase.Stop (StopPhrase.Operation zeros)) zeros_fit refl (front_operation left k zeros)
 
-    front_site : (left : List Member) → Within (Part.Stop (StopPart.WideSite left))
-    front_site left = more_back (Part.Stop (StopPart.WideSite left)) (Part.Stop (StopPart.WideStep left 0)) (Phrase.Stop (StopPhrase.Step 0)) (omega arith) refl (front_step left 0)
-
-    front_spent : (left : List Member) → Within (Part.Stop (StopPart.SpentSite left))
-    front_spent left = end_back (Part.Stop (StopPart.SpentSite left)) (Answer.Stopped (Spent (site_without model left))) refl
+    front_site : (cause : StopCause) (left : List Member) → Within (Part.Stop (StopPart.Site cause left))
+    front_site StopCause.Wide left = more_back (Part.Stop (StopPart.Site StopCause.Wide left)) (Part.Stop (StopPart.Step left 0)) (Phrase.Stop (StopPhrase.Step 0)) (omega arith) refl (front_step left 0)
+    front_site StopCause.Spent left = end_back (Part.Stop (StopPart.Site StopCause.Spent left)) (Answer.Stopped (Spent (site_without model left))) refl
 
     front_stop : (part : StopPart) → Within (Part.Stop part)
-    front_stop StopPart.Wide = more_back (Part.Stop StopPart.Wide) (Part.Stop (StopPart.WideSite [])) (Phrase.Stop (StopPhrase.Site Settle)) tt refl (front_site [])
-    front_stop (StopPart.WideSite left) = front_site left
-    front_stop (StopPart.WideStep left k) = front_step left k
-    front_stop (StopPart.WideOperation left k o) = front_operation left k o
-    front_stop StopPart.Spent = more_back (Part.Stop StopPart.Spent) (Part.Stop (StopPart.SpentSite [])) (Phrase.Stop (StopPhrase.Site Settle)) tt refl (front_spent [])
-    front_stop (StopPart.SpentSite left) = front_spent left
+    front_stop (StopPart.Begun cause) = more_back (Part.Stop (StopPart.Begun cause)) (Part.Stop (StopPart.Site cause [])) (Phrase.Stop (StopPhrase.Site Settle)) tt refl (front_site cause [])
+    front_stop (StopPart.Site cause left) = front_site cause left
+    front_stop (StopPart.Step left k) = front_step left k
+    front_stop (StopPart.Operation left k o) = front_operation left k o
 
     front_part : (part : Part) → Within part
     front_part Part.Nothing = front_nothing question.command refl

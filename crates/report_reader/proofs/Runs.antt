@@ -32,6 +32,7 @@ use Rattle.report_reader.specs.declared.phrases.Phrase.{Phrase}
 use Rattle.report_reader.specs.declared.phrases.StopPhrase.{StopPhrase}
 use Rattle.report_reader.specs.declared.drafts.Found.{Found}
 use Rattle.report_reader.specs.declared.drafts.Question.{Question}
+use Rattle.report_reader.specs.declared.drafts.StopCause.{StopCause}
 use Rattle.report_reader.specs.declared.drafts.StopPart.{StopPart}
 use Rattle.report_reader.specs.declared.drafts.Part.{Part}
 use Rattle.report_reader.specs.declared.drafts.Next.{Next}
@@ -41,7 +42,7 @@ use Rattle.lp_model.specs.MemberSets.{SetValue, empty_set}
 use Rattle.report_text.specs.Grammar.{left_out}
 use Rattle.certs.specs.Order.{share_before}
 use Rattle.report_text.specs.Form.{IsListed, IsOneLeaf, IsPointFor, IsSettleSite, IsStopFor, IsAnswerFor, IsEntryFor, AreEntriesFor, AreNumbered, IsReportFor, can_answer}
-use Rattle.report_reader.specs.Drafts.{filled, point_of, leaf_of, set_of, only_if, with_value, witnessed_with, site_without, with_left_out, left_out_next, at_site, stop_begun, extended, placed, advanced, nothing_read}
+use Rattle.report_reader.specs.Drafts.{filled, point_of, leaf_of, set_of, only_if, with_value, with_next, witnessed_with, site_without, stop_begun, stop_with, extended, placed, advanced, nothing_read}
 use Rattle.report_reader.proofs.LeftOut.{left_in_order, left_active, set_twice}
 
 -- ---- runs
@@ -187,29 +188,17 @@ module _ {X : Type 0} (before : X → X → Bool) where
       pairs_tail : (y : X) (xs : List X) → AllPairs (λ y z. IsTrue (before y z)) (y ∷ xs) → AllPairs (λ y z. IsTrue (before y z)) xs
       pairs_tail y xs h i j d l m = h (suc i) (suc j) d (omega arith) (omega arith)
 
--- where a part has a list whose elements come one after another, further elements are read into it
-module _ (model : Program) (c : Command) {X : Type 0} (before : X → X → Bool) (make : List X → Part) (say : X → Phrase)
-    (takes : (xs : List X) (x : X) → list_all (λ y. before y x) xs ≡ true → extended model c (make xs) (say x) ≡ Some (Next.More (make (xs ++ x ∷ [])))) where
-  list_read : (xs rest : List X) → AllPairs (λ y z. IsTrue (before y z)) (xs ++ rest) → grown model c (make xs) (map say rest) ≡ Some (make (xs ++ rest))
-  list_read xs [] h = ap (λ l. Some (make l)) (sym (append-nil xs))
-  list_read xs (x ∷ rest) h =
-      grown_step model c (make xs) (make (xs ++ x ∷ [])) (say x) (map say rest) (takes xs x (all_before before xs x rest h))
-      ∙ list_read (xs ++ x ∷ []) rest (subst (AllPairs (λ y z. IsTrue (before y z))) (sym (append_assoc xs (x ∷ []) rest)) h)
+-- where a part has a list under an order, further elements that may be in it and come one after another are read into it
+module _ (model : Program) (c : Command) {X : Type 0} (may : X → Bool) (before : X → X → Bool) (make : List X → Part) (say : X → Phrase)
+    (takes : (xs : List X) (x : X) → extended model c (make xs) (say x) ≡ option_map (λ ys. Next.More (make ys)) (with_next may before xs x)) where
+  list_read : (xs rest : List X) → AllPairs (λ y z. IsTrue (before y z)) (xs ++ rest) → All (λ x. IsTrue (may x)) rest → grown model c (make xs) (map say rest) ≡ Some (make (xs ++ rest))
+  list_read xs [] order h = ap (λ l. Some (make l)) (sym (append-nil xs))
+  list_read xs (x ∷ rest) order h =
+      let next = and_from (may x) (list_all (λ y. before y x) xs) (All-head (λ y. IsTrue (may y)) x rest h) (all_before before xs x rest order) in
+      grown_step model c (make xs) (make (xs ++ x ∷ [])) (say x) (map say rest)
+      (takes xs x ∙ ap (option_map (λ ys. Next.More (make ys))) (only_true (may x && list_all (λ y. before y x) xs) (xs ++ x ∷ []) next))
+      ∙ list_read (xs ++ x ∷ []) rest (subst (AllPairs (λ y z. IsTrue (before y z))) (sym (append_assoc xs (x ∷ []) rest)) order) (All-tail (λ y. IsTrue (may y)) x rest h)
       ∙ ap (λ l. Some (make l)) (append_assoc xs (x ∷ []) rest)
-
--- ---- members left out
--- where a part has members left out, further active ones that come after them are read into it
-module _ (model : Program) (c : Command) (make : List Member → StopPart)
-    (takes : (left : List Member) (m : Member) → extended model c (Part.Stop (make left)) (without_phrase m) ≡ left_out_next make (with_left_out model left m)) where
-  left_out_read : (left rest : List Member) → IsInOrder (left ++ rest) → All (λ m. IsTrue (is_active model m)) rest → grown model c (Part.Stop (make left)) (map without_phrase rest) ≡ Some (Part.Stop (make (left ++ rest)))
-  left_out_read left [] order h = ap (λ l. Some (Part.Stop (make l))) (sym (append-nil left))
-  left_out_read left (m ∷ rest) order h =
-      let after = all_before comes_before left m rest order in
-      let may : (is_active model m && list_all (λ n. comes_before n m) left) ≡ true = and_from (is_active model m) (list_all (λ n. comes_before n m) left) (All-head (λ n. IsTrue (is_active model n)) m rest h) after in
-      grown_step model c (Part.Stop (make left)) (Part.Stop (make (left ++ m ∷ []))) (without_phrase m) (map without_phrase rest)
-      (takes left m ∙ ap (left_out_next make) (only_true (is_active model m && list_all (λ n. comes_before n m) left) (left ++ m ∷ []) may))
-      ∙ left_out_read (left ++ m ∷ []) rest (subst IsInOrder (sym (append_assoc left (m ∷ []) rest)) order) (All-tail (λ n. IsTrue (is_active model n)) m rest h)
-      ∙ ap (λ l. Some (Part.Stop (make l))) (append_assoc left (m ∷ []) rest)
 
 -- ---- sets with witnesses
 -- a part that takes a member, or the start of the proof, as the list of these members and witnesses does
@@ -259,8 +248,7 @@ leaf_read model c part found proof h e =
     ∙ grown_step model c part (Part.Proof found) Phrase.Proof (Phrase.Leaf ∷ (map Phrase.Use shares ++ [])) e
     ∙ grown_step model c (Part.Proof found) (Part.Leaf found []) Phrase.Leaf (map Phrase.Use shares ++ []) refl
     ∙ ap (grown model c (Part.Leaf found [])) (append-nil (map Phrase.Use shares))
-    ∙ list_read model c (λ s t. share_before s.source s.side t.source t.side) (λ ss. Part.Leaf found ss) Phrase.Use
-    (λ ss s t. ap (option_map (λ l. Next.More (Part.Leaf found l))) (only_true (list_all (λ u. share_before u.source u.side s.source s.side) ss) (ss ++ s ∷ []) t)) [] shares h.uses.in_order
+    ∙ list_read model c (λ s. true) (λ s t. share_before s.source s.side t.source t.side) (λ ss. Part.Leaf found ss) Phrase.Use (λ ss s. refl) [] shares h.uses.in_order (λ k d l. refl)
 
 -- the proof that stands there
 same_proof : (model : Program) (proof : Proof) (h : IsOneLeaf model proof) → leaf_of h.combo.shares ≡ proof
@@ -297,40 +285,37 @@ AnswerRead : Program → Command → Answer → Type 0
 AnswerRead model c a = (end : Part) × ((grown model c Part.Nothing (answer_front model a) ≡ Some end) × (extended model c end (answer_end a) ≡ Some (Next.Whole a)))
 
 -- the lines of a site
-site_read : (model : Program) (c : Command) (start : StopPart) (make : List Member → StopPart) (site : Site) → IsSettleSite model site
-    → ((p : Phrase) → extended model c (Part.Stop start) p ≡ at_site (make []) p)
-    → ((left : List Member) (m : Member) → extended model c (Part.Stop (make left)) (without_phrase m) ≡ left_out_next make (with_left_out model left m))
-    → grown model c (Part.Stop start) (site_phrases model site) ≡ Some (Part.Stop (make (left_out model site.set.members)))
-site_read model c start make site h opens takes =
+site_read : (model : Program) (c : Command) (cause : StopCause) (site : Site) → IsSettleSite model site → grown model c (Part.Stop (StopPart.Begun cause)) (site_phrases model site) ≡ Some (Part.Stop (StopPart.Site cause (left_out model site.set.members)))
+site_read model c cause site h =
     let left = left_out model site.set.members in
-    grown_step model c (Part.Stop start) (Part.Stop (make [])) (Phrase.Stop (StopPhrase.Site site.kind)) (map without_phrase left)
-    (opens (Phrase.Stop (StopPhrase.Site site.kind)) ∙ ap (λ x. at_site (make []) (Phrase.Stop (StopPhrase.Site x))) h.kind)
-    ∙ left_out_read model c make takes [] left (left_in_order model site.set.members) (left_active model site.set.members)
+    grown_step model c (Part.Stop (StopPart.Begun cause)) (Part.Stop (StopPart.Site cause [])) (Phrase.Stop (StopPhrase.Site site.kind)) (map without_phrase left)
+    (ap (λ x. stop_with model (StopPart.Begun cause) (Phrase.Stop (StopPhrase.Site x))) h.kind)
+    ∙ list_read model c (is_active model) comes_before (λ ms. Part.Stop (StopPart.Site cause ms)) without_phrase (λ ms m. refl) [] left (left_in_order model site.set.members) (left_active model site.set.members)
 
 -- a stop
 stop_read : (model : Program) (c : Command) (stop : Stop) → IsStopFor model stop → ((s : StopPhrase) → extended model c Part.Nothing (Phrase.Stop s) ≡ stop_begun s) → AnswerRead model c (Stopped stop)
 unfolding AnswerRead
 stop_read model c (TooWide site k o) h begins =
-    let left = left_out model site.set.members in (
-      Part.Stop (StopPart.WideOperation left k o),
+    let left = left_out model site.set.members in
+    let start = Part.Stop (StopPart.Begun StopCause.Wide) in
+    let read = Part.Stop (StopPart.Site StopCause.Wide left) in
+    let rest = Phrase.Stop (StopPhrase.Step k) ∷ Phrase.Stop (StopPhrase.Operation o) ∷ [] in (
+      Part.Stop (StopPart.Operation left k o),
       (
-        grown_step model c Part.Nothing (Part.Stop StopPart.Wide) (Phrase.Stop StopPhrase.Wide) (site_phrases model site ++ Phrase.Stop (StopPhrase.Step k) ∷ Phrase.Stop (StopPhrase.Operation o) ∷ []) (begins StopPhrase.Wide)
-            ∙ grown_append model c (Part.Stop StopPart.Wide) (Part.Stop (StopPart.WideSite left)) (site_phrases model site) (Phrase.Stop (StopPhrase.Step k) ∷ Phrase.Stop (StopPhrase.Operation o) ∷ [])
-            (site_read model c StopPart.Wide (λ members. StopPart.WideSite members) site h.0.settle (λ p. refl) (λ members m. refl))
-            ∙ grown_step model c (Part.Stop (StopPart.WideSite left)) (Part.Stop (StopPart.WideStep left k)) (Phrase.Stop (StopPhrase.Step k)) (Phrase.Stop (StopPhrase.Operation o) ∷ []) refl
-            ∙ grown_step model c (Part.Stop (StopPart.WideStep left k)) (Part.Stop (StopPart.WideOperation left k o)) (Phrase.Stop (StopPhrase.Operation o)) [] refl,
+        grown_step model c Part.Nothing start (Phrase.Stop StopPhrase.Wide) (site_phrases model site ++ rest) (begins StopPhrase.Wide)
+            ∙ grown_append model c start read (site_phrases model site) rest (site_read model c StopCause.Wide site h.0.settle)
+            ∙ grown_step model c read (Part.Stop (StopPart.Step left k)) (Phrase.Stop (StopPhrase.Step k)) (Phrase.Stop (StopPhrase.Operation o) ∷ []) refl
+            ∙ grown_step model c (Part.Stop (StopPart.Step left k)) (Part.Stop (StopPart.Operation left k o)) (Phrase.Stop (StopPhrase.Operation o)) [] refl,
         ap (λ s. Some (Next.Whole (Stopped (TooWide s k o)))) (same_site model site h.0.settle),
       ),
     )
-stop_read model c (Spent site) h begins =
-    let left = left_out model site.set.members in (
-      Part.Stop (StopPart.SpentSite left),
-      (
-        grown_step model c Part.Nothing (Part.Stop StopPart.Spent) (Phrase.Stop StopPhrase.Spent) (site_phrases model site) (begins StopPhrase.Spent)
-            ∙ site_read model c StopPart.Spent (λ members. StopPart.SpentSite members) site h.settle (λ p. refl) (λ members m. refl),
-        ap (λ s. Some (Next.Whole (Stopped (Spent s)))) (same_site model site h.settle),
-      ),
-    )
+stop_read model c (Spent site) h begins = (
+  Part.Stop (StopPart.Site StopCause.Spent (left_out model site.set.members)),
+  (
+    grown_step model c Part.Nothing (Part.Stop (StopPart.Begun StopCause.Spent)) (Phrase.Stop StopPhrase.Spent) (site_phrases model site) (begins StopPhrase.Spent) ∙ site_read model c StopCause.Spent site h.settle,
+    ap (λ s. Some (Next.Whole (Stopped (Spent s)))) (same_site model site h.settle),
+  ),
+)
 stop_read model c (Nodes site) h begins = absurd h
 stop_read model c (Large size) h begins = absurd h
 stop_read model c Memory h begins = absurd h
@@ -357,7 +342,7 @@ answer_read model (Iis method) (Stopped stop) can h = stop_read model (Iis metho
 answer_read model Check (Infeasible set proof) can h =
     let members = set.members in
     let found = Found.Members members in
-    let listed = list_read model Check comes_before (λ ms. Part.Listed (Found.Members ms)) Phrase.Member (λ ms n t. ap (option_map (λ l. Next.More (Part.Listed (Found.Members l)))) (only_true (list_all (λ k. comes_before k n) ms) (ms ++ n ∷ []) t)) [] members h.0.in_order in (
+    let listed = list_read model Check (λ m. true) comes_before (λ ms. Part.Listed (Found.Members ms)) Phrase.Member (λ ms m. refl) [] members h.0.in_order (λ k d l. refl) in (
       Part.Leaf found h.1.combo.shares,
       (
         grown_step model Check Part.Nothing (Part.Listed (Found.Members [])) Phrase.Infeasible (map Phrase.Member members ++ proof_phrases proof) refl

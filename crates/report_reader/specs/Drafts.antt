@@ -23,6 +23,7 @@ use Rattle.report_reader.specs.declared.phrases.Phrase.{Phrase}
 use Rattle.report_reader.specs.declared.phrases.StopPhrase.{StopPhrase}
 use Rattle.report_reader.specs.declared.drafts.Found.{Found}
 use Rattle.report_reader.specs.declared.drafts.Question.{Question}
+use Rattle.report_reader.specs.declared.drafts.StopCause.{StopCause}
 use Rattle.report_reader.specs.declared.drafts.StopPart.{StopPart}
 use Rattle.report_reader.specs.declared.drafts.Part.{Part}
 use Rattle.report_reader.specs.declared.drafts.Next.{Next}
@@ -73,14 +74,24 @@ only_if false x = None
 abbrev pub with_value : List ℚ → ℕ → ℚ → Option (List ℚ)
 with_value values j v = only_if (nat_le (length values) j) (filled j values ++ v ∷ [])
 
--- the members with one more, where it comes after all of them
+-- ---- lists under an order
+-- the list with one more, where this may be in it and comes after all of them
+abbrev pub with_next : {X : Type 0} → (X → Bool) → (X → X → Bool) → List X → X → Option (List X)
+with_next may before xs x = only_if (may x && list_all (λ y. before y x) xs) (xs ++ x ∷ [])
+
+-- members
 abbrev pub with_member : List Member → Member → Option (List Member)
-with_member members m = only_if (list_all (λ n. comes_before n m) members) (members ++ m ∷ [])
+with_member members m = with_next (λ n. true) comes_before members m
 
--- the shares with one more, where it comes after all of them
+-- shares
 abbrev pub with_share : List Share → Share → Option (List Share)
-with_share shares s = only_if (list_all (λ t. share_before t.source t.side s.source s.side) shares) (shares ++ s ∷ [])
+with_share shares s = with_next (λ t. true) (λ t u. share_before t.source t.side u.source u.side) shares s
 
+-- active members that are left out
+abbrev pub with_left_out : Program → List Member → Member → Option (List Member)
+with_left_out model left m = with_next (is_active model) comes_before left m
+
+-- ---- answers
 -- what a list with witnesses is with one phrase more: a member, or the start of the proof
 abbrev pub witnessed_with : List Member → List Point → Phrase → Option Next
 witnessed_with members witnesses (Phrase.Member m) = only_if (list_all (λ n. comes_before n m) members) (Next.More (Part.Member members witnesses m))
@@ -91,35 +102,20 @@ witnessed_with members witnesses _ = None
 abbrev pub site_without : Program → List Member → Site
 site_without model left = record { kind = Settle; set = set_of model (left_out model left); enforced = empty_set model; path = [] }
 
--- the active members left out, with one more, where it is active and comes after all of them
-abbrev pub with_left_out : Program → List Member → Member → Option (List Member)
-with_left_out model left m = only_if (is_active model m && list_all (λ n. comes_before n m) left) (left ++ m ∷ [])
-
 -- how a stop begins
 abbrev pub stop_begun : StopPhrase → Option Next
-stop_begun StopPhrase.Wide = Some (Next.More (Part.Stop StopPart.Wide))
-stop_begun StopPhrase.Spent = Some (Next.More (Part.Stop StopPart.Spent))
+stop_begun StopPhrase.Wide = Some (Next.More (Part.Stop (StopPart.Begun StopCause.Wide)))
+stop_begun StopPhrase.Spent = Some (Next.More (Part.Stop (StopPart.Begun StopCause.Spent)))
 stop_begun _ = None
 
--- where the settle run stopped, no other run as yet
-abbrev pub at_site : StopPart → Phrase → Option Next
-at_site next (Phrase.Stop (StopPhrase.Site Settle)) = Some (Next.More (Part.Stop next))
-at_site next _ = None
-
--- one active member more that is left out, if the next part may be
-abbrev pub left_out_next : (List Member → StopPart) → Option (List Member) → Option Next
-left_out_next next left = option_map (λ members. Next.More (Part.Stop (next members))) left
-
--- what a part of a stop is with one phrase more
+-- what a part of a stop is with one phrase more; only the settle run stops as yet
 abbrev pub stop_with : Program → StopPart → Phrase → Option Next
-stop_with model StopPart.Wide p = at_site (StopPart.WideSite []) p
-stop_with model (StopPart.WideSite left) (Phrase.Stop (StopPhrase.Without m)) = left_out_next StopPart.WideSite (with_left_out model left m)
-stop_with model (StopPart.WideSite left) (Phrase.Stop (StopPhrase.Step k)) = Some (Next.More (Part.Stop (StopPart.WideStep left k)))
-stop_with model (StopPart.WideStep left k) (Phrase.Stop (StopPhrase.Operation o)) = Some (Next.More (Part.Stop (StopPart.WideOperation left k o)))
-stop_with model (StopPart.WideOperation left k o) Phrase.End = Some (Next.Whole (Answer.Stopped (Stop.Wide (site_without model left) k o)))
-stop_with model StopPart.Spent p = at_site (StopPart.SpentSite []) p
-stop_with model (StopPart.SpentSite left) (Phrase.Stop (StopPhrase.Without m)) = left_out_next StopPart.SpentSite (with_left_out model left m)
-stop_with model (StopPart.SpentSite left) Phrase.End = Some (Next.Whole (Answer.Stopped (Stop.Pivots (site_without model left))))
+stop_with model (StopPart.Begun cause) (Phrase.Stop (StopPhrase.Site Settle)) = Some (Next.More (Part.Stop (StopPart.Site cause [])))
+stop_with model (StopPart.Site cause left) (Phrase.Stop (StopPhrase.Without m)) = option_map (λ members. Next.More (Part.Stop (StopPart.Site cause members))) (with_left_out model left m)
+stop_with model (StopPart.Site StopCause.Wide left) (Phrase.Stop (StopPhrase.Step k)) = Some (Next.More (Part.Stop (StopPart.Step left k)))
+stop_with model (StopPart.Site StopCause.Spent left) Phrase.End = Some (Next.Whole (Answer.Stopped (Stop.Pivots (site_without model left))))
+stop_with model (StopPart.Step left k) (Phrase.Stop (StopPhrase.Operation o)) = Some (Next.More (Part.Stop (StopPart.Operation left k o)))
+stop_with model (StopPart.Operation left k o) Phrase.End = Some (Next.Whole (Answer.Stopped (Stop.Wide (site_without model left) k o)))
 stop_with model _ _ = None
 
 -- the answer that a part of one becomes by a phrase, if it may follow
@@ -240,12 +236,10 @@ pub record AreLeftOut (model : Program) (left : List Member) : Type 0 where
 
 -- a part of a stop
 abbrev pub IsStopPart : Program → StopPart → Type 0
-IsStopPart model StopPart.Wide = ⊤
-IsStopPart model (StopPart.WideSite left) = AreLeftOut model left
-IsStopPart model (StopPart.WideStep left k) = AreLeftOut model left × IsCount k
-IsStopPart model (StopPart.WideOperation left k o) = AreLeftOut model left × (IsCount k × IsOperation o)
-IsStopPart model StopPart.Spent = ⊤
-IsStopPart model (StopPart.SpentSite left) = AreLeftOut model left
+IsStopPart model (StopPart.Begun cause) = ⊤
+IsStopPart model (StopPart.Site cause left) = AreLeftOut model left
+IsStopPart model (StopPart.Step left k) = AreLeftOut model left × IsCount k
+IsStopPart model (StopPart.Operation left k o) = AreLeftOut model left × (IsCount k × IsOperation o)
 
 -- only a check, or the search for an irreducible set, is answered by more than one line
 abbrev pub Asks : Command → Type 0

@@ -59,21 +59,24 @@ pub(crate) struct Question {
     pub(crate) line: u32,
 }
 
+/// What the first line of a stop tells: `too wide`, or `pivots spent`.
+#[derive(Clone, Copy, PartialEq, Eq, Debug)]
+pub(crate) enum StopCause {
+    Wide,
+    Spent,
+}
+
 /// How far a stop is read.
 #[derive(Drop)]
 pub(crate) enum StopPart {
-    /// `too wide`.
-    Wide,
+    /// The first line.
+    Begun(StopCause),
     /// The same, the site, and the active members so far that are not in its set.
-    WideSite(Members),
-    /// The same, and the number of the turn.
-    WideStep(Members, u64),
+    Site(StopCause, Members),
+    /// `too wide`, the site, and the number of the turn.
+    Step(Members, u64),
     /// The same, and the operation.
-    WideOperation(Members, u64, Wide),
-    /// `pivots spent`.
-    Spent,
-    /// The same, the site, and the active members so far that are not in its set.
-    SpentSite(Members),
+    Operation(Members, u64, Wide),
 }
 
 /// How far an answer is read.

@@ -1,11 +1,11 @@
 //! What a phrase makes of a part of a stop.
-ghost use Rattle.std.specs.Prelude.{◌≡◌, [], IfOk};
+ghost use Rattle.std.specs.Prelude.{◌≡◌, IfOk};
 ghost use Rattle.lp_model.specs.Program.{Program};
 ghost use Rattle.report_reader.specs.Phrases.{IsStopPhrase, IsPhraseFor};
-ghost use Rattle.report_reader.specs.Drafts.{at_site, stop_begun, stop_with, AreLeftOut, IsStopPart};
+ghost use Rattle.report_reader.specs.Drafts.{stop_begun, stop_with, AreLeftOut, IsStopPart};
 
 use crate::building::{add_left_out, make_spent, make_wide};
-use crate::drafts::{Members, Next, Part, StopPart};
+use crate::drafts::{Members, Next, Part, StopCause, StopPart};
 use crate::phrases::{Phrase, StopPhrase};
 use certs::SiteKind;
 use frac128::Wide;
@@ -17,67 +17,103 @@ pub(crate) fn begin_stop(phrase: StopPhrase) -> Option<Next>
     ensures { result ≡ stop_begun phrase }
 {
     match phrase {
-        StopPhrase::Wide => Some(Next::More(Part::Stop(StopPart::Wide))),
-        StopPhrase::Spent => Some(Next::More(Part::Stop(StopPart::Spent))),
+        StopPhrase::Wide => Some(Next::More(Part::Stop(StopPart::Begun(StopCause::Wide)))),
+        StopPhrase::Spent => Some(Next::More(Part::Stop(StopPart::Begun(StopCause::Spent)))),
         _ => None,
     }
 }
 
-// The part that comes behind the site.
-fn follow_site(phrase: Phrase, next: StopPart) -> Option<Next>
-    ensures { result ≡ at_site next phrase }
+// What may follow the first line: the site.
+fn follow_begun(alloc: Global, cause: StopCause, phrase: Phrase) -> Option<Next>
+    ensures { (model : Program) → result ≡ stop_with model (StopPart.Begun cause) phrase }
 {
     match phrase {
-        Phrase::Stop(StopPhrase::Site(SiteKind::Settle)) => Some(Next::More(Part::Stop(next))),
+        Phrase::Stop(StopPhrase::Site(SiteKind::Settle)) => {
+            let left = Members::new(Vec::new(alloc));
+            Some(Next::More(Part::Stop(StopPart::Site(cause, left))))
+        }
         _ => None,
     }
 }
 
-// What a line of a stop makes of the site of an operation that is too wide.
-fn extend_wide_site(
+// The turn at the site of an operation that is too wide.
+fn open_step(cause: StopCause, left: Members, step: u64) -> Option<Next>
+    ensures { (model : Program) → result ≡ stop_with model (StopPart.Site cause left) (Phrase.Stop (StopPhrase.Step step)) }
+{
+    match cause {
+        StopCause::Wide => Some(Next::More(Part::Stop(StopPart::Step(left, step)))),
+        StopCause::Spent => None,
+    }
+}
+
+// What a line of a stop makes of its site.
+fn extend_site(
     model: &Model,
+    cause: StopCause,
     left: Members,
     phrase: StopPhrase,
 ) -> Result<Option<Next>, AllocError>
     requires left { AreLeftOut model.now left }
     requires phrase { IsStopPhrase model.now phrase }
-    ensures { IfOk result (λ n. n ≡ stop_with model.now (StopPart.WideSite left) (Phrase.Stop phrase)) }
+    ensures { IfOk result (λ n. n ≡ stop_with model.now (StopPart.Site cause left) (Phrase.Stop phrase)) }
 {
     match phrase {
         StopPhrase::Without(member) => {
             let Some(left) = add_left_out(model, left, member)? else {
                 return Ok(None);
             };
-            Ok(Some(Next::More(Part::Stop(StopPart::WideSite(left)))))
+            Ok(Some(Next::More(Part::Stop(StopPart::Site(cause, left)))))
         }
-        StopPhrase::Step(step) => Ok(Some(Next::More(Part::Stop(StopPart::WideStep(left, step))))),
+        StopPhrase::Step(step) => Ok(open_step(cause, left, step)),
         _ => Ok(None),
     }
 }
 
-// What may follow the site of an operation that is too wide.
-fn follow_wide_site(
+// The answer of a stop that ends with its site.
+fn close_site(
+    alloc: Global,
     model: &Model,
+    cause: StopCause,
+    left: Members,
+) -> Result<Option<Next>, AllocError>
+    requires { AreLeftOut model.now left }
+    ensures { IfOk result (λ n. n ≡ stop_with model.now (StopPart.Site cause left) Phrase.End) }
+{
+    match cause {
+        StopCause::Wide => Ok(None),
+        StopCause::Spent => {
+            let answer = make_spent(alloc, model, &left)?;
+            Ok(Some(Next::Whole(answer)))
+        }
+    }
+}
+
+// What may follow the site.
+fn follow_site(
+    alloc: Global,
+    model: &Model,
+    cause: StopCause,
     left: Members,
     phrase: Phrase,
 ) -> Result<Option<Next>, AllocError>
     requires left { AreLeftOut model.now left }
     requires phrase { IsPhraseFor model.now phrase }
-    ensures { IfOk result (λ n. n ≡ stop_with model.now (StopPart.WideSite left) phrase) }
+    ensures { IfOk result (λ n. n ≡ stop_with model.now (StopPart.Site cause left) phrase) }
 {
     match phrase {
-        Phrase::Stop(phrase) => extend_wide_site(model, left, phrase),
+        Phrase::Stop(phrase) => extend_site(model, cause, left, phrase),
+        Phrase::End => close_site(alloc, model, cause, left),
         _ => Ok(None),
     }
 }
 
-// What may follow its turn.
-fn follow_wide_step(left: Members, step: u64, phrase: Phrase) -> Option<Next>
-    ensures { (model : Program) → result ≡ stop_with model (StopPart.WideStep left step) phrase }
+// What may follow the number of the turn.
+fn follow_step(left: Members, step: u64, phrase: Phrase) -> Option<Next>
+    ensures { (model : Program) → result ≡ stop_with model (StopPart.Step left step) phrase }
 {
     match phrase {
         Phrase::Stop(StopPhrase::Operation(wide)) => {
-            Some(Next::More(Part::Stop(StopPart::WideOperation(left, step, wide))))
+            Some(Next::More(Part::Stop(StopPart::Operation(left, step, wide))))
         }
         _ => None,
     }
@@ -93,7 +129,7 @@ fn close_wide(
     phrase: Phrase,
 ) -> Result<Option<Next>, AllocError>
     requires { AreLeftOut model.now left }
-    ensures { IfOk result (λ n. n ≡ stop_with model.now (StopPart.WideOperation left step wide) phrase) }
+    ensures { IfOk result (λ n. n ≡ stop_with model.now (StopPart.Operation left step wide) phrase) }
 {
     match phrase {
         Phrase::End => {
@@ -102,55 +138,6 @@ fn close_wide(
         }
         _ => Ok(None),
     }
-}
-
-// What a line of a stop makes of the site where no pivot was left.
-fn extend_spent_site(
-    model: &Model,
-    left: Members,
-    phrase: StopPhrase,
-) -> Result<Option<Next>, AllocError>
-    requires left { AreLeftOut model.now left }
-    requires phrase { IsStopPhrase model.now phrase }
-    ensures { IfOk result (λ n. n ≡ stop_with model.now (StopPart.SpentSite left) (Phrase.Stop phrase)) }
-{
-    match phrase {
-        StopPhrase::Without(member) => {
-            let Some(left) = add_left_out(model, left, member)? else {
-                return Ok(None);
-            };
-            Ok(Some(Next::More(Part::Stop(StopPart::SpentSite(left)))))
-        }
-        _ => Ok(None),
-    }
-}
-
-// What may follow the site where no pivot was left.
-fn follow_spent_site(
-    alloc: Global,
-    model: &Model,
-    left: Members,
-    phrase: Phrase,
-) -> Result<Option<Next>, AllocError>
-    requires left { AreLeftOut model.now left }
-    requires phrase { IsPhraseFor model.now phrase }
-    ensures { IfOk result (λ n. n ≡ stop_with model.now (StopPart.SpentSite left) phrase) }
-{
-    match phrase {
-        Phrase::Stop(phrase) => extend_spent_site(model, left, phrase),
-        Phrase::End => {
-            let answer = make_spent(alloc, model, &left)?;
-            Ok(Some(Next::Whole(answer)))
-        }
-        _ => Ok(None),
-    }
-}
-
-// No members left out as yet.
-fn no_members(alloc: Global) -> Members
-    ensures { result ≡ [] }
-{
-    Members::new(Vec::new(alloc))
 }
 
 /// What may follow a part of a stop.
@@ -165,13 +152,11 @@ pub(crate) fn follow_stop(
     ensures { IfOk result (λ n. n ≡ stop_with model.now part phrase) }
 {
     match part {
-        StopPart::Wide => Ok(follow_site(phrase, StopPart::WideSite(no_members(alloc)))),
-        StopPart::WideSite(left) => follow_wide_site(model, left, phrase),
-        StopPart::WideStep(left, step) => Ok(follow_wide_step(left, step, phrase)),
-        StopPart::WideOperation(left, step, wide) => {
+        StopPart::Begun(cause) => Ok(follow_begun(alloc, cause, phrase)),
+        StopPart::Site(cause, left) => follow_site(alloc, model, cause, left, phrase),
+        StopPart::Step(left, step) => Ok(follow_step(left, step, phrase)),
+        StopPart::Operation(left, step, wide) => {
             close_wide(alloc, model, left, step, wide, phrase)
         }
-        StopPart::Spent => Ok(follow_site(phrase, StopPart::SpentSite(no_members(alloc)))),
-        StopPart::SpentSite(left) => follow_spent_site(alloc, model, left, phrase),
     }
 }
