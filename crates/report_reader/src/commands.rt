@@ -78,16 +78,12 @@ fn read_lone(word: &[u8]) -> Option<Command>
 fn read_method(word: &[u8]) -> Option<Method>
     ensures { result ≡ method_of word.now }
 {
-    if word == b"deletion".as_slice() {
-        return Some(Method::Deletion);
+    match word {
+        _ if word == b"deletion".as_slice() => Some(Method::Deletion),
+        _ if word == b"additive".as_slice() => Some(Method::Additive),
+        _ if word == b"sensitivity".as_slice() => Some(Method::Sensitivity),
+        _ => None,
     }
-    if word == b"additive".as_slice() {
-        return Some(Method::Additive);
-    }
-    if word == b"sensitivity".as_slice() {
-        return Some(Method::Sensitivity);
-    }
-    None
 }
 
 // `iis`, and a method.
@@ -97,9 +93,7 @@ fn read_search(first: &[u8], second: &[u8]) -> Option<Command>
     if first != b"iis".as_slice() {
         return None;
     }
-    let Some(method) = read_method(second) else {
-        return None;
-    };
+    let method = read_method(second)?;
     Some(Command::Iis(method))
 }
 
@@ -113,9 +107,7 @@ fn read_budget(first: &[u8], second: &[u8], third: &[u8]) -> Option<Command>
     if second != b"pivots".as_slice() {
         return None;
     }
-    let Some(pivots) = number_of_pivots(third) else {
-        return None;
-    };
+    let pivots = number_of_pivots(third)?;
     Some(Command::Pivots(pivots))
 }
 

@@ -8,75 +8,37 @@ use crate::phrases::{Keyword, Phrase};
 pub(crate) fn lone_phrase(word: &[u8]) -> Option<Phrase>
     ensures { result ≡ lone_said word.now }
 {
-    if word == b"feasible".as_slice() {
-        return Some(Phrase::Feasible);
+    match word {
+        _ if word == b"feasible".as_slice() => Some(Phrase::Feasible),
+        _ if word == b"infeasible".as_slice() => Some(Phrase::Infeasible),
+        _ if word == b"irreducible".as_slice() => Some(Phrase::Irreducible),
+        _ if word == b"done".as_slice() => Some(Phrase::Done),
+        _ if word == b"point".as_slice() => Some(Phrase::Point),
+        _ if word == b"proof".as_slice() => Some(Phrase::Proof),
+        _ if word == b"leaf".as_slice() => Some(Phrase::Leaf),
+        _ if word == b"end".as_slice() => Some(Phrase::End),
+        _ => None,
     }
-    if word == b"infeasible".as_slice() {
-        return Some(Phrase::Infeasible);
-    }
-    if word == b"irreducible".as_slice() {
-        return Some(Phrase::Irreducible);
-    }
-    if word == b"done".as_slice() {
-        return Some(Phrase::Done);
-    }
-    if word == b"point".as_slice() {
-        return Some(Phrase::Point);
-    }
-    if word == b"proof".as_slice() {
-        return Some(Phrase::Proof);
-    }
-    if word == b"leaf".as_slice() {
-        return Some(Phrase::Leaf);
-    }
-    if word == b"end".as_slice() {
-        return Some(Phrase::End);
-    }
-    None
 }
 
 /// The keyword that a word with others behind it is.
 pub(crate) fn leading_keyword(word: &[u8]) -> Option<Keyword>
     ensures { result ≡ leading_said word.now }
 {
-    if word == b"value".as_slice() {
-        return Some(Keyword::Value);
+    match word {
+        _ if word == b"value".as_slice() => Some(Keyword::Value),
+        _ if word == b"use".as_slice() => Some(Keyword::Use),
+        _ if word == b"member".as_slice() => Some(Keyword::Member),
+        _ if word == b"command".as_slice() => Some(Keyword::Command),
+        _ if word == b"too".as_slice() => Some(Keyword::Too),
+        _ if word == b"pivots".as_slice() => Some(Keyword::Pivots),
+        _ if word == b"site".as_slice() => Some(Keyword::Site),
+        _ if word == b"without".as_slice() => Some(Keyword::Without),
+        _ if word == b"step".as_slice() => Some(Keyword::Step),
+        _ if word == b"operation".as_slice() => Some(Keyword::Operation),
+        _ if word == b"note".as_slice() => Some(Keyword::Note),
+        _ if word == b"iisan".as_slice() => Some(Keyword::Iisan),
+        _ if word == b"report".as_slice() => Some(Keyword::Report),
+        _ => None,
     }
-    if word == b"use".as_slice() {
-        return Some(Keyword::Use);
-    }
-    if word == b"member".as_slice() {
-        return Some(Keyword::Member);
-    }
-    if word == b"command".as_slice() {
-        return Some(Keyword::Command);
-    }
-    if word == b"too".as_slice() {
-        return Some(Keyword::Too);
-    }
-    if word == b"pivots".as_slice() {
-        return Some(Keyword::Pivots);
-    }
-    if word == b"site".as_slice() {
-        return Some(Keyword::Site);
-    }
-    if word == b"without".as_slice() {
-        return Some(Keyword::Without);
-    }
-    if word == b"step".as_slice() {
-        return Some(Keyword::Step);
-    }
-    if word == b"operation".as_slice() {
-        return Some(Keyword::Operation);
-    }
-    if word == b"note".as_slice() {
-        return Some(Keyword::Note);
-    }
-    if word == b"iisan".as_slice() {
-        return Some(Keyword::Iisan);
-    }
-    if word == b"report".as_slice() {
-        return Some(Keyword::Report);
-    }
-    None
 }

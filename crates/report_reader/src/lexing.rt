@@ -67,12 +67,8 @@ fn read_head(first: &[u8], second: &[u8]) -> Option<Phrase>
 fn read_value(model: &Model, name: &[u8], number: &[u8]) -> Option<Phrase>
     ensures { Finds (IsSpelled model.now Keyword.Value (name.now ∷ number.now ∷ [])) result }
 {
-    let Some(column) = column_of(model, name) else {
-        return None;
-    };
-    let Some(value) = fraction_of(number) else {
-        return None;
-    };
+    let column = column_of(model, name)?;
+    let value = fraction_of(number)?;
     if value == Frac::whole(0) {
         return None;
     }
@@ -83,9 +79,7 @@ fn read_value(model: &Model, name: &[u8], number: &[u8]) -> Option<Phrase>
 fn read_member(model: &Model, kind: &[u8], name: &[u8]) -> Option<Phrase>
     ensures { Finds (IsSpelled model.now Keyword.Member (kind.now ∷ name.now ∷ [])) result }
 {
-    let Some(member) = member_of(model, kind, name) else {
-        return None;
-    };
+    let member = member_of(model, kind, name)?;
     Some(Phrase::Member(member))
 }
 
@@ -107,9 +101,7 @@ fn read_two(model: &Model, keyword: Keyword, first: &[u8], second: &[u8]) -> Opt
 fn read_note(model: &Model, name: &[u8], lower: &[u8], done: &[u8]) -> Option<Phrase>
     ensures { Finds (IsSpelled model.now Keyword.Note (name.now ∷ lower.now ∷ done.now ∷ [])) result }
 {
-    let Some(column) = column_of(model, name) else {
-        return None;
-    };
+    let column = column_of(model, name)?;
     if lower != b"lower".as_slice() {
         return None;
     }
@@ -126,9 +118,7 @@ fn read_note(model: &Model, name: &[u8], lower: &[u8], done: &[u8]) -> Option<Ph
 fn weight_of(text: &[u8]) -> Option<Frac>
     ensures { Finds (λ w. IsFractionSaid text.now w × (zero_ℚ <ℚ w)) result }
 {
-    let Some(weight) = fraction_of(text) else {
-        return None;
-    };
+    let weight = fraction_of(text)?;
     if Frac::whole(0) < weight {
         return Some(weight);
     }
@@ -139,12 +129,8 @@ fn weight_of(text: &[u8]) -> Option<Frac>
 fn read_branch(model: &Model, which: &[u8], name: &[u8], number: &[u8]) -> Option<Phrase>
     ensures { Finds (IsSpelled model.now Keyword.Use (which.now ∷ name.now ∷ number.now ∷ [])) result }
 {
-    let Some(column) = column_of(model, name) else {
-        return None;
-    };
-    let Some(weight) = weight_of(number) else {
-        return None;
-    };
+    let column = column_of(model, name)?;
+    let weight = weight_of(number)?;
     if which == b"below".as_slice() {
         return Some(Phrase::Use(Share {
             source: Source::Below(column),
@@ -205,15 +191,9 @@ fn read_share(
     if keyword != Keyword::Use {
         return None;
     }
-    let Some(member) = member_of(model, kind, name) else {
-        return None;
-    };
-    let Some(side) = side_of(side) else {
-        return None;
-    };
-    let Some(weight) = weight_of(number) else {
-        return None;
-    };
+    let member = member_of(model, kind, name)?;
+    let side = side_of(side)?;
+    let weight = weight_of(number)?;
     Some(Phrase::Use(Share {
         source: Source::Member(member),
         side,

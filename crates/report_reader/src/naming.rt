@@ -57,14 +57,10 @@ pub(crate) fn member_of(model: &Model, kind: &[u8], name: &[u8]) -> Option<Membe
     ensures { Finds (IsMemberSaid model.now kind.now name.now) result }
 {
     if kind == b"row".as_slice() {
-        let Some(row) = row_of(model, name) else {
-            return None;
-        };
+        let row = row_of(model, name)?;
         return Some(Member::Row(row));
     }
-    let Some(column) = column_of(model, name) else {
-        return None;
-    };
+    let column = column_of(model, name)?;
     if kind == b"lower".as_slice() {
         return Some(Member::Lower(column));
     }
@@ -81,22 +77,18 @@ pub(crate) fn member_of(model: &Model, kind: &[u8], name: &[u8]) -> Option<Membe
 pub(crate) fn side_of(word: &[u8]) -> Option<Side>
     ensures { Finds (IsSideSaid word.now) result }
 {
-    if word == b"lo".as_slice() {
-        return Some(Side::Lo);
+    match word {
+        _ if word == b"lo".as_slice() => Some(Side::Lo),
+        _ if word == b"up".as_slice() => Some(Side::Up),
+        _ => None,
     }
-    if word == b"up".as_slice() {
-        return Some(Side::Up);
-    }
-    None
 }
 
 /// The fraction that is printed so.
 pub(crate) fn fraction_of(text: &[u8]) -> Option<Frac>
     ensures { Finds (IsFractionSaid text.now) result }
 {
-    let Some(value) = read_fraction(text) else {
-        return None;
-    };
+    let value = read_fraction(text)?;
     // That the fraction fits is told with its widening.
     let value = value.widen();
     Some(value)
@@ -119,9 +111,7 @@ fn read_count(text: &[u8]) -> Option<u64>
 pub(crate) fn count_of(text: &[u8]) -> Option<u64>
     ensures { Finds (IsCountSaid text.now) result }
 {
-    let Some(count) = read_count(text) else {
-        return None;
-    };
+    let count = read_count(text)?;
     let mut buffer = Buffer::new();
     if text != buffer.format(count).as_bytes() {
         return None;

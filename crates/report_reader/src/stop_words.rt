@@ -14,41 +14,27 @@ use lp_model::Model;
 fn kind_of(word: &[u8]) -> Option<SiteKind>
     ensures { Finds (λ k. word.now ≡ site_word k) result }
 {
-    if word == b"settle".as_slice() {
-        return Some(SiteKind::Settle);
+    match word {
+        _ if word == b"settle".as_slice() => Some(SiteKind::Settle),
+        _ if word == b"improve".as_slice() => Some(SiteKind::Improve),
+        _ if word == b"stretch".as_slice() => Some(SiteKind::Stretch),
+        _ if word == b"relax".as_slice() => Some(SiteKind::Relax),
+        _ if word == b"alternative".as_slice() => Some(SiteKind::Alternative),
+        _ => None,
     }
-    if word == b"improve".as_slice() {
-        return Some(SiteKind::Improve);
-    }
-    if word == b"stretch".as_slice() {
-        return Some(SiteKind::Stretch);
-    }
-    if word == b"relax".as_slice() {
-        return Some(SiteKind::Relax);
-    }
-    if word == b"alternative".as_slice() {
-        return Some(SiteKind::Alternative);
-    }
-    None
 }
 
 // The kind of an operation.
 fn op_of(word: &[u8]) -> Option<Op>
     ensures { Finds (λ o. word.now ≡ op_word o) result }
 {
-    if word == b"plus".as_slice() {
-        return Some(Op::Plus);
+    match word {
+        _ if word == b"plus".as_slice() => Some(Op::Plus),
+        _ if word == b"minus".as_slice() => Some(Op::Minus),
+        _ if word == b"times".as_slice() => Some(Op::Times),
+        _ if word == b"over".as_slice() => Some(Op::Over),
+        _ => None,
     }
-    if word == b"minus".as_slice() {
-        return Some(Op::Minus);
-    }
-    if word == b"times".as_slice() {
-        return Some(Op::Times);
-    }
-    if word == b"over".as_slice() {
-        return Some(Op::Over);
-    }
-    None
 }
 
 /// `too wide`.
@@ -75,9 +61,7 @@ pub(crate) fn read_pivots(word: &[u8]) -> Option<Phrase>
 pub(crate) fn read_site(word: &[u8]) -> Option<Phrase>
     ensures { (model : Program) → Finds (IsSpelled model Keyword.Site (word.now ∷ [])) result }
 {
-    let Some(kind) = kind_of(word) else {
-        return None;
-    };
+    let kind = kind_of(word)?;
     Some(Phrase::Stop(StopPhrase::Site(kind)))
 }
 
@@ -85,9 +69,7 @@ pub(crate) fn read_site(word: &[u8]) -> Option<Phrase>
 pub(crate) fn read_without(model: &Model, kind: &[u8], name: &[u8]) -> Option<Phrase>
     ensures { Finds (IsSpelled model.now Keyword.Without (kind.now ∷ name.now ∷ [])) result }
 {
-    let Some(member) = member_of(model, kind, name) else {
-        return None;
-    };
+    let member = member_of(model, kind, name)?;
     Some(Phrase::Stop(StopPhrase::Without(member)))
 }
 
@@ -95,9 +77,7 @@ pub(crate) fn read_without(model: &Model, kind: &[u8], name: &[u8]) -> Option<Ph
 pub(crate) fn read_step(word: &[u8]) -> Option<Phrase>
     ensures { (model : Program) → Finds (IsSpelled model Keyword.Step (word.now ∷ [])) result }
 {
-    let Some(step) = count_of(word) else {
-        return None;
-    };
+    let step = count_of(word)?;
     Some(Phrase::Stop(StopPhrase::Step(step)))
 }
 
@@ -105,14 +85,8 @@ pub(crate) fn read_step(word: &[u8]) -> Option<Phrase>
 pub(crate) fn read_operation(op: &[u8], left: &[u8], right: &[u8]) -> Option<Phrase>
     ensures { (model : Program) → Finds (IsSpelled model Keyword.Operation (op.now ∷ left.now ∷ right.now ∷ [])) result }
 {
-    let Some(op) = op_of(op) else {
-        return None;
-    };
-    let Some(left) = fraction_of(left) else {
-        return None;
-    };
-    let Some(right) = fraction_of(right) else {
-        return None;
-    };
+    let op = op_of(op)?;
+    let left = fraction_of(left)?;
+    let right = fraction_of(right)?;
     Some(Phrase::Stop(StopPhrase::Operation(Wide { op, left, right })))
 }
