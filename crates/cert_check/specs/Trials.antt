@@ -23,6 +23,7 @@ use Rattle.report_text.specs.declared.report.Answer.TheVariants.{Feasible, Infea
 use Rattle.report_text.specs.declared.report.Entry.{Entry}
 use Rattle.report_text.specs.declared.report.Report.{Report}
 use Rattle.report_text.specs.declared.report.Command.{Command}
+use Rattle.report_text.specs.declared.layout.TheConstants.{HEAD_LINES, OPENING_LINES, MEMBER_LINES, PROOF_LINES}
 use Rattle.report_text.specs.Turns.{after, gathered}
 use Rattle.report_text.specs.Grammar.{witness_lines}
 use Rattle.cert_check.specs.declared.outcome.Outcome.{Outcome}
@@ -84,13 +85,13 @@ is_active_use model printed used = is_active model printed && is_same printed us
 -- ---- answers, of which the command stands on line n
 -- the point against the active members
 abbrev pub feasible_trials : Program → ℕ → Point → List Trial
-feasible_trials model n p = point_trial model (active_members model) (n + 2) p ∷ []
+feasible_trials model n p = point_trial model (active_members model) (n + OPENING_LINES) p ∷ []
 
 -- the members against those that the leaf uses, and the leaf
 abbrev pub infeasible_trials : Program → ℕ → SetValue → Proof → List Trial
 infeasible_trials model n set proof =
-    paired_trials (is_active_use model) (n + 2) set.members (used_members model (leaf_shares proof.nodes))
-    ++ leaf_trial model set.members (n + (3 + length set.members)) proof ∷ []
+    paired_trials (is_active_use model) (n + OPENING_LINES) set.members (used_members model (leaf_shares proof.nodes))
+    ++ leaf_trial model set.members (n + ((OPENING_LINES + PROOF_LINES) + length set.members)) proof ∷ []
 
 -- the members of a set but one
 abbrev pub others : List Member → Member → List Member
@@ -101,7 +102,7 @@ abbrev pub witness_trials : Program → List Member → ℕ → List (Member × 
 witness_trials model set n [] = []
 witness_trials model set n (w ∷ witnesses) =
     on_line n (said (is_active model w.0))
-    ∷ point_trial model (others set w.0) (n + 1) w.1
+    ∷ point_trial model (others set w.0) (n + MEMBER_LINES) w.1
     ∷ witness_trials model set (n + length (witness_lines model w)) witnesses
 
 -- each member of an irreducible set with its witness
@@ -111,8 +112,8 @@ witnesses_of core = zip core.members.members core.witnesses
 -- the members with their witnesses, and the leaf
 abbrev pub irreducible_trials : Program → ℕ → Core → List Trial
 irreducible_trials model n core =
-    witness_trials model core.members.members (n + 2) (witnesses_of core)
-    ++ leaf_trial model core.members.members (n + (3 + length (flat_map (witness_lines model) (witnesses_of core)))) core.proof ∷ []
+    witness_trials model core.members.members (n + OPENING_LINES) (witnesses_of core)
+    ++ leaf_trial model core.members.members (n + ((OPENING_LINES + PROOF_LINES) + length (flat_map (witness_lines model) (witnesses_of core)))) core.proof ∷ []
 
 -- those of an answer; nothing is tried of a command that is done, nor of a stop
 abbrev pub answer_trials : Program → ℕ → Answer → List Trial
@@ -131,9 +132,9 @@ abbrev pub entries_trials : Program → List Command → List Entry → List Tri
 entries_trials model before entries = gathered (λ front e. entry_trials (after model front) e) before entries
 
 -- ---- reports
--- The notes against the program's: the head is line 1. Then the entries.
+-- The notes against the program's, the first on the line behind the head. Then the entries.
 abbrev pub trials : Program → Report → List Trial
-trials model report = paired_trials same_note 2 report.notes model.notes ++ entries_trials model [] report.entries
+trials model report = paired_trials same_note (1 + HEAD_LINES) report.notes model.notes ++ entries_trials model [] report.entries
 
 -- what a line makes of the check: a yes leaves it to what follows
 abbrev pub unless_failed : ℕ → Checked → Outcome → Outcome

@@ -104,10 +104,8 @@ fn follow_point(model: &Model, values: Values, phrase: Phrase) -> Result<Option<
 {
     match phrase {
         Phrase::Value(column, value) => {
-            let Some(values) = add_value(values, column, value)? else {
-                return Ok(None);
-            };
-            Ok(Some(Next::More(Part::Point(values))))
+            let values = add_value(values, column, value)?;
+            Ok(values.map(|values| Next::More(Part::Point(values))))
         }
         Phrase::End => {
             let point = make_point(model, values)?;
@@ -124,10 +122,8 @@ fn follow_members(members: Members, phrase: Phrase) -> Result<Option<Next>, Allo
 {
     match phrase {
         Phrase::Member(member) => {
-            let Some(members) = add_member(members, member)? else {
-                return Ok(None);
-            };
-            Ok(Some(Next::More(Part::Listed(Found::Members(members)))))
+            let members = add_member(members, member)?;
+            Ok(members.map(|members| Next::More(Part::Listed(Found::Members(members)))))
         }
         Phrase::Proof => Ok(Some(Next::More(Part::Proof(Found::Members(members))))),
         _ => Ok(None),
@@ -214,10 +210,10 @@ fn follow_witness(
     ensures { (command : Command) → IfOk result (λ n. n ≡ extended model.now command (Part.Witness members witnesses member values) phrase) }
 {
     if let Phrase::Value(column, value) = phrase {
-        let Some(values) = add_value(values, column, value)? else {
-            return Ok(None);
-        };
-        return Ok(Some(Next::More(Part::Witness(members, witnesses, member, values))));
+        let values = add_value(values, column, value)?;
+        return Ok(values.map(|values| Next::More(Part::Witness(
+            members, witnesses, member, values,
+        ))));
     }
     let (members, witnesses) = close_witness(model, members, witnesses, member, values)?;
     Ok(follow_witnessed(members, witnesses, phrase))
@@ -251,10 +247,8 @@ fn follow_leaf(
 {
     match phrase {
         Phrase::Use(share) => {
-            let Some(shares) = add_share(shares, share)? else {
-                return Ok(None);
-            };
-            Ok(Some(Next::More(Part::Leaf(found, shares))))
+            let shares = add_share(shares, share)?;
+            Ok(shares.map(|shares| Next::More(Part::Leaf(found, shares))))
         }
         Phrase::End => {
             let answer = make_answer(alloc, model, command, found, shares)?;

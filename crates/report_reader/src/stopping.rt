@@ -59,10 +59,8 @@ fn extend_site(
 {
     match phrase {
         StopPhrase::Without(member) => {
-            let Some(left) = add_left_out(model, left, member)? else {
-                return Ok(None);
-            };
-            Ok(Some(Next::More(Part::Stop(StopPart::Site(cause, left)))))
+            let left = add_left_out(model, left, member)?;
+            Ok(left.map(|left| Next::More(Part::Stop(StopPart::Site(cause, left)))))
         }
         StopPhrase::Step(step) => Ok(open_step(cause, left, step)),
         _ => Ok(None),

@@ -4,6 +4,7 @@ ghost use Rattle.rational.specs.Rational.{zero_ℚ, eq_ℚ};
 ghost use Rattle.lp_model.specs.Program.{Program};
 ghost use Rattle.lp_model.specs.declared.members.Member.{Member as OneMember};
 ghost use Rattle.report_text.specs.Grammar.{witness_lines};
+ghost use Rattle.report_text.specs.Places.{PlacesLaw};
 
 use certs::Point;
 use frac128::Frac;
@@ -43,3 +44,8 @@ pub fn witness_length(witness: &Point) -> u64
 {
     2 + count_values(witness.values.as_slice())
 }
+
+/// What stands behind so many lines of a report, an entry, a witness and a proof. It does nothing when it runs.
+pub fn places_law()
+    ensures { PlacesLaw }
+{}

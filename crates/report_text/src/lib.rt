@@ -4,5 +4,7 @@
 mod layout;
 mod report;
 
-pub use layout::{HEAD_LINES, MEMBER_LINES, OPENING_LINES, PROOF_LINES, witness_length};
+pub use layout::{
+    HEAD_LINES, MEMBER_LINES, OPENING_LINES, PROOF_LINES, places_law, witness_length,
+};
 pub use report::{Answer, Command, Core, Entries, Entry, Method, Notes, Report, Script, Witnesses};

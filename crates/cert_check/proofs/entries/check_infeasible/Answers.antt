@@ -35,6 +35,6 @@ returns c =
     (ap (λ k. stop_or (c.args.line + (3 + k)) c.check_combo.result None) c.count.ensures
 =======
     (ap (λ k. stop_or k c.check_combo.result None) place
->>>>>>> 393c4d5
+>>>>>>> dc14b68
     ∙ ap (λ f. stop_or (c.args.line + (3 + length set)) f None) found)
     c.settle.ensures)
