@@ -259,8 +259,6 @@ module _ (model : Program) where
   -- a list with witnesses, and a phrase
   witnessed_taken : (c : Command) (members : List Member) (witnesses : List Point) (p : Phrase) (next : Part) → IsFound model c (Found.Witnessed members witnesses) → IsPhraseFor model p
       → witnessed_with members witnesses p ≡ Some (Next.More next) → IsPartFor model c next × (part_phrases next ≡ found_phrases (Found.Witnessed members witnesses) ++ p ∷ [])
-  witnessed_taken Check members witnesses p next h k e = absurd h
-  witnessed_taken (Pivots n) members witnesses p next h k e = absurd h
   witnessed_taken (Iis method) members witnesses (Phrase.Member m) next h k e =
       let t = only_told (list_all (λ n. comes_before n m) members) (Next.More (Part.Member members witnesses m)) (Next.More next) e in
       subst (λ q. IsPartFor model (Iis method) q × (part_phrases q ≡ found_phrases (Found.Witnessed members witnesses) ++ Phrase.Member m ∷ [])) (same_more (Part.Member members witnesses m) next t.1)
@@ -268,18 +266,17 @@ module _ (model : Program) where
   witnessed_taken (Iis method) members witnesses Phrase.Proof next h k e =
       subst (λ q. IsPartFor model (Iis method) q × (part_phrases q ≡ found_phrases (Found.Witnessed members witnesses) ++ Phrase.Proof ∷ [])) (more_is (Part.Proof (Found.Witnessed members witnesses)) next e) (h, refl)
   witnessed_taken (Iis method) members witnesses _ next h k e = absurd (cc)
+  witnessed_taken c members witnesses p next h k e = absurd h
 
   -- what is found with one member more
   one_more_found : (c : Command) (members : List Member) (witnesses : List Point) (m : Member) (values : List ℚ) → IsOneMore model c members witnesses m → AreValues model values
       → IsFound model c (Found.Witnessed (members ++ m ∷ []) (witnesses ++ point_of model values ∷ []))
-  one_more_found Check members witnesses m values h v = absurd h
-  one_more_found (Pivots n) members witnesses m values h v = absurd h
   one_more_found (Iis method) members witnesses m values h v = (h.0, witness_taken members witnesses m (point_of model values) h.1 (point_taken values v))
+  one_more_found c members witnesses m values h v = absurd h
 
   one_more_each : (c : Command) (members : List Member) (witnesses : List Point) (m : Member) → IsOneMore model c members witnesses m → length witnesses ≡ length members
-  one_more_each Check members witnesses m h = absurd h
-  one_more_each (Pivots n) members witnesses m h = absurd h
   one_more_each (Iis method) members witnesses m h = h.1.each
+  one_more_each c members witnesses m h = absurd h
 
   -- one active member more that is left out
   left_taken : (left : List Member) (m : Member) → AreLeftOut model left → IsNamedMember model m → (is_active model m && list_all (λ n. comes_before n m) left) ≡ true → AreLeftOut model (left ++ m ∷ [])
@@ -297,23 +294,17 @@ module _ (model : Program) where
   stop_taken : (c : Command) (part : StopPart) (p : Phrase) (next : Part) → Asks c × IsStopPart model part → IsPhraseFor model p → stop_with model part p ≡ Some (Next.More next) → Took c (Part.Stop part) p next
   unfolding Took
   stop_taken c (StopPart.Begun cause) (Phrase.Stop (StopPhrase.Site Settle)) next h k e = subst (Took c (Part.Stop (StopPart.Begun cause)) settle_phrase) (more_is (Part.Stop (StopPart.Site cause [])) next e) ((h.0, none_left model), refl)
-  stop_taken c (StopPart.Begun cause) (Phrase.Stop _) next h k e = absurd (cc)
-  stop_taken c (StopPart.Begun cause) _ next h k e = absurd (cc)
   stop_taken c (StopPart.Site cause left) (Phrase.Stop (StopPhrase.Without m)) next h k e =
       list_taken c (Part.Stop (StopPart.Site cause left)) (without_phrase m) (λ members. Part.Stop (StopPart.Site cause members)) (is_active model m && list_all (λ n. comes_before n m) left) (left ++ m ∷ []) next
       (λ t. ((h.0, left_taken left m h.1 k t), ap (λ l. Phrase.Stop (opening cause) ∷ settle_phrase ∷ l) (map_push without_phrase left m))) e
   stop_taken c (StopPart.Site StopCause.Wide left) (Phrase.Stop (StopPhrase.Step n)) next h k e =
       subst (Took c (Part.Stop (StopPart.Site StopCause.Wide left)) (Phrase.Stop (StopPhrase.Step n))) (more_is (Part.Stop (StopPart.Step left n)) next e) ((h.0, (h.1, k)), refl)
-  stop_taken c (StopPart.Site cause left) (Phrase.Stop _) next h k e = absurd (cc)
   stop_taken c (StopPart.Site StopCause.Spent left) Phrase.End next h k e = absurd (cc)
-  stop_taken c (StopPart.Site cause left) _ next h k e = absurd (cc)
   stop_taken c (StopPart.Step left n) (Phrase.Stop (StopPhrase.Operation o)) next h k e =
       subst (Took c (Part.Stop (StopPart.Step left n)) (Phrase.Stop (StopPhrase.Operation o))) (more_is (Part.Stop (StopPart.Operation left n o)) next e)
       ((h.0, (h.1.0, (h.1.1, k))), sym (append_assoc (begun_phrases StopCause.Wide left) (Phrase.Stop (StopPhrase.Step n) ∷ []) (Phrase.Stop (StopPhrase.Operation o) ∷ [])))
-  stop_taken c (StopPart.Step left n) (Phrase.Stop _) next h k e = absurd (cc)
-  stop_taken c (StopPart.Step left n) _ next h k e = absurd (cc)
   stop_taken c (StopPart.Operation left n o) Phrase.End next h k e = absurd (cc)
-  stop_taken c (StopPart.Operation left n o) _ next h k e = absurd (cc)
+  stop_taken c part p next h k e = absurd (cc)
 
   more_taken : (c : Command) (part : Part) (p : Phrase) (next : Part) → IsPartFor model c part → IsPhraseFor model p → extended model c part p ≡ Some (Next.More next) → Took c part p next
   unfolding Took
@@ -322,30 +313,23 @@ module _ (model : Program) where
   more_taken Check Part.Nothing (Phrase.Stop s) next h k e = begun_taken Check s next tt e
   more_taken (Iis method) Part.Nothing (Phrase.Stop s) next h k e = begun_taken (Iis method) s next tt e
   more_taken (Pivots n) Part.Nothing Phrase.Done next h k e = absurd (cc)
-  more_taken (Pivots n) Part.Nothing _ next h k e = absurd (cc)
   more_taken c (Part.Stop part) p next h k e = stop_taken c part p next h k e
   more_taken Check Part.Nothing Phrase.Infeasible next h k e = subst (Took Check Part.Nothing Phrase.Infeasible) (more_is (Part.Listed (Found.Members [])) next e) (no_members, refl)
   more_taken (Iis method) Part.Nothing Phrase.Irreducible next h k e = subst (Took (Iis method) Part.Nothing Phrase.Irreducible) (more_is (Part.Listed (Found.Witnessed [] [])) next e) ((no_members, no_witnesses), refl)
-  more_taken Check Part.Nothing _ next h k e = absurd (cc)
-  more_taken (Iis method) Part.Nothing _ next h k e = absurd (cc)
   more_taken c Part.Feasible Phrase.Point next h k e = subst (Took c Part.Feasible Phrase.Point) (more_is (Part.Point []) next e) ((h, no_values), refl)
-  more_taken c Part.Feasible _ next h k e = absurd (cc)
   more_taken c (Part.Point values) (Phrase.Value j v) next h k e =
       list_taken c (Part.Point values) (Phrase.Value j v) (λ vs. Part.Point vs) (nat_le (length values) j) (filled j values ++ v ∷ []) next
       (λ t. (let le : length values ≤ j = leb-true (length values) j t in ((h.0, value_taken values j v h.1 k le), ap (λ l. Phrase.Feasible ∷ Phrase.Point ∷ l) (value_said values j v le k.1.1)))) e
-  more_taken c (Part.Point values) _ next h k e = absurd (cc)
   more_taken Check (Part.Listed (Found.Members members)) (Phrase.Member m) next h k e =
       list_taken Check (Part.Listed (Found.Members members)) (Phrase.Member m) (λ ms. Part.Listed (Found.Members ms)) (list_all (λ n. comes_before n m) members) (members ++ m ∷ []) next
       (λ t. (member_taken members m h k t, ap (λ l. Phrase.Infeasible ∷ l) (map_push Phrase.Member members m))) e
   more_taken (Iis method) (Part.Listed (Found.Members members)) p next h k e = absurd h
   more_taken (Pivots n) (Part.Listed (Found.Members members)) p next h k e = absurd h
   more_taken c (Part.Listed (Found.Members members)) Phrase.Proof next h k e = subst (Took c (Part.Listed (Found.Members members)) Phrase.Proof) (more_is (Part.Proof (Found.Members members)) next e) (h, refl)
-  more_taken c (Part.Listed (Found.Members members)) _ next h k e = absurd (cc)
   more_taken c (Part.Listed (Found.Witnessed members witnesses)) p next h k e = witnessed_taken c members witnesses p next h k e
   more_taken c (Part.Member members witnesses m) Phrase.Point next h k e =
       subst (Took c (Part.Member members witnesses m) Phrase.Point) (more_is (Part.Witness members witnesses m []) next e)
       ((h, no_values), sym (append_assoc (found_phrases (Found.Witnessed members witnesses)) (Phrase.Member m ∷ []) (Phrase.Point ∷ [])))
-  more_taken c (Part.Member members witnesses m) _ next h k e = absurd (cc)
   more_taken c (Part.Witness members witnesses m values) (Phrase.Value j v) next h k e =
       let front = found_phrases (Found.Witnessed members witnesses) in
       list_taken c (Part.Witness members witnesses m values) (Phrase.Value j v) (λ vs. Part.Witness members witnesses m vs) (nat_le (length values) j) (filled j values ++ v ∷ []) next
@@ -358,7 +342,6 @@ module _ (model : Program) where
       (t.0, t.1 ∙ ap (λ l. l ++ p ∷ []) (witnessed_said members witnesses m values (one_more_each c members witnesses m h.0)))
   more_taken c (Part.Proof found) Phrase.Leaf next h k e =
       subst (Took c (Part.Proof found) Phrase.Leaf) (more_is (Part.Leaf found []) next e) ((h, no_uses), sym (append_assoc (found_phrases found) (Phrase.Proof ∷ []) (Phrase.Leaf ∷ [])))
-  more_taken c (Part.Proof found) _ next h k e = absurd (cc)
   more_taken c (Part.Leaf found shares) (Phrase.Use s) next h k e =
       let front = found_phrases found in
       list_taken c (Part.Leaf found shares) (Phrase.Use s) (λ ss. Part.Leaf found ss) (list_all (λ u. share_before u.source u.side s.source s.side) shares) (shares ++ s ∷ []) next
@@ -366,7 +349,7 @@ module _ (model : Program) where
         (h.0, share_taken shares s h.1 k t),
         ap (λ l. front ++ Phrase.Proof ∷ Phrase.Leaf ∷ l) (map_push Phrase.Use shares s) ∙ sym (append_assoc front (Phrase.Proof ∷ Phrase.Leaf ∷ map Phrase.Use shares) (Phrase.Use s ∷ [])),
       )) e
-  more_taken c (Part.Leaf found shares) _ next h k e = absurd (cc)
+  more_taken c part p next h k e = absurd (cc)
 
   -- ---- answers
   -- what the last phrase of an answer makes of its part
@@ -391,11 +374,9 @@ module _ (model : Program) where
   leaf_ends : (c : Command) (found : Found) (shares : List Share) → IsFound model c found → AreUses model shares → Ends c (Part.Leaf found shares) Phrase.End (answer_of model found shares)
   leaf_ends Check (Found.Members members) shares h k =
       record { ended = refl; kind = refl; form = (listed_taken members h, leaf_taken shares k); said = leaf_said (found_phrases (Found.Members members)) shares }
-  leaf_ends Check (Found.Witnessed members witnesses) shares h k = absurd h
-  leaf_ends (Iis method) (Found.Members members) shares h k = absurd h
-  leaf_ends (Pivots n) found shares h k = absurd h
   leaf_ends (Iis method) (Found.Witnessed members witnesses) shares h k =
       record { ended = refl; kind = refl; form = record { members = listed_taken members h.0; each = h.1.each; points = h.1.points; proof = leaf_taken shares k; rounds = refl; price = refl }; said = leaf_said (found_phrases (Found.Witnessed members witnesses)) shares }
+  leaf_ends c found shares h k = absurd h
 
   point_ends : (c : Command) (values : List ℚ) → IsPartFor model c (Part.Point values) → Ends c (Part.Point values) Phrase.End (Answer.Feasible (point_of model values))
   point_ends Check values h = record { ended = refl; kind = refl; form = point_taken values h.1; said = ap (λ l. Phrase.Feasible ∷ l) (point_said values) }
@@ -430,7 +411,6 @@ module _ (model : Program) where
         form = (site_in_form model left h.1.0, h.1.1);
         said = site_said StopCause.Wide left (Phrase.Stop (StopPhrase.Step k) ∷ Phrase.Stop (StopPhrase.Operation o) ∷ []) h.1.0;
       })
-  stop_ends c (StopPart.Operation left k o) _ a h e = absurd (cc)
   stop_ends c (StopPart.Site StopCause.Spent left) Phrase.End a h e =
       let stop = Spent (site_without model left) in
       subst (Ends c (Part.Stop (StopPart.Site StopCause.Spent left)) Phrase.End) (whole_is (Answer.Stopped stop) a e)
@@ -438,14 +418,9 @@ module _ (model : Program) where
   stop_ends c (StopPart.Site cause left) (Phrase.Stop (StopPhrase.Without m)) a h e =
       absurd (not_whole (λ members. Next.More (Part.Stop (StopPart.Site cause members))) (is_active model m && list_all (λ n. comes_before n m) left) (left ++ m ∷ []) a (λ y s. cc) e)
   stop_ends c (StopPart.Site StopCause.Wide left) (Phrase.Stop (StopPhrase.Step n)) a h e = absurd (cc)
-  stop_ends c (StopPart.Site cause left) (Phrase.Stop _) a h e = absurd (cc)
-  stop_ends c (StopPart.Site cause left) _ a h e = absurd (cc)
   stop_ends c (StopPart.Begun cause) (Phrase.Stop (StopPhrase.Site Settle)) a h e = absurd (cc)
-  stop_ends c (StopPart.Begun cause) (Phrase.Stop _) a h e = absurd (cc)
-  stop_ends c (StopPart.Begun cause) _ a h e = absurd (cc)
   stop_ends c (StopPart.Step left n) (Phrase.Stop (StopPhrase.Operation o)) a h e = absurd (cc)
-  stop_ends c (StopPart.Step left n) (Phrase.Stop _) a h e = absurd (cc)
-  stop_ends c (StopPart.Step left n) _ a h e = absurd (cc)
+  stop_ends c part p a h e = absurd (cc)
 
   no_answer : (members : List Member) (witnesses : List Point) (p : Phrase) (a : Answer) → witnessed_with members witnesses p ≡ Some (Next.Whole a) → ⊥
   no_answer members witnesses (Phrase.Member m) a e =
@@ -467,22 +442,14 @@ module _ (model : Program) where
   whole_taken c (Part.Witness members witnesses m values) p a h e = absurd (no_answer (members ++ m ∷ []) (witnesses ++ point_of model values ∷ []) p a e)
   whole_taken c (Part.Stop part) p a h e = stop_ends c part p a h e
   whole_taken (Pivots n) Part.Nothing Phrase.Done a h e = subst (Ends (Pivots n) Part.Nothing Phrase.Done) (whole_is Answer.Done a e) (record { ended = refl; kind = refl; form = tt; said = refl })
-  whole_taken (Pivots n) Part.Nothing _ a h e = absurd (cc)
   whole_taken Check Part.Nothing (Phrase.Stop s) a h e = absurd (begun_ends s a e)
   whole_taken (Iis method) Part.Nothing (Phrase.Stop s) a h e = absurd (begun_ends s a e)
   whole_taken Check Part.Nothing Phrase.Feasible a h e = absurd (cc)
-  whole_taken Check Part.Nothing _ a h e = absurd (cc)
   whole_taken (Iis method) Part.Nothing Phrase.Feasible a h e = absurd (cc)
-  whole_taken (Iis method) Part.Nothing _ a h e = absurd (cc)
   whole_taken c Part.Feasible Phrase.Point a h e = absurd (cc)
-  whole_taken c Part.Feasible _ a h e = absurd (cc)
-  whole_taken c (Part.Point values) _ a h e = absurd (cc)
-  whole_taken c (Part.Listed (Found.Members members)) _ a h e = absurd (cc)
   whole_taken c (Part.Member members witnesses m) Phrase.Point a h e = absurd (cc)
-  whole_taken c (Part.Member members witnesses m) _ a h e = absurd (cc)
   whole_taken c (Part.Proof found) Phrase.Leaf a h e = absurd (cc)
-  whole_taken c (Part.Proof found) _ a h e = absurd (cc)
-  whole_taken c (Part.Leaf found shares) _ a h e = absurd (cc)
+  whole_taken c part p a h e = absurd (cc)
 
   -- ---- drafts
   entries_length : (entries : List Entry) → AreEntriesFor model [] entries → length (entries_lines model [] entries) ≡ length (entries_phrases model [] entries)

@@ -60,22 +60,10 @@ source_over : (a b c : Source) (s t u : Side) → share_before a s b t ≡ true 
 source_over (Of l) (Of m) (Of n) s t u h k = side_over l m n s t u h k
 source_over (Of l) b (Below j) s t u h k = refl
 source_over (Of l) b (Above j) s t u h k = refl
-source_over (Of l) (Below i) (Of n) s t u h k = absurd (true≢false (sym k))
-source_over (Of l) (Above i) (Of n) s t u h k = absurd (true≢false (sym k))
 source_over (Below i) (Of m) c s t u h k = absurd (true≢false (sym h))
 source_over (Above i) (Of m) c s t u h k = absurd (true≢false (sym h))
-source_over (Below i) (Below j) (Of n) s t u h k = absurd (true≢false (sym k))
-source_over (Below i) (Above j) (Of n) s t u h k = absurd (true≢false (sym k))
-source_over (Above i) (Below j) (Of n) s t u h k = absurd (true≢false (sym k))
-source_over (Above i) (Above j) (Of n) s t u h k = absurd (true≢false (sym k))
-source_over (Below i) (Below j) (Below l) s t u h k = grind (arith, nat_tests)
-source_over (Below i) (Below j) (Above l) s t u h k = grind (arith, nat_tests)
-source_over (Below i) (Above j) (Below l) s t u h k = grind (arith, nat_tests)
-source_over (Below i) (Above j) (Above l) s t u h k = grind (arith, nat_tests)
-source_over (Above i) (Below j) (Below l) s t u h k = grind (arith, nat_tests)
-source_over (Above i) (Below j) (Above l) s t u h k = grind (arith, nat_tests)
-source_over (Above i) (Above j) (Below l) s t u h k = grind (arith, nat_tests)
-source_over (Above i) (Above j) (Above l) s t u h k = grind (arith, nat_tests)
+source_over a b (Of n) s t u h k = absurd (true≢false (sym k))
+source_over a b c s t u h k = grind (arith, nat_tests)
 
 -- the source and side of a share, with a weight of no matter
 pub last_share : (shares : List Share) (l : Share) (source : Source) (side : Side) → AllPairs (λ t u. IsTrue (share_before t.source t.side u.source u.side)) shares → slice_get shares (length shares - 1) ≡ Some l

@@ -10,7 +10,7 @@ use Rattle.report_reader.specs.declared.phrases.StopPhrase.{StopPhrase}
 use Rattle.report_reader.specs.Phrases.{keyword_text, keyword_of, details, Says}
 use Rattle.report_reader.specs.Words.{IsSpelled, IsColumnSaid, IsFractionSaid, Finds, leading_keywords, leading_said}
 use Rattle.report_reader.proofs.Named.{found_spelled}
-use Rattle.report_reader.proofs.Spelling.{some_parts, stop_apart, words_of_line, line_of_words}
+use Rattle.report_reader.proofs.Spelling.{some_parts, words_of_line, line_of_words}
 
 -- the column and the value that two words say
 pub record ValueSaid (model : Program) (name number : List ℕ) (p : Phrase) : Type 0 where
@@ -23,7 +23,7 @@ pub record ValueSaid (model : Program) (name number : List ℕ) (p : Phrase) : T
 
 pub value_said : (model : Program) (name number : List ℕ) (p : Phrase) → IsSpelled model Keyword.Value (name ∷ number ∷ []) p → ValueSaid model name number p
 value_said model name number (Phrase.Value j v) h = record { column = j; value = v; is = refl; named = (h.form.0, (let e = h.behind in cc)); printed = (h.form.1.0, (let e = h.behind in cc)); apart = h.form.1.1 }
-value_said model name number (Phrase.Stop s) h = absurd (stop_apart Keyword.Value s refl (sym h.keyword))
+value_said model name number (Phrase.Stop StopPhrase.Wide) h = absurd (let e = h.keyword in cc)
 value_said model name number _ h = absurd (let e = h.keyword in cc)
 
 -- ---- the keyword of a line

@@ -48,7 +48,7 @@ use Rattle.report_reader.specs.Words.{leading_said, lone_said}
 use Rattle.report_reader.specs.Drafts.{nothing_read}
 use Rattle.report_reader.specs.declared.drafts.Draft.{Draft}
 use Rattle.report_reader.proofs.Said.{report_phrases, report_spelled, report_for}
-use Rattle.report_reader.proofs.Spelling.{stop_apart, words_of_line, parts_of_read}
+use Rattle.report_reader.proofs.Spelling.{words_of_line, parts_of_read}
 use Rattle.report_reader.proofs.Named.{one_place}
 use Rattle.report_reader.proofs.Scripted.{own_words}
 use Rattle.report_reader.proofs.Runs.{run, done, report_read}
@@ -107,21 +107,14 @@ site_one Improve Improve e = refl
 site_one Stretch Stretch e = refl
 site_one Relax Relax e = refl
 site_one Alternative Alternative e = refl
-site_one Settle b e = absurd (apart (codes "settle") (site_word b) refl e)
-site_one Improve b e = absurd (apart (codes "improve") (site_word b) refl e)
-site_one Stretch b e = absurd (apart (codes "stretch") (site_word b) refl e)
-site_one Relax b e = absurd (apart (codes "relax") (site_word b) refl e)
-site_one Alternative b e = absurd (apart (codes "alternative") (site_word b) refl e)
+site_one a b e = absurd (apart (site_word a) (site_word b) refl e)
 
 op_one : (a b : Op) → op_word a ≡ op_word b → a ≡ b
 op_one Plus Plus e = refl
 op_one Minus Minus e = refl
 op_one Times Times e = refl
 op_one Over Over e = refl
-op_one Plus b e = absurd (apart (codes "plus") (op_word b) refl e)
-op_one Minus b e = absurd (apart (codes "minus") (op_word b) refl e)
-op_one Times b e = absurd (apart (codes "times") (op_word b) refl e)
-op_one Over b e = absurd (apart (codes "over") (op_word b) refl e)
+op_one a b e = absurd (apart (op_word a) (op_word b) refl e)
 
 operation_is : (a b : Op) (l m r s : ℚ) → a ≡ b → l ≡ m → r ≡ s → (let x : Operation = record { op = a; left = l; right = r } in x) ≡ record { op = b; left = m; right = s }
 operation_is a b l m r s e g h = ap (λ c. record { op = c; left = l; right = r }) e ∙ ap (λ c. record { op = b; left = c; right = r }) g ∙ ap (λ c. record { op = b; left = m; right = c }) h
@@ -143,10 +136,7 @@ module _ (model : Program) (f : IsWellFormed model) where
   member_one (Lower i) (Lower j) h k w e = ap Lower (one_place (λ (c : NamedColumn). c.name) model.columns empty_column f.column_names i j h.known k.known e)
   member_one (Upper i) (Upper j) h k w e = ap Upper (one_place (λ (c : NamedColumn). c.name) model.columns empty_column f.column_names i j h.known k.known e)
   member_one (Whole i) (Whole j) h k w e = ap Whole (one_place (λ (c : NamedColumn). c.name) model.columns empty_column f.column_names i j h.known k.known e)
-  member_one (Row i) n h k w e = absurd (apart (codes "row") (kind_word n) refl w)
-  member_one (Lower i) n h k w e = absurd (apart (codes "lower") (kind_word n) refl w)
-  member_one (Upper i) n h k w e = absurd (apart (codes "upper") (kind_word n) refl w)
-  member_one (Whole i) n h k w e = absurd (apart (codes "whole") (kind_word n) refl w)
+  member_one m n h k w e = absurd (apart (kind_word m) (kind_word n) refl w)
 
   -- what is said of a stop
   stop_one : (a b : StopPhrase) → IsStopPhrase model a → IsStopPhrase model b → stop_keyword a ≡ stop_keyword b → stop_details model a ≡ stop_details model b → a ≡ b
@@ -156,18 +146,12 @@ module _ (model : Program) (f : IsWellFormed model) where
   stop_one (StopPhrase.Without m) (StopPhrase.Without n) h k e d = let kinds : kind_word m ≡ kind_word n = cc in let names : name_of model m ≡ name_of model n = cc in ap StopPhrase.Without (member_one m n h k kinds names)
   stop_one (StopPhrase.Step m) (StopPhrase.Step n) h k e d = let words : decimal m ≡ decimal n = cc in ap StopPhrase.Step (decimal_injective m n h k words)
   stop_one (StopPhrase.Operation a) (StopPhrase.Operation b) h k e d = ap StopPhrase.Operation (operation_one model a b h k d)
-  stop_one StopPhrase.Wide _ h k e d = absurd (cc)
-  stop_one StopPhrase.Spent _ h k e d = absurd (cc)
-  stop_one (StopPhrase.Site a) _ h k e d = absurd (cc)
-  stop_one (StopPhrase.Without m) _ h k e d = absurd (cc)
-  stop_one (StopPhrase.Step m) _ h k e d = absurd (cc)
-  stop_one (StopPhrase.Operation a) _ h k e d = absurd (cc)
+  stop_one a b h k e d = absurd (cc)
 
   side_one : (s t : Side) → side_word s ≡ side_word t → s ≡ t
   side_one Lo Lo e = refl
   side_one Up Up e = refl
-  side_one Lo Up e = absurd (apart (codes "lo") (codes "up") refl e)
-  side_one Up Lo e = absurd (apart (codes "up") (codes "lo") refl e)
+  side_one s t e = absurd (apart (side_word s) (side_word t) refl e)
 
   -- ---- shares
   share_is : (a b : Source) (s t : Side) (v w : ℚ) → a ≡ b → s ≡ t → v ≡ w → (let x : Share = record { source = a; side = s; weight = v } in x) ≡ record { source = b; side = t; weight = w }
@@ -183,9 +167,7 @@ module _ (model : Program) (f : IsWellFormed model) where
   source_one (Above i) (Above j) s t v w h k e = let names : column_name model i ≡ column_name model j = cc in (ap Above (column_one i j h.0 k.0 names), (h.1 ∙ sym k.1, cc))
   source_one (Below i) (Above j) s t v w h k e = let first : codes "below" ≡ codes "above" = cc in absurd (apart (codes "below") (codes "above") refl first)
   source_one (Above i) (Below j) s t v w h k e = let first : codes "above" ≡ codes "below" = cc in absurd (apart (codes "above") (codes "below") refl first)
-  source_one (Of m) _ s t v w h k e = absurd (cc)
-  source_one (Below i) (Of n) s t v w h k e = absurd (cc)
-  source_one (Above i) (Of n) s t v w h k e = absurd (cc)
+  source_one a b s t v w h k e = absurd (cc)
 
   -- ---- phrases
   use_one : (a b : Share) → IsUse model a → IsUse model b → source_words model a.source a.side (printed a.weight ∷ []) ≡ source_words model b.source b.side (printed b.weight ∷ []) → a ≡ b
@@ -220,37 +202,9 @@ module _ (model : Program) (f : IsWellFormed model) where
   behind_one (Phrase.Value i v) (Phrase.Value j w) h k e d = let names : column_name model i ≡ column_name model j = cc in let numbers : printed v ≡ printed w = cc in ap (λ n. Phrase.Value n v) (column_one i j h.0 k.0 names) ∙ ap (λ x. Phrase.Value j x) (fraction_one v w h.1.0 k.1.0 numbers)
   behind_one (Phrase.Member m) (Phrase.Member n) h k e d = let kinds : kind_word m ≡ kind_word n = cc in let names : name_of model m ≡ name_of model n = cc in ap Phrase.Member (member_one m n h k kinds names)
   behind_one (Phrase.Use a) (Phrase.Use b) h k e d = ap Phrase.Use (use_one a b h k d)
-  behind_one Phrase.Head (Phrase.Stop s) h k e d = absurd (stop_apart Keyword.Iisan s refl e)
-  behind_one Phrase.Feasible (Phrase.Stop s) h k e d = absurd (stop_apart Keyword.Feasible s refl e)
-  behind_one Phrase.Infeasible (Phrase.Stop s) h k e d = absurd (stop_apart Keyword.Infeasible s refl e)
-  behind_one Phrase.Irreducible (Phrase.Stop s) h k e d = absurd (stop_apart Keyword.Irreducible s refl e)
-  behind_one Phrase.Point (Phrase.Stop s) h k e d = absurd (stop_apart Keyword.Point s refl e)
-  behind_one Phrase.Proof (Phrase.Stop s) h k e d = absurd (stop_apart Keyword.Proof s refl e)
-  behind_one Phrase.Leaf (Phrase.Stop s) h k e d = absurd (stop_apart Keyword.Leaf s refl e)
-  behind_one Phrase.End (Phrase.Stop s) h k e d = absurd (stop_apart Keyword.End s refl e)
-  behind_one Phrase.Foot (Phrase.Stop s) h k e d = absurd (stop_apart Keyword.Report s refl e)
-  behind_one (Phrase.Note a) (Phrase.Stop s) h k e d = absurd (stop_apart Keyword.Note s refl e)
-  behind_one (Phrase.Command a) (Phrase.Stop s) h k e d = absurd (stop_apart Keyword.Command s refl e)
-  behind_one (Phrase.Value i v) (Phrase.Stop s) h k e d = absurd (stop_apart Keyword.Value s refl e)
-  behind_one (Phrase.Member m) (Phrase.Stop s) h k e d = absurd (stop_apart Keyword.Member s refl e)
-  behind_one (Phrase.Use a) (Phrase.Stop s) h k e d = absurd (stop_apart Keyword.Use s refl e)
-  behind_one Phrase.Done (Phrase.Stop s) h k e d = absurd (stop_apart Keyword.Done s refl e)
-  behind_one Phrase.Head _ h k e d = absurd (cc)
-  behind_one Phrase.Feasible _ h k e d = absurd (cc)
-  behind_one Phrase.Infeasible _ h k e d = absurd (cc)
-  behind_one Phrase.Irreducible _ h k e d = absurd (cc)
-  behind_one Phrase.Point _ h k e d = absurd (cc)
-  behind_one Phrase.Proof _ h k e d = absurd (cc)
-  behind_one Phrase.Leaf _ h k e d = absurd (cc)
-  behind_one Phrase.End _ h k e d = absurd (cc)
-  behind_one Phrase.Foot _ h k e d = absurd (cc)
-  behind_one (Phrase.Note a) _ h k e d = absurd (cc)
-  behind_one (Phrase.Command a) _ h k e d = absurd (cc)
-  behind_one Phrase.Done _ h k e d = absurd (cc)
-  behind_one (Phrase.Stop a) q h k e d = absurd (stop_apart (keyword_of q) a refl (sym e))
-  behind_one (Phrase.Value i v) _ h k e d = absurd (cc)
-  behind_one (Phrase.Member m) _ h k e d = absurd (cc)
-  behind_one (Phrase.Use a) _ h k e d = absurd (cc)
+  behind_one p (Phrase.Stop StopPhrase.Wide) h k e d = absurd (cc)
+  behind_one (Phrase.Stop StopPhrase.Wide) q h k e d = absurd (cc)
+  behind_one p q h k e d = absurd (cc)
 
   -- a keyword is spelled as no other
   keyword_one : (k l : Keyword) → keyword_text k ≡ keyword_text l → k ≡ l
@@ -261,26 +215,7 @@ module _ (model : Program) (f : IsWellFormed model) where
 
       spelled_back : (k : Keyword) → keyword_back (keyword_text k) ≡ Some k
       spelled_back Keyword.Iisan = refl
-      spelled_back Keyword.Note = refl
-      spelled_back Keyword.Command = refl
-      spelled_back Keyword.Feasible = refl
-      spelled_back Keyword.Infeasible = refl
-      spelled_back Keyword.Irreducible = refl
-      spelled_back Keyword.Done = refl
-      spelled_back Keyword.Point = refl
-      spelled_back Keyword.Value = refl
-      spelled_back Keyword.Member = refl
-      spelled_back Keyword.Proof = refl
-      spelled_back Keyword.Leaf = refl
-      spelled_back Keyword.Use = refl
-      spelled_back Keyword.Too = refl
-      spelled_back Keyword.Pivots = refl
-      spelled_back Keyword.Site = refl
-      spelled_back Keyword.Without = refl
-      spelled_back Keyword.Step = refl
-      spelled_back Keyword.Operation = refl
-      spelled_back Keyword.End = refl
-      spelled_back Keyword.Report = refl
+      spelled_back k = refl
 
   phrase_one : (line : Line) (p q : Phrase) → Says model line p → Says model line q → p ≡ q
   phrase_one line p q h k =

@@ -288,9 +288,7 @@ module _ (model : Program) where
     where
       by : (stage : Stage) → stage ≡ Stage.Done → IsDraftFor model (draft_of draft.notes draft.entries stage) → front ≡ map (phrase_line model) (draft_phrases model (draft_of draft.notes draft.entries stage)) → IsWhole model front
       by Stage.Done e f said = record { report = record { notes = draft.notes; entries = draft.entries }; form = whole_form model draft.notes draft.entries f; lines = whole_lines model draft.notes draft.entries f ∙ sym said ∙ sym (append-nil front) }
-      by Stage.Start e f said = absurd (cc)
-      by Stage.Between e f said = absurd (cc)
-      by (Stage.Answering question part) e f said = absurd (cc)
+      by stage e f said = absurd (cc)
 
   pub is_front : (front : List Line) (draft : Draft) → HasRead model front draft → IsFront model front
   unfolding Front
@@ -387,9 +385,7 @@ module _ (model : Program) (bytes : List ℕ) where
             let cut : parts 10 bytes ≡ h.front ++ [] ∷ [] = cut_last ∙ ap (λ t. h.front ++ t ∷ []) g in
             (subst (Reads model bytes) same (reads_whole model bytes h.front draft h.read f cut), λ other reads. reads_once model bytes h.front draft other h.read cut reads ∙ same)
         by Stage.Done f (b ∷ more) g k = absurd (cc)
-        by Stage.Start f text g k = absurd (cc)
-        by Stage.Between f text g k = absurd (cc)
-        by (Stage.Answering question part) f text g k = absurd (cc)
+        by stage f text g k = absurd (cc)
 
     pub end_stops : (stop : ReportStop) → ended number draft rest ≡ Err stop → IsReportStop model bytes stop
     end_stops stop e = by draft.stage refl rest refl e
@@ -400,6 +396,4 @@ module _ (model : Program) (bytes : List ℕ) where
         by : (stage : Stage) → draft.stage ≡ stage → (text : List ℕ) → rest ≡ text → ended number (draft_of draft.notes draft.entries stage) text ≡ Err stop → IsReportStop model bytes stop
         by Stage.Done f [] g k = absurd (cc)
         by Stage.Done f (b ∷ more) g k = subst (IsReportStop model bytes) (same (BadLine (number + 1)) stop k) (byte_behind b more g f)
-        by Stage.Start f text g k = subst (IsReportStop model bytes) (same Truncated stop k) (truncated (λ d. absurd (let z : Stage.Start ≡ Stage.Done = sym f ∙ d in cc)))
-        by Stage.Between f text g k = subst (IsReportStop model bytes) (same Truncated stop k) (truncated (λ d. absurd (let z : Stage.Between ≡ Stage.Done = sym f ∙ d in cc)))
-        by (Stage.Answering question part) f text g k = subst (IsReportStop model bytes) (same Truncated stop k) (truncated (λ d. absurd (let z : Stage.Answering question part ≡ Stage.Done = sym f ∙ d in cc)))
+        by stage f text g k = subst (IsReportStop model bytes) (same Truncated stop k) (truncated (λ d. absurd (let z : stage ≡ Stage.Done = sym f ∙ d in cc)))

@@ -21,7 +21,7 @@ use Rattle.certs.specs.declared.solving.SiteKind.{SiteKind}
 use Rattle.certs.specs.declared.solving.SiteKind.TheVariants.{Settle}
 use Rattle.certs.specs.declared.solving.Site.{Site}
 use Rattle.certs.specs.declared.solving.Stop.{Stop}
-use Rattle.certs.specs.declared.solving.Stop.TheVariants.{Wide as TooWide, Pivots as Spent, Nodes, Large, Memory}
+use Rattle.certs.specs.declared.solving.Stop.TheVariants.{Wide as TooWide, Pivots as Spent}
 use Rattle.report_text.specs.declared.report.Command.{Command}
 use Rattle.report_text.specs.declared.report.Command.TheVariants.{Check, Iis, Pivots}
 use Rattle.report_text.specs.declared.report.Answer.{Answer}
@@ -316,9 +316,7 @@ stop_read model c (Spent site) h begins = (
     ap (λ s. Some (Next.Whole (Stopped (Spent s)))) (same_site model site h.settle),
   ),
 )
-stop_read model c (Nodes site) h begins = absurd h
-stop_read model c (Large size) h begins = absurd h
-stop_read model c Memory h begins = absurd h
+stop_read model c stop h begins = absurd h
 
 -- a point
 feasible_read : (model : Program) (c : Command) (p : Point) → IsPointFor model p → extended model c Part.Nothing Phrase.Feasible ≡ Some (Next.More Part.Feasible) → AnswerRead model c (Feasible p)
@@ -366,11 +364,7 @@ answer_read model (Iis method) (Irreducible core) can h =
             ∙ ap (λ r. Some (Next.Whole (Irreducible (record { members = core.members; witnesses = core.witnesses; proof = core.proof; rounds = core.rounds; price = r })))) (sym h.price),
       ),
     )
-answer_read model Check (Irreducible core) can h = absurd (true≢false (sym can))
-answer_read model (Iis method) (Infeasible set proof) can h = absurd (true≢false (sym can))
-answer_read model Check Done can h = absurd (true≢false (sym can))
-answer_read model (Iis method) Done can h = absurd (true≢false (sym can))
-answer_read model (Pivots n) _ can h = absurd (true≢false (sym can))
+answer_read model c a can h = absurd (true≢false (sym can))
 
 -- ---- entries, notes and the whole
 module _ (model : Program) where

@@ -21,7 +21,7 @@ use Rattle.certs.specs.declared.evidence.Node.TheVariants.{Split, Leaf}
 use Rattle.certs.specs.declared.evidence.Proof.{Proof}
 use Rattle.certs.specs.declared.solving.Site.{Site}
 use Rattle.certs.specs.declared.solving.Stop.{Stop}
-use Rattle.certs.specs.declared.solving.Stop.TheVariants.{Wide as TooWide, Pivots as Spent, Nodes, Large, Memory}
+use Rattle.certs.specs.declared.solving.Stop.TheVariants.{Wide as TooWide, Pivots as Spent}
 use Rattle.report_text.specs.declared.report.Command.{Command}
 use Rattle.report_text.specs.declared.report.Command.TheVariants.{Check, Iis, Pivots}
 use Rattle.report_text.specs.declared.report.Answer.{Answer}
@@ -168,9 +168,7 @@ module _ (model : Program) where
   stop_spelled (Spent site) h =
       ap (λ l. codes "pivots spent" ∷ (l ++ codes "end" ∷ [])) (site_spelled site)
       ∙ ap (λ l. codes "pivots spent" ∷ l) (sym (map-append (phrase_line model) (site_phrases model site) (Phrase.End ∷ [])))
-  stop_spelled (Nodes site) h = absurd h
-  stop_spelled (Large size) h = absurd h
-  stop_spelled Memory h = absurd h
+  stop_spelled stop h = absurd h
 
   -- an answer is its front and its last line
   answer_spelled : (a : Answer) → IsAnswerFor model a → answer_lines model a ≡ map (phrase_line model) (answer_front model a ++ answer_end a ∷ [])
@@ -275,17 +273,12 @@ module _ (model : Program) where
       All-cons For (Phrase.Stop StopPhrase.Wide) (site_phrases model site ++ step ∷ operation ∷ []) tt
       (All-append For (site_phrases model site) (step ∷ operation ∷ []) (site_for site h.0) (All-cons For step (operation ∷ []) h.1.0 (All-cons For operation [] h.1.1 (All-nil For))))
   stop_for (Spent site) h = All-cons For (Phrase.Stop StopPhrase.Spent) (site_phrases model site) tt (site_for site h)
-  stop_for (Nodes site) h = absurd h
-  stop_for (Large size) h = absurd h
-  stop_for Memory h = absurd h
+  stop_for stop h = absurd h
 
   end_for : (a : Answer) → For (answer_end a)
   unfolding For
   end_for (Feasible p) = tt
-  end_for (Infeasible set proof) = tt
-  end_for (Irreducible core) = tt
-  end_for Done = tt
-  end_for (Stopped stop) = tt
+  end_for a = tt
 
   answer_for : (a : Answer) → IsAnswerFor model a → All For (answer_front model a)
   unfolding For

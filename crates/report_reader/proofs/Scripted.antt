@@ -30,10 +30,10 @@ use Rattle.report_text.specs.Grammar.{method_word, command_text}
 use Rattle.lp_model.specs.Program.{Program}
 use Rattle.report_reader.specs.declared.phrases.Keyword.{Keyword}
 use Rattle.report_reader.specs.declared.phrases.Phrase.{Phrase}
+use Rattle.report_reader.specs.declared.phrases.StopPhrase.{StopPhrase}
 use Rattle.report_reader.specs.Commands.{command_words, is_numeral, pivots_of, lone_command, method_of, iis_command, budget_command, command_said, unless_fault, command_of}
 use Rattle.report_reader.specs.Words.{Finds, IsSpelled, IsPlain}
 use Rattle.report_reader.proofs.Named.{told, told_if, found_spelled}
-use Rattle.report_reader.proofs.Spelling.{stop_apart}
 
 -- ---- the number of pivots
 pub own : IsNumeralModel (λ ds. list_all is_dec ds ≡ true) (number_after 0)
@@ -167,7 +167,7 @@ pub record CommandBehind (words : List (List ℕ)) (p : Phrase) : Type 0 where
 
 pub command_behind : (model : Program) (words : List (List ℕ)) (p : Phrase) → IsSpelled model Keyword.Command words p → CommandBehind words p
 command_behind model words (Phrase.Command c) h = record { command = c; is = refl; plain = subst IsPlain (sym h.behind) (own_plain c h.form); said = ap command_said h.behind ∙ own_words c h.form }
-command_behind model words (Phrase.Stop s) h = absurd (stop_apart Keyword.Command s refl (sym h.keyword))
+command_behind model words (Phrase.Stop StopPhrase.Wide) h = absurd (let e = h.keyword in cc)
 command_behind model words _ h = absurd (let e = h.keyword in cc)
 
 pub command_found : (model : Program) (words : List (List ℕ)) (c : Command) → IsPlain words → command_said words ≡ Some c → Finds (IsSpelled model Keyword.Command words) (Some (Phrase.Command c))

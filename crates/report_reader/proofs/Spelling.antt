@@ -1,5 +1,5 @@
 -- The words of a line: each has shown bytes alone, so the parts of a line are its words, and those of a text its lines.
-use Rattle.std.proofs.Common.{◌≡◌, ◌≢◌, refl, sym, ap, subst, ◌∙◌, ℕ, suc, ◌+◌, ◌^◌, ◌<◌, ◌≤◌, ◌==◌, Bool, true, false, true≢false, List, [], ◌∷◌, ◌++◌, append_assoc, append-nil, arith, eqb-true, ltb-false, length}
+use Rattle.std.proofs.Common.{◌≡◌, ◌≢◌, refl, sym, ap, subst, ◌∙◌, ℕ, suc, ◌+◌, ◌^◌, ◌<◌, ◌≤◌, ◌==◌, true, false, true≢false, List, [], ◌∷◌, ◌++◌, append_assoc, append-nil, arith, eqb-true, ltb-false, length}
 use Rattle.std.specs.Prelude.{All, map, count_by, codes, decimal, nat_lt, unsigned_abs}
 use Rattle.std.specs.List.{list_all, join_with_byte}
 use Rattle.std.proofs.lemmas.Bool.{and_parts, or_parts, cond_both, false_from_ne_true}
@@ -20,25 +20,25 @@ use Rattle.report_reader.specs.Parts.{parts}
 use Rattle.lp_model.specs.Program.{Program}
 use Rattle.lp_model.specs.declared.parts.Note.TheVariants.{LowerRemoved, LowerKept}
 use Rattle.lp_model.specs.declared.members.Member.{Member}
-use Rattle.lp_model.specs.declared.members.Member.TheVariants.{Row, Lower, Upper, Whole}
+use Rattle.lp_model.specs.declared.members.Member.TheVariants.{Row}
 use Rattle.lp_model.specs.declared.members.Side.{Side}
 use Rattle.lp_model.specs.declared.members.Side.TheVariants.{Lo, Up}
 use Rattle.certs.specs.declared.evidence.Source.{Source}
 use Rattle.certs.specs.declared.evidence.Source.TheVariants.{Member as Of, Below, Above}
 use Rattle.certs.specs.declared.solving.SiteKind.{SiteKind}
-use Rattle.certs.specs.declared.solving.SiteKind.TheVariants.{Settle, Improve, Stretch, Relax, Alternative}
+use Rattle.certs.specs.declared.solving.SiteKind.TheVariants.{Settle}
 use Rattle.frac128.specs.declared.Op.{Op}
-use Rattle.frac128.specs.declared.Op.TheVariants.{Plus, Minus, Times, Over}
+use Rattle.frac128.specs.declared.Op.TheVariants.{Plus}
 use Rattle.report_text.specs.declared.report.Command.TheVariants.{Check, Iis, Pivots}
-use Rattle.report_text.specs.declared.report.Method.TheVariants.{Deletion, Additive, Sensitivity}
+use Rattle.report_text.specs.declared.report.Method.TheVariants.{Deletion}
 use Rattle.report_text.specs.declared.report.Report.{Report}
 use Rattle.report_reader.specs.declared.phrases.Keyword.{Keyword}
 use Rattle.report_reader.specs.declared.phrases.Phrase.{Phrase}
 use Rattle.report_reader.specs.declared.phrases.StopPhrase.{StopPhrase}
 use Rattle.report_text.specs.Form.{is_word, IsNamedSource}
-use Rattle.report_text.specs.Grammar.{Line, ◌then◌, text_of, column_name, name_of, kind_word, side_word, site_word, op_word, report_lines}
+use Rattle.report_text.specs.Grammar.{Line, ◌then◌, text_of, column_name, name_of, kind_word, side_word, method_word, site_word, op_word, report_lines}
 use Rattle.report_reader.specs.Reading.{Reads}
-use Rattle.report_reader.specs.Phrases.{keyword_text, keyword_of, source_words, stop_keyword, stop_details, details, spelled, phrase_line, IsStopPhrase, IsPhraseFor, Says}
+use Rattle.report_reader.specs.Phrases.{keyword_text, keyword_of, source_words, stop_details, details, spelled, phrase_line, IsStopPhrase, IsPhraseFor, Says}
 use Rattle.report_reader.proofs.Said.{report_phrases, report_spelled, report_for}
 
 -- a text has a part
@@ -94,47 +94,7 @@ word_shown name h = plain name (and_parts (nat_lt 0 (length name)) (list_all is_
 
 keyword_shown : (k : Keyword) → Shown (keyword_text k)
 keyword_shown Keyword.Iisan = plain (codes "iisan") refl
-keyword_shown Keyword.Note = plain (codes "note") refl
-keyword_shown Keyword.Command = plain (codes "command") refl
-keyword_shown Keyword.Feasible = plain (codes "feasible") refl
-keyword_shown Keyword.Infeasible = plain (codes "infeasible") refl
-keyword_shown Keyword.Irreducible = plain (codes "irreducible") refl
-keyword_shown Keyword.Done = plain (codes "done") refl
-keyword_shown Keyword.Point = plain (codes "point") refl
-keyword_shown Keyword.Value = plain (codes "value") refl
-keyword_shown Keyword.Member = plain (codes "member") refl
-keyword_shown Keyword.Proof = plain (codes "proof") refl
-keyword_shown Keyword.Leaf = plain (codes "leaf") refl
-keyword_shown Keyword.Use = plain (codes "use") refl
-keyword_shown Keyword.Too = plain (codes "too") refl
-keyword_shown Keyword.Pivots = plain (codes "pivots") refl
-keyword_shown Keyword.Site = plain (codes "site") refl
-keyword_shown Keyword.Without = plain (codes "without") refl
-keyword_shown Keyword.Step = plain (codes "step") refl
-keyword_shown Keyword.Operation = plain (codes "operation") refl
-keyword_shown Keyword.End = plain (codes "end") refl
-keyword_shown Keyword.Report = plain (codes "report") refl
-
--- the keywords of stops are no others
-abbrev pub is_stop : Keyword → Bool
-is_stop Keyword.Too = true
-is_stop Keyword.Pivots = true
-is_stop Keyword.Site = true
-is_stop Keyword.Without = true
-is_stop Keyword.Step = true
-is_stop Keyword.Operation = true
-is_stop _ = false
-
-pub stop_apart : (k : Keyword) (s : StopPhrase) → is_stop k ≡ false → k ≡ stop_keyword s → ⊥
-stop_apart k s h e = true≢false (sym (by s) ∙ ap is_stop (sym e) ∙ h)
-  where
-    by : (s : StopPhrase) → is_stop (stop_keyword s) ≡ true
-    by StopPhrase.Wide = refl
-    by StopPhrase.Spent = refl
-    by (StopPhrase.Site kind) = refl
-    by (StopPhrase.Without m) = refl
-    by (StopPhrase.Step k) = refl
-    by (StopPhrase.Operation o) = refl
+keyword_shown k = plain (keyword_text k) refl
 
 -- lists of one, two and more words
 none_shown : All Shown []
@@ -146,23 +106,16 @@ and_shown w ws h rest = All-cons Shown w ws h rest
 -- ---- the words of a stop
 site_shown : (kind : SiteKind) → Shown (site_word kind)
 site_shown Settle = plain (codes "settle") refl
-site_shown Improve = plain (codes "improve") refl
-site_shown Stretch = plain (codes "stretch") refl
-site_shown Relax = plain (codes "relax") refl
-site_shown Alternative = plain (codes "alternative") refl
+site_shown kind = plain (site_word kind) refl
 
 op_shown : (op : Op) → Shown (op_word op)
 op_shown Plus = plain (codes "plus") refl
-op_shown Minus = plain (codes "minus") refl
-op_shown Times = plain (codes "times") refl
-op_shown Over = plain (codes "over") refl
+op_shown op = plain (op_word op) refl
 
 module _ (model : Program) where
   kind_shown : (m : Member) → Shown (kind_word m)
   kind_shown (Row i) = plain (codes "row") refl
-  kind_shown (Lower j) = plain (codes "lower") refl
-  kind_shown (Upper j) = plain (codes "upper") refl
-  kind_shown (Whole j) = plain (codes "whole") refl
+  kind_shown m = plain (kind_word m) refl
 
   stop_shown : (s : StopPhrase) → IsStopPhrase model s → All Shown (stop_details model s)
   stop_shown StopPhrase.Wide h = and_shown (codes "wide") [] (plain (codes "wide") refl) none_shown
@@ -194,22 +147,14 @@ module _ (model : Program) where
   details_shown (Phrase.Note (LowerKept j)) h = and_shown (column_name model j) (codes "lower" ∷ codes "kept" ∷ []) (word_shown (column_name model j) h.word) (two_shown (codes "lower") (codes "kept") (plain (codes "lower") refl) (plain (codes "kept") refl))
   details_shown (Phrase.Command Check) h = and_shown (codes "check") [] (plain (codes "check") refl) none_shown
   details_shown (Phrase.Command (Iis Deletion)) h = two_shown (codes "iis") (codes "deletion") (plain (codes "iis") refl) (plain (codes "deletion") refl)
-  details_shown (Phrase.Command (Iis Additive)) h = two_shown (codes "iis") (codes "additive") (plain (codes "iis") refl) (plain (codes "additive") refl)
-  details_shown (Phrase.Command (Iis Sensitivity)) h = two_shown (codes "iis") (codes "sensitivity") (plain (codes "iis") refl) (plain (codes "sensitivity") refl)
+  details_shown (Phrase.Command (Iis method)) h = two_shown (codes "iis") (method_word method) (plain (codes "iis") refl) (plain (method_word method) refl)
   details_shown (Phrase.Command (Pivots n)) h = and_shown (codes "budget") (codes "pivots" ∷ decimal n ∷ []) (plain (codes "budget") refl) (two_shown (codes "pivots") (decimal n) (plain (codes "pivots") refl) (count_shown n (let l : n ≤ 1000000 = h in omega arith)))
   details_shown (Phrase.Stop s) h = stop_shown s h
-  details_shown Phrase.Done h = none_shown
   details_shown (Phrase.Value j v) h = two_shown (column_name model j) (printed v) (word_shown (column_name model j) h.0.word) (printed_shown v h.1.0)
   details_shown (Phrase.Member m) h = two_shown (kind_word m) (name_of model m) (kind_shown m) (word_shown (name_of model m) h.word)
   details_shown (Phrase.Use s) h = source_shown s.source s.side (printed s.weight) h.named (printed_shown s.weight h.fits)
   details_shown Phrase.Foot h = and_shown (codes "end") [] (plain (codes "end") refl) none_shown
-  details_shown Phrase.Feasible h = none_shown
-  details_shown Phrase.Infeasible h = none_shown
-  details_shown Phrase.Irreducible h = none_shown
-  details_shown Phrase.Point h = none_shown
-  details_shown Phrase.Proof h = none_shown
-  details_shown Phrase.Leaf h = none_shown
-  details_shown Phrase.End h = none_shown
+  details_shown p h = none_shown
 
 -- ---- words and lines
 -- the parts of words between blanks are the words

@@ -68,10 +68,7 @@ fn number_of_pivots(word: &[u8]) -> Option<u64>
 fn read_lone(word: &[u8]) -> Option<Command>
     ensures { result ≡ lone_command word.now }
 {
-    if word == b"check".as_slice() {
-        return Some(Command::Check);
-    }
-    None
+    (word == b"check".as_slice()).then_some(Command::Check)
 }
 
 // The method that a word names.
@@ -93,8 +90,7 @@ fn read_search(first: &[u8], second: &[u8]) -> Option<Command>
     if first != b"iis".as_slice() {
         return None;
     }
-    let method = read_method(second)?;
-    Some(Command::Iis(method))
+    Some(Command::Iis(read_method(second)?))
 }
 
 // `budget pivots`, and a number.
@@ -107,8 +103,7 @@ fn read_budget(first: &[u8], second: &[u8], third: &[u8]) -> Option<Command>
     if second != b"pivots".as_slice() {
         return None;
     }
-    let pivots = number_of_pivots(third)?;
-    Some(Command::Pivots(pivots))
+    Some(Command::Pivots(number_of_pivots(third)?))
 }
 
 /// The command that words are: `check`; or `iis` and `deletion`, `additive` or `sensitivity`; or `budget`, `pivots` and a

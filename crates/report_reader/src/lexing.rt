@@ -79,8 +79,7 @@ fn read_value(model: &Model, name: &[u8], number: &[u8]) -> Option<Phrase>
 fn read_member(model: &Model, kind: &[u8], name: &[u8]) -> Option<Phrase>
     ensures { Finds (IsSpelled model.now Keyword.Member (kind.now ∷ name.now ∷ [])) result }
 {
-    let member = member_of(model, kind, name)?;
-    Some(Phrase::Member(member))
+    Some(Phrase::Member(member_of(model, kind, name)?))
 }
 
 // What two words say behind a keyword.

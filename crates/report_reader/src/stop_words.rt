@@ -41,44 +41,35 @@ fn op_of(word: &[u8]) -> Option<Op>
 pub(crate) fn read_too(word: &[u8]) -> Option<Phrase>
     ensures { (model : Program) → Finds (IsSpelled model Keyword.Too (word.now ∷ [])) result }
 {
-    if word == b"wide".as_slice() {
-        return Some(Phrase::Stop(StopPhrase::Wide));
-    }
-    None
+    (word == b"wide".as_slice()).then_some(Phrase::Stop(StopPhrase::Wide))
 }
 
 /// `pivots spent`.
 pub(crate) fn read_pivots(word: &[u8]) -> Option<Phrase>
     ensures { (model : Program) → Finds (IsSpelled model Keyword.Pivots (word.now ∷ [])) result }
 {
-    if word == b"spent".as_slice() {
-        return Some(Phrase::Stop(StopPhrase::Spent));
-    }
-    None
+    (word == b"spent".as_slice()).then_some(Phrase::Stop(StopPhrase::Spent))
 }
 
 /// The site of a stop.
 pub(crate) fn read_site(word: &[u8]) -> Option<Phrase>
     ensures { (model : Program) → Finds (IsSpelled model Keyword.Site (word.now ∷ [])) result }
 {
-    let kind = kind_of(word)?;
-    Some(Phrase::Stop(StopPhrase::Site(kind)))
+    Some(Phrase::Stop(StopPhrase::Site(kind_of(word)?)))
 }
 
 /// An active member that is not in the site's set.
 pub(crate) fn read_without(model: &Model, kind: &[u8], name: &[u8]) -> Option<Phrase>
     ensures { Finds (IsSpelled model.now Keyword.Without (kind.now ∷ name.now ∷ [])) result }
 {
-    let member = member_of(model, kind, name)?;
-    Some(Phrase::Stop(StopPhrase::Without(member)))
+    Some(Phrase::Stop(StopPhrase::Without(member_of(model, kind, name)?)))
 }
 
 /// The number of a turn.
 pub(crate) fn read_step(word: &[u8]) -> Option<Phrase>
     ensures { (model : Program) → Finds (IsSpelled model Keyword.Step (word.now ∷ [])) result }
 {
-    let step = count_of(word)?;
-    Some(Phrase::Stop(StopPhrase::Step(step)))
+    Some(Phrase::Stop(StopPhrase::Step(count_of(word)?)))
 }
 
 /// An operation with its operands.

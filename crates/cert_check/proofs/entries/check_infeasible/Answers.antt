@@ -31,10 +31,6 @@ returns c =
     let found = c.check_combo.ensures.said ∙ ap (λ (l : List Share). outcome (combination_steps model set [] l)) c.leaf_of-combo.ensures in
     says_second (paired_trials agree (c.args.line + 2) set (used_members model (leaf_shares c.args.proof.now.nodes))) _ c.settle.result passes
     (says_of _ _ c.settle.result
-<<<<<<< 37da6e6
-    (ap (λ k. stop_or (c.args.line + (3 + k)) c.check_combo.result None) c.count.ensures
-=======
     (ap (λ k. stop_or k c.check_combo.result None) place
->>>>>>> dc14b68
     ∙ ap (λ f. stop_or (c.args.line + (3 + length set)) f None) found)
     c.settle.ensures)
