@@ -2,7 +2,11 @@
 #![tactic(auto)]
 
 mod bits;
+mod kinds;
+mod lanes;
 mod scans;
 
 pub use bits::{count, meets, subset};
-pub use scans::{first_foreign, is_blank_byte, next_end, next_nonblank};
+pub use kinds::{Blank, Byte, is_blank_byte};
+pub use lanes::{Kind, first_of, lowest_bit};
+pub use scans::{first_foreign, next_end, next_nonblank};

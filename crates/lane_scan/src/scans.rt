@@ -1,20 +1,9 @@
 //! Scans of bytes: each gives the first place of a kind of byte.
-ghost use Rattle.std.specs.Prelude.{◌≡◌, ◌≤◌, ◌+◌, ◌||◌, ◌==◌, Bool, length, not};
-ghost use Rattle.lane_scan.specs.Bytes.{is_end, is_blank, is_allowed, end_from, nonblank_within, foreign_within};
+ghost use Rattle.std.specs.Prelude.{◌≡◌, ◌≤◌, ◌+◌, length};
+ghost use Rattle.lane_scan.specs.Bytes.{end_from, nonblank_within, foreign_within};
 
-/// Whether the byte is a blank: 32, 9 or 13.
-pub fn is_blank_byte(byte: u8) -> bool
-    ensures { result ≡ is_blank byte }
-{
-    byte == b' ' || byte == b'\t' || byte == b'\r'
-}
-
-// Whether a line of a model may have the byte, or the byte ends it.
-fn is_allowed_byte(byte: u8) -> bool
-    ensures { result ≡ is_allowed byte }
-{
-    byte == b'\t' || byte == b'\n' || byte == b'\r' || (b' ' <= byte && byte <= b'~')
-}
+use crate::kinds::{Byte, Foreign, is_blank_byte};
+use crate::lanes::first_of;
 
 /// The first place from `from` on where byte 10 stands, or the length where there is none.
 pub fn next_end(bytes: &[u8], from: usize) -> usize
@@ -23,12 +12,7 @@ pub fn next_end(bytes: &[u8], from: usize) -> usize
     ensures low { from ≤ result }
     ensures high { result ≤ length bytes.now }
 {
-    for (i, byte) in bytes[from..].iter().enumerate() {
-        if *byte == b'\n' {
-            return from + i;
-        }
-    }
-    bytes.len()
+    first_of::<Byte<b'\n'>>(bytes, from, bytes.len())
 }
 
 /// The first place from `from` on whose byte is no blank (32, 9 or 13), or `to` where there is none before it.
@@ -55,10 +39,5 @@ pub fn first_foreign(bytes: &[u8], from: usize, to: usize) -> usize
     ensures low { from ≤ result }
     ensures high { result ≤ to }
 {
-    for (allowed, byte) in bytes[from..to].iter().enumerate() {
-        if !is_allowed_byte(*byte) {
-            return from + allowed;
-        }
-    }
-    to
+    first_of::<Foreign>(bytes, from, to)
 }

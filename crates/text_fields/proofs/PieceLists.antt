@@ -1,7 +1,7 @@
 -- What stands first in a text, by its first byte.
-use Rattle.std.proofs.Common.{◌≡◌, ◌≢◌, ℕ, ◌+◌, ◌<◌, ◌==◌, ltb, leb, get_or, ◌||◌, ◌&&◌, Bool, true, false, cond, List, [], ◌∷◌, length, drop, refl, sym, ap, ◌∙◌, arith, eq-eqb}
+use Rattle.std.proofs.Common.{◌≡◌, ◌≢◌, ℕ, ◌+◌, ◌<◌, ◌==◌, ltb, leb, get_or, ◌||◌, ◌&&◌, Bool, true, false, cond, List, [], ◌∷◌, length, drop, not, refl, sym, ap, ap₂, ◌∙◌, arith, eq-eqb}
 use Rattle.std.proofs.lemmas.Bool.{ne_eqb}
-use Rattle.std.specs.List.{prefix_len}
+use Rattle.std.specs.List.{prefix_len, position_or_len}
 use Rattle.frac128.specs.Literal.{is_dec}
 use Rattle.text_fields.specs.declared.pieces.TokenKind.TheVariants.{Word, Number}
 use Rattle.text_fields.specs.Pieces.{is_word_start, is_word_byte, point_len, sign_len, is_sign, marked_len, exponent_len, number_len, mark_of, piece, piece_at}
@@ -75,3 +75,12 @@ goes_on c e = ap (λ (t : Bool). t || (is_dec c || (c == 46))) e
 pub word-some : (bs : List ℕ) → 0 < length bs → is_word_start (get_or bs 0 0) ≡ true → 0 < prefix_len is_word_byte bs
 word-some [] h e = absurd (omega arith)
 word-some (c ∷ cs) h e = rw (ap (λ (t : Bool). cond t (1 + prefix_len is_word_byte cs) 0) (goes_on c e)) (omega arith)
+
+-- where a test that is turned first passes
+pub position-not : (p : ℕ → Bool) (xs : List ℕ) → position_or_len (λ b. not (p b)) xs ≡ prefix_len p xs
+position-not p [] = refl
+position-not p (x ∷ xs) = ap₂ (λ (b : Bool) (n : ℕ). cond b (1 + n) 0) (turned_twice (p x)) (position-not p xs)
+  where
+    turned_twice : (b : Bool) → not (not b) ≡ b
+    turned_twice true = refl
+    turned_twice false = refl

@@ -1,27 +1,11 @@
 //! The fields of a line.
-ghost use Rattle.std.specs.Prelude.{◌≡◌, ◌≤◌, ◌+◌, Option, length, MatchResult, slice_range};
+ghost use Rattle.std.specs.Prelude.{◌≡◌, ◌≤◌, Option, length, MatchResult};
 ghost use Rattle.text_fields.specs.Lines.{line_text};
-ghost use Rattle.text_fields.specs.Fields.{blank_within, field_fault, AddsFields, StopsFields};
+ghost use Rattle.text_fields.specs.Fields.{field_fault, AddsFields, StopsFields};
 
 use crate::spans::MOST_BYTES;
 use crate::{FieldStop, Line, Span, TextFault, TextKind};
-use lane_scan::{first_foreign, is_blank_byte, next_nonblank};
-
-// The first place from `from` on that has a blank, or `to`.
-fn next_blank(bytes: &[u8], from: usize, to: usize) -> usize
-    requires in_order { from ≤ to }
-    requires within { to ≤ length bytes.now }
-    ensures place { result ≡ blank_within bytes.now from to }
-    ensures low { from ≤ result }
-    ensures high { result ≤ to }
-{
-    for (letters, byte) in bytes[from..to].iter().enumerate() {
-        if is_blank_byte(*byte) {
-            return from + letters;
-        }
-    }
-    to
-}
+use lane_scan::{Blank, first_foreign, first_of, next_nonblank};
 
 // What is wrong with a line, before its fields are looked at.
 fn fault_in(bytes: &[u8], line: &Line) -> Option<TextKind>
@@ -61,7 +45,7 @@ pub fn fields(bytes: &[u8], line: &Line, into: &mut Vec<Span>) -> Result<(), Fie
     }
     let mut at = next_nonblank(bytes, line.from, line.to);
     while at < line.to {
-        let end = next_blank(bytes, at, line.to);
+        let end = first_of::<Blank>(bytes, at, line.to);
         into.push(Span { from: at, to: end })?;
         at = next_nonblank(bytes, end, line.to);
     }

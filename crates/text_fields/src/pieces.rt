@@ -1,8 +1,11 @@
 //! The pieces of a line in the LP format: words, numbers and marks.
-ghost use Rattle.std.specs.Prelude.{◌≡◌, ◌≢◌, ◌≤◌, ◌<◌, length, slice_index};
+ghost use Rattle.std.specs.Prelude.{◌≡◌, ◌≢◌, ◌≤◌, ◌<◌, not, length, slice_index};
 ghost use Rattle.std.specs.List.{prefix_len};
 ghost use Rattle.frac128.specs.Literal.{is_dec};
 ghost use Rattle.text_fields.specs.Pieces.{is_letter, is_name_sign, is_word_start, is_word_byte, point_len, sign_len, exponent_len, number_len, relation_len, mark_of, piece_at, Is};
+
+use lane_scan::{Kind, first_of, lowest_bit};
+use std::simd::prelude::*;
 
 /// A kind of token.
 #[derive(Clone, Copy, PartialEq, Eq, Debug)]
@@ -63,17 +66,40 @@ fn may_go_on(byte: u8) -> bool
     may_begin_word(byte) || is_digit(byte) || byte == b'.'
 }
 
+// The bytes with which no word goes on.
+struct WordEnd;
+
+impl Kind for WordEnd {
+    ghost kind = { λ byte. not (is_word_byte byte) };
+
+    #[inline(always)]
+    fn has(byte: u8) -> bool {
+        !may_go_on(byte)
+    }
+
+    #[inline(always)]
+    fn count_before(bytes: &[u8], at: usize) -> usize {
+        let lanes = u8x16::from_slice(&bytes[at..]);
+        // Before `!` or after `~`.
+        let hidden = (lanes - u8x16::splat(b'!')).simd_gt(u8x16::splat(93));
+        // `*` and `+`, and `-`.
+        let pair = (lanes | u8x16::splat(1)).simd_eq(u8x16::splat(b'+'));
+        let signs = pair | lanes.simd_eq(u8x16::splat(b'-'));
+        // `<`, `=` and `>`, and `:`.
+        let compared = (lanes - u8x16::splat(b'<')).simd_lt(u8x16::splat(3));
+        let relations = compared | lanes.simd_eq(u8x16::splat(b':'));
+        // `[`, `\`, `]` and `^`.
+        let brackets = (lanes - u8x16::splat(b'[')).simd_lt(u8x16::splat(4));
+        lowest_bit((hidden | signs | relations | brackets).to_bitmask())
+    }
+}
+
 // How many bytes of a word stand first.
 fn word_bytes(text: &[u8]) -> usize
     ensures len { result ≡ prefix_len is_word_byte text.now }
     ensures within { result ≤ length text.now }
 {
-    for (i, byte) in text.iter().enumerate() {
-        if !may_go_on(*byte) {
-            return i;
-        }
-    }
-    text.len()
+    first_of::<WordEnd>(text, 0, text.len())
 }
 
 // How many digits stand first.

@@ -1,15 +1,15 @@
 //! The tokens of the LP format.
-ghost use Rattle.std.specs.Prelude.{◌≡◌, ◌≤◌, ◌<◌, ◌+◌, ◌^◌, ◌∷◌, [], Option, Some, None, MatchResult, MatchOption, length, drop, slice_index, slice_range, true, false};
-ghost use Rattle.std.specs.List.{before_first, after_first, position_or_len};
+ghost use Rattle.std.specs.Prelude.{◌≡◌, ◌≤◌, ◌<◌, ◌+◌, ◌^◌, ◌∷◌, [], Option, Some, None, MatchResult, MatchOption, length, drop, slice_index, true, false};
+ghost use Rattle.std.specs.List.{before_first, after_first};
 ghost use Rattle.lane_scan.specs.Bytes.{is_end, is_blank};
-ghost use Rattle.text_fields.specs.Tokens.{is_backslash, token_fault, only_blanks, is_line_start, rest_scan, scan_lines, scan_at, before, IsNext, IsFaultOf, IsTokenAt};
+ghost use Rattle.text_fields.specs.Tokens.{token_fault, only_blanks, is_line_start, rest_scan, scan_lines, scan_at, before, IsNext, IsFaultOf, IsTokenAt};
 ghost use Rattle.text_fields.specs.Lines.{lines_of};
 ghost use Rattle.text_fields.specs.Pieces.{piece_at};
 
 use crate::pieces::piece;
 use crate::spans::MOST_BYTES;
 use crate::{Span, TextFault, TextKind, TokenKind};
-use lane_scan::{first_foreign, is_blank_byte, next_end, next_nonblank};
+use lane_scan::{Byte, first_foreign, first_of, is_blank_byte, next_end, next_nonblank};
 
 /// A place in a text, and the number of its line, from 1.
 #[derive(Clone, Copy, PartialEq, Eq, Debug)]
@@ -27,22 +27,6 @@ pub struct Token {
     pub first: bool,
 }
 
-// Where a comment begins, or `to` where there is none before it.
-fn comment_start(bytes: &[u8], from: usize, to: usize) -> usize
-    requires in_order { from ≤ to }
-    requires within { to ≤ length bytes.now }
-    ensures place { result ≡ from + position_or_len is_backslash (slice_range bytes.now from to) }
-    ensures low { from ≤ result }
-    ensures high { result ≤ to }
-{
-    for (read, byte) in bytes[from..to].iter().enumerate() {
-        if *byte == b'\\' {
-            return from + read;
-        }
-    }
-    to
-}
-
 // What is wrong with the line that begins at a place.
 fn fault_from(bytes: &[u8], at: usize) -> Option<TextKind>
     requires { at ≤ length bytes.now }
@@ -52,7 +36,7 @@ fn fault_from(bytes: &[u8], at: usize) -> Option<TextKind>
     if end - at > MOST_BYTES {
         return Some(TextKind::LongLine);
     }
-    let to = comment_start(bytes, at, end);
+    let to = first_of::<Byte<b'\\'>>(bytes, at, end);
     if first_foreign(bytes, at, to) < to {
         return Some(TextKind::ForeignByte);
     }

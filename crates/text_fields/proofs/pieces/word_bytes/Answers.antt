@@ -1,10 +1,13 @@
-use Rattle.std.proofs.Common.{sym, length, arith}
-use Rattle.std.proofs.lemmas.List.Sums.{prefix_len_is}
+use Rattle.std.proofs.Common.{◌≡◌, ℕ, ◌+◌, not, length, ap, ◌∙◌, arith}
+use Rattle.std.specs.List.{position_or_len, slice_range}
+use Rattle.std.proofs.lemmas.List.{take_rest}
 use Rattle.text_fields.specs.Pieces.{is_word_byte}
+use Rattle.text_fields.proofs.PieceLists.{position-not}
 use Rattle.text_fields.proofs.pieces.word_bytes.Goals as goal
 
-pub returns-then-not-may_go_on-clause-len : goal.returns-then-not-may_go_on-clause-len
-returns-then-not-may_go_on-clause-len c = sym (prefix_len_is is_word_byte c.args.text.now c.loop-i.i 0 (omega arith) (λ k h. c.loop-i.invariant k h) (λ h. sym c.if-not-may_go_on.ensures))
-
 pub returns-clause-len : goal.returns-clause-len
-returns-clause-len c = sym (prefix_len_is is_word_byte c.args.text.now (length c.args.text.now) 0 (omega arith) (λ k h. c.loop-i.invariant k (omega arith)) (λ h. absurd (omega arith)))
+returns-clause-len c =
+    let xs = c.args.text.now in
+    let n : ℕ = position_or_len (λ b. not (is_word_byte b)) (slice_range xs 0 (length xs)) in
+    let from_first : 0 + n ≡ n = omega arith in
+    c.first_of.ensures.place ∙ from_first ∙ ap (position_or_len (λ b. not (is_word_byte b))) (take_rest xs 0) ∙ position-not is_word_byte xs

@@ -8,9 +8,9 @@ returns-then-end-at-gt-MOST_BYTES c = sym (token_fault-long c.args.bytes.now c.a
 pub returns-then-first_foreign-to : goal.returns-then-first_foreign-to
 returns-then-first_foreign-to c =
     sym (token_fault-foreign c.args.bytes.now c.args.at c.next_end-end.result c.requires c.next_end-end.ensures.place
-    c.comment_start-to.result c.if-end-at-gt-MOST_BYTES.false c.comment_start-to.ensures.place c.comment_start-to.ensures.high (omega arith))
+    c.first_of-to.result c.if-end-at-gt-MOST_BYTES.false c.first_of-to.ensures.place c.first_of-to.ensures.high (omega arith))
 
 pub returns : goal.returns
 returns c =
     sym (token_fault-none c.args.bytes.now c.args.at c.next_end-end.result c.requires c.next_end-end.ensures.place
-    c.comment_start-to.result c.if-end-at-gt-MOST_BYTES.false c.comment_start-to.ensures.place c.comment_start-to.ensures.high (omega arith))
+    c.first_of-to.result c.if-end-at-gt-MOST_BYTES.false c.first_of-to.ensures.place c.first_of-to.ensures.high (omega arith))

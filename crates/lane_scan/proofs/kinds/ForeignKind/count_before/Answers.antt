@@ -1,0 +1,17 @@
+use Rattle.std.proofs.Common.{ltb, cond, refl}
+use Rattle.std.proofs.lemmas.Simd.{zip2_splat, length-chunk}
+use lib.Lanes.{chunk}
+use Rattle.lane_scan.specs.Bytes.{is_foreign}
+use Rattle.lane_scan.proofs.Loads.{few_lanes, joined, splat_is, itself, first_by_table}
+use Rattle.lane_scan.proofs.kinds.ForeignKind.count_before.Goals as goal
+
+pub returns : goal.returns
+returns c =
+    let v = chunk c.args.at 16 c.args.bytes.now in
+    let long = length-chunk c.args.at 16 c.args.bytes.now c.requires in
+    let low = zip2_splat _ v 16 32 long in
+    let spaced = joined _ _ _ v (zip2_splat _ v 16 9 long) (zip2_splat _ v 16 13 long) in
+    let inside = zip2_splat _ v 16 10 long in
+    let high = joined (λ a b. cond (ltb a b) 255 0) _ _ v (splat_is v 16 126 long) (itself v) in
+    first_by_table is_foreign c.args.bytes.now c.args.at 16 _ _ c.requires few_lanes c.type_inv.bytes c.lowest_bit.ensures _
+    (joined _ _ _ v (joined _ _ _ v (joined _ _ _ v low spaced) inside) high) refl
