@@ -1,5 +1,5 @@
 -- What one statement more changes.
-use Rattle.std.proofs.Common.{◌≡◌, ℕ, suc, ◌+◌, Bool, true, false, cond, ◌||◌, List, [], ◌∷◌, ◌++◌, Option, Some, None, is_some, length, refl, sym, ap, ◌∙◌, arith, append_assoc, append-nil, length-append, true≢false}
+use Rattle.std.proofs.Common.{◌≡◌, ℕ, suc, ◌+◌, Bool, true, false, cond, ◌||◌, List, [], ◌∷◌, ◌++◌, Option, Some, None, length, map, refl, sym, ap, ◌∙◌, arith, append_assoc, append-nil, length-append, true≢false}
 use Rattle.std.specs.Prelude.{unwrap_or}
 use Rattle.std.specs.List.{All, list_any, filter_map, cons_option}
 use Rattle.std.specs.Option.{option_or}
@@ -10,11 +10,13 @@ use Rattle.std.proofs.lemmas.Slice.Eq.{bytes_eq-Decides}
 use Rattle.rational.specs.Rational.{ℚ, zero_ℚ}
 use Rattle.lp_model.specs.Shown.{is_named}
 use Rattle.lp_statements.specs.Statements.{Term, Statement, Objective, Heading, Row, Free, Bound, Listed}
+use Rattle.lp_reader.specs.declared.bounds.Said.{Said}
+use Rattle.lp_reader.specs.declared.bounds.Said.TheVariants.{Nothing}
 use Rattle.lp_reader.specs.declared.columns.Bounds.{Bounds}
 use Rattle.lp_reader.specs.Numbers.{is_of, sum_of}
 use Rattle.lp_reader.specs.Names.{terms_in, terms_of, with_name, with_names, columns_in, columns_of, RowPart, row_in, rows_of, row_name, names_from}
 use Rattle.lp_reader.specs.Faults.{term_fault, terms_fault}
-use Rattle.lp_reader.specs.Bounds.{last_or, lower_said, upper_said, whole_said, lower_of, upper_of, whole_of, is_lower_set}
+use Rattle.lp_reader.specs.Bounds.{last_or, is_said, bound_after, bound_after_all, lower_said, upper_said, whole_said, lower_of, upper_of, whole_of, is_lower_set}
 use Rattle.lp_reader.specs.Program.{with_term, form_from}
 use Rattle.lp_reader.specs.Said.{changed}
 use Rattle.lp_reader.specs.State.{bounds_of, terms_fault_in}
@@ -115,13 +117,17 @@ or_false false = refl
 any_push : (p : Statement → Bool) (front : List Statement) (s : Statement) → list_any p (front ++ s ∷ []) ≡ (list_any p front || p s)
 any_push p front s = list_any-append p front (s ∷ []) ∙ ap (λ b. list_any p front || b) (or_false (p s))
 
+bound_push : (f : Statement → Said) (bound : Option ℚ) (front : List Statement) (s : Statement) → bound_after_all bound (map f (front ++ s ∷ [])) ≡ bound_after (bound_after_all bound (map f front)) (f s)
+bound_push f bound [] s = refl
+bound_push f bound (t ∷ front) s = bound_push f (bound_after bound (f t)) front s
+
 pub bounds_push : (front : List Statement) (s : Statement) (name : List ℕ) → bounds_of (front ++ s ∷ []) name ≡ changed (bounds_of front name) (lower_said name s) (upper_said name s) (whole_said name s)
 unfolding lower_of upper_of whole_of is_lower_set
 bounds_push front s name =
     ap (λ (b : Option ℚ × Option ℚ × Bool × Bool). let r : Bounds = record { lo = b.0; up = b.1; whole = b.2; lower_set = b.3 } in r)
-    (λ i. (last_said (lower_said name) (Some zero_ℚ) front s i, last_said (upper_said name) None front s i, any_push (whole_said name) front s i, any_push (λ s. is_some (lower_said name s)) front s i))
+    (λ i. (bound_push (lower_said name) (Some zero_ℚ) front s i, bound_push (upper_said name) None front s i, any_push (whole_said name) front s i, any_push (λ s. is_said (lower_said name s)) front s i))
 
-pub unchanged : (b : Bounds) → changed b None None false ≡ b
+pub unchanged : (b : Bounds) → changed b Nothing Nothing false ≡ b
 unchanged b = ap (λ (w : Bool × Bool). let r : Bounds = record { lo = b.lo; up = b.up; whole = w.0; lower_set = w.1 } in r) (λ i. (or_false b.whole i, or_false b.lower_set i))
 
 -- ---- rows

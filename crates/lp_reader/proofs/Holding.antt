@@ -3,7 +3,6 @@ use Rattle.std.proofs.Common.{nat_eq, true≢false, ◌≡◌, ℕ, suc, ◌+◌
 use Rattle.std.specs.Prelude.{unwrap_or, slice_index_or, slice_set}
 use Rattle.std.specs.List.{All, list_any, filter_map, cons_option}
 use Rattle.std.specs.Str.{bytes_eq}
-use Rattle.std.specs.Option.{option_map}
 use Rattle.rational.specs.Rational.{ℚ, one_ℚ}
 use Rattle.lp_model.specs.declared.parts.Weight.TheVariants.{Soft}
 use Rattle.std.proofs.lemmas.List.{map-append, length-set, get_or-set_same, get_or-set_other, get_or-map}
@@ -23,10 +22,12 @@ use Rattle.lp_statements.specs.Items.{Written}
 use Rattle.lp_statements.specs.Statements.{Constant, Term, Statement, Objective, Heading, Row, Free, Bound, Listed}
 use Rattle.lp_reader.specs.declared.reader.Reader.{Reader}
 use Rattle.lp_reader.specs.declared.columns.Columns.{Columns}
+use Rattle.lp_reader.specs.declared.bounds.Said.{Said}
+use Rattle.lp_reader.specs.declared.bounds.Said.TheVariants.{Nothing}
 use Rattle.lp_reader.specs.declared.columns.Bounds.{Bounds}
 use Rattle.lp_reader.specs.Numbers.{is_of, side_of}
 use Rattle.lp_reader.specs.Names.{terms_in, terms_of, with_names, columns_of, RowPart, row_in, rows_of, row_name, names_from}
-use Rattle.lp_reader.specs.Bounds.{last_or, lower_said, upper_said, whole_said, lower_constant, upper_constant}
+use Rattle.lp_reader.specs.Bounds.{last_or, said_of, said_by, bound_after, lower_said, upper_said, whole_said, lower_constant, upper_constant}
 use Rattle.lp_reader.specs.Program.{form_of, row_of, side_by, objective_in, sense_in}
 use Rattle.lp_reader.specs.Said.{changed, SetsBounds}
 use Rattle.lp_reader.specs.Sides.{lower_side, upper_side, ended_row, PutsRow}
@@ -159,26 +160,31 @@ hold_objective old new front maximise label terms form holds takes same_names sa
       short_rows = subst AreShort (ap (names_from 1) (sym rows)) holds.short_rows;
     }
 
+-- a bound after what a side says of it is the side
+side_said : (old side : Option ℚ) → bound_after old (said_of side) ≡ side
+side_said old None = refl
+side_said old (Some value) = refl
+
 -- the sides of a row by those of its constants
-lower_is : (left : Option Constant) (relation : Relation) (right : Constant) → lower_side relation (option_map side_of left) (side_of right) ≡ side_by (lower_constant left relation (Some right))
+lower_is : (left : Option Constant) (relation : Relation) (right : Constant) → lower_side relation (said_by left) (side_of right) ≡ side_by (lower_constant left relation (Some right))
 lower_is None Relation.AtMost right = refl
 lower_is None Relation.AtLeast right = refl
 lower_is None Relation.Equal right = refl
-lower_is (Some left) Relation.AtMost right = refl
+lower_is (Some left) Relation.AtMost right = side_said None (side_of left)
 lower_is (Some left) Relation.AtLeast right = refl
-lower_is (Some left) Relation.Equal right = refl
+lower_is (Some left) Relation.Equal right = side_said (side_of right) (side_of left)
 
-upper_is : (left : Option Constant) (relation : Relation) (right : Constant) → upper_side relation (option_map side_of left) (side_of right) ≡ side_by (upper_constant left relation (Some right))
+upper_is : (left : Option Constant) (relation : Relation) (right : Constant) → upper_side relation (said_by left) (side_of right) ≡ side_by (upper_constant left relation (Some right))
 upper_is None Relation.AtMost right = refl
 upper_is None Relation.AtLeast right = refl
 upper_is None Relation.Equal right = refl
 upper_is (Some left) Relation.AtMost right = refl
-upper_is (Some left) Relation.AtLeast right = refl
-upper_is (Some left) Relation.Equal right = refl
+upper_is (Some left) Relation.AtLeast right = side_said None (side_of left)
+upper_is (Some left) Relation.Equal right = side_said (side_of right) (side_of left)
 
 -- a row
 pub hold_row : (old new : Reader) (front : List Statement) (label : Option Written) (left : Option Constant) (terms : List Term) (relation : Relation) (right : Constant) (form : List LinearTerm) → Holds old front → TakesForm old.columns new.columns terms form
-    → PutsRow old.rows new.rows (row_name (length (names_of old.rows.names) + 1) label) (ended_row form relation (option_map side_of left) (side_of right))
+    → PutsRow old.rows new.rows (row_name (length (names_of old.rows.names) + 1) label) (ended_row form relation (said_by left) (side_of right))
     → new.objective ≡ old.objective → new.maximise ≡ old.maximise → Holds new (front ++ Row label left terms relation right ∷ [])
 unfolding lower_said upper_said whole_said
 hold_row old new front label left terms relation right form holds takes puts objective sense =
@@ -189,12 +195,12 @@ hold_row old new front label left terms relation right form holds takes puts obj
     let columns = columns_are old new.columns front s holds silent takes.names takes.widened in
     let names : names_of new.rows.names ≡ names_from 1 (rows_of (front ++ s ∷ [])) =
     puts.names ∙ (ap (λ ns. ns ++ row_name (length ns + 1) label ∷ []) holds.named ∙ (sym (row_names_push (rows_of front) part) ∙ ap (names_from 1) (sym rows))) in
-    let row : ended_row form relation (option_map side_of left) (side_of right) ≡ row_of (columns_of (front ++ s ∷ [])) part =
+    let row : ended_row form relation (said_by left) (side_of right) ≡ row_of (columns_of (front ++ s ∷ [])) part =
     ap (λ (r : List LinearTerm × Option ℚ × Option ℚ). let c : CodeRow = record { terms = r.0; lo = r.1; up = r.2; active = true; weight = Soft one_ℚ } in c)
     (λ i. ((takes.form_is ∙ ap (λ ns. form_of ns terms) columns) i, lower_is left relation right i, upper_is left relation right i)) in
     record {
       named = names;
-      rows = puts.items ∙ (ap (λ rs. rs ++ ended_row form relation (option_map side_of left) (side_of right) ∷ []) (holds.rows ∙ sym (rows_are old new.columns front s holds silent takes.names takes.widened))
+      rows = puts.items ∙ (ap (λ rs. rs ++ ended_row form relation (said_by left) (side_of right) ∷ []) (holds.rows ∙ sym (rows_are old new.columns front s holds silent takes.names takes.widened))
           ∙ (ap (λ r. map (row_of (columns_of (front ++ s ∷ []))) (rows_of front) ++ r ∷ []) row ∙ (sym (map_push (row_of (columns_of (front ++ s ∷ []))) (rows_of front) part) ∙ ap (map (row_of (columns_of (front ++ s ∷ [])))) (sym rows))));
       columns = columns;
       entries = entries_are old new.columns front s holds silent takes.names takes.widened takes.entries;
@@ -238,17 +244,17 @@ set_map columns j f g v within each =
         get_or-set_other (map f columns) j k v v (λ q. eqb-false j k e (sym q)) ∙ get_or-map f columns k [] v h
         ∙ sym (get_or-map g columns k [] v h ∙ (each k h ∙ ap (λ b. cond b v (f (name_at columns k))) e))
 
-module _ (old new : Reader) (front : List Statement) (s : Statement) (name : List ℕ) (j : ℕ) (l u : Option (Option ℚ)) (w : Bool) (holds : Holds old front)
+module _ (old new : Reader) (front : List Statement) (s : Statement) (name : List ℕ) (j : ℕ) (l u : Said) (w : Bool) (holds : Holds old front)
     (at : StandsAt (names_of old.columns.names) name j) (sets : SetsBounds old.columns new.columns j l u w)
     (no_terms : terms_in s ≡ []) (no_row : row_in s ≡ None) (no_objective : objective_in s ≡ None) (no_sense : sense_in s ≡ None)
-    (lower : (n : List ℕ) → lower_said n s ≡ cond (bytes_eq n name) l None) (upper : (n : List ℕ) → upper_said n s ≡ cond (bytes_eq n name) u None) (whole : (n : List ℕ) → whole_said n s ≡ cond (bytes_eq n name) w false) where
+    (lower : (n : List ℕ) → lower_said n s ≡ cond (bytes_eq n name) l Nothing) (upper : (n : List ℕ) → upper_said n s ≡ cond (bytes_eq n name) u Nothing) (whole : (n : List ℕ) → whole_said n s ≡ cond (bytes_eq n name) w false) where
   after : (n : List ℕ) → bounds_of (front ++ s ∷ []) n ≡ cond (bytes_eq n name) (changed (bounds_of front n) l u w) (bounds_of front n)
   after n =
       bounds_push front s n
-      ∙ (ap (λ (b : Option (Option ℚ) × Option (Option ℚ) × Bool). changed (bounds_of front n) b.0 b.1 b.2) (λ i. (lower n i, upper n i, whole n i))
+      ∙ (ap (λ (b : Said × Said × Bool). changed (bounds_of front n) b.0 b.1 b.2) (λ i. (lower n i, upper n i, whole n i))
       ∙ by (bytes_eq n name))
     where
-      by : (b : Bool) → changed (bounds_of front n) (cond b l None) (cond b u None) (cond b w false) ≡ cond b (changed (bounds_of front n) l u w) (bounds_of front n)
+      by : (b : Bool) → changed (bounds_of front n) (cond b l Nothing) (cond b u Nothing) (cond b w false) ≡ cond b (changed (bounds_of front n) l u w) (bounds_of front n)
       by true = refl
       by false = unchanged (bounds_of front n)
 

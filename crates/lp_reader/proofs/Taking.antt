@@ -1,8 +1,8 @@
 -- Statements that are taken in.
 use Rattle.std.proofs.Common.{◌≡◌, ℕ, ◌≤◌, Bool, true, false, cond, List, [], ◌∷◌, ◌++◌, Option, Some, None, length, refl, sym, ap, ◌∙◌, subst}
-use Rattle.std.specs.Option.{option_or, option_map}
+use Rattle.std.specs.Option.{option_or}
 use Rattle.std.specs.Str.{bytes_eq}
-use Rattle.rational.specs.Rational.{zero_ℚ, one_ℚ}
+use Rattle.rational.specs.Rational.{ℚ, zero_ℚ, one_ℚ}
 use Rattle.text_fields.specs.declared.faults.ReadStop.{ReadStop}
 use Rattle.text_fields.specs.declared.faults.ReadFault.{ReadFault}
 use Rattle.text_fields.specs.declared.faults.ReadFault.TheVariants.{Stop, Memory}
@@ -11,11 +11,13 @@ use Rattle.name_map.proofs.NameLists.{length_map}
 use Rattle.lp_statements.specs.declared.parts.Relation.{Relation}
 use Rattle.lp_statements.specs.Items.{Written}
 use Rattle.lp_statements.specs.Statements.{Constant, Term, Statement, Objective, Row, Free, Bound, Listed}
+use Rattle.lp_reader.specs.declared.bounds.Said.{Said}
+use Rattle.lp_reader.specs.declared.bounds.Said.TheVariants.{Nothing, Unbounded, At}
 use Rattle.lp_reader.specs.declared.reader.Reader.{Reader}
 use Rattle.lp_reader.specs.Numbers.{constant_fault_in, side_of}
 use Rattle.lp_reader.specs.Names.{terms_of, columns_of, row_names}
 use Rattle.lp_reader.specs.Faults.{terms_fault, objective_label_fault, label_fault, unknown_fault, row_end_fault, statement_fault}
-use Rattle.lp_reader.specs.Bounds.{lower_said, upper_said, whole_said, lower_constant, upper_constant}
+use Rattle.lp_reader.specs.Bounds.{said_of, said_by, said_first, lower_said, upper_said, whole_said, lower_constant, upper_constant}
 use Rattle.lp_reader.specs.Said.{lower_by, upper_by, SetsBounds}
 use Rattle.lp_reader.specs.State.{bounds_of, terms_fault_in}
 use Rattle.lp_reader.specs.Held.{Holds, HasRoom, IsEven}
@@ -127,64 +129,68 @@ module _ (old : Reader) (front : List Statement) (holds : Holds old front) where
 
   -- what a bound says
   pub bound_taken : (new : Reader) (left : Option Constant) (name : Written) (relation : Relation) (right : Option Constant) (j : ℕ) → StandsAt (names_of old.columns.names) name.text j
-      → SetsBounds old.columns new.columns j (lower_by (option_map side_of left) relation (option_map side_of right)) (upper_by (option_map side_of left) relation (option_map side_of right)) false
+      → SetsBounds old.columns new.columns j (lower_by (said_by left) relation (said_by right)) (upper_by (said_by left) relation (said_by right)) false
       → names_of new.rows.names ≡ names_of old.rows.names → new.rows.items.items ≡ old.rows.items.items → new.objective ≡ old.objective → new.maximise ≡ old.maximise → Holds new (front ++ Bound left name relation right ∷ [])
   unfolding lower_said upper_said whole_said
   bound_taken new left name relation right j at sets =
-      hold_said old new front (Bound left name relation right) name.text j (lower_by (option_map side_of left) relation (option_map side_of right)) (upper_by (option_map side_of left) relation (option_map side_of right)) false holds at sets refl refl refl refl
-      (λ n. ap (λ o. cond (bytes_eq n name.text) o None) (lower_same left relation right))
-      (λ n. ap (λ o. cond (bytes_eq n name.text) o None) (upper_same left relation right))
+      hold_said old new front (Bound left name relation right) name.text j (lower_by (said_by left) relation (said_by right)) (upper_by (said_by left) relation (said_by right)) false holds at sets refl refl refl refl
+      (λ n. ap (λ said. cond (bytes_eq n name.text) said Nothing) (lower_same left relation right))
+      (λ n. ap (λ said. cond (bytes_eq n name.text) said Nothing) (upper_same left relation right))
       (λ n. same (bytes_eq n name.text))
     where
       same : (b : Bool) → false ≡ cond b false false
       same true = refl
       same false = refl
 
-      lower_same : (left : Option Constant) (relation : Relation) (right : Option Constant) → option_map side_of (lower_constant left relation right) ≡ lower_by (option_map side_of left) relation (option_map side_of right)
+      first_is : (side : Option ℚ) (later : Said) → said_of side ≡ said_first (said_of side) later
+      first_is None later = refl
+      first_is (Some value) later = refl
+
+      lower_same : (left : Option Constant) (relation : Relation) (right : Option Constant) → said_by (lower_constant left relation right) ≡ lower_by (said_by left) relation (said_by right)
       lower_same left Relation.AtMost right = refl
       lower_same left Relation.AtLeast right = refl
       lower_same None Relation.Equal right = refl
-      lower_same (Some left) Relation.Equal right = refl
+      lower_same (Some left) Relation.Equal right = first_is (side_of left) (said_by right)
 
-      upper_same : (left : Option Constant) (relation : Relation) (right : Option Constant) → option_map side_of (upper_constant left relation right) ≡ upper_by (option_map side_of left) relation (option_map side_of right)
+      upper_same : (left : Option Constant) (relation : Relation) (right : Option Constant) → said_by (upper_constant left relation right) ≡ upper_by (said_by left) relation (said_by right)
       upper_same left Relation.AtMost right = refl
       upper_same left Relation.AtLeast right = refl
       upper_same None Relation.Equal right = refl
-      upper_same (Some left) Relation.Equal right = refl
+      upper_same (Some left) Relation.Equal right = first_is (side_of left) (said_by right)
 
-  pub free_taken : (new : Reader) (name : Written) (j : ℕ) → StandsAt (names_of old.columns.names) name.text j → SetsBounds old.columns new.columns j (Some None) (Some None) false
+  pub free_taken : (new : Reader) (name : Written) (j : ℕ) → StandsAt (names_of old.columns.names) name.text j → SetsBounds old.columns new.columns j Unbounded Unbounded false
       → unknown_fault (names_of old.columns.names) name ≡ None
       → names_of new.rows.names ≡ names_of old.rows.names → new.rows.items.items ≡ old.rows.items.items → new.objective ≡ old.objective → new.maximise ≡ old.maximise → (statement_fault front (Free name) ≡ None) × Holds new (front ++ Free name ∷ [])
   unfolding lower_said upper_said whole_said statement_fault
   free_taken new name j at sets none a b d e =
-      (known_told name none, hold_said old new front (Free name) name.text j (Some None) (Some None) false holds at sets refl refl refl refl (λ n. refl) (λ n. refl) (λ n. same (bytes_eq n name.text)) a b d e)
+      (known_told name none, hold_said old new front (Free name) name.text j Unbounded Unbounded false holds at sets refl refl refl refl (λ n. refl) (λ n. refl) (λ n. same (bytes_eq n name.text)) a b d e)
     where
       same : (b : Bool) → false ≡ cond b false false
       same true = refl
       same false = refl
 
-  pub binary_taken : (new : Reader) (name : Written) (j : ℕ) → StandsAt (names_of old.columns.names) name.text j → SetsBounds old.columns new.columns j (Some (Some zero_ℚ)) (Some (Some one_ℚ)) true
+  pub binary_taken : (new : Reader) (name : Written) (j : ℕ) → StandsAt (names_of old.columns.names) name.text j → SetsBounds old.columns new.columns j (At zero_ℚ) (At one_ℚ) true
       → unknown_fault (names_of old.columns.names) name ≡ None
       → names_of new.rows.names ≡ names_of old.rows.names → new.rows.items.items ≡ old.rows.items.items → new.objective ≡ old.objective → new.maximise ≡ old.maximise → (statement_fault front (Listed true name) ≡ None) × Holds new (front ++ Listed true name ∷ [])
   unfolding lower_said upper_said whole_said statement_fault
   binary_taken new name j at sets none a b d e =
-      (known_told name none, hold_said old new front (Listed true name) name.text j (Some (Some zero_ℚ)) (Some (Some one_ℚ)) true holds at sets refl refl refl refl (λ n. refl) (λ n. refl) (λ n. same (bytes_eq n name.text)) a b d e)
+      (known_told name none, hold_said old new front (Listed true name) name.text j (At zero_ℚ) (At one_ℚ) true holds at sets refl refl refl refl (λ n. refl) (λ n. refl) (λ n. same (bytes_eq n name.text)) a b d e)
     where
       same : (b : Bool) → b ≡ cond b true false
       same true = refl
       same false = refl
 
-  pub general_taken : (new : Reader) (name : Written) (j : ℕ) → StandsAt (names_of old.columns.names) name.text j → SetsBounds old.columns new.columns j None None true
+  pub general_taken : (new : Reader) (name : Written) (j : ℕ) → StandsAt (names_of old.columns.names) name.text j → SetsBounds old.columns new.columns j Nothing Nothing true
       → unknown_fault (names_of old.columns.names) name ≡ None
       → names_of new.rows.names ≡ names_of old.rows.names → new.rows.items.items ≡ old.rows.items.items → new.objective ≡ old.objective → new.maximise ≡ old.maximise → (statement_fault front (Listed false name) ≡ None) × Holds new (front ++ Listed false name ∷ [])
   unfolding lower_said upper_said whole_said statement_fault
   general_taken new name j at sets none a b d e =
-      (known_told name none, hold_said old new front (Listed false name) name.text j None None true holds at sets refl refl refl refl (λ n. nothing (bytes_eq n name.text)) (λ n. nothing (bytes_eq n name.text)) (λ n. same (bytes_eq n name.text)) a b d e)
+      (known_told name none, hold_said old new front (Listed false name) name.text j Nothing Nothing true holds at sets refl refl refl refl (λ n. nothing (bytes_eq n name.text)) (λ n. nothing (bytes_eq n name.text)) (λ n. same (bytes_eq n name.text)) a b d e)
     where
       same : (b : Bool) → b ≡ cond b true false
       same true = refl
       same false = refl
 
-      nothing : {X : Type 0} (b : Bool) → None ≡ cond {A = Option X} b None None
+      nothing : (b : Bool) → Nothing ≡ cond b Nothing Nothing
       nothing true = refl
       nothing false = refl

@@ -1,5 +1,5 @@
 -- Rows from their forms and sides.
-use Rattle.std.specs.Prelude.{◌≡◌, ℕ, ◌≤◌, true, List, [], ◌∷◌, ◌++◌, length, Option, None, unwrap_or}
+use Rattle.std.specs.Prelude.{◌≡◌, ℕ, ◌≤◌, true, List, [], ◌∷◌, ◌++◌, length, Option, None}
 use Rattle.rational.specs.Rational.{ℚ, one_ℚ}
 use Rattle.rational.specs.Linear.{Term as LinearTerm}
 use Rattle.name_map.specs.Names.{names_of}
@@ -7,22 +7,24 @@ use Rattle.lp_model.specs.Shown.{most_rows, longest_name}
 use Rattle.lp_model.specs.declared.parts.Row.{Row}
 use Rattle.lp_model.specs.declared.parts.Weight.TheVariants.{Soft}
 use Rattle.lp_statements.specs.declared.parts.Relation.{Relation}
+use Rattle.lp_reader.specs.declared.bounds.Said.{Said}
 use Rattle.lp_reader.specs.declared.rows.Rows.{Rows}
+use Rattle.lp_reader.specs.Bounds.{bound_after}
 
--- the lower side of a row, where the left constant may be missing
-abbrev pub lower_side : Relation → Option (Option ℚ) → Option ℚ → Option ℚ
-lower_side Relation.AtMost left right = unwrap_or left None
+-- the lower side of a row, by what its left constant says, which may be missing, and the side on the right
+abbrev pub lower_side : Relation → Said → Option ℚ → Option ℚ
+lower_side Relation.AtMost left right = bound_after None left
 lower_side Relation.AtLeast left right = right
-lower_side Relation.Equal left right = unwrap_or left right
+lower_side Relation.Equal left right = bound_after right left
 
 -- and its upper one
-abbrev pub upper_side : Relation → Option (Option ℚ) → Option ℚ → Option ℚ
+abbrev pub upper_side : Relation → Said → Option ℚ → Option ℚ
 upper_side Relation.AtMost left right = right
-upper_side Relation.AtLeast left right = unwrap_or left None
-upper_side Relation.Equal left right = unwrap_or left right
+upper_side Relation.AtLeast left right = bound_after None left
+upper_side Relation.Equal left right = bound_after right left
 
 -- a row that is active, and weighs 1
-abbrev pub ended_row : List LinearTerm → Relation → Option (Option ℚ) → Option ℚ → Row
+abbrev pub ended_row : List LinearTerm → Relation → Said → Option ℚ → Row
 ended_row form relation left right = record { terms = form; lo = lower_side relation left right; up = upper_side relation left right; active = true; weight = Soft one_ℚ }
 
 -- a new row stands last

@@ -17,7 +17,7 @@ ghost use Rattle.lp_model.specs.Shown.{most_columns};
 ghost use Rattle.lp_reader.specs.Program.{form_of, with_term};
 ghost use Rattle.text_fields.specs.Faults.{IsFaultOf};
 
-use crate::numbers::{stop_at, term_value};
+use crate::numbers::term_value;
 use frac128::Frac;
 use indexmap::IndexMap;
 use lp_model::{LONGEST_NAME, MOST_COLUMNS, MOST_ENTRIES, Terms};
@@ -98,17 +98,17 @@ fn column_for(alloc: Global, columns: &mut Columns, name: Text<'_>) -> Result<us
         (IsFaultOf (limit_fault (names_of columns.old.names) columns.old.entries (shown_text name.entry))) }
 {
     if columns.entries >= MOST_ENTRIES {
-        return Err(stop_at(name.line, ReadKind::Limit));
+        return Err(ReadFault::stop_at(name.line, ReadKind::Limit));
     }
     if let Some(column) = place_of(&columns.names, name.bytes) {
         columns.entries += 1;
         return Ok(column);
     }
     if columns.names.len() >= MOST_COLUMNS {
-        return Err(stop_at(name.line, ReadKind::Limit));
+        return Err(ReadFault::stop_at(name.line, ReadKind::Limit));
     }
     if is_too_long(name.bytes) {
-        return Err(stop_at(name.line, ReadKind::Limit));
+        return Err(ReadFault::stop_at(name.line, ReadKind::Limit));
     }
     let column = columns.names.len();
     put_column(alloc, columns, name.bytes)?;
@@ -137,7 +137,7 @@ fn add_sum(sums: &mut Sums, column: usize, value: Frac, line: u32) -> Result<(),
             sums.insert(column, sum)?;
             Ok(())
         }
-        Err(_) => Err(stop_at(line, ReadKind::SumWide)),
+        Err(_) => Err(ReadFault::stop_at(line, ReadKind::SumWide)),
     }
 }
 

@@ -2,21 +2,13 @@
 ghost use Rattle.std.specs.Prelude.{◌≡◌, Some, None, MatchResult};
 ghost use Rattle.std.specs.Option.{option_map};
 ghost use Rattle.text_fields.specs.Numbers.{literal_in};
-ghost use Rattle.lp_statements.specs.Items.{stop_at as stop_of};
 ghost use Rattle.lp_statements.specs.Statements.{shown_text, shown_constant, shown_term};
 ghost use Rattle.lp_reader.specs.Numbers.{signed as signed_by, number_fault, value_in, factor_fault, factor as factor_by, term_value as term_value_by, side_fault, constant_fault, side_in as side_by, side_of};
 ghost use Rattle.text_fields.specs.Faults.{IsFaultOf};
 
 use frac128::{Frac, Literal, read_decimal};
 use lp_statements::{Constant, Term, Text};
-use text_fields::{ReadFault, ReadKind, ReadStop, TextKind, bound, is_wide_limit};
-
-/// The fault of a kind at a line.
-pub(crate) fn stop_at(line: u32, kind: ReadKind) -> ReadFault
-    ensures { result ≡ ReadFault.Stop (stop_of line kind) }
-{
-    ReadFault::Stop(ReadStop { line, kind })
-}
+use text_fields::{ReadFault, ReadKind, TextKind, bound, is_wide_limit};
 
 // A number with its sign.
 fn signed(negative: bool, value: Frac) -> Frac
@@ -45,11 +37,14 @@ fn number(line: u32, literal: Option<Literal>) -> Result<Frac, ReadFault>
         (IsFaultOf (number_fault line literal)) }
 {
     let Some(literal) = literal else {
-        return Err(stop_at(line, ReadKind::Text(TextKind::BadNumber)));
+        return Err(ReadFault::stop_at(line, ReadKind::Text(TextKind::BadNumber)));
     };
     match literal {
         Literal::Fits(value) => Ok(value),
-        Literal::TooWide { .. } => Err(stop_at(line, ReadKind::Text(TextKind::NumberWide))),
+        Literal::TooWide { .. } => Err(ReadFault::stop_at(
+            line,
+            ReadKind::Text(TextKind::NumberWide),
+        )),
     }
 }
 
@@ -85,7 +80,7 @@ fn literal_side(line: u32, negative: bool, literal: Literal) -> Result<Option<Fr
         (IsFaultOf (side_fault line (Some literal))) }
 {
     if is_wide_limit(&literal) {
-        return Err(stop_at(line, ReadKind::Text(TextKind::NumberWide)));
+        return Err(ReadFault::stop_at(line, ReadKind::Text(TextKind::NumberWide)));
     }
     let Some(value) = bound(&literal) else {
         return Ok(None);
@@ -100,7 +95,7 @@ fn number_side(negative: bool, text: Text<'_>) -> Result<Option<Frac>, ReadFault
         (IsFaultOf (side_fault text.entry.line (literal_in text.entry.bytes.now))) }
 {
     let Some(literal) = literal(text) else {
-        return Err(stop_at(text.line, ReadKind::Text(TextKind::BadNumber)));
+        return Err(ReadFault::stop_at(text.line, ReadKind::Text(TextKind::BadNumber)));
     };
     literal_side(text.line, negative, literal)
 }

@@ -8,9 +8,9 @@ ghost use Rattle.lp_reader.specs.Held.{Holds, HasRoom, IsEven, TakesStatement, H
 ghost use Rattle.lp_reader.specs.Meaning.{IsLpStop};
 ghost use Rattle.text_fields.specs.Faults.{IsFaultOf};
 
-use crate::bounds::{known_column, lower_said, set_bounds, upper_said};
+use crate::bounds::{Said, known_column, lower_said, set_bounds, upper_said};
 use crate::columns::{Columns, MOST_TERMS, take_terms};
-use crate::rows::{Rows, check_label, check_objective_label, end_row, side_if};
+use crate::rows::{Rows, check_label, check_objective_label, end_row, said_if};
 use frac128::Frac;
 use lp_model::Terms;
 use lp_statements::{
@@ -80,7 +80,7 @@ fn take_row(
     ensures { TakesStatement reader.old reader.new (RowOf (option_map shown_text label.entry) (option_map shown_constant left.entry) (map shown_term terms.now) relation (shown_constant right.entry)) result }
 {
     check_label(&reader.rows, label)?;
-    let left_side = side_if(left)?;
+    let left_said = said_if(left)?;
     let form = take_terms(alloc, &mut reader.columns, terms)?;
     end_row(
         alloc,
@@ -88,7 +88,7 @@ fn take_row(
         label,
         form,
         relation,
-        &left_side,
+        &left_said,
         right,
     )?;
     Ok(())
@@ -105,11 +105,11 @@ fn take_bound(
     requires { IsEven reader.old }
     ensures { TakesStatement reader.old reader.new (BoundOf (option_map shown_constant left.entry) (shown_text name.entry) relation (option_map shown_constant right.entry)) result }
 {
-    let left_side = side_if(left)?;
+    let left_said = said_if(left)?;
     let column = known_column(&reader.columns, name)?;
-    let right_side = side_if(right)?;
-    let lower = lower_said(&left_side, relation, &right_side);
-    let upper = upper_said(&left_side, relation, &right_side);
+    let right_said = said_if(right)?;
+    let lower = lower_said(&left_said, relation, &right_said);
+    let upper = upper_said(&left_said, relation, &right_said);
     set_bounds(&mut reader.columns, column, lower, upper, false);
     Ok(())
 }
@@ -120,7 +120,9 @@ fn take_free(reader: &mut Reader, name: Text<'_>) -> Result<(), ReadFault>
     ensures { TakesStatement reader.old reader.new (FreeOf (shown_text name.entry)) result }
 {
     let column = known_column(&reader.columns, name)?;
-    set_bounds(&mut reader.columns, column, Some(None), Some(None), false);
+    let lower = Said::Unbounded;
+    let upper = Said::Unbounded;
+    set_bounds(&mut reader.columns, column, lower, upper, false);
     Ok(())
 }
 
@@ -130,8 +132,8 @@ fn take_binary(reader: &mut Reader, name: Text<'_>) -> Result<(), ReadFault>
     ensures { TakesStatement reader.old reader.new (ListedOf true (shown_text name.entry)) result }
 {
     let column = known_column(&reader.columns, name)?;
-    let lower = Some(Some(Frac::whole(0)));
-    let upper = Some(Some(Frac::whole(1)));
+    let lower = Said::At(Frac::whole(0));
+    let upper = Said::At(Frac::whole(1));
     set_bounds(&mut reader.columns, column, lower, upper, true);
     Ok(())
 }
@@ -142,7 +144,9 @@ fn take_general(reader: &mut Reader, name: Text<'_>) -> Result<(), ReadFault>
     ensures { TakesStatement reader.old reader.new (ListedOf false (shown_text name.entry)) result }
 {
     let column = known_column(&reader.columns, name)?;
-    set_bounds(&mut reader.columns, column, None, None, true);
+    let lower = Said::Nothing;
+    let upper = Said::Nothing;
+    set_bounds(&mut reader.columns, column, lower, upper, true);
     Ok(())
 }
 

@@ -1,5 +1,5 @@
 //! Rows: their names, their forms and their sides.
-ghost use Rattle.std.specs.Prelude.{◌≡◌, ◌+◌, ◌<◌, ◌≤◌, ◌^◌, Bool, true, false, List, [], ◌∷◌, ◌++◌, Some, None, length, unwrap_or, MatchResult, IfOk, OnOk, string_bytes};
+ghost use Rattle.std.specs.Prelude.{◌≡◌, ◌+◌, ◌<◌, ◌≤◌, ◌^◌, Bool, true, false, List, [], ◌∷◌, ◌++◌, Some, None, length, MatchResult, IfOk, OnOk, string_bytes};
 ghost use Rattle.std.specs.List.{list_any};
 ghost use Rattle.std.specs.Option.{option_map};
 ghost use Rattle.std.specs.Str.{bytes_eq};
@@ -8,13 +8,15 @@ ghost use Rattle.rational.specs.Rational.{one_ℚ};
 ghost use Rattle.lp_model.specs.Shown.{most_rows, longest_name};
 ghost use Rattle.lp_statements.specs.Statements.{shown_text, shown_constant};
 ghost use Rattle.lp_reader.specs.Numbers.{constant_fault_in, side_of};
+ghost use Rattle.lp_reader.specs.Bounds.{said_by};
 ghost use Rattle.lp_reader.specs.Names.{row_name as row_name_by};
 ghost use Rattle.lp_reader.specs.Faults.{objective_label_fault, label_fault, row_end_fault};
 ghost use Rattle.lp_reader.specs.Sides.{lower_side as lower_side_by, upper_side as upper_side_by, ended_row, PutsRow};
 ghost use Rattle.text_fields.specs.Faults.{IsFaultOf};
 
+use crate::bounds::Said;
 use crate::columns::is_too_long;
-use crate::numbers::{constant_side, stop_at};
+use crate::numbers::constant_side;
 use frac128::Frac;
 use lp_model::{MOST_ROWS, Row, Terms, Weight};
 use lp_statements::{Constant, Relation, Text};
@@ -29,17 +31,17 @@ pub(crate) struct Rows {
     pub items: Vec<Row>,
 }
 
-/// The side that a constant left of a form is, if one is there.
-pub(crate) fn side_if(constant: Option<Constant<'_>>) -> Result<Option<Option<Frac>>, ReadFault>
+/// What a constant says of the bound or side that it is; nothing where none is there.
+pub(crate) fn said_if(constant: Option<Constant<'_>>) -> Result<Said, ReadFault>
     ensures { MatchResult result
-        (λ side. (constant_fault_in (option_map shown_constant constant.entry) ≡ None) × (side ≡ option_map side_of (option_map shown_constant constant.entry)))
+        (λ said. (constant_fault_in (option_map shown_constant constant.entry) ≡ None) × (said ≡ said_by (option_map shown_constant constant.entry)))
         (IsFaultOf (constant_fault_in (option_map shown_constant constant.entry))) }
 {
     let Some(constant) = constant else {
-        return Ok(None);
+        return Ok(Said::Nothing);
     };
     match constant_side(constant) {
-        Ok(side) => Ok(Some(side)),
+        Ok(side) => Ok(Said::of(side)),
         Err(fault) => Err(fault),
     }
 }
@@ -53,7 +55,7 @@ pub(crate) fn check_objective_label(label: Option<Text<'_>>) -> Result<(), ReadF
         return Ok(());
     };
     if is_too_long(label.bytes) {
-        return Err(stop_at(label.line, ReadKind::Limit));
+        return Err(ReadFault::stop_at(label.line, ReadKind::Limit));
     }
     Ok(())
 }
@@ -67,56 +69,41 @@ pub(crate) fn check_label(rows: &Rows, label: Option<Text<'_>>) -> Result<(), Re
         return Ok(());
     };
     if rows.names.contains(label.bytes) {
-        return Err(stop_at(label.line, ReadKind::DuplicateName));
+        return Err(ReadFault::stop_at(label.line, ReadKind::DuplicateName));
     }
     if rows.names.len() >= MOST_ROWS {
-        return Err(stop_at(label.line, ReadKind::Limit));
+        return Err(ReadFault::stop_at(label.line, ReadKind::Limit));
     }
     if is_too_long(label.bytes) {
-        return Err(stop_at(label.line, ReadKind::Limit));
+        return Err(ReadFault::stop_at(label.line, ReadKind::Limit));
     }
     Ok(())
 }
 
 // The lower side of a row by its relation.
-fn lower_side(relation: Relation, left: &Option<Option<Frac>>, right: &Option<Frac>) -> Option<Frac>
+fn lower_side(relation: Relation, left: &Said, right: &Option<Frac>) -> Option<Frac>
     ensures { result ≡ lower_side_by relation left.now right.now }
 {
     match relation {
-        Relation::AtMost => side_or(left, &None),
+        Relation::AtMost => left.after(None),
         Relation::AtLeast => *right,
-        Relation::Equal => side_or(left, right),
+        Relation::Equal => left.after(*right),
     }
 }
 
 // And its upper one.
-fn upper_side(relation: Relation, left: &Option<Option<Frac>>, right: &Option<Frac>) -> Option<Frac>
+fn upper_side(relation: Relation, left: &Said, right: &Option<Frac>) -> Option<Frac>
     ensures { result ≡ upper_side_by relation left.now right.now }
 {
     match relation {
         Relation::AtMost => *right,
-        Relation::AtLeast => side_or(left, &None),
-        Relation::Equal => side_or(left, right),
-    }
-}
-
-// The left side, or, where none is there, another.
-fn side_or(left: &Option<Option<Frac>>, other: &Option<Frac>) -> Option<Frac>
-    ensures { result ≡ unwrap_or left.now other.now }
-{
-    match left {
-        Some(side) => *side,
-        None => *other,
+        Relation::AtLeast => left.after(None),
+        Relation::Equal => left.after(*right),
     }
 }
 
 // A row that is active, and weighs 1.
-fn make_row(
-    form: Terms,
-    relation: Relation,
-    left: &Option<Option<Frac>>,
-    right: &Option<Frac>,
-) -> Row
+fn make_row(form: Terms, relation: Relation, left: &Said, right: &Option<Frac>) -> Row
     ensures { result ≡ ended_row form relation left.now right.now }
 {
     Row {
@@ -157,7 +144,7 @@ fn end_labelled(
     label: Text<'_>,
     form: Terms,
     relation: Relation,
-    left: &Option<Option<Frac>>,
+    left: &Said,
     right: Constant<'_>,
 ) -> Result<(), ReadFault>
     requires { label_fault (names_of rows.old.names) (Some (shown_text label)) ≡ None }
@@ -181,7 +168,7 @@ fn end_unnamed(
     rows: &mut Rows,
     form: Terms,
     relation: Relation,
-    left: &Option<Option<Frac>>,
+    left: &Said,
     right: Constant<'_>,
 ) -> Result<(), ReadFault>
     requires { length (names_of rows.old.names) ≤ most_rows }
@@ -191,11 +178,11 @@ fn end_unnamed(
 {
     let name = generated_name(alloc, rows.names.len() + 1)?;
     if rows.names.contains(name.as_bytes()) {
-        return Err(stop_at(right.text.line, ReadKind::DuplicateName));
+        return Err(ReadFault::stop_at(right.text.line, ReadKind::DuplicateName));
     }
     let side = constant_side(right)?;
     if rows.names.len() >= MOST_ROWS {
-        return Err(stop_at(right.text.line, ReadKind::Limit));
+        return Err(ReadFault::stop_at(right.text.line, ReadKind::Limit));
     }
     put_row(
         alloc,
@@ -213,7 +200,7 @@ pub(crate) fn end_row(
     label: Option<Text<'_>>,
     form: Terms,
     relation: Relation,
-    left: &Option<Option<Frac>>,
+    left: &Said,
     right: Constant<'_>,
 ) -> Result<(), ReadFault>
     requires few { length (names_of rows.old.names) ≤ most_rows }

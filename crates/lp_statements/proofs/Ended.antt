@@ -1,15 +1,13 @@
 -- A script has no fault exactly where its last statement is `end`.
-use Rattle.std.proofs.Common.{◌≡◌, ℕ, zero, suc, ◌<◌, ◌≤◌, Bool, true, false, List, [], ◌∷◌, ◌++◌, length, Option, Some, None, is_some, refl, sym, ap, ◌∙◌, subst, arith, length-append, true≢false}
+use Rattle.std.proofs.Common.{◌≡◌, ℕ, zero, suc, ◌≤◌, Bool, true, false, List, [], ◌∷◌, ◌++◌, length, Option, Some, None, is_some, refl, sym, ap, ◌∙◌, subst, arith, length-append, true≢false}
 use Rattle.text_fields.specs.declared.faults.TextFault.{TextFault}
-use Rattle.text_fields.specs.declared.faults.ReadStop.{ReadStop}
-use Rattle.text_fields.specs.Tokens.{Lexeme, Scan, scan_of}
-use Rattle.lp_statements.specs.declared.parts.Item.{Item}
+use Rattle.text_fields.specs.Tokens.{Lexeme, scan_of}
 use Rattle.lp_statements.specs.declared.parts.Keyword.{Keyword}
 use Rattle.lp_statements.specs.declared.parts.Section.{Section}
-use Rattle.lp_statements.specs.Items.{Written, Piece, Seen, Stops, piece_of, item_at, pair_at, word_at, written, pieces, pieces_in, pieces_of, ending_of}
+use Rattle.lp_statements.specs.Items.{Piece, Seen, Stops, piece_of, item_at, pair_at, word_at, written, pieces, pieces_in, pieces_of, ending_of}
 use Rattle.lp_statements.specs.Statements.{Statement, Objective, Heading, Row, Free, Bound, Listed}
 use Rattle.lp_statements.specs.Grammar.{Parsed, Whole, Fails, statement_of}
-use Rattle.lp_statements.specs.Script.{Script, section_after, goes_on, script_by, script, script_of}
+use Rattle.lp_statements.specs.Script.{section_after, goes_on, script_by, script, script_of}
 use Rattle.lp_statements.specs.Spelling.{AllSeen, last}
 use Rattle.lp_statements.proofs.Spelled.{statement_read}
 

@@ -1,5 +1,5 @@
 -- What is read is what is spelled.
-use Rattle.std.proofs.Common.{◌≡◌, ℕ, zero, suc, ◌<◌, ◌≤◌, Bool, true, false, cond, List, [], ◌∷◌, ◌++◌, length, Option, Some, None, is_some, refl, sym, ap, ◌∙◌, subst, arith, append_assoc, length-append, true≢false}
+use Rattle.std.proofs.Common.{◌≡◌, ℕ, zero, suc, ◌<◌, Bool, true, false, cond, List, [], ◌∷◌, ◌++◌, length, Option, Some, None, is_some, refl, sym, ap, ◌∙◌, subst, arith, append_assoc, length-append, true≢false}
 use Rattle.std.specs.Prelude.{unwrap_or}
 use Rattle.std.specs.Option.{option_map}
 use Rattle.text_fields.specs.declared.faults.ReadStop.{ReadStop}
@@ -10,8 +10,8 @@ use Rattle.lp_statements.specs.declared.parts.Section.{Section}
 use Rattle.lp_statements.specs.Words.{is_free}
 use Rattle.lp_statements.specs.Items.{Written, Piece, Seen, Stops}
 use Rattle.lp_statements.specs.Statements.{Constant, Term, Statement, Objective, Heading, Row, Free, Bound, Listed}
-use Rattle.lp_statements.specs.Grammar.{Parsed, Whole, Fails, then, with_first, or_bad, wrong, is_name, is_colon, minus_of, infinite_of, relation_in, inequality_in, keyword_in, is_first, text_first, label, turned, signs, constant_of, constant, Element, OfTerm, OfConstant, factor_or_constant, amount, element_of, element, term_in, term, is_sign, repeated, only, more_terms, part_in, part, terms_in, more_parts, parts, form, begins_part, objective, sense_of, objective_after, begin, subject_to_by, subject_to, relation, inequality, agreed, agreed_with, agreeing, Opening, opening_from, opening, closing, row_after, row, name, free_in, bound_after, is_relation, bound_end, bound_from_constant, bound_by, bound, listed, later_heading, keyword_first, body, heading_or_body, statement_of}
-use Rattle.lp_statements.specs.Spelling.{SpellsSigns, NoSign, ASign, constant_item, SpellsConstant, SpellsTerm, ByName, ByNumber, SpellsMore, NoMore, OneMore, SpellsTerms, SpellsPart, ATerm, ANumber, SpellsForm, Nothing, Parts, SpellsLabel, NoLabel, ALabel, IsInequality, IsAtMost, IsAtLeast, sense, compares, IsSpelled, AnObjective, AHeading, ARow, ARange, AFree, ABoundAfter, ABoundBefore, BothBounds, AName, AllSeen, Spells}
+use Rattle.lp_statements.specs.Grammar.{Parsed, Whole, Fails, then, with_first, or_bad, wrong, is_name, relation_in, inequality_in, keyword_in, is_first, text_first, label, turned, signs, constant_of, constant, Element, OfTerm, OfConstant, factor_or_constant, element_of, element, term_in, term, is_sign, repeated, only, more_terms, part_in, part, terms_in, more_parts, parts, form, begins_part, objective, sense_of, objective_after, begin, subject_to_by, subject_to, relation, inequality, agreed, agreed_with, agreeing, Opening, opening_from, opening, closing, row_after, row, name, free_in, bound_after, is_relation, bound_end, bound_from_constant, bound_by, bound, listed, later_heading, keyword_first, body, heading_or_body, statement_of}
+use Rattle.lp_statements.specs.Spelling.{SpellsSigns, NoSign, ASign, constant_item, SpellsConstant, SpellsTerm, ByName, ByNumber, SpellsMore, NoMore, OneMore, SpellsPart, ATerm, ANumber, SpellsForm, Nothing, Parts, SpellsLabel, NoLabel, ALabel, IsInequality, IsAtMost, IsAtLeast, sense, compares, IsSpelled, AnObjective, AHeading, ARow, ARange, AFree, ABoundAfter, ABoundBefore, BothBounds, AName, AllSeen, Spells}
 
 -- ---- what a whole part is made of
 abbrev is_whole : {A : Type 0} → Parsed A → Bool

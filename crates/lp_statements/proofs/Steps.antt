@@ -10,8 +10,8 @@ use Rattle.lp_statements.specs.Items.{Written, Piece, Seen, pieces_at, IsSeen, I
 use Rattle.lp_statements.specs.Grammar.{Parsed, Whole, Fails, then, with_first, signs, minus_of, turned}
 use Rattle.std.specs.Prelude.{Result, Ok, Err, MatchResult}
 use Rattle.lp_statements.specs.declared.parts.Statement.{Statement as CodeStatement}
-use Rattle.lp_statements.specs.Statements.{Statement, IsKept, Entire, shown}
-use Rattle.lp_statements.specs.Script.{IsAfter, IsOnward, IsSignAt, MayStop, Takes, Passes, Reads, ReadsOn, IsRefusal}
+use Rattle.lp_statements.specs.Statements.{Statement, Entire, shown}
+use Rattle.lp_statements.specs.Script.{IsAfter, IsOnward, IsSignAt, MayStop, Takes, Passes, Reads, IsRefusal}
 
 module _ (bytes : List ℕ) (place : Place) where
   -- what stands first

@@ -1,13 +1,13 @@
 -- How statements are spelled, by the cases of the format: relations between what is said and the pieces that say it.
-use Rattle.std.specs.Prelude.{◌≡◌, ℕ, ◌<◌, Bool, true, false, List, [], ◌∷◌, ◌++◌, length, Option, Some, None}
+use Rattle.std.specs.Prelude.{◌≡◌, ℕ, Bool, true, false, List, [], ◌∷◌, ◌++◌, Option, Some, None}
 use Rattle.lp_statements.specs.declared.parts.Item.{Item}
 use Rattle.lp_statements.specs.declared.parts.Keyword.{Keyword}
 use Rattle.lp_statements.specs.declared.parts.Relation.{Relation}
 use Rattle.lp_statements.specs.declared.parts.Section.{Section}
 use Rattle.lp_statements.specs.Words.{is_free}
-use Rattle.lp_statements.specs.Items.{Written, Piece, Seen, Stops, pieces_of}
+use Rattle.lp_statements.specs.Items.{Written, Piece, Seen, Stops}
 use Rattle.lp_statements.specs.Statements.{Constant, Term, Statement, Objective, Heading, Row, Free, Bound, Listed}
-use Rattle.lp_statements.specs.Grammar.{Parsed, Whole, is_first, is_sign, turned, terms_in, only, statement_of}
+use Rattle.lp_statements.specs.Grammar.{Whole, is_first, is_sign, turned, terms_in, only, statement_of}
 use Rattle.lp_statements.specs.Script.{script_of}
 
 -- ---- terms and constants

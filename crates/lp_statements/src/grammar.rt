@@ -7,7 +7,7 @@ ghost use Rattle.lp_statements.specs.Grammar.{Element as ElementOf, OfTerm, OfCo
 ghost use Rattle.lp_statements.specs.Script.{IsAfter, IsOnward, IsFirst, IsSignAt, MayStop, Takes, Passes, IsRefusal};
 ghost use Rattle.lp_statements.specs.Shapes.{shown_element, shown_opening, AddsTerms, TakesTerms};
 
-use crate::items::{next_seen, stop_at};
+use crate::items::next_seen;
 use crate::parts::{Constant, Item, Relation, Term, Text};
 use text_fields::{Place, ReadFault, ReadKind};
 
@@ -226,7 +226,7 @@ fn wrong(bytes: &[u8], place: Place) -> ReadFault
     ensures { IsRefusal (wrong_at {A = TermOf} (pieces_at bytes.now place)) result }
 {
     match next_seen(bytes, place) {
-        Ok((_, text, _)) => stop_at(text.line, ReadKind::BadField),
+        Ok((_, text, _)) => ReadFault::stop_at(text.line, ReadKind::BadField),
         Err(fault) => fault,
     }
 }
@@ -245,7 +245,7 @@ fn constant_of(
 {
     let (item, text, next) = next_seen(bytes, place)?;
     let Some(infinite) = infinite_of(item) else {
-        return Err(stop_at(text.line, ReadKind::BadField));
+        return Err(ReadFault::stop_at(text.line, ReadKind::BadField));
     };
     let constant = Constant {
         negative,
@@ -337,7 +337,7 @@ fn element_of(bytes: &[u8], place: Place, negative: bool) -> Result<(Element<'_>
         return Ok((Element::OfTerm(term), next));
     }
     let Some(infinite) = infinite_of(item) else {
-        return Err(stop_at(text.line, ReadKind::BadField));
+        return Err(ReadFault::stop_at(text.line, ReadKind::BadField));
     };
     Ok(amount(bytes, next, negative, text, infinite))
 }
@@ -362,7 +362,7 @@ fn missing_name(bytes: &[u8], place: Place, constant: Constant<'_>) -> ReadFault
     ensures { IsRefusal (term_in (OfConstant (shown_constant constant.entry)) (pieces_at bytes.now place)) result }
 {
     if constant.infinite {
-        return stop_at(constant.text.line, ReadKind::BadField);
+        return ReadFault::stop_at(constant.text.line, ReadKind::BadField);
     }
     wrong(bytes, place)
 }
@@ -396,7 +396,7 @@ fn part(bytes: &[u8], place: Place) -> Result<(Option<Term<'_>>, Place), ReadFau
         Element::OfTerm(term) => Ok((Some(term), next)),
         Element::OfConstant(constant) => {
             if constant.infinite {
-                return Err(stop_at(constant.text.line, ReadKind::BadField));
+                return Err(ReadFault::stop_at(constant.text.line, ReadKind::BadField));
             }
             Ok((None, next))
         }
@@ -413,7 +413,7 @@ pub(crate) fn relation(bytes: &[u8], place: Place) -> Result<(Relation, Place), 
 {
     let (item, text, next) = next_seen(bytes, place)?;
     let Some(relation) = relation_in(item) else {
-        return Err(stop_at(text.line, ReadKind::BadField));
+        return Err(ReadFault::stop_at(text.line, ReadKind::BadField));
     };
     Ok((relation, next))
 }
@@ -428,7 +428,7 @@ fn inequality(bytes: &[u8], place: Place) -> Result<(Relation, Place), ReadFault
 {
     let (item, text, next) = next_seen(bytes, place)?;
     let Some(relation) = inequality_in(item) else {
-        return Err(stop_at(text.line, ReadKind::BadField));
+        return Err(ReadFault::stop_at(text.line, ReadKind::BadField));
     };
     Ok((relation, next))
 }
@@ -443,7 +443,7 @@ pub(crate) fn name(bytes: &[u8], place: Place) -> Result<(Text<'_>, Place), Read
 {
     let (item, text, next) = next_seen(bytes, place)?;
     if !is_name(item) {
-        return Err(stop_at(text.line, ReadKind::BadField));
+        return Err(ReadFault::stop_at(text.line, ReadKind::BadField));
     }
     Ok((text, next))
 }
@@ -483,7 +483,7 @@ pub(crate) fn agreeing(
 {
     let (item, text, next) = next_seen(bytes, place)?;
     let Some(relation) = agreed_with(before, relation_in(item)) else {
-        return Err(stop_at(text.line, ReadKind::BadField));
+        return Err(ReadFault::stop_at(text.line, ReadKind::BadField));
     };
     Ok((relation, next))
 }

@@ -2,13 +2,12 @@
 ghost use Rattle.std.specs.Prelude.{◌≡◌, ◌≤◌, ◌<◌, ◌^◌, [], length, Some, None, MatchOption, MatchResult};
 ghost use Rattle.text_fields.specs.Fields.{IsInside};
 ghost use Rattle.text_fields.specs.Tokens.{scan_at, lexeme_of, IsTokenAt};
-ghost use Rattle.lp_statements.specs.Items.{IsPlace, IsSeen, IsStopAt, IsPast, IsItem, tokens_at, is_word_kind, is_colon_first, may_head as may_head_by, pair_heading as pair_by, word_heading as word_by, relation_of as relation_by, sign_of as sign_by, name_or_infinity as name_by, item_of as item_by, heading_item as heading_by, last_line as last_line_of, stop_at as stop_of};
+ghost use Rattle.lp_statements.specs.Items.{IsPlace, IsSeen, IsStopAt, IsPast, IsItem, tokens_at, is_word_kind, is_colon_first, may_head as may_head_by, pair_heading as pair_by, word_heading as word_by, relation_of as relation_by, sign_of as sign_by, name_or_infinity as name_by, item_of as item_by, heading_item as heading_by, last_line as last_line_of};
 
 use crate::parts::{Heading, Item, Relation, Text};
 use crate::words::{heading_of, is_infinity, pair_of};
 use text_fields::{
-    Place, ReadFault, ReadKind, ReadStop, TextKind, Token, TokenKind, after_line, next_line,
-    next_token,
+    Place, ReadFault, ReadKind, TextKind, Token, TokenKind, after_line, next_line, next_token,
 };
 
 #[tactic(auto, unfolding(crate::specs::Items::relation_of))]
@@ -198,25 +197,18 @@ pub(crate) fn next_seen(bytes: &[u8], place: Place) -> Result<(Item, Text<'_>, P
 {
     let found = match next_token(bytes, place) {
         Ok(found) => found,
-        Err(fault) => return Err(stop_at(fault.line, ReadKind::Text(fault.kind))),
+        Err(fault) => return Err(ReadFault::stop_at(fault.line, ReadKind::Text(fault.kind))),
     };
     let Some((token, past)) = found else {
-        return Err(stop_at(last_line(bytes), ReadKind::Truncated));
+        return Err(ReadFault::stop_at(last_line(bytes), ReadKind::Truncated));
     };
     let (item, next) = item_in(bytes, token, past);
     if let Item::Refused(kind) = item {
-        return Err(stop_at(token.line, kind));
+        return Err(ReadFault::stop_at(token.line, kind));
     }
     let text = Text {
         bytes: token.span.text(bytes),
         line: token.line,
     };
     Ok((item, text, next))
-}
-
-/// The fault of a kind at a line.
-pub(crate) fn stop_at(line: u32, kind: ReadKind) -> ReadFault
-    ensures { result ≡ ReadFault.Stop (stop_of line kind) }
-{
-    ReadFault::Stop(ReadStop { line, kind })
 }

@@ -11,7 +11,7 @@ use crate::grammar::{
     agreeing, constant, is_part_first, is_relation_first, label, more_terms, name, name_first,
     parts, put_term, relation, take_opening,
 };
-use crate::items::{next_seen, stop_at};
+use crate::items::next_seen;
 use crate::parts::{Constant, Item, Keyword, Relation, Section, Statement, Term, Text};
 use crate::words::is_free;
 use std::alloc::Global;
@@ -101,7 +101,7 @@ fn begin(
 {
     let (item, text, next) = next_seen(bytes, place)?;
     let Some(maximise) = sense_of(item) else {
-        return Err(stop_at(text.line, ReadKind::Order));
+        return Err(ReadFault::stop_at(text.line, ReadKind::Order));
     };
     let (statement, last) = objective(alloc, bytes, next, most, maximise)?;
     Ok((statement, last))
@@ -118,11 +118,11 @@ fn subject_to(bytes: &[u8], place: Place) -> Result<(Statement<'_>, Place), Read
 {
     let (item, text, next) = next_seen(bytes, place)?;
     let Some(keyword) = keyword_in(item) else {
-        return Err(stop_at(text.line, ReadKind::BadField));
+        return Err(ReadFault::stop_at(text.line, ReadKind::BadField));
     };
     match keyword {
         Keyword::SubjectTo => Ok((Statement::Heading(Keyword::SubjectTo), next)),
-        _ => Err(stop_at(text.line, ReadKind::Order)),
+        _ => Err(ReadFault::stop_at(text.line, ReadKind::Order)),
     }
 }
 
@@ -349,7 +349,7 @@ fn later_heading<'a>(
         Keyword::Bounds | Keyword::General | Keyword::Binary | Keyword::End => {
             Ok((Statement::Heading(keyword), place))
         }
-        _ => Err(stop_at(text.line, ReadKind::Order)),
+        _ => Err(ReadFault::stop_at(text.line, ReadKind::Order)),
     }
 }
 

@@ -92,6 +92,15 @@ pub enum ReadFault {
     Memory,
 }
 
+impl ReadFault {
+    /// The fault of a kind at a line.
+    pub fn stop_at(line: u32, kind: ReadKind) -> ReadFault
+        ensures { result ≡ ReadFault.Stop (record { line = line; kind = kind }) }
+    {
+        ReadFault::Stop(ReadStop { line, kind })
+    }
+}
+
 impl<T: Drop> From<AllocFailed<T>> for FieldStop {
     ghost from_gives = { λ _ stop. stop ≡ FieldMemory };
 
@@ -120,10 +129,7 @@ impl From<TextFault> for ReadFault {
     ghost from_gives = { λ fault read. read ≡ fault_of_text fault };
 
     fn from(fault: TextFault) -> ReadFault {
-        ReadFault::Stop(ReadStop {
-            line: fault.line,
-            kind: ReadKind::Text(fault.kind),
-        })
+        ReadFault::stop_at(fault.line, ReadKind::Text(fault.kind))
     }
 }
 
