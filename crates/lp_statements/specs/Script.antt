@@ -1,5 +1,5 @@
 -- The statements of a text, up to the first that fails or to `end`.
-use Rattle.std.specs.Prelude.{◌≡◌, ℕ, zero, suc, ◌<◌, ◌≤◌, Bool, List, [], ◌∷◌, length, Option, Some, None}
+use Rattle.std.specs.Prelude.{◌≡◌, ℕ, zero, suc, ◌<◌, ◌≤◌, Bool, true, false, List, [], ◌∷◌, length, Option, Some, None}
 use Rattle.text_fields.specs.declared.tokens.Place.{Place}
 use Rattle.text_fields.specs.declared.faults.ReadStop.{ReadStop}
 use Rattle.text_fields.specs.declared.faults.ReadFault.{ReadFault}
@@ -7,9 +7,9 @@ use Rattle.text_fields.specs.declared.faults.ReadFault.TheVariants.{Stop, Memory
 use Rattle.lp_statements.specs.declared.parts.Keyword.{Keyword}
 use Rattle.lp_statements.specs.declared.parts.Section.{Section}
 use Rattle.lp_statements.specs.declared.parts.Item.{Item}
-use Rattle.lp_statements.specs.Items.{Written, Piece, pieces_of, pieces_at, IsPlace, StopsAt}
+use Rattle.lp_statements.specs.Items.{Written, Piece, Seen, Stops, pieces_of, pieces_at, IsPlace, StopsAt}
 use Rattle.lp_statements.specs.Statements.{Statement, Objective, Heading, IsKept}
-use Rattle.lp_statements.specs.Grammar.{Parsed, Whole, Fails, text_first, turned, signs as signs_of, statement_of}
+use Rattle.lp_statements.specs.Grammar.{Parsed, Whole, Fails, is_first, is_sign, text_first, turned, signs as signs_of, statement_of}
 
 -- statements, and the fault of the form of the one after them, if there is one
 pub record Script : Type 0 where
@@ -98,5 +98,21 @@ pub record IsFirst (bytes : List ℕ) (place : Place) (test : Item → Bool) (te
 
 -- a sign stands first
 pub record IsSignAt (bytes : List ℕ) (place : Place) (minus : Bool) (next : Place) : Type 0 where
+  pub first : is_first is_sign (pieces_at bytes place) ≡ true
   pub signs : (negative : Bool) → signs_of negative (pieces_at bytes place) ≡ signs_of (turned minus negative) (pieces_at bytes next)
   pub after : IsAfter bytes place next
+
+-- signs stand first, if any, and then an item that is none; they make this sign of the one before them
+pub record IsSigned (bytes : List ℕ) (place : Place) (before negative : Bool) (item : Item) (text : Written) (next : Place) : Type 0 where
+  pub signs : signs_of before (pieces_at bytes place) ≡ (negative, Seen item text ∷ pieces_at bytes next)
+  pub after : IsAfter bytes place next
+
+-- signs stand first, if any, and then this fault
+abbrev pub StopsSigned : List ℕ → Place → Bool → ReadFault → Type 0
+StopsSigned bytes place before (Stop stop) = (negative : Bool) × (rest : List Piece) × (signs_of before (pieces_at bytes place) ≡ (negative, Stops stop ∷ rest))
+StopsSigned bytes place before Memory = ⊥
+
+-- no sign stands first
+pub record HasNoSign (bytes : List ℕ) (place : Place) : Type 0 where
+  pub none : is_first is_sign (pieces_at bytes place) ≡ false
+  pub signs : (negative : Bool) → signs_of negative (pieces_at bytes place) ≡ (negative, pieces_at bytes place)

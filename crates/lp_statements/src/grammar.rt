@@ -3,8 +3,8 @@ ghost use Rattle.std.specs.Prelude.{◌≡◌, Bool, false, ◌<◌, ◌≤◌, 
 ghost use Rattle.std.specs.Option.{option_map};
 ghost use Rattle.lp_statements.specs.Items.{IsPlace, IsSeen, IsStopAt, StopsAt, Seen, pieces_at};
 ghost use Rattle.lp_statements.specs.Statements.{Term as TermOf, shown_text, shown_constant, shown_term};
-ghost use Rattle.lp_statements.specs.Grammar.{Element as ElementOf, OfTerm, OfConstant, Opening as OpeningOf, Parsed, wrong as wrong_at, is_name as is_name_by, is_colon as is_colon_by, minus_of as minus_by, infinite_of as infinite_by, relation_in as relation_by, inequality_in as inequality_by, begins_part as begins_by, is_sign as is_sign_by, is_relation as is_relation_by, is_first, text_first, label as label_by, turned, signs, constant_of as constant_by, constant as constant_at, factor_or_constant, amount as amount_by, term_in, element_of as element_by, element as element_at, term as term_at, more_terms as more_terms_at, part as part_at, more_parts as more_parts_at, parts as parts_at, terms_in, opening_from, relation as relation_at, inequality as inequality_at, agreed as agreed_by, agreed_with as agreed_with_by, agreeing as agreeing_at, opening as opening_at, name as name_at};
-ghost use Rattle.lp_statements.specs.Script.{IsAfter, IsOnward, IsFirst, IsSignAt, MayStop, Takes, Passes, IsRefusal};
+ghost use Rattle.lp_statements.specs.Grammar.{Element as ElementOf, OfTerm, OfConstant, Opening as OpeningOf, Parsed, wrong as wrong_at, is_name as is_name_by, is_colon as is_colon_by, minus_of as minus_by, infinite_of as infinite_by, relation_in as relation_by, inequality_in as inequality_by, begins_part as begins_by, is_sign as is_sign_by, is_relation as is_relation_by, is_first, text_first, label as label_by, turned, signs, constant_of as constant_by, constant as constant_at, factor_or_constant, amount as amount_by, term_in, element_of as element_by, element as element_at, element_from as element_from_at, term as term_at, term_from as term_from_at, part_from as part_from_at, more_terms as more_terms_at, part as part_at, more_parts as more_parts_at, parts as parts_at, terms_in, opening_from, relation as relation_at, inequality as inequality_at, agreed as agreed_by, agreed_with as agreed_with_by, agreeing as agreeing_at, opening as opening_at, name as name_at};
+ghost use Rattle.lp_statements.specs.Script.{IsAfter, IsOnward, IsFirst, IsSignAt, IsSigned, StopsSigned, HasNoSign, MayStop, Takes, Passes, IsRefusal};
 ghost use Rattle.lp_statements.specs.Shapes.{shown_element, shown_opening, AddsTerms, TakesTerms};
 
 use crate::items::next_seen;
@@ -133,18 +133,6 @@ fn colon_first(bytes: &[u8], place: Place) -> Option<(Text<'_>, Place)>
     Some((text, next))
 }
 
-// Whether a sign stands first.
-fn is_sign_first(bytes: &[u8], place: Place) -> bool
-    requires place { IsPlace bytes.now place }
-    requires short { length bytes.now < 2 ^ 31 }
-    ensures { result ≡ is_first is_sign_by (pieces_at bytes.now place) }
-{
-    let Some((item, _, _)) = item_at(bytes, place) else {
-        return false;
-    };
-    minus_of(item).is_some()
-}
-
 // Whether a relation stands first.
 pub(crate) fn is_relation_first(bytes: &[u8], place: Place) -> bool
     requires place { IsPlace bytes.now place }
@@ -191,7 +179,7 @@ fn sign_first(bytes: &[u8], place: Place) -> Option<(bool, Place)>
     requires place { IsPlace bytes.now place }
     requires short { length bytes.now < 2 ^ 31 }
     ensures { MatchOption result
-        ((negative : Bool) → signs negative (pieces_at bytes.now place) ≡ (negative, pieces_at bytes.now place))
+        (HasNoSign bytes.now place)
         (λ found. IsSignAt bytes.now place found.0 found.1) }
 {
     let Some((item, _, next)) = item_at(bytes, place) else {
@@ -203,20 +191,38 @@ fn sign_first(bytes: &[u8], place: Place) -> Option<(bool, Place)>
     Some((minus, next))
 }
 
-// The sign that the signs that stand first make, and the place after them.
-fn skip_signs(bytes: &[u8], place: Place) -> (bool, Place)
+// What stands after signs: the sign that they make, an item that is no sign, and the place after it.
+#[derive(Clone, Copy)]
+struct Signed<'a> {
+    negative: bool,
+    item: Item,
+    text: Text<'a>,
+    next: Place,
+}
+
+// What stands after the signs that stand first, which turn the one before them.
+fn after_signs(bytes: &[u8], place: Place, before: bool) -> Result<Signed<'_>, ReadFault>
     requires place { IsPlace bytes.now place }
     requires short { length bytes.now < 2 ^ 31 }
-    ensures signs { signs false (pieces_at bytes.now place) ≡ (result.0, pieces_at bytes.now result.1) }
-    ensures onward { IsOnward bytes.now place result.1 }
+    ensures { MatchResult result
+        (λ found. IsSigned bytes.now place before found.negative found.item (shown_text found.text) found.next)
+        (StopsSigned bytes.now place before) }
 {
-    let mut negative = false;
+    let mut negative = before;
     let mut at = place;
-    while let Some((minus, next)) = sign_first(bytes, at) {
+    loop {
+        let (item, text, next) = next_seen(bytes, at)?;
+        let Some(minus) = minus_of(item) else {
+            return Ok(Signed {
+                negative,
+                item,
+                text,
+                next,
+            });
+        };
         negative = minus != negative;
         at = next;
     }
-    (negative, at)
 }
 
 // The fault of a place where no statement goes on.
@@ -231,30 +237,6 @@ fn wrong(bytes: &[u8], place: Place) -> ReadFault
     }
 }
 
-// A constant after its signs.
-fn constant_of(
-    bytes: &[u8],
-    place: Place,
-    negative: bool,
-) -> Result<(Constant<'_>, Place), ReadFault>
-    requires place { IsPlace bytes.now place }
-    requires short { length bytes.now < 2 ^ 31 }
-    ensures { MatchResult result
-        (λ found. Takes bytes.now place (constant_by negative (pieces_at bytes.now place)) (shown_constant found.0) found.1)
-        (IsRefusal (constant_by negative (pieces_at bytes.now place))) }
-{
-    let (item, text, next) = next_seen(bytes, place)?;
-    let Some(infinite) = infinite_of(item) else {
-        return Err(ReadFault::stop_at(text.line, ReadKind::BadField));
-    };
-    let constant = Constant {
-        negative,
-        infinite,
-        text,
-    };
-    Ok((constant, next))
-}
-
 /// A constant: signs, then a number or the infinite constant.
 pub(crate) fn constant(bytes: &[u8], place: Place) -> Result<(Constant<'_>, Place), ReadFault>
     requires place { IsPlace bytes.now place }
@@ -263,9 +245,16 @@ pub(crate) fn constant(bytes: &[u8], place: Place) -> Result<(Constant<'_>, Plac
         (λ found. Takes bytes.now place (constant_at (pieces_at bytes.now place)) (shown_constant found.0) found.1)
         (IsRefusal (constant_at (pieces_at bytes.now place))) }
 {
-    let (negative, at) = skip_signs(bytes, place);
-    let (constant, next) = constant_of(bytes, at, negative)?;
-    Ok((constant, next))
+    let found = after_signs(bytes, place, false)?;
+    let Some(infinite) = infinite_of(found.item) else {
+        return Err(ReadFault::stop_at(found.text.line, ReadKind::BadField));
+    };
+    let constant = Constant {
+        negative: found.negative,
+        infinite,
+        text: found.text,
+    };
+    Ok((constant, found.next))
 }
 
 // A number is a term's factor where a name comes after it, else a constant.
@@ -319,30 +308,43 @@ fn amount<'a>(
     factor_or_constant(bytes, place, negative, text)
 }
 
-// A term or a constant after its signs.
-fn element_of(bytes: &[u8], place: Place, negative: bool) -> Result<(Element<'_>, Place), ReadFault>
+// A term or a constant that begins with an item after its signs.
+fn element_of<'a>(bytes: &'a [u8], found: Signed<'a>) -> Result<(Element<'a>, Place), ReadFault>
+    requires place { IsPlace bytes.now found.next }
+    requires short { length bytes.now < 2 ^ 31 }
+    ensures { MatchResult result
+        (λ made. Passes bytes.now found.entry.next (element_by found.entry.negative (Seen found.entry.item (shown_text found.entry.text) ∷ pieces_at bytes.now found.entry.next)) (shown_element made.0) made.1)
+        (IsRefusal (element_by found.entry.negative (Seen found.entry.item (shown_text found.entry.text) ∷ pieces_at bytes.now found.entry.next))) }
+{
+    if is_name(found.item) {
+        let term = Term {
+            negative: found.negative,
+            factor: None,
+            name: found.text,
+        };
+        return Ok((Element::OfTerm(term), found.next));
+    }
+    let Some(infinite) = infinite_of(found.item) else {
+        return Err(ReadFault::stop_at(found.text.line, ReadKind::BadField));
+    };
+    Ok(amount(bytes, found.next, found.negative, found.text, infinite))
+}
+
+// A term or a constant with the signs after one.
+fn element_from(bytes: &[u8], place: Place, before: bool) -> Result<(Element<'_>, Place), ReadFault>
     requires place { IsPlace bytes.now place }
     requires short { length bytes.now < 2 ^ 31 }
     ensures { MatchResult result
-        (λ found. Takes bytes.now place (element_by negative (pieces_at bytes.now place)) (shown_element found.0) found.1)
-        (IsRefusal (element_by negative (pieces_at bytes.now place))) }
+        (λ found. Takes bytes.now place (element_from_at before (pieces_at bytes.now place)) (shown_element found.0) found.1)
+        (IsRefusal (element_from_at before (pieces_at bytes.now place))) }
 {
-    let (item, text, next) = next_seen(bytes, place)?;
-    if is_name(item) {
-        let term = Term {
-            negative,
-            factor: None,
-            name: text,
-        };
-        return Ok((Element::OfTerm(term), next));
-    }
-    let Some(infinite) = infinite_of(item) else {
-        return Err(ReadFault::stop_at(text.line, ReadKind::BadField));
-    };
-    Ok(amount(bytes, next, negative, text, infinite))
+    let found = after_signs(bytes, place, before)?;
+    let (element, next) = element_of(bytes, found)?;
+    Ok((element, next))
 }
 
 // A term or a constant with its signs.
+#[tactic(auto, unfolding(crate::specs::Grammar::element))]
 fn take_element(bytes: &[u8], place: Place) -> Result<(Element<'_>, Place), ReadFault>
     requires place { IsPlace bytes.now place }
     requires short { length bytes.now < 2 ^ 31 }
@@ -350,9 +352,7 @@ fn take_element(bytes: &[u8], place: Place) -> Result<(Element<'_>, Place), Read
         (λ found. Takes bytes.now place (element_at (pieces_at bytes.now place)) (shown_element found.0) found.1)
         (IsRefusal (element_at (pieces_at bytes.now place))) }
 {
-    let (negative, at) = skip_signs(bytes, place);
-    let (element, next) = element_of(bytes, at, negative)?;
-    Ok((element, next))
+    element_from(bytes, place, false)
 }
 
 // The fault of a constant that stands in the place of a term, where the next token is at a place.
@@ -367,8 +367,23 @@ fn missing_name(bytes: &[u8], place: Place, constant: Constant<'_>) -> ReadFault
     wrong(bytes, place)
 }
 
+// A term with the signs after one.
+fn term_from(bytes: &[u8], place: Place, before: bool) -> Result<(Term<'_>, Place), ReadFault>
+    requires place { IsPlace bytes.now place }
+    requires short { length bytes.now < 2 ^ 31 }
+    ensures { MatchResult result
+        (λ found. Takes bytes.now place (term_from_at before (pieces_at bytes.now place)) (shown_term found.0) found.1)
+        (IsRefusal (term_from_at before (pieces_at bytes.now place))) }
+{
+    let (element, next) = element_from(bytes, place, before)?;
+    match element {
+        Element::OfTerm(term) => Ok((term, next)),
+        Element::OfConstant(constant) => Err(missing_name(bytes, next, constant)),
+    }
+}
+
 // A term: signs, then a number and a name, or a name.
-#[tactic(auto, unfolding(crate::specs::Grammar::term))]
+#[tactic(auto, unfolding(crate::specs::Grammar::term, crate::specs::Grammar::element))]
 fn term(bytes: &[u8], place: Place) -> Result<(Term<'_>, Place), ReadFault>
     requires place { IsPlace bytes.now place }
     requires short { length bytes.now < 2 ^ 31 }
@@ -376,22 +391,22 @@ fn term(bytes: &[u8], place: Place) -> Result<(Term<'_>, Place), ReadFault>
         (λ found. Takes bytes.now place (term_at (pieces_at bytes.now place)) (shown_term found.0) found.1)
         (IsRefusal (term_at (pieces_at bytes.now place))) }
 {
-    let (element, next) = take_element(bytes, place)?;
-    match element {
-        Element::OfTerm(term) => Ok((term, next)),
-        Element::OfConstant(constant) => Err(missing_name(bytes, next, constant)),
-    }
+    term_from(bytes, place, false)
 }
 
-// A term of the objective, or a constant, which is not used.
-fn part(bytes: &[u8], place: Place) -> Result<(Option<Term<'_>>, Place), ReadFault>
+// A term of the objective, or a constant, which is not used, with the signs after one.
+fn part_from(
+    bytes: &[u8],
+    place: Place,
+    before: bool,
+) -> Result<(Option<Term<'_>>, Place), ReadFault>
     requires place { IsPlace bytes.now place }
     requires short { length bytes.now < 2 ^ 31 }
     ensures { MatchResult result
-        (λ found. Takes bytes.now place (part_at (pieces_at bytes.now place)) (option_map shown_term found.0) found.1)
-        (IsRefusal (part_at (pieces_at bytes.now place))) }
+        (λ found. Takes bytes.now place (part_from_at before (pieces_at bytes.now place)) (option_map shown_term found.0) found.1)
+        (IsRefusal (part_from_at before (pieces_at bytes.now place))) }
 {
-    let (element, next) = take_element(bytes, place)?;
+    let (element, next) = element_from(bytes, place, before)?;
     match element {
         Element::OfTerm(term) => Ok((Some(term), next)),
         Element::OfConstant(constant) => {
@@ -401,6 +416,18 @@ fn part(bytes: &[u8], place: Place) -> Result<(Option<Term<'_>>, Place), ReadFau
             Ok((None, next))
         }
     }
+}
+
+// A term of the objective with its signs, or a constant.
+#[tactic(auto, unfolding(crate::specs::Grammar::part, crate::specs::Grammar::element))]
+fn part(bytes: &[u8], place: Place) -> Result<(Option<Term<'_>>, Place), ReadFault>
+    requires place { IsPlace bytes.now place }
+    requires short { length bytes.now < 2 ^ 31 }
+    ensures { MatchResult result
+        (λ found. Takes bytes.now place (part_at (pieces_at bytes.now place)) (option_map shown_term found.0) found.1)
+        (IsRefusal (part_at (pieces_at bytes.now place))) }
+{
+    part_from(bytes, place, false)
 }
 
 /// A relation.
@@ -519,8 +546,8 @@ pub(crate) fn more_terms<'a>(
         (IsRefusal (more_terms_at (pieces_at bytes.now place))) }
 {
     let mut at = place;
-    while is_sign_first(bytes, at) {
-        let (term, next) = term(bytes, at)?;
+    while let Some((minus, after)) = sign_first(bytes, at) {
+        let (term, next) = term_from(bytes, after, minus)?;
         put_term(terms, most, term)?;
         at = next;
     }
@@ -558,8 +585,8 @@ fn more_parts<'a>(
         (IsRefusal (more_parts_at (pieces_at bytes.now place))) }
 {
     let mut at = place;
-    while is_sign_first(bytes, at) {
-        let (part, next) = part(bytes, at)?;
+    while let Some((minus, after)) = sign_first(bytes, at) {
+        let (part, next) = part_from(bytes, after, minus)?;
         put_part(terms, most, part)?;
         at = next;
     }

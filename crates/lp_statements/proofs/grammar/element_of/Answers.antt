@@ -1,23 +1,16 @@
 use Rattle.std.proofs.Common.{refl, sym}
-use Rattle.std.proofs.lemmas.Result.{err_from_is_err_and}
 use Rattle.lp_statements.specs.Grammar.{element_of}
-use Rattle.lp_statements.proofs.Steps.{first_refused, takes_first, passes_first, fails_first}
+use Rattle.lp_statements.proofs.Steps.{passes_here}
 use Rattle.lp_statements.proofs.grammar.element_of.Goals as goal
-
-pub returns-in_err-item : goal.returns-in_err-item
-unfolding element_of
-returns-in_err-item c =
-    let p = err_from_is_err_and c.from_residual.result c.from_residual.ensures.1 in
-    rw (p.1, p.2) (first_refused c.args.bytes.now c.args.place _ c.in_err-item.field-0.0 c.in_err-item.ensures)
 
 pub returns-then-is_name : goal.returns-then-is_name
 unfolding element_of
-returns-then-is_name c = takes_first c.args.bytes.now c.args.place _ _ _ _ _ c.in_ok-item.ensures (rw (sym c.if-is_name.ensures) refl)
+returns-then-is_name c = passes_here c.args.bytes.now c.args.found.next _ _ c.requires.place (rw (sym c.if-is_name.ensures) refl)
 
 pub returns-in_default : goal.returns-in_default
 unfolding element_of
-returns-in_default c = fails_first c.args.bytes.now c.args.place _ _ c.stop_at.result _ _ _ c.in_ok-item.ensures (rw (sym c.if-is_name.ensures, sym c.in_default.ensures) refl) c.stop_at.ensures
+returns-in_default c = rw (c.stop_at.ensures, sym c.if-is_name.ensures, sym c.in_default.ensures) refl
 
 pub returns : goal.returns
 unfolding element_of
-returns c = passes_first c.args.bytes.now c.args.place _ _ _ _ _ _ _ c.in_ok-item.ensures (rw (sym c.if-is_name.ensures, sym c.in-Some.ensures) refl) c.amount.ensures
+returns c = rw (sym c.if-is_name.ensures, sym c.in-Some.ensures) c.amount.ensures
