@@ -3,7 +3,7 @@ use Rattle.std.proofs.Common.{◌≡◌, ℕ, ◌+◌, ◌-◌, ◌%◌, ◌^◌
 use Rattle.std.proofs.lemmas.Bool.{agree_below, agree_below_at, cases_eq, eq-eqb, ne_eqb, cond-true, cond-false}
 use Rattle.std.proofs.lemmas.Simd.{map-map, mask_l-mod, length-chunk, chunk-fits, leading_from_mask_l, trailing_mask_l}
 use Rattle.std.proofs.lemmas.List.{length-map}
-use Rattle.std.proofs.lemmas.List.Sums.{position_or_len_is}
+use Rattle.std.proofs.lemmas.List.Sums.{position_or_len_is, prefix_len-le-length, fails_before_first, passes_at_first}
 use Rattle.std.specs.List.{slice_range, position_or_len}
 use lib.Lanes.{Each1, chunk, zip2, mask_l, top}
 use Rattle.lane_scan.specs.Lanes.{IsFirst, lowest_or}
@@ -85,3 +85,20 @@ first-place {kind} {bytes} {from} {to} {place} low high h =
     (λ k l. ap kind (read k (omega arith)) ∙ h.none (from + k) (omega arith) (omega arith))
     (λ l. ap kind (read (place - from) (omega arith) ∙ ap (λ (k : ℕ). get_or bytes k 0) e) ∙ h.here (omega arith)) in
     omega arith
+
+pub place-first : (kind : ℕ → Bool) (bytes : List ℕ) (from to : ℕ) → from ≤ to → to ≤ length bytes → IsFirst kind bytes from to (from + position_or_len kind (slice_range bytes from to))
+place-first kind bytes from to low high =
+    let part : List ℕ = slice_range bytes from to in
+    let n : ℕ = position_or_len kind part in
+    let long = length-range bytes from to low high in
+    let few : n ≤ length part = prefix_len-le-length (λ x. not (kind x)) part in
+    let read : (k : ℕ) → k < to - from → get_or part k 0 ≡ get_or bytes (from + k) 0 =
+    λ k l. get_or-take (to - from) (drop from bytes) k 0 l ∙ get_or-drop from bytes k 0 in
+    record {
+      low = omega arith;
+      high = omega arith;
+      none = λ k l h.
+          let e : from + (k - from) ≡ k = omega arith in
+          ap kind (sym (read (k - from) (omega arith) ∙ ap (λ (i : ℕ). get_or bytes i 0) e)) ∙ fails_before_first kind part (k - from) 0 (omega arith);
+      here = λ h. ap kind (sym (read n (omega arith))) ∙ passes_at_first kind part 0 (omega arith);
+    }

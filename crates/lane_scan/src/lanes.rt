@@ -75,6 +75,7 @@ pub fn first_of<K: Kind>(bytes: &[u8], from: usize, to: usize) -> usize
     requires in_order { from ≤ to }
     requires within { to ≤ length bytes.now }
     ensures place { result ≡ from + position_or_len K.kind (slice_range bytes.now from to) }
+    ensures first { IsFirst K.kind bytes.now from to result }
     ensures low { from ≤ result }
     ensures high { result ≤ to }
 {

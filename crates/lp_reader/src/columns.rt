@@ -74,6 +74,7 @@ pub(crate) fn place_of(names: &NameMap<()>, name: &[u8]) -> Option<usize>
         (list_any (bytes_eq name.now) (names_of names.now) ≡ false)
         (StandsAt (names_of names.now) name.now) }
 {
+    // That no two names are the same is told with their number.
     let _ = names.len();
     names.place(name)
 }
@@ -179,7 +180,6 @@ fn make_terms(alloc: Global, mut sums: Sums) -> Result<Terms, AllocError>
     ensures { IfOk result (λ form. (names : List (List ℕ)) (terms : List TermOf) → HoldsSums names terms sums.entries → form ≡ form_of names terms) }
 {
     sums.sort_keys()?;
-    let _ = sums.len();
     Ok(list_terms(alloc, &sums)?)
 }
 

@@ -122,8 +122,6 @@ fn put_row(alloc: Global, rows: &mut Rows, name: &[u8], row: Row) -> Result<(), 
     requires short { length name.now ≤ longest_name }
     ensures { OnOk result (PutsRow rows.old rows.new name.now row) }
 {
-    // The check wants the type of a side named here.
-    let _side = row.lo;
     rows.names.push(alloc, name, ())?;
     rows.items.push(row)?;
     Ok(())

@@ -40,14 +40,6 @@ module _ (bytes : List ℕ) (place : Place) where
       → f item text (pieces_at bytes next) ≡ Fails stop → fault ≡ Stop stop → IsRefusal (with_first (pieces_at bytes place) f) fault
   fails_first f stop fault item text next seen e is = subst (IsRefusal (with_first (pieces_at bytes place) f)) (sym is) (first_is f item text next seen ∙ e)
 
-  -- an item, and what may be empty after it
-  pub passes_first : {A : Type 0} (f : Item → Written → List Piece → Parsed A) (p : Parsed A) (value : A) (item : Item) (text : Written) (next last : Place) → IsSeen bytes place item text next
-      → f item text (pieces_at bytes next) ≡ p → Passes bytes next p value last → Takes bytes place (with_first (pieces_at bytes place) f) value last
-  passes_first f p value item text next last seen e passes = record {
-    whole = first_is f item text next seen ∙ (e ∙ passes.whole);
-    after = record { at = passes.onward.at; fewer = let m = (after_seen item text next seen).fewer in let n = passes.onward.no_more in omega arith };
-  }
-
   -- no sign
   pub signs_stop : MayStop bytes place → HasNoSign bytes place
   unfolding signs

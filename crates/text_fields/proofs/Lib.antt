@@ -7,6 +7,7 @@ pub mod Cuts
 pub mod Solids
 pub mod Scans
 pub mod TokenFaults
+pub mod LookFaults
 pub mod Longest
 pub mod Floors
 pub mod Words

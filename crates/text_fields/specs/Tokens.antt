@@ -20,6 +20,10 @@ is_backslash b = b == 92
 unfoldable pub token_fault : List ℕ → Option TextKind
 token_fault line = cond (is_long line) (Some LongLine) (cond (list_any is_foreign (before_first is_backslash line)) (Some ForeignByte) None)
 
+-- a byte at which a look for that stops: the end of the line, the begin of a comment, or a foreign byte
+abbrev pub stops_look : ℕ → Bool
+stops_look b = is_end b || (is_backslash b || is_foreign b)
+
 -- a token as its text says it: its kind, its bytes, its line, and whether it is the first of its line
 pub record Lexeme : Type 0 where
   pub kind : TokenKind

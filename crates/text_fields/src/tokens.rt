@@ -2,14 +2,15 @@
 ghost use Rattle.std.specs.Prelude.{◌≡◌, ◌≤◌, ◌<◌, ◌+◌, ◌^◌, ◌∷◌, [], Option, Some, None, MatchResult, MatchOption, length, drop, slice_index, true, false};
 ghost use Rattle.std.specs.List.{before_first, after_first};
 ghost use Rattle.lane_scan.specs.Bytes.{is_end, is_blank};
-ghost use Rattle.text_fields.specs.Tokens.{token_fault, only_blanks, is_line_start, rest_scan, scan_lines, scan_at, before, IsNext, IsFaultOf, IsTokenAt};
+ghost use Rattle.text_fields.specs.Tokens.{stops_look, token_fault, only_blanks, is_line_start, rest_scan, scan_lines, scan_at, before, IsNext, IsFaultOf, IsTokenAt};
 ghost use Rattle.text_fields.specs.Lines.{lines_of};
 ghost use Rattle.text_fields.specs.Pieces.{piece_at};
 
 use crate::pieces::piece;
 use crate::spans::MOST_BYTES;
 use crate::{Span, TextFault, TextKind, TokenKind};
-use lane_scan::{Byte, first_foreign, first_of, is_blank_byte, next_end, next_nonblank};
+use lane_scan::{Byte, Kind, first_of, is_blank_byte, lowest_bit, next_end, next_nonblank};
+use std::simd::prelude::*;
 
 /// A place in a text, and the number of its line, from 1.
 #[derive(Clone, Copy, PartialEq, Eq, Debug)]
@@ -27,17 +28,39 @@ pub struct Token {
     pub first: bool,
 }
 
+// The bytes at which a look at a line stops: its end, the begin of a comment, and those that no line may have.
+struct Stop;
+
+impl Kind for Stop {
+    ghost kind = { stops_look };
+
+    #[inline(always)]
+    fn has(byte: u8) -> bool {
+        byte == b'\\' || !(byte == b'\t' || byte == b'\r' || (b' ' <= byte && byte <= b'~'))
+    }
+
+    #[inline(always)]
+    fn count_before(bytes: &[u8], at: usize) -> usize {
+        let lanes = u8x16::from_slice(&bytes[at..]);
+        // Before the space or after `~`.
+        let hidden = (lanes - u8x16::splat(b' ')).simd_gt(u8x16::splat(94));
+        let inside = lanes.simd_ne(u8x16::splat(b'\t')) & lanes.simd_ne(u8x16::splat(b'\r'));
+        let comment = lanes.simd_eq(u8x16::splat(b'\\'));
+        lowest_bit((hidden & inside | comment).to_bitmask())
+    }
+}
+
 // What is wrong with the line that begins at a place.
 fn fault_from(bytes: &[u8], at: usize) -> Option<TextKind>
     requires { at ≤ length bytes.now }
     ensures { result ≡ token_fault (before_first is_end (drop at bytes.now)) }
 {
-    let end = next_end(bytes, at);
+    let stop = first_of::<Stop>(bytes, at, bytes.len());
+    let end = first_of::<Byte<b'\n'>>(bytes, stop, bytes.len());
     if end - at > MOST_BYTES {
         return Some(TextKind::LongLine);
     }
-    let to = first_of::<Byte<b'\\'>>(bytes, at, end);
-    if first_foreign(bytes, at, to) < to {
+    if stop < end && bytes[stop] != b'\\' {
         return Some(TextKind::ForeignByte);
     }
     None
