@@ -122,10 +122,8 @@ fn check_core(
     let start = line + OPENING_LINES;
     let end = check_witnesses(model, &core.members, &mut others, witnesses, start)?;
     let combo = leaf_of(&core.proof);
-    settle(
-        end + PROOF_LINES,
-        check_combo(model, &core.members, &[], combo, sums),
-    )
+    let leaf = end + PROOF_LINES;
+    settle(leaf, check_combo(model, &core.members, &[], combo, sums))
 }
 
 // The combination of the one leaf.

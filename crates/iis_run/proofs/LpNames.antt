@@ -213,9 +213,10 @@ module _ {A : Type 0} (SpellsOne : A → List Piece → Type 0) (made : A → Li
 spelled_terms : (terms : List Term) (ps : List Piece) → SpellsTerms terms ps → AreNamed ps → AreNamedTerms terms
 spelled_terms terms ps s h =
     let k : AreNamed (s.front ++ s.back) = subst AreNamed s.spelled h in
-    subst AreNamedTerms (sym s.says)
-    (spelled_term s.first s.front s.says_first (named_left s.front s.back k),
-    spelled_more SpellsTerm only spelled_only s.others s.back s.says_others (named_right s.front s.back k))
+    subst AreNamedTerms (sym s.says) (
+      spelled_term s.first s.front s.says_first (named_left s.front s.back k),
+      spelled_more SpellsTerm only spelled_only s.others s.back s.says_others (named_right s.front s.back k),
+    )
 
 spelled_form : (terms : List Term) (ps : List Piece) → SpellsForm terms ps → AreNamed ps → AreNamedTerms terms
 spelled_form terms ps (Nothing e f) h = subst AreNamedTerms (sym e) tt
@@ -235,16 +236,18 @@ spelled_statement statement ps (AHeading keyword text e f) h = subst IsNamedStat
 spelled_statement statement ps (ARow label terms relation right text front form back e l s c f) h =
     let k = subst AreNamed f h in
     let after = named_right front (form ++ compares relation text ∷ back) k in
-    subst IsNamedStatement (sym e)
-    (spelled_label label front l (named_left front (form ++ compares relation text ∷ back) k),
-    spelled_terms terms form s (named_left form (compares relation text ∷ back) after))
+    subst IsNamedStatement (sym e) (
+      spelled_label label front l (named_left front (form ++ compares relation text ∷ back) k),
+      spelled_terms terms form s (named_left form (compares relation text ∷ back) after),
+    )
 spelled_statement statement ps (ARange label left terms relation right t0 t1 front side form back e i l c s d f) h =
     let k = subst AreNamed f h in
     let after = named_right front (side ++ compares relation t0 ∷ (form ++ compares relation t1 ∷ back)) k in
     let rest = (named_right side (compares relation t0 ∷ (form ++ compares relation t1 ∷ back)) after).1 in
-    subst IsNamedStatement (sym e)
-    (spelled_label label front l (named_left front (side ++ compares relation t0 ∷ (form ++ compares relation t1 ∷ back)) k),
-    spelled_terms terms form s (named_left form (compares relation t1 ∷ back) rest))
+    subst IsNamedStatement (sym e) (
+      spelled_label label front l (named_left front (side ++ compares relation t0 ∷ (form ++ compares relation t1 ∷ back)) k),
+      spelled_terms terms form s (named_left form (compares relation t1 ∷ back) rest),
+    )
 spelled_statement statement ps (AFree name free e i f) h = subst IsNamedStatement (sym e) tt
 spelled_statement statement ps (ABoundAfter name relation right text back e c f) h = subst IsNamedStatement (sym e) tt
 spelled_statement statement ps (ABoundBefore left name relation text front e c f) h = subst IsNamedStatement (sym e) tt

@@ -341,7 +341,7 @@ mps_words bytes =
     let named : AreNamed steps = unplaced (all_steps bytes) (text_named bytes) in
     record {
       rows = All-map (λ (r : NamedRow). IsWord r.name) (named_row_of steps) (kept_rows steps)
-      (All-filter (λ (r : RowRecord). not (is_free r.kind)) IsNamedRow (rows_of steps) (rows_of_named steps named));
+          (All-filter (λ (r : RowRecord). not (is_free r.kind)) IsNamedRow (rows_of steps) (rows_of_named steps named));
       columns = All-map (λ (c : NamedColumn). IsWord c.name) (named_column_of steps) (columns_of steps)
-      (firsts_named (filter_map column_in steps) (columns_in_named steps named));
+          (firsts_named (filter_map column_in steps) (columns_in_named steps named));
     }

@@ -6,12 +6,11 @@ ghost use Rattle.report_text.specs.Grammar.{left_out};
 ghost use Rattle.certs.specs.Order.{AreSharesInOrder};
 ghost use Rattle.report_text.specs.Form.{IsNamedMember};
 ghost use Rattle.report_reader.specs.Drafts.{filled, point_of, leaf_of, set_of, answer_of, with_value, with_member, with_share, with_left_out, site_without, IsFound, AreLeftOut};
-ghost use Rattle.certs.specs.declared.solving.Stop.TheVariants.{Wide as TooWide, Pivots as Spent};
 
 use crate::drafts::{Found, Members};
 use crate::ordering::{member_follows, share_follows};
-use certs::{Combo, Node, Nodes, Path, Point, Proof, Share, Shares, Site, SiteKind, Stop, Values};
-use frac128::{Frac, Wide};
+use certs::{Combo, Node, Nodes, Path, Point, Proof, Share, Shares, Site, SiteKind, Values};
+use frac128::Frac;
 use lp_model::{Member, MemberSet, Model};
 use report_text::{Answer, Command, Core};
 use std::alloc::{AllocError, Global};
@@ -163,8 +162,8 @@ fn make_others(alloc: Global, model: &Model, left: &[Member]) -> Result<MemberSe
     Ok(set)
 }
 
-// The settle run of the active members but these.
-fn make_site(alloc: Global, model: &Model, left: &Members) -> Result<Site, AllocError>
+/// The settle run of the active members but these.
+pub(crate) fn make_site(alloc: Global, model: &Model, left: &Members) -> Result<Site, AllocError>
     requires { AreLeftOut model.now left.now }
     ensures { IfOk result (λ s. s ≡ site_without model.now left.now) }
 {
@@ -176,28 +175,4 @@ fn make_site(alloc: Global, model: &Model, left: &Members) -> Result<Site, Alloc
         enforced,
         path: Path::new(Vec::new(alloc)),
     })
-}
-
-/// The stop at an operation that is too wide, in the turn with this number.
-pub(crate) fn make_wide(
-    alloc: Global,
-    model: &Model,
-    left: &Members,
-    step: u64,
-    wide: Wide,
-) -> Result<Answer, AllocError>
-    requires { AreLeftOut model.now left.now }
-    ensures { IfOk result (λ a. a ≡ Answer.Stopped (TooWide (site_without model.now left.now) step wide)) }
-{
-    let site = make_site(alloc, model, left)?;
-    Ok(Answer::Stopped(Stop::Wide(site, step, wide)))
-}
-
-/// The stop where no pivot is left.
-pub(crate) fn make_spent(alloc: Global, model: &Model, left: &Members) -> Result<Answer, AllocError>
-    requires { AreLeftOut model.now left.now }
-    ensures { IfOk result (λ a. a ≡ Answer.Stopped (Spent (site_without model.now left.now))) }
-{
-    let site = make_site(alloc, model, left)?;
-    Ok(Answer::Stopped(Stop::Pivots(site)))
 }

@@ -1,75 +1,61 @@
 //! What a phrase makes of a part of an answer.
-ghost use Rattle.std.specs.Prelude.{◌≡◌, ◌≤◌, ◌++◌, ◌∷◌, [], IfOk, length};
+ghost use Rattle.std.specs.Prelude.{◌≡◌, ℕ, ◌≤◌, ◌++◌, ◌∷◌, [], IfOk, length};
 ghost use Rattle.certs.specs.Order.{AreSharesInOrder};
 ghost use Rattle.lp_model.specs.Members.{IsInOrder};
 ghost use Rattle.report_reader.specs.Phrases.{IsPhraseFor};
 ghost use Rattle.report_reader.specs.Drafts.{members_of, point_of, witnessed_with, extended, IsFound, IsPartFor};
 ghost use Rattle.lp_model.specs.Program.{Program};
+ghost use Rattle.report_text.specs.declared.report.Method.{Method};
+ghost use Rattle.report_text.specs.declared.report.Command.TheVariants.{Check, Iis, Pivots};
 
 use crate::building::{add_member, add_share, add_value, make_answer, make_point};
 use crate::drafts::{Found, Members, Next, Part};
 use crate::ordering::member_follows;
-use crate::phrases::{Phrase, StopPhrase};
+use crate::phrases::Phrase;
 use crate::stopping::{begin_stop, follow_stop};
 use certs::{Shares, Values};
 use lp_model::{Member, Model};
 use report_text::{Answer, Command, Witnesses};
 use std::alloc::{AllocError, Global};
 
-// The part behind `feasible`.
-fn open_feasible(command: &Command) -> Option<Next>
-    ensures { (model : Program) → result ≡ extended model command.now Part.Nothing Phrase.Feasible }
+// What may follow `command check`.
+fn follow_check(alloc: Global, phrase: Phrase) -> Option<Next>
+    ensures { (model : Program) → result ≡ extended model Check Part.Nothing phrase }
 {
-    match command {
-        Command::Check | Command::Iis(_) => Some(Next::More(Part::Feasible)),
-        Command::Pivots(_) => None,
-    }
-}
-
-// The part behind `infeasible`.
-fn open_infeasible(alloc: Global, command: &Command) -> Option<Next>
-    ensures { (model : Program) → result ≡ extended model command.now Part.Nothing Phrase.Infeasible }
-{
-    match command {
-        Command::Check => {
+    match phrase {
+        Phrase::Feasible => Some(Next::More(Part::Feasible)),
+        Phrase::Infeasible => {
             let members = Members::new(Vec::new(alloc));
             Some(Next::More(Part::Listed(Found::Members(members))))
         }
-        Command::Iis(_) | Command::Pivots(_) => None,
+        Phrase::Stop(phrase) => begin_stop(phrase),
+        _ => None,
     }
 }
 
-// The part behind `irreducible`.
-fn open_irreducible(alloc: Global, command: &Command) -> Option<Next>
-    ensures { (model : Program) → result ≡ extended model command.now Part.Nothing Phrase.Irreducible }
+// What may follow `command iis`.
+fn follow_search(alloc: Global, phrase: Phrase) -> Option<Next>
+    ensures { (model : Program) (method : Method) → result ≡ extended model (Iis method) Part.Nothing phrase }
 {
-    match command {
-        Command::Check | Command::Pivots(_) => None,
-        Command::Iis(_) => {
+    match phrase {
+        Phrase::Feasible => Some(Next::More(Part::Feasible)),
+        Phrase::Irreducible => {
             let members = Members::new(Vec::new(alloc));
             let witnesses = Witnesses::new(Vec::new(alloc));
             Some(Next::More(Part::Listed(Found::Witnessed(members, witnesses))))
         }
+        Phrase::Stop(phrase) => begin_stop(phrase),
+        _ => None,
     }
 }
 
-// The part behind the first line of a stop.
-fn open_stop(command: &Command, phrase: StopPhrase) -> Option<Next>
-    ensures { (model : Program) → result ≡ extended model command.now Part.Nothing (Phrase.Stop phrase) }
+// What may follow `command budget`.
+fn follow_budget(phrase: Phrase) -> Option<Next>
+    ensures { (model : Program) (pivots : ℕ) → result ≡ extended model (Pivots pivots) Part.Nothing phrase }
 {
-    match command {
-        Command::Check | Command::Iis(_) => begin_stop(phrase),
-        Command::Pivots(_) => None,
-    }
-}
-
-// The answer that `done` is.
-fn close_budget(command: &Command) -> Option<Next>
-    ensures { (model : Program) → result ≡ extended model command.now Part.Nothing Phrase.Done }
-{
-    match command {
-        Command::Check | Command::Iis(_) => None,
-        Command::Pivots(_) => Some(Next::Whole(Answer::Done)),
+    match phrase {
+        Phrase::Done => Some(Next::Whole(Answer::Done)),
+        _ => None,
     }
 }
 
@@ -77,13 +63,10 @@ fn close_budget(command: &Command) -> Option<Next>
 fn follow_command(alloc: Global, command: &Command, phrase: Phrase) -> Option<Next>
     ensures { (model : Program) → result ≡ extended model command.now Part.Nothing phrase }
 {
-    match phrase {
-        Phrase::Feasible => open_feasible(command),
-        Phrase::Infeasible => open_infeasible(alloc, command),
-        Phrase::Irreducible => open_irreducible(alloc, command),
-        Phrase::Stop(phrase) => open_stop(command, phrase),
-        Phrase::Done => close_budget(command),
-        _ => None,
+    match command {
+        Command::Check => follow_check(alloc, phrase),
+        Command::Iis(_) => follow_search(alloc, phrase),
+        Command::Pivots(_) => follow_budget(phrase),
     }
 }
 

@@ -7,16 +7,11 @@ ghost use Rattle.certs.specs.Order.{AreSharesInOrder, share_before};
 use certs::{Share, Source, side_stands_before};
 use lp_model::{Member, Side};
 
-// Whether a member stands before another: as its lower side does before the other's.
+// Whether a member stands before another.
 fn comes_before(first: Member, second: Member) -> bool
     ensures { result ≡ stands_before first second }
 {
-    side_stands_before(
-        Source::Member(first),
-        Side::Lo,
-        Source::Member(second),
-        Side::Lo,
-    )
+    first < second
 }
 
 /// Whether a member comes after all the members of a list.

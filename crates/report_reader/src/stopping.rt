@@ -4,12 +4,13 @@ ghost use Rattle.lp_model.specs.Program.{Program};
 ghost use Rattle.report_reader.specs.Phrases.{IsStopPhrase, IsPhraseFor};
 ghost use Rattle.report_reader.specs.Drafts.{stop_begun, stop_with, AreLeftOut, IsStopPart};
 
-use crate::building::{add_left_out, make_spent, make_wide};
+use crate::building::{add_left_out, make_site};
 use crate::drafts::{Members, Next, Part, StopCause, StopPart};
 use crate::phrases::{Phrase, StopPhrase};
-use certs::SiteKind;
+use certs::{SiteKind, Stop};
 use frac128::Wide;
 use lp_model::Model;
+use report_text::Answer;
 use std::alloc::{AllocError, Global};
 
 /// The part that the first line of a stop is.
@@ -80,8 +81,8 @@ fn close_site(
     match cause {
         StopCause::Wide => Ok(None),
         StopCause::Spent => {
-            let answer = make_spent(alloc, model, &left)?;
-            Ok(Some(Next::Whole(answer)))
+            let site = make_site(alloc, model, &left)?;
+            Ok(Some(Next::Whole(Answer::Stopped(Stop::Pivots(site)))))
         }
     }
 }
@@ -131,8 +132,8 @@ fn close_wide(
 {
     match phrase {
         Phrase::End => {
-            let answer = make_wide(alloc, model, &left, step, wide)?;
-            Ok(Some(Next::Whole(answer)))
+            let site = make_site(alloc, model, &left)?;
+            Ok(Some(Next::Whole(Answer::Stopped(Stop::Wide(site, step, wide)))))
         }
         _ => Ok(None),
     }
