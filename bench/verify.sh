@@ -24,7 +24,7 @@ model() {
 # A report in which each column is 1, 2 or 3.
 report() {
     awk -v rows="$1" 'BEGIN {
-        print "iisan report 1\ncommand check\nfeasible\npoint"
+        print "iisan report 2\ncommand check\nfeasible\npoint"
         for (j = 0; j < 2 * rows; j++) print "value column" j " " 1 + j % 3
         print "end\nreport end"
     }'

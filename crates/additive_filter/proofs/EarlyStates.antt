@@ -16,7 +16,8 @@ use Rattle.certs.proofs.Refuted.{proof_law}
 use Rattle.certs.specs.Tales.{IsPointOf}
 use Rattle.filter_steps.specs.Isolated.{AreWitnesses}
 use Rattle.filter_steps.specs.Reductions.{Tried, stays as it_stays, goes as it_goes}
-use Rattle.filter_steps.proofs.Sets.{in_middle, set_without_middle}
+use Rattle.lp_model.proofs.Walk.{in_middle}
+use Rattle.filter_steps.proofs.Sets.{set_without_middle}
 use Rattle.filter_steps.proofs.Reached.{early_part, early_weaker, part_of_part}
 use Rattle.filter_steps.proofs.Witnessed.{EachSuits, are_witnesses, early_goes, early_stays, satisfiable_by, weaker_point}
 

@@ -1,13 +1,13 @@
 -- Entries one after another: the budgets before them, their text, their stops.
-use Rattle.std.proofs.Common.{◌≡◌, refl, ◌∙◌, ap, ℕ, Bool, true, false, ◌||◌, List, [], ◌∷◌, ◌++◌}
+use Rattle.std.proofs.Common.{◌≡◌, refl, ◌∙◌, ap, Bool, true, false, ◌||◌, List, [], ◌∷◌, ◌++◌}
 use Rattle.std.specs.List.{list_any}
-use Rattle.std.proofs.lemmas.List.Concat.{flat_map-append}
 use Rattle.std.proofs.lemmas.List.Sums.{fold-append}
 use Rattle.lp_model.specs.Program.{Program}
 use Rattle.report_text.specs.declared.report.Command.{Command}
 use Rattle.report_text.specs.declared.report.Entry.{Entry}
 use Rattle.report_text.specs.Turns.{after, entry_commands}
-use Rattle.report_text.specs.Grammar.{entry_lines, entries_lines, text_of}
+use Rattle.report_text.specs.Grammar.{entry_phrases, entries_phrases, phrases_text}
+use Rattle.report_printer.proofs.Printed.{text_both}
 use Rattle.report_text.proofs.InTurn.{gathered-push}
 use Rattle.analysis.specs.Right.{budgets_after, budgets_in_force, first_budgets}
 use Rattle.analysis.specs.Written.{entries_text, is_stop}
@@ -18,13 +18,10 @@ pub budgets_more : (before : List Command) (c : Command) → budgets_in_force (b
 budgets_more before c = fold-append budgets_after first_budgets before (c ∷ [])
 
 -- one text more
-pub text_append : (a b : List (List ℕ)) → text_of (a ++ b) ≡ text_of a ++ text_of b
-text_append a b = flat_map-append (λ (line : List ℕ). line ++ 10 ∷ []) a b
-
 pub text_more : (model : Program) (entries : List Entry) (e : Entry) → entries_text model (entries ++ e ∷ []) ≡ entries_text model entries ++ entry_text (after model (entry_commands entries)) e.command e.answer
 text_more model entries e =
-    ap text_of (gathered-push (λ front x. entry_lines (after model front) x) [] entries e)
-    ∙ text_append (entries_lines model [] entries) (entry_lines (after model (entry_commands entries)) e)
+    ap (phrases_text model) (gathered-push (λ front x. entry_phrases (after model front) x) [] entries e)
+    ∙ text_both model (entries_phrases model [] entries) (entry_phrases (after model (entry_commands entries)) e)
 
 -- whether one is a stop, with one more
 pub stop_more : (entries : List Entry) (e : Entry) → list_any (λ (d : Entry). is_stop d.answer) (entries ++ e ∷ []) ≡ (list_any (λ (d : Entry). is_stop d.answer) entries || is_stop e.answer)

@@ -8,8 +8,7 @@ use Rattle.std.proofs.lemmas.List.Elements.{All-contains, All-contains_itself, A
 use Rattle.std.proofs.lemmas.List.Kept.{AllPairs-filter}
 use Rattle.rational.specs.Rational.{zero_ℚ}
 use Rattle.lp_model.specs.declared.members.Member.{Member}
-use Rattle.lp_model.specs.declared.members.Member.TheVariants.{Row, Lower, Upper, Whole}
-use Rattle.lp_model.specs.declared.members.Side.{Side}
+use Rattle.lp_model.specs.declared.members.Member.TheVariants.{RowLo, RowUp, Lower, Upper, Whole}
 use Rattle.lp_model.specs.Program.{Program, IsWellFormed, empty_column, empty_row, noted_column}
 use Rattle.lp_model.specs.Members.{active_members, comes_before, has, is_mark}
 use Rattle.lp_model.specs.MemberSets.{SetValue, IsMemberFor, IsPossibleIn, active_set}
@@ -72,7 +71,8 @@ module _ (model : Program) (words : HasWords model) (linear : All (λ m. is_mark
   named_column j l = record { known = l; word = words.columns j empty_column l }
 
   named_member : (m : Member) → IsMemberFor (length model.rows) (length model.columns) m → IsNamedMember model m
-  named_member (Row i) l = record { known = l; word = words.rows i empty_row l }
+  named_member (RowLo i) l = record { known = l; word = words.rows i empty_row l }
+  named_member (RowUp i) l = record { known = l; word = words.rows i empty_row l }
   named_member (Lower j) l = record { known = l; word = words.columns j empty_column l }
   named_member (Upper j) l = record { known = l; word = words.columns j empty_column l }
   named_member (Whole j) l = record { known = l; word = words.columns j empty_column l }
@@ -96,16 +96,16 @@ module _ (model : Program) (words : HasWords model) (linear : All (λ m. is_mark
   point_form members p h within = record { len = h.each_column; fits = within; named = value_named p h.each_column }
 
   -- ---- proofs
-  source_named : (source : Source) (side : Side) → IsFrom (active_members model) source → IsSome (source_number model [] source side) → IsNamedSource model source side
-  source_named (Of m) side from number = All-contains (IsNamedMember model) (active_members model) m active_named from
-  source_named (Below j) side from number = absurd (no_below model j side number)
-  source_named (Above j) side from number = absurd (no_above model j side number)
+  source_named : (source : Source) → IsFrom (active_members model) source → IsSome (source_number model [] source) → IsNamedSource model source
+  source_named (Of m) from number = All-contains (IsNamedMember model) (active_members model) m active_named from
+  source_named (Below j) from number = absurd (no_below model j number)
+  source_named (Above j) from number = absurd (no_above model j number)
 
   are_uses : (combo : Combo) → IsCombination model (active_members model) [] combo.shares → All (λ s. IsWithinLimit s.weight) combo.shares → All (IsUse model) combo.shares
   are_uses combo h within k d l =
       let share = get_or combo.shares k d in
       let there = h.there k d l in
-      record { named = source_named share.source share.side there.from there.number; positive = h.positive k d l; fits = within k d l }
+      record { named = source_named share.source there.from there.number; positive = h.positive k d l; fits = within k d l }
 
   one_leaf : (proof : Proof) → IsLeafProof model proof → AreLeavesInOrder proof.nodes → IsProofWithin proof → IsOneLeaf model proof
   one_leaf proof h ordered within = record {

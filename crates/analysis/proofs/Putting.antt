@@ -24,10 +24,6 @@ nothing_more (Some b) = ap (λ z. Some z) (empty_end b)
     empty_end [] = refl
     empty_end (x ∷ xs) = ap (λ z. x ∷ z) (empty_end xs)
 
--- nothing put is the empty text put whole
-pub put_none : {K : Type 0} (faults : K → ℕ) (taken : K → Option (List ℕ)) (a b : K) → PutsNothing faults taken a b → PutWhole faults taken a b []
-put_none faults taken a b p = record { bytes = p.bytes ∙ sym (nothing_more (taken a)); quiet = p.quiet }
-
 -- a text put whole and then nothing
 pub put_then_none : {K : Type 0} (faults : K → ℕ) (taken : K → Option (List ℕ)) (a b c : K) (x : List ℕ) → PutWhole faults taken a b x → PutsNothing faults taken b c → PutWhole faults taken a c x
 put_then_none faults taken a b c x p q = record { bytes = q.bytes ∙ p.bytes; quiet = q.quiet ∙ p.quiet }

@@ -19,8 +19,6 @@ use Rattle.certs.specs.declared.evidence.Node.TheVariants.{Leaf}
 use Rattle.certs.specs.declared.evidence.Proof.{Proof}
 use Rattle.certs.specs.Checks.{IsSetOf}
 use Rattle.certs.specs.Combination.{IsFrom, IsThere, IsCombination, source_number}
-use Rattle.lp_model.specs.declared.members.Side.{Side}
-use Rattle.lp_model.specs.declared.members.Side.TheVariants.{Lo, Up}
 use Rattle.certs.specs.Proof.{IsProof}
 use Rattle.certs.specs.Proof.Tree.{Tip}
 use Rattle.certs.specs.Violation.{is_of}
@@ -96,21 +94,19 @@ known_nodes model set proof whole all leaf =
     (All-nil (IsKnownNode set)))
 
 -- on no path there are no branches
-pub no_below : (model : Program) (j : ℕ) (side : Side) → IsSome (source_number model [] (Below j) side) → ⊥
-no_below model j Lo h = absurd (true≢false (sym h))
-no_below model j Up h = absurd (true≢false (sym h))
+pub no_below : (model : Program) (j : ℕ) → IsSome (source_number model [] (Below j)) → ⊥
+no_below model j h = absurd (true≢false (sym h))
 
-pub no_above : (model : Program) (j : ℕ) (side : Side) → IsSome (source_number model [] (Above j) side) → ⊥
-no_above model j Lo h = absurd (true≢false (sym h))
-no_above model j Up h = absurd (true≢false (sym h))
+pub no_above : (model : Program) (j : ℕ) → IsSome (source_number model [] (Above j)) → ⊥
+no_above model j h = absurd (true≢false (sym h))
 
-printed_source : (model : Program) (set : SetValue) (source : Source) (side : Side) → set ≡ active_set model → All (IsPossibleIn set) set.members
-    → IsFrom (active_members model) source → IsSome (source_number model [] source side) → IsPrintedSource model source
-printed_source model set (Of m) side whole all from number =
+printed_source : (model : Program) (set : SetValue) (source : Source) → set ≡ active_set model → All (IsPossibleIn set) set.members
+    → IsFrom (active_members model) source → IsSome (source_number model [] source) → IsPrintedSource model source
+printed_source model set (Of m) whole all from number =
     subst (λ (l : SetValue). IsPossibleIn l m) whole
     (All-contains (IsPossibleIn set) set.members m all (subst (λ (l : SetValue). Contains l.members m) (sym whole) from))
-printed_source model set (Below j) side whole all from number = absurd (no_below model j side number)
-printed_source model set (Above j) side whole all from number = absurd (no_above model j side number)
+printed_source model set (Below j) whole all from number = absurd (no_below model j number)
+printed_source model set (Above j) whole all from number = absurd (no_above model j number)
 
 -- and ones of the program
 pub printed_nodes : (model : Program) (set : SetValue) (proof : Proof) → set ≡ active_set model → All (IsPossibleIn set) set.members → IsLeafProof model proof → All (IsPrintedNode model) proof.nodes
@@ -118,7 +114,7 @@ printed_nodes model set proof whole all leaf =
     subst (All (IsPrintedNode model)) (sym leaf.leaf)
     (All-cons (IsPrintedNode model) (Leaf leaf.combo) []
     (All-weaker (IsThere model (active_members model) []) (λ s. IsPrintedSource model s.source)
-    (λ s t. printed_source model set s.source s.side whole all t.from t.number) leaf.combo.shares leaf.combination.there)
+    (λ s t. printed_source model set s.source whole all t.from t.number) leaf.combo.shares leaf.combination.there)
     (All-nil (IsPrintedNode model)))
 
 -- the members used are ones of the program

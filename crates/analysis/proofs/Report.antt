@@ -1,5 +1,5 @@
 -- The whole report from its pieces.
-use Rattle.std.proofs.Common.{◌≡◌, refl, sym, ◌∙◌, ap, subst, ℕ, ◌==◌, Bool, cond, List, [], ◌++◌, length, Option, Ok, Err, inl, inr, eq-eqb}
+use Rattle.std.proofs.Common.{◌≡◌, refl, sym, ◌∙◌, ap, subst, ℕ, ◌==◌, Bool, cond, List, [], ◌∷◌, ◌++◌, append_assoc, length, Option, Ok, Err, inl, inr, eq-eqb}
 use Rattle.std.proofs.lemmas.Bool.{cond-true}
 use Rattle.lp_model.specs.Program.{Program}
 use Rattle.certs.specs.Sites.{Budgets}
@@ -8,13 +8,14 @@ use Rattle.report_text.specs.declared.report.Answer.{Answer}
 use Rattle.report_text.specs.declared.report.Entry.{Entry}
 use Rattle.analysis.specs.declared.pieces.Want.{Want}
 use Rattle.analysis.specs.declared.pieces.Want.TheVariants.{Memory, Fault}
-use Rattle.report_text.specs.Grammar.{entries_lines}
-use Rattle.report_printer.specs.Printing.{head_lines, foot_lines}
+use Rattle.report_text.specs.declared.phrases.Phrase.{Phrase}
+use Rattle.report_text.specs.Grammar.{entries_phrases}
+use Rattle.report_printer.specs.Printing.{head_phrases}
 use Rattle.analysis.specs.Puts.{PutWhole, PutFailed}
 use Rattle.analysis.specs.Right.{IsGiven}
 use Rattle.analysis.specs.Written.{head_text, entries_text, foot_text, whole_text, IsAnalysis}
 use Rattle.analysis.specs.Pieces.{Answers, EntryPut, EntriesPut, ReportPut, TextPut, entry_text}
-use Rattle.analysis.proofs.Entries.{text_append}
+use Rattle.report_printer.proofs.Printed.{text_both}
 use Rattle.analysis.proofs.InGrammar.{AllInGrammar}
 use Rattle.analysis.proofs.Putting.{put_two, put_then_none, failed_after, failed_longer}
 
@@ -27,8 +28,9 @@ entry_err faults taken old new model b c a text Memory r e p = p
 -- the text of a report is that of its parts
 whole_parts : (model : Program) (entries : List Entry) → whole_text model entries ≡ head_text model ++ (entries_text model entries ++ foot_text)
 whole_parts model entries =
-    text_append (head_lines model model.notes) (entries_lines model [] entries ++ foot_lines)
-    ∙ ap (λ (t : List ℕ). head_text model ++ t) (text_append (entries_lines model [] entries) foot_lines)
+    text_both model (head_phrases model.notes ++ entries_phrases model [] entries) (Phrase.Foot ∷ [])
+    ∙ ap (λ (t : List ℕ). t ++ foot_text) (text_both model (head_phrases model.notes) (entries_phrases model [] entries))
+    ∙ append_assoc (head_text model) (entries_text model entries) foot_text
 
 module _ {K : Type 0} (faults : K → ℕ) (taken : K → Option (List ℕ)) (old : K) (model : Program) (commands : List Command) where
   -- the foot where all commands are answered

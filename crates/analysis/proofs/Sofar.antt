@@ -1,5 +1,5 @@
 -- The entries that were put so far.
-use Rattle.std.proofs.Common.{◌≡◌, ◌≤◌, ◌<◌, ◌+◌, ◌^◌, refl, sym, ◌∙◌, ap, subst, ℕ, Bool, false, ◌||◌, List, [], ◌∷◌, ◌++◌, length, get_or, take, drop, Option, Ok, Err, arith}
+use Rattle.std.proofs.Common.{◌≡◌, ◌≤◌, ◌<◌, ◌+◌, ◌^◌, refl, sym, ◌∙◌, ap, subst, ℕ, Bool, ◌||◌, List, [], ◌∷◌, ◌++◌, length, get_or, take, drop, Option, Ok, Err, arith}
 use Rattle.std.specs.List.{list_any}
 use Rattle.std.proofs.lemmas.List.{take_more, take_all, take-append-drop, length-map}
 use Rattle.lp_model.specs.Program.{Program}
@@ -9,13 +9,13 @@ use Rattle.report_text.specs.declared.report.Command.TheVariants.{Pivots}
 use Rattle.report_text.specs.declared.report.Answer.{Answer}
 use Rattle.report_text.specs.declared.report.Entry.{Entry}
 use Rattle.report_text.specs.Turns.{after, entry_commands, AllEntries}
-use Rattle.report_text.specs.Grammar.{entries_lines}
+use Rattle.report_text.specs.Grammar.{entries_phrases}
 use Rattle.report_text.specs.Form.{AreNumbered, IsCommand}
 use Rattle.report_text.proofs.InTurn.{commands_push, AllEntries-push, numbered-push}
 use Rattle.analysis.specs.declared.pieces.Want.{Want}
 use Rattle.analysis.specs.declared.pieces.Want.TheVariants.{Memory, Fault}
 use Rattle.analysis.specs.Puts.{PutWhole, PutFailed, PutsNothing}
-use Rattle.analysis.specs.Right.{IsGiven, AreRight, IsRightAfter, budgets_after, budgets_in_force, first_budgets}
+use Rattle.analysis.specs.Right.{IsGiven, AreRight, IsRightAfter, budgets_after, budgets_in_force}
 use Rattle.analysis.specs.Written.{entries_text, is_stop}
 use Rattle.analysis.specs.Pieces.{EntryPut, EntriesPut, entry_text}
 use Rattle.analysis.proofs.Putting.{put_two, put_then_none, failed_after}
@@ -37,13 +37,9 @@ pub record HasPut {K : Type 0} (faults : K → ℕ) (taken : K → Option (List 
   pub put : PutWhole faults taken old now (entries_text model entries)
 
 module _ {K : Type 0} (faults : K → ℕ) (taken : K → Option (List ℕ)) (old now new : K) (model : Program) (commands : List Command) where
-  -- nothing yet
-  pub has_none : (b : Budgets) → b ≡ first_budgets → PutWhole faults taken now now [] → HasPut faults taken now now model commands 0 b false
-  has_none b e p = record { entries = []; first = refl; each = tt; numbered = tt; budgets_are = e; stopped_is = refl; put = p }
-
   -- the entry of the next command
   abbrev next_entry : List Entry → Command → Answer → Entry
-  next_entry entries c a = record { command = c; answer = a; line = 2 + length model.notes + length (entries_lines model [] entries) }
+  next_entry entries c a = record { command = c; answer = a; line = 2 + length model.notes + length (entries_phrases model [] entries) }
 
   one_more : (n : ℕ) (c d : Command) → n < length commands → c ≡ get_or commands n d → take (n + 1) commands ≡ take n commands ++ c ∷ []
   one_more n c d l is = take_more commands n d l ∙ ap (λ (x : Command). take n commands ++ x ∷ []) (sym is)

@@ -23,7 +23,7 @@ use Rattle.certs.specs.Runs.End.{TooWide as SettleTooWide, Spent as SettleSpent}
 use Rattle.certs.specs.Sites.{Budgets, StopsBy, site_system}
 use Rattle.certs.specs.Solves.{RunEnds}
 use Rattle.certs.specs.declared.solving.Verdict.{Verdict}
-use Rattle.certs.specs.Answers.{AnswersAt, IsAnsweredStop, IsPlainAnswer}
+use Rattle.certs.specs.Answers.{IsAnsweredStop, IsPlainAnswer}
 use Rattle.certs.specs.Tales.{IsNodeSite, OracleState, no_tale}
 use Rattle.certs.proofs.HasLists.{agree_on}
 use Rattle.certs.proofs.Parted.{filter_both}
@@ -32,7 +32,7 @@ use Rattle.linear_oracle.specs.Value.{OracleValue, state_of}
 use Rattle.report_text.specs.declared.report.Answer.{Answer}
 use Rattle.report_text.specs.declared.report.Answer.TheVariants.{Feasible, Infeasible, Irreducible, Done, Stopped}
 use Rattle.report_printer.specs.Printing.{IsKnownAnswer, IsKnownStop}
-use Rattle.analysis.specs.Answers.{IsPossibleSite, IsRunStop, IsStopAnswer, IsToldStop}
+use Rattle.analysis.specs.Answers.{IsPossibleSite, IsStopAnswer, IsToldStop}
 use Rattle.analysis.specs.Right.{IsChecked, IsIsolated, IsRightStop, IsSiteOf, IsWhole}
 
 -- ---- the site of a set of active members
@@ -86,14 +86,6 @@ own_run model pivots asked kind set enforced path first further k e p run =
     (subst (λ (q : List Branch). RunEnds (plain_system model asked q false) pivots first) (sym p) run))
 
 -- ---- stops that an oracle answers
--- a stop of a run
-pub run_stop : (model : Program) (pivots : ℕ) (asked : List Member) (stop : Stop) → IsPlainAnswer model pivots asked (Err stop) → IsRunStop stop
-run_stop model pivots asked (Wide site turn wide) h = tt
-run_stop model pivots asked (Spent site) h = tt
-run_stop model pivots asked (Nodes site) h = absurd h.ends
-run_stop model pivots asked (Large size) h = absurd h.ends
-run_stop model pivots asked Memory h = tt
-
 -- as an answer it is right
 right_stop : (model : Program) (budgets : Budgets) (asked : List Member) (stop : Stop) (answer : Answer) → IsPlainAnswer model budgets.pivots asked (Err stop) → IsPart asked (active_members model) → IsToldStop stop answer
     → IsStopAnswer (λ s. s ≡ asked) model budgets answer
@@ -186,15 +178,7 @@ fresh_oracle model pivots = record { model = model; pivots = pivots; made = 0; t
 abbrev pub PlainAnswers : Program → Budgets → List Member → Result Verdict Stop → Type 0
 PlainAnswers model budgets set result = IsPlainAnswer model budgets.pivots set result
 
--- a stop of a filter is one of a run
-pub stops_in_run : (IsTest : Program → List Member → List Member → Type 0) (set : List Member) (before after : OracleState) (stop : Stop) → IsStoppedAt IsTest PlainAnswers set before after stop → IsRunStop stop
-stops_in_run IsTest set before after stop h = by h.answered
-  where
-    by : IsAnsweredStop (AnswersAt PlainAnswers before) h.asked stop → IsRunStop stop
-    by (inl memory) = subst IsRunStop (sym memory) tt
-    by (inr k) = run_stop before.model before.budgets.pivots h.asked stop k
-
--- and right as an answer
+-- the stop of a filter
 pub filter_stop : (IsTest : OracleState → Program → List Member → List Member → Type 0) (IsRight : List Member → Type 0) (model : Program) (set : SetValue) (budgets : Budgets) (old : OracleValue) (after : OracleState) (stop : Stop) (answer : Answer)
     → old ≡ fresh_oracle model budgets.pivots → set ≡ active_set model → IsStoppedAt (IsTest (state_of old)) PlainAnswers set.members (state_of old) after stop
     → ((s : OracleState) (t : List Member) → IsTest s model (active_members model) t → IsPart t (active_members model)) → ((t : List Member) → IsTest (state_of (fresh_oracle model budgets.pivots)) model (active_members model) t → IsRight t)

@@ -5,7 +5,7 @@ use Rattle.lp_model.specs.Program.{Program}
 use Rattle.certs.specs.Sites.{Budgets}
 use Rattle.report_text.specs.declared.report.Command.{Command}
 use Rattle.report_text.specs.declared.report.Answer.{Answer}
-use Rattle.report_text.specs.Grammar.{entry_lines, text_of}
+use Rattle.report_text.specs.Grammar.{entry_phrases, phrases_text}
 use Rattle.analysis.specs.declared.pieces.Want.{Want}
 use Rattle.analysis.specs.declared.pieces.Want.TheVariants.{Memory, Fault}
 use Rattle.analysis.specs.Puts.{PutWhole, PutFailed, PutsNothing}
@@ -16,7 +16,7 @@ use Rattle.analysis.specs.Written.{is_stop, head_text, entries_text, foot_text, 
 
 -- the text of an entry; the number of its line is not part of it
 abbrev pub entry_text : Program → Command → Answer → List ℕ
-entry_text model command answer = text_of (entry_lines model (record { command = command; answer = answer; line = 0 }))
+entry_text model command answer = phrases_text model (entry_phrases model (record { command = command; answer = answer; line = 0 }))
 
 -- A right answer was put whole, or a front of it; or nothing was for want of memory. With the whole it is told whether it is a stop.
 abbrev pub EntryPut : {K : Type 0} → (K → ℕ) → (K → Option (List ℕ)) → K → K → Program → Budgets → Command → Result Bool Want → Type 0

@@ -1,15 +1,17 @@
 -- What an analysis writes: the head with the notes, an entry for each command, and the foot.
-use Rattle.std.specs.Prelude.{◌≡◌, ◌⊎◌, ℕ, ◌+◌, ◌==◌, Bool, true, false, cond, List, [], ◌++◌, length, Option}
+use Rattle.std.specs.Prelude.{◌≡◌, ◌⊎◌, ℕ, ◌+◌, ◌==◌, Bool, true, false, cond, List, [], ◌∷◌, ◌++◌, length, Option}
 use Rattle.std.specs.List.{list_any}
 use Rattle.lp_model.specs.Program.{Program}
+use Rattle.lp_model.specs.Shown.{empty_program}
 use Rattle.analysis.specs.Puts.{PutWhole, PutFailed, PutsNothing}
 use Rattle.report_text.specs.declared.report.Command.{Command}
 use Rattle.report_text.specs.declared.report.Answer.{Answer}
 use Rattle.report_text.specs.declared.report.Answer.TheVariants.{Stopped}
 use Rattle.report_text.specs.declared.report.Entry.{Entry}
 use Rattle.report_text.specs.declared.report.Report.{Report}
-use Rattle.report_text.specs.Grammar.{entries_lines, report_lines, text_of}
-use Rattle.report_printer.specs.Printing.{head_lines, foot_lines}
+use Rattle.report_text.specs.Grammar.{entries_phrases, report_lines, phrases_text, text_of}
+use Rattle.report_text.specs.declared.phrases.Phrase.{Phrase}
+use Rattle.report_printer.specs.Printing.{head_phrases}
 use Rattle.report_text.specs.Form.{AreNumbered, IsReportFor}
 use Rattle.analysis.specs.NamesAreWords.{HasWords}
 use Rattle.analysis.specs.Right.{AreRight}
@@ -17,15 +19,15 @@ use Rattle.analysis.specs.Right.{AreRight}
 -- ---- the text
 -- the head and the notes
 abbrev pub head_text : Program → List ℕ
-head_text model = text_of (head_lines model model.notes)
+head_text model = phrases_text model (head_phrases model.notes)
 
 -- the entries
 abbrev pub entries_text : Program → List Entry → List ℕ
-entries_text model entries = text_of (entries_lines model [] entries)
+entries_text model entries = phrases_text model (entries_phrases model [] entries)
 
--- the last line
+-- the last line, in which no name stands
 abbrev pub foot_text : List ℕ
-foot_text = text_of foot_lines
+foot_text = phrases_text (empty_program false) (Phrase.Foot ∷ [])
 
 -- the report of these entries, with the program's notes
 abbrev pub report_of : Program → List Entry → Report

@@ -1,17 +1,17 @@
 -- What is so where nothing stops the check.
-use Rattle.std.proofs.Common.{◌≡◌, ◌+◌, refl, sym, ◌∙◌, ap, subst, ℕ, suc, Bool, true, false, true≢false, cond, not, ltb, ◌==◌, ◌&&◌, ◌||◌, List, [], ◌∷◌, ◌++◌, length, filter, zip, flat_map, None, arith, eqb→eq, T}
+use Rattle.std.proofs.Common.{◌≡◌, ◌+◌, refl, sym, ◌∙◌, ap, subst, ℕ, suc, Bool, true, false, true≢false, List, [], ◌∷◌, ◌++◌, length, zip, flat_map, None, arith, eqb→eq, T}
 use Rattle.std.specs.Prelude.{All}
 use Rattle.std.proofs.lemmas.Bool.{and_parts}
-use Rattle.std.proofs.lemmas.Bool.Decides.{nat_tests}
 use Rattle.std.proofs.lemmas.List.Elements.{All-head, All-tail, All-nil, All-cons, All-weaker}
 use Rattle.frac128.specs.Limit.{limit}
 use Rattle.lp_model.specs.declared.parts.Note.{Note}
 use Rattle.lp_model.specs.declared.parts.Note.TheVariants.{LowerRemoved, LowerKept}
 use Rattle.lp_model.specs.declared.members.Member.{Member}
 use Rattle.lp_model.specs.Program.{Program, IsWellFormed}
-use Rattle.lp_model.specs.Members.{comes_before, is_same, kind, place, is_active, active_members, IsInOrder}
+use Rattle.lp_model.specs.Members.{is_same, is_active, active_members, IsInOrder}
 use Rattle.lp_model.specs.Satisfaction.{values_at, Satisfies, IsSatisfiable, IsPart}
-use Rattle.lp_model.proofs.Sets.{same_self, members_law}
+use Rattle.lp_model.proofs.Sets.{members_law}
+use Rattle.lp_model.proofs.Walk.{list_without}
 use Rattle.certs.specs.declared.evidence.Checked.{Checked}
 use Rattle.certs.specs.declared.evidence.Checked.TheVariants.{Yes, No, Wide}
 use Rattle.certs.specs.declared.evidence.Point.{Point}
@@ -24,7 +24,7 @@ use Rattle.report_text.specs.declared.report.Command.{Command}
 use Rattle.report_text.specs.declared.report.Entry.{Entry}
 use Rattle.report_text.specs.Turns.{after}
 use Rattle.report_text.specs.Form.{IsAnswerFor, AreEntriesFor}
-use Rattle.report_text.specs.Grammar.{witness_lines}
+use Rattle.report_text.specs.Grammar.{witness_phrases}
 use Rattle.cert_check.specs.Trials.{said, paired_trials, same_note, is_active_use, leaf_shares, leaf_trial, others, witness_trials, witnesses_of, used_members, answer_trials, entry_trials, entries_trials, Trial, trials, unless_failed, outcome_of, IsAccepted}
 use Rattle.cert_check.specs.Stops.{first_stop, stop_or}
 use Rattle.cert_check.specs.Truth.{IsTrueAnswer, AreTrue, AcceptedLaw}
@@ -77,41 +77,6 @@ zip_at Q (f ∷ front) x back (y ∷ ys) e h =
     let less : length ys ≡ length (front ++ x ∷ back) = (let k : suc (length ys) ≡ suc (length (front ++ x ∷ back)) = e in omega (arith, k)) in
     zip_at Q front x back ys less (All-tail Q (f, y) (zip (front ++ x ∷ back) ys) h)
 
-differs : (a b c d : ℕ) → (ltb a c || ((a == c) && ltb b d)) ≡ true → ((a == c) && (b == d)) ≡ false
-differs a b c d h = grind (arith, nat_tests)
-
-differs_back : (a b c d : ℕ) → (ltb a c || ((a == c) && ltb b d)) ≡ true → ((c == a) && (d == b)) ≡ false
-differs_back a b c d h = grind (arith, nat_tests)
-
-not_same : (m n : Member) → comes_before m n ≡ true → is_same m n ≡ false
-not_same m n h = differs (kind m) (place m) (kind n) (place n) h
-
-not_same_back : (m n : Member) → comes_before m n ≡ true → is_same n m ≡ false
-not_same_back m n h = differs_back (kind m) (place m) (kind n) (place n) h
-
-pairs_head : (m : Member) (list : List Member) → IsInOrder (m ∷ list) → All (λ n. comes_before m n ≡ true) list
-pairs_head m list h k d l = h 0 (suc k) d (omega arith) (omega arith)
-
-pairs_tail : (m : Member) (list : List Member) → IsInOrder (m ∷ list) → IsInOrder list
-pairs_tail m list h i j d lt l = h (suc i) (suc j) d (omega arith) (omega arith)
-
-keeps_all : (test : Member → Bool) (list : List Member) → All (λ n. test n ≡ true) list → filter test list ≡ list
-keeps_all test [] h = refl
-keeps_all test (n ∷ list) h = ap (λ b. cond b (n ∷ filter test list) (filter test list)) (All-head (λ m. test m ≡ true) n list h) ∙ ap (λ l. n ∷ l) (keeps_all test list (All-tail (λ m. test m ≡ true) n list h))
-
-at_middle : (P : Member → Type 0) (front : List Member) (x : Member) (back : List Member) → All P (front ++ x ∷ back) → P x
-at_middle P [] x back h = All-head P x back h
-at_middle P (f ∷ front) x back h = at_middle P front x back (All-tail P f (front ++ x ∷ back) h)
-
--- the others of one member are those before it and after it
-others_are : (front : List Member) (x : Member) (back : List Member) → IsInOrder (front ++ x ∷ back) → others (front ++ x ∷ back) x ≡ front ++ back
-others_are [] x back h =
-    ap (λ b. cond (not b) (x ∷ others back x) (others back x)) (same_self x)
-    ∙ keeps_all (λ n. not (is_same n x)) back (All-weaker (λ n. comes_before x n ≡ true) (λ n. not (is_same n x) ≡ true) (λ n k. ap not (not_same_back x n k)) back (pairs_head x back h))
-others_are (f ∷ front) x back h =
-    ap (λ b. cond (not b) (f ∷ others (front ++ x ∷ back) x) (others (front ++ x ∷ back) x)) (not_same f x (at_middle (λ n. comes_before f n ≡ true) front x back (pairs_head f (front ++ x ∷ back) h)))
-    ∙ ap (λ l. f ∷ l) (others_are front x back (pairs_tail f (front ++ x ∷ back) h))
-
 module _ (model : Program) (set : List Member) where
   abbrev pub Tried : Member × Point → Type 0
   Tried w = (is_active model w.0 ≡ true) × (outcome (point_steps model (others set w.0) (values_at w.1.values)) ≡ Yes)
@@ -119,16 +84,16 @@ module _ (model : Program) (set : List Member) where
   tried : (n : ℕ) (witnesses : List (Member × Point)) → first_stop (witness_trials model set n witnesses) ≡ None → All Tried witnesses
   tried n [] e = All-nil Tried
   tried n (w ∷ witnesses) e =
-      let rest = first_stop (witness_trials model set (n + length (witness_lines model w)) witnesses) in
+      let rest = first_stop (witness_trials model set (n + length (witness_phrases w)) witnesses) in
       let point = outcome (point_steps model (others set w.0) (values_at w.1.values)) in
       let one = found_yes n (said (is_active model w.0)) (stop_or (n + 1) point rest) e in
       let two = found_yes (n + 1) point rest one.1 in
-      All-cons Tried w witnesses (said_yes (is_active model w.0) one.0, two.0) (tried (n + length (witness_lines model w)) witnesses two.1)
+      All-cons Tried w witnesses (said_yes (is_active model w.0) one.0, two.0) (tried (n + length (witness_phrases w)) witnesses two.1)
 
   irreducible_by : (witnesses : List Point) → IsInOrder set → length witnesses ≡ length set → All Tried (zip set witnesses) → (front : List Member) (x : Member) (back : List Member) → set ≡ front ++ x ∷ back → IsSatisfiable model (front ++ back)
   irreducible_by witnesses in_order each h front x back e =
       let found = zip_at Tried front x back witnesses (each ∙ ap length e) (subst (λ (l : List Member). All Tried (zip l witnesses)) e h) in
-      let rest = ap (λ (l : List Member). others l x) e ∙ others_are front x back (subst IsInOrder e in_order) in
+      let rest = ap (λ (l : List Member). others l x) e ∙ list_without front x back (subst IsInOrder e in_order) in
       subst (IsSatisfiable model) rest (satisfiable_law limit model (others set x) found.0.values found.1.1)
 
 -- ---- answers
@@ -144,7 +109,7 @@ true_answer model n (Infeasible set proof) f h e =
     }
 true_answer model n (Irreducible core) f h e =
     let set = core.members.members in
-    let leaf = leaf_trial model set (n + (3 + length (flat_map (witness_lines model) (witnesses_of core)))) core.proof in
+    let leaf = leaf_trial model set (n + (3 + length (flat_map witness_phrases (witnesses_of core)))) core.proof in
     let both = parts_pass (witness_trials model set (n + 2) (witnesses_of core)) (leaf ∷ []) e in
     let each = tried model set (n + 2) (witnesses_of core) both.0 in
     let cannot = unsatisfiable_law limit model set (leaf_shares core.proof.nodes) f (found_yes leaf.line leaf.found None both.1).0 in

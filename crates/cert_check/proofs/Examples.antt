@@ -8,9 +8,7 @@ use Rattle.frac128.specs.Limit.{limit}
 use Rattle.frac128.specs.Width.{is_wide, operation}
 use Rattle.frac128.specs.Calculation.{first_wide, product_steps}
 use Rattle.lp_model.specs.declared.members.Member.{Member}
-use Rattle.lp_model.specs.declared.members.Member.TheVariants.{Row}
-use Rattle.lp_model.specs.declared.members.Side.{Side}
-use Rattle.lp_model.specs.declared.members.Side.TheVariants.{Lo, Up}
+use Rattle.lp_model.specs.declared.members.Member.TheVariants.{RowLo, RowUp}
 use Rattle.lp_model.specs.declared.parts.Note.{Note}
 use Rattle.lp_model.specs.declared.parts.Note.TheVariants.{LowerRemoved, LowerKept}
 use Rattle.lp_model.specs.declared.parts.Weight.TheVariants.{Soft}
@@ -32,7 +30,7 @@ use Rattle.cert_check.specs.Trials.{trials, outcome_of}
 
 -- a row of x alone
 abbrev row : Option ℚ → Option ℚ → Bool → NamedRow
-row lo up active = record { name = []; terms = record { column = 0; factor = one_ℚ } ∷ []; lower = lo; upper = up; active = active; weight = Soft one_ℚ }
+row lo up active = record { name = []; terms = record { column = 0; factor = one_ℚ } ∷ []; lower = lo; upper = up; lower_active = active; upper_active = active; lower_weight = Soft one_ℚ; upper_weight = Soft one_ℚ }
 
 -- x ≤ 1 and x ≥ 2, and x ≥ 2 once more, which is not active
 abbrev program : Program
@@ -44,12 +42,12 @@ program = record {
   notes = LowerKept 0 ∷ [];
 }
 
-abbrev use_of : Member → Side → ℤ → Share
-use_of m side w = record { source = Of m; side = side; weight = whole w }
+abbrev use_of : Member → ℤ → Share
+use_of m w = record { source = Of m; weight = whole w }
 
 -- the first row so many times, and another
 abbrev leaf : ℤ → Member → ℤ → Proof
-leaf v m w = record { nodes = Leaf (record { shares = use_of (Row 0) Up v ∷ use_of m Lo w ∷ [] }) ∷ [] }
+leaf v m w = record { nodes = Leaf (record { shares = use_of (RowUp 0) v ∷ use_of m w ∷ [] }) ∷ [] }
 
 abbrev at : ℤ → Point
 at x = record { values = whole x ∷ [] }
@@ -59,7 +57,7 @@ abbrev infeasible : List Member → Proof → Entry
 infeasible members proof = record { command = Check; answer = Infeasible (record { rows = 3; columns = 1; members = members }) proof; line = 3 }
 
 abbrev irreducible : ℤ → ℤ → Proof → Entry
-irreducible x y proof = record { command = Iis Deletion; answer = Irreducible (record { members = record { rows = 3; columns = 1; members = Row 0 ∷ Row 1 ∷ [] }; witnesses = at x ∷ at y ∷ []; proof = proof; rounds = None; price = None }); line = 3 }
+irreducible x y proof = record { command = Iis Deletion; answer = Irreducible (record { members = record { rows = 3; columns = 1; members = RowUp 0 ∷ RowLo 1 ∷ [] }; witnesses = at x ∷ at y ∷ []; proof = proof; rounds = None; price = None }); line = 3 }
 
 abbrev feasible : ℤ → Entry
 feasible x = record { command = Check; answer = Feasible (at x); line = 12 }
@@ -71,10 +69,10 @@ abbrev noted : List Note
 noted = LowerKept 0 ∷ []
 
 abbrev pair : List Member
-pair = Row 0 ∷ Row 1 ∷ []
+pair = RowUp 0 ∷ RowLo 1 ∷ []
 
 -- x ≤ 1 and x ≥ 2 once each contradict one another
-refuted : check noted (infeasible pair (leaf (pos 1) (Row 1) (pos 1)) ∷ []) ≡ Accepted 1 0
+refuted : check noted (infeasible pair (leaf (pos 1) (RowLo 1) (pos 1)) ∷ []) ≡ Accepted 1 0
 unfolding frac ◌+ℚ◌ ◌*ℚ◌ neg_ℚ gcd gcd_within le_q lt_q eq_ℚ first_wide is_wide product_steps
 refuted = refl
 
@@ -89,70 +87,75 @@ stopped = record {
 abbrev finished : Entry
 finished = record { command = Pivots 7; answer = Done; line = 16 }
 
-counted : check noted (infeasible pair (leaf (pos 1) (Row 1) (pos 1)) ∷ stopped ∷ finished ∷ []) ≡ Accepted 2 1
+counted : check noted (infeasible pair (leaf (pos 1) (RowLo 1) (pos 1)) ∷ stopped ∷ finished ∷ []) ≡ Accepted 2 1
 unfolding frac ◌+ℚ◌ ◌*ℚ◌ neg_ℚ gcd gcd_within le_q lt_q eq_ℚ first_wide is_wide product_steps
 counted = refl
 
 -- ---- notes: one missing, one too many, another
-note_missing : check [] (infeasible pair (leaf (pos 1) (Row 1) (pos 1)) ∷ []) ≡ Rejected 2
+note_missing : check [] (infeasible pair (leaf (pos 1) (RowLo 1) (pos 1)) ∷ []) ≡ Rejected 2
 unfolding frac ◌+ℚ◌ ◌*ℚ◌ neg_ℚ gcd gcd_within le_q lt_q eq_ℚ first_wide is_wide product_steps
 note_missing = refl
 
-note_too_many : check (LowerKept 0 ∷ LowerKept 0 ∷ []) (infeasible pair (leaf (pos 1) (Row 1) (pos 1)) ∷ []) ≡ Rejected 3
+note_too_many : check (LowerKept 0 ∷ LowerKept 0 ∷ []) (infeasible pair (leaf (pos 1) (RowLo 1) (pos 1)) ∷ []) ≡ Rejected 3
 unfolding frac ◌+ℚ◌ ◌*ℚ◌ neg_ℚ gcd gcd_within le_q lt_q eq_ℚ first_wide is_wide product_steps
 note_too_many = refl
 
-other_note : check (LowerRemoved 0 ∷ []) (infeasible pair (leaf (pos 1) (Row 1) (pos 1)) ∷ []) ≡ Rejected 2
+other_note : check (LowerRemoved 0 ∷ []) (infeasible pair (leaf (pos 1) (RowLo 1) (pos 1)) ∷ []) ≡ Rejected 2
 unfolding frac ◌+ℚ◌ ◌*ℚ◌ neg_ℚ gcd gcd_within le_q lt_q eq_ℚ first_wide is_wide product_steps
 other_note = refl
 
 -- ---- members: the first missing, the last missing, which fails on the line of `proof`, one too many, one not active
-first_missing : check noted (infeasible (Row 1 ∷ []) (leaf (pos 1) (Row 1) (pos 1)) ∷ []) ≡ Rejected 5
+first_missing : check noted (infeasible (RowLo 1 ∷ []) (leaf (pos 1) (RowLo 1) (pos 1)) ∷ []) ≡ Rejected 5
 unfolding frac ◌+ℚ◌ ◌*ℚ◌ neg_ℚ gcd gcd_within le_q lt_q eq_ℚ first_wide is_wide product_steps
 first_missing = refl
 
-last_missing : check noted (infeasible (Row 0 ∷ []) (leaf (pos 1) (Row 1) (pos 1)) ∷ []) ≡ Rejected 6
+last_missing : check noted (infeasible (RowUp 0 ∷ []) (leaf (pos 1) (RowLo 1) (pos 1)) ∷ []) ≡ Rejected 6
 unfolding frac ◌+ℚ◌ ◌*ℚ◌ neg_ℚ gcd gcd_within le_q lt_q eq_ℚ first_wide is_wide product_steps
 last_missing = refl
 
-member_too_many : check noted (infeasible (Row 0 ∷ Row 1 ∷ Row 2 ∷ []) (leaf (pos 1) (Row 1) (pos 1)) ∷ []) ≡ Rejected 7
+member_too_many : check noted (infeasible (RowUp 0 ∷ RowLo 1 ∷ RowLo 2 ∷ []) (leaf (pos 1) (RowLo 1) (pos 1)) ∷ []) ≡ Rejected 7
 unfolding frac ◌+ℚ◌ ◌*ℚ◌ neg_ℚ gcd gcd_within le_q lt_q eq_ℚ first_wide is_wide product_steps
 member_too_many = refl
 
-not_active : check noted (infeasible (Row 0 ∷ Row 2 ∷ []) (leaf (pos 1) (Row 2) (pos 1)) ∷ []) ≡ Rejected 6
+not_active : check noted (infeasible (RowUp 0 ∷ RowLo 2 ∷ []) (leaf (pos 1) (RowLo 2) (pos 1)) ∷ []) ≡ Rejected 6
 unfolding frac ◌+ℚ◌ ◌*ℚ◌ neg_ℚ gcd gcd_within le_q lt_q eq_ℚ first_wide is_wide product_steps
 not_active = refl
 
+-- the other side of a row is another member
+other_side : check noted (infeasible pair (leaf (pos 1) (RowUp 1) (pos 1)) ∷ []) ≡ Rejected 6
+unfolding frac ◌+ℚ◌ ◌*ℚ◌ neg_ℚ gcd gcd_within le_q lt_q eq_ℚ first_wide is_wide product_steps
+other_side = refl
+
 -- ---- with weight 2 the columns do not cancel
-other_weight : check noted (infeasible pair (leaf (pos 1) (Row 1) (pos 2)) ∷ []) ≡ Rejected 8
+other_weight : check noted (infeasible pair (leaf (pos 1) (RowLo 1) (pos 2)) ∷ []) ≡ Rejected 8
 unfolding frac ◌+ℚ◌ ◌*ℚ◌ neg_ℚ gcd gcd_within le_q lt_q eq_ℚ first_wide is_wide product_steps
 other_weight = refl
 
 -- ---- an irreducible set: the first witness has a line of its value, and the second none
-irreducible_pair : check noted (irreducible (pos 2) (pos 0) (leaf (pos 1) (Row 1) (pos 1)) ∷ []) ≡ Accepted 1 0
+irreducible_pair : check noted (irreducible (pos 2) (pos 0) (leaf (pos 1) (RowLo 1) (pos 1)) ∷ []) ≡ Accepted 1 0
 unfolding frac ◌+ℚ◌ ◌*ℚ◌ neg_ℚ gcd gcd_within le_q lt_q eq_ℚ first_wide is_wide product_steps
 irreducible_pair = refl
 
 -- a witness misses the other member
-first_witness : check noted (irreducible (pos 1) (pos 0) (leaf (pos 1) (Row 1) (pos 1)) ∷ []) ≡ Rejected 6
+first_witness : check noted (irreducible (pos 1) (pos 0) (leaf (pos 1) (RowLo 1) (pos 1)) ∷ []) ≡ Rejected 6
 unfolding frac ◌+ℚ◌ ◌*ℚ◌ neg_ℚ gcd gcd_within le_q lt_q eq_ℚ first_wide is_wide product_steps
 first_witness = refl
 
-second_witness : check noted (irreducible (pos 2) (pos 2) (leaf (pos 1) (Row 1) (pos 1)) ∷ []) ≡ Rejected 9
+second_witness : check noted (irreducible (pos 2) (pos 2) (leaf (pos 1) (RowLo 1) (pos 1)) ∷ []) ≡ Rejected 9
 unfolding frac ◌+ℚ◌ ◌*ℚ◌ neg_ℚ gcd gcd_within le_q lt_q eq_ℚ first_wide is_wide product_steps
 second_witness = refl
 
 -- the leaf uses a member outside the list
-outside : check noted (irreducible (pos 2) (pos 0) (leaf (pos 1) (Row 2) (pos 1)) ∷ []) ≡ Rejected 11
+outside : check noted (irreducible (pos 2) (pos 0) (leaf (pos 1) (RowLo 2) (pos 1)) ∷ []) ≡ Rejected 11
 unfolding frac ◌+ℚ◌ ◌*ℚ◌ neg_ℚ gcd gcd_within le_q lt_q eq_ℚ first_wide is_wide product_steps
 outside = refl
 
 -- ---- the second of two entries fails
-second_entry : check noted (infeasible pair (leaf (pos 1) (Row 1) (pos 1)) ∷ feasible (pos 0) ∷ []) ≡ Rejected 14
+second_entry : check noted (infeasible pair (leaf (pos 1) (RowLo 1) (pos 1)) ∷ feasible (pos 0) ∷ []) ≡ Rejected 14
 unfolding frac ◌+ℚ◌ ◌*ℚ◌ neg_ℚ gcd gcd_within le_q lt_q eq_ℚ first_wide is_wide product_steps
 second_entry = refl
 
 -- ---- two times the greatest number is too wide
-too_wide : check noted (infeasible pair (leaf (pos limit) (Row 1) (pos limit)) ∷ []) ≡ TooWide 8 (operation Times (whole (pos 2)) (whole (pos limit)))
+too_wide : check noted (infeasible pair (leaf (pos limit) (RowLo 1) (pos limit)) ∷ []) ≡ TooWide 8 (operation Times (whole (pos 2)) (whole (pos limit)))
 unfolding frac ◌+ℚ◌ ◌*ℚ◌ neg_ℚ gcd gcd_within le_q lt_q eq_ℚ first_wide is_wide product_steps
 too_wide = refl

@@ -35,10 +35,6 @@ stop_either first rest Memory h = tt
 pub stop_first : (a b : List Trial) (s : Stop) → IsStop (first_stop a) s → IsStop (first_stop (a ++ b)) s
 stop_first a b s h = subst (λ (f : Option Stop). IsStop f s) (sym (first_append a b)) (stop_either (first_stop a) (first_stop b) s h)
 
--- and so does what stops the second, where nothing stops the first
-pub stop_second : (a b : List Trial) (s : Stop) → first_stop a ≡ None → IsStop (first_stop b) s → IsStop (first_stop (a ++ b)) s
-stop_second a b s e h = subst (λ (f : Option Stop). IsStop f s) (sym (passed_over a b e)) h
-
 -- where nothing stops the whole, nothing stops its parts
 both_none : (first rest : Option Stop) → either first rest ≡ None → (first ≡ None) × (rest ≡ None)
 both_none None rest e = (refl, e)

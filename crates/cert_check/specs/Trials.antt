@@ -25,7 +25,7 @@ use Rattle.report_text.specs.declared.report.Report.{Report}
 use Rattle.report_text.specs.declared.report.Command.{Command}
 use Rattle.report_text.specs.declared.layout.TheConstants.{HEAD_LINES, OPENING_LINES, MEMBER_LINES, PROOF_LINES}
 use Rattle.report_text.specs.Turns.{after, gathered}
-use Rattle.report_text.specs.Grammar.{witness_lines}
+use Rattle.report_text.specs.Grammar.{witness_phrases}
 use Rattle.cert_check.specs.declared.outcome.Outcome.{Outcome}
 use Rattle.cert_check.specs.declared.outcome.Outcome.TheVariants.{Accepted, Rejected, Wide as TooWide, Memory}
 
@@ -103,7 +103,7 @@ witness_trials model set n [] = []
 witness_trials model set n (w ∷ witnesses) =
     on_line n (said (is_active model w.0))
     ∷ point_trial model (others set w.0) (n + MEMBER_LINES) w.1
-    ∷ witness_trials model set (n + length (witness_lines model w)) witnesses
+    ∷ witness_trials model set (n + length (witness_phrases w)) witnesses
 
 -- each member of an irreducible set with its witness
 abbrev pub witnesses_of : Core → List (Member × Point)
@@ -113,7 +113,7 @@ witnesses_of core = zip core.members.members core.witnesses
 abbrev pub irreducible_trials : Program → ℕ → Core → List Trial
 irreducible_trials model n core =
     witness_trials model core.members.members (n + OPENING_LINES) (witnesses_of core)
-    ++ leaf_trial model core.members.members (n + ((OPENING_LINES + PROOF_LINES) + length (flat_map (witness_lines model) (witnesses_of core)))) core.proof ∷ []
+    ++ leaf_trial model core.members.members (n + ((OPENING_LINES + PROOF_LINES) + length (flat_map witness_phrases (witnesses_of core)))) core.proof ∷ []
 
 -- those of an answer; nothing is tried of a command that is done, nor of a stop
 abbrev pub answer_trials : Program → ℕ → Answer → List Trial

@@ -9,7 +9,7 @@ use Rattle.certs.specs.declared.evidence.Node.TheVariants.{Split, Leaf}
 use Rattle.report_text.specs.declared.report.Command.{Command}
 use Rattle.report_text.specs.declared.report.Entry.{Entry}
 use Rattle.report_text.specs.Turns.{after, AllEntries}
-use Rattle.report_text.specs.Grammar.{entry_lines}
+use Rattle.report_text.specs.Grammar.{entry_phrases}
 
 -- a member that a source names is one that the set may have
 abbrev pub IsSourceIn : SetValue → Source → Type 0
@@ -37,7 +37,7 @@ IsLeaf (Leaf combo ∷ nodes) = Unit {0}
 
 -- the lines of an entry have numbers that can be counted
 abbrev pub IsShort : Program → Entry → Type 0
-IsShort model e = e.line + length (entry_lines model e) < 4294967280
+IsShort model e = e.line + length (entry_phrases model e) < 4294967280
 
 -- those of each entry have
 abbrev pub AreShort : Program → List Command → List Entry → Type 0

@@ -2,7 +2,7 @@
 ghost use Rattle.std.specs.Prelude.{◌≡◌, ◌+◌, ◌<◌, [], length, flat_map};
 ghost use Rattle.lp_model.specs.MemberSets.{active_set};
 ghost use Rattle.report_text.specs.Form.{IsOneLeaf, IsPointFor, IsListed, IsCoreFor, IsAnswerFor, AreEntriesFor};
-ghost use Rattle.report_text.specs.Grammar.{answer_lines, witness_lines};
+ghost use Rattle.report_text.specs.Grammar.{answer_phrases, witness_phrases};
 ghost use Rattle.cert_check.specs.Trials.{leaf_shares, witnesses_of, feasible_trials, infeasible_trials, irreducible_trials, answer_trials, entries_trials};
 ghost use Rattle.cert_check.specs.Stops.{first_stop, Says};
 ghost use Rattle.cert_check.specs.Uses.{IsLeaf, AreShort};
@@ -53,7 +53,7 @@ fn check_answer(
     requires active { active.now ≡ active_set model.now }
     requires room { length sums.old ≡ length model.now.columns }
     requires form { IsAnswerFor model.now answer.now }
-    requires short { line + length (answer_lines model.now answer.now) < 4294967280 }
+    requires short { line + length (answer_phrases model.now answer.now) < 4294967280 }
     ensures { Says (first_stop (answer_trials model.now line answer.now)) result }
 {
     match answer {
@@ -112,7 +112,7 @@ fn check_core(
 ) -> Result<(), Stop>
     requires room { length sums.old ≡ length model.now.columns }
     requires form { IsCoreFor model.now core.now }
-    requires short { line + length (flat_map (witness_lines model.now) (witnesses_of core.now)) < 4294967290 }
+    requires short { line + length (flat_map witness_phrases (witnesses_of core.now)) < 4294967290 }
     ensures { Says (first_stop (irreducible_trials model.now line core.now)) result }
 {
     let Ok(mut others) = core.members.copy(alloc) else {

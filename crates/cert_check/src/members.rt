@@ -1,6 +1,5 @@
 //! Whether printed members are active, and those that a proof uses.
-ghost use Rattle.std.specs.Prelude.{◌≡◌, ◌+◌, ◌<◌, ◌↔◌, ⊤, All, IfOk, IsTrue, MatchOption, MatchResult, Option, Some, None, length};
-ghost use Rattle.lp_model.specs.MemberSets.{IsPossibleIn, next_after};
+ghost use Rattle.std.specs.Prelude.{◌≡◌, ◌+◌, ◌<◌, ◌↔◌, All, IfOk, IsTrue, MatchResult, None, Some, length};
 ghost use Rattle.certs.specs.Checks.{IsSetOf};
 ghost use Rattle.cert_check.specs.Trials.{paired_trials, is_active_use, used_members as used_by};
 ghost use Rattle.cert_check.specs.Stops.{first_stop, IsStop};
@@ -56,32 +55,26 @@ pub(crate) fn check_members(
         (IsStop (first_stop (paired_trials (is_active_use model.now) start printed.now.members used.now.members))) }
 {
     printed.stands_in_order();
-    used.stands_in_order();
     let mut line = start;
-    let mut after = None;
-    while let Some(member) = printed.next(after) {
+    let mut uses = used.iter();
+    for member in printed.iter() {
         if !model.is_active(member) {
             return Err(Stop::Rejected(line));
         }
-        if !is_next(used, after, member) {
+        if !is_next(uses.next(), member) {
             return Err(Stop::Rejected(line));
         }
         line += 1;
-        after = Some(member);
     }
-    if used.next(after).is_some() {
-        return Err(Stop::Rejected(line));
+    match uses.next() {
+        Some(_) => Err(Stop::Rejected(line)),
+        None => Ok(line),
     }
-    Ok(line)
 }
 
-// Whether the member is the first of the set that comes after the given one.
-fn is_next(set: &MemberSet, after: Option<Member>, member: Member) -> bool
-    requires { MatchOption after ⊤ (IsPossibleIn set.now) }
-    ensures { IsTrue result ↔ (next_after set.now after ≡ Some member) }
+// Whether the member comes next.
+fn is_next(next: Option<Member>, member: Member) -> bool
+    ensures { IsTrue result ↔ (next ≡ Some member) }
 {
-    match set.next(after) {
-        Some(next) => next == member,
-        None => false,
-    }
+    next == Some(member)
 }

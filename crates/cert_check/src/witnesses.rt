@@ -3,7 +3,7 @@ ghost use Rattle.std.specs.Prelude.{◌≡◌, ◌+◌, ◌<◌, ◌∷◌, [], 
 ghost use Rattle.lp_model.specs.Members.{has};
 ghost use Rattle.lp_model.specs.MemberSets.{IsPossibleIn};
 ghost use Rattle.certs.specs.Checks.{IsSetOf};
-ghost use Rattle.report_text.specs.Grammar.{witness_lines};
+ghost use Rattle.report_text.specs.Grammar.{witness_phrases};
 ghost use Rattle.cert_check.specs.Trials.{witness_trials};
 ghost use Rattle.cert_check.specs.Stops.{first_stop, Says, IsStop};
 
@@ -26,22 +26,21 @@ pub(crate) fn check_witnesses(
     requires copy { others.old ≡ members.now }
     requires each { length witnesses.now ≡ length members.now.members }
     requires points { All (λ p. length p.values ≡ length model.now.columns) witnesses.now }
-    requires short { start + length (flat_map (witness_lines model.now) (zip members.now.members witnesses.now)) < 4294967296 }
+    requires short { start + length (flat_map witness_phrases (zip members.now.members witnesses.now)) < 4294967296 }
     ensures { MatchResult result
         (λ line. (first_stop (witness_trials model.now members.now.members start (zip members.now.members witnesses.now)) ≡ None)
-        × (line ≡ start + length (flat_map (witness_lines model.now) (zip members.now.members witnesses.now))))
+        × (line ≡ start + length (flat_map witness_phrases (zip members.now.members witnesses.now))))
         (IsStop (first_stop (witness_trials model.now members.now.members start (zip members.now.members witnesses.now)))) }
 {
     members.stands_in_order();
     let mut line = start;
-    let mut after = None;
+    let mut left = members.iter();
     for witness in witnesses {
-        let Some(member) = members.next(after) else {
+        let Some(member) = left.next() else {
             unreachable!()
         };
         check_witness(model, others, member, witness, line)?;
         line += witness_length(witness) as u32;
-        after = Some(member);
     }
     Ok(line)
 }

@@ -19,7 +19,7 @@ use Rattle.frac128.specs.Calculation.{first_wide}
 use Rattle.frac128.proofs.Calculations.{first_wide-before, first_wide-past, first_wide-here, first_wide-next, first_wide-nil}
 use Rattle.certs.specs.declared.evidence.Branch.{Branch}
 use Rattle.certs.specs.declared.evidence.Share.{Share}
-use Rattle.certs.specs.Combination.{source_form, source_number, number_or_zero, signed, multiple, column_sum, right_side}
+use Rattle.certs.specs.Combination.{source_form, source_side, source_number, number_or_zero, signed, multiple, column_sum, right_side}
 use Rattle.certs.specs.Checks.{sign_of, share_operations, added_at, form_operations, sums_after, column_operations, right_operations}
 
 -- ---- the sign of a side
@@ -112,17 +112,17 @@ module _ (model : Program) (shares : List Share) (i : ℕ) (s : Share) (h : i < 
 
   module _ (x : Assignment) where
     abbrev its_operations : List Operation
-    its_operations = form_operations x s.side s.weight (source_form model s.source)
+    its_operations = form_operations x (source_side s.source) s.weight (source_form model s.source)
 
     abbrev its_sums : Assignment
-    its_sums = sums_after x s.side s.weight (source_form model s.source)
+    its_sums = sums_after x (source_side s.source) s.weight (source_form model s.source)
 
-    pub share_wide : (o : Operation) → first_wide limit (form_operations x s.side s.weight (source_form model s.source)) ≡ Some o → first_wide limit (column_operations model x (drop i shares)) ≡ Some o
+    pub share_wide : (o : Operation) → first_wide limit (form_operations x (source_side s.source) s.weight (source_form model s.source)) ≡ Some o → first_wide limit (column_operations model x (drop i shares)) ≡ Some o
     share_wide o e =
         share_at (λ (l : List Share). first_wide limit (column_operations model x l)) ∙ first_wide-before limit its_operations (column_operations model its_sums (drop (i + 1) shares)) o e
 
-    module _ (y : Assignment) (more : y ≡ sums_after x s.side s.weight (source_form model s.source)) where
-      pub share_next : first_wide limit (form_operations x s.side s.weight (source_form model s.source)) ≡ None
+    module _ (y : Assignment) (more : y ≡ sums_after x (source_side s.source) s.weight (source_form model s.source)) where
+      pub share_next : first_wide limit (form_operations x (source_side s.source) s.weight (source_form model s.source)) ≡ None
           → first_wide limit (column_operations model y (drop (i + 1) shares)) ≡ first_wide limit (column_operations model x (drop i shares))
       share_next e =
           ap (λ (z : Assignment). first_wide limit (column_operations model z (drop (i + 1) shares))) more
@@ -131,35 +131,35 @@ module _ (model : Program) (shares : List Share) (i : ℕ) (s : Share) (h : i < 
       pub share_sums : (j : ℕ) → y j +ℚ column_sum model (drop (i + 1) shares) j ≡ x j +ℚ column_sum model (drop i shares) j
       share_sums j =
           ap (λ (z : Assignment). z j +ℚ column_sum model (drop (i + 1) shares) j) more
-          ∙ (ap (λ (z : ℚ). z +ℚ column_sum model (drop (i + 1) shares) j) (sums_after-is x s.side s.weight (source_form model s.source) j)
+          ∙ (ap (λ (z : ℚ). z +ℚ column_sum model (drop (i + 1) shares) j) (sums_after-is x (source_side s.source) s.weight (source_form model s.source) j)
           ∙ (ring_ℚ (x j ∷ (multiple s *ℚ factor_of (source_form model s.source) j) ∷ column_sum model (drop (i + 1) shares) j ∷ []) ((x0 :+ x1) :+ x2) (x0 :+ (x1 :+ x2)) tt
           ∙ sym (share_at (λ (l : List Share). x j +ℚ column_sum model l j))))
 
   -- the right side: n is the number on the side
-  module _ (path : List Branch) (sum n : ℚ) (there : n ≡ number_or_zero (source_number model path s.source s.side)) where
-    pub right_wide : (o : Operation) → first_wide limit (share_operations sum s.side n s.weight) ≡ Some o → first_wide limit (right_operations model path sum (drop i shares)) ≡ Some o
+  module _ (path : List Branch) (sum n : ℚ) (there : n ≡ number_or_zero (source_number model path s.source)) where
+    pub right_wide : (o : Operation) → first_wide limit (share_operations sum (source_side s.source) n s.weight) ≡ Some o → first_wide limit (right_operations model path sum (drop i shares)) ≡ Some o
     right_wide o e =
-        let m : ℚ = number_or_zero (source_number model path s.source s.side) in
+        let m : ℚ = number_or_zero (source_number model path s.source) in
         share_at (λ (l : List Share). first_wide limit (right_operations model path sum l))
-        ∙ first_wide-before limit (share_operations sum s.side m s.weight) (right_operations model path (sum +ℚ signed s.side (m *ℚ s.weight)) (drop (i + 1) shares)) o
-        (sym (ap (λ (z : ℚ). first_wide limit (share_operations sum s.side z s.weight)) there) ∙ e)
+        ∙ first_wide-before limit (share_operations sum (source_side s.source) m s.weight) (right_operations model path (sum +ℚ signed (source_side s.source) (m *ℚ s.weight)) (drop (i + 1) shares)) o
+        (sym (ap (λ (z : ℚ). first_wide limit (share_operations sum (source_side s.source) z s.weight)) there) ∙ e)
 
-    module _ (next : ℚ) (more : next ≡ sum +ℚ signed s.side (n *ℚ s.weight)) where
-      pub right_next : first_wide limit (share_operations sum s.side n s.weight) ≡ None
+    module _ (next : ℚ) (more : next ≡ sum +ℚ signed (source_side s.source) (n *ℚ s.weight)) where
+      pub right_next : first_wide limit (share_operations sum (source_side s.source) n s.weight) ≡ None
           → first_wide limit (right_operations model path next (drop (i + 1) shares)) ≡ first_wide limit (right_operations model path sum (drop i shares))
       right_next e =
-          let m : ℚ = number_or_zero (source_number model path s.source s.side) in
-          ap (λ (z : ℚ). first_wide limit (right_operations model path z (drop (i + 1) shares))) (more ∙ ap (λ (z : ℚ). sum +ℚ signed s.side (z *ℚ s.weight)) there)
+          let m : ℚ = number_or_zero (source_number model path s.source) in
+          ap (λ (z : ℚ). first_wide limit (right_operations model path z (drop (i + 1) shares))) (more ∙ ap (λ (z : ℚ). sum +ℚ signed (source_side s.source) (z *ℚ s.weight)) there)
           ∙ (sym
-          (first_wide-past limit (share_operations sum s.side m s.weight) (right_operations model path (sum +ℚ signed s.side (m *ℚ s.weight)) (drop (i + 1) shares))
-          (sym (ap (λ (z : ℚ). first_wide limit (share_operations sum s.side z s.weight)) there) ∙ e))
+          (first_wide-past limit (share_operations sum (source_side s.source) m s.weight) (right_operations model path (sum +ℚ signed (source_side s.source) (m *ℚ s.weight)) (drop (i + 1) shares))
+          (sym (ap (λ (z : ℚ). first_wide limit (share_operations sum (source_side s.source) z s.weight)) there) ∙ e))
           ∙ sym (share_at (λ (l : List Share). first_wide limit (right_operations model path sum l))))
 
       pub right_sum : next +ℚ right_side model path (drop (i + 1) shares) ≡ sum +ℚ right_side model path (drop i shares)
       right_sum =
-          let m : ℚ = number_or_zero (source_number model path s.source s.side) in
+          let m : ℚ = number_or_zero (source_number model path s.source) in
           let rest : ℚ = right_side model path (drop (i + 1) shares) in
-          ap (λ (z : ℚ). z +ℚ rest) (more ∙ (ap (λ (z : ℚ). sum +ℚ signed s.side (z *ℚ s.weight)) there ∙ ap (λ (z : ℚ). sum +ℚ z) (signed-times s.side m s.weight)))
+          ap (λ (z : ℚ). z +ℚ rest) (more ∙ (ap (λ (z : ℚ). sum +ℚ signed (source_side s.source) (z *ℚ s.weight)) there ∙ ap (λ (z : ℚ). sum +ℚ z) (signed-times (source_side s.source) m s.weight)))
           ∙ (ring_ℚ (sum ∷ (multiple s *ℚ m) ∷ rest ∷ []) ((x0 :+ x1) :+ x2) (x0 :+ (x1 :+ x2)) tt ∙ sym (share_at (λ (l : List Share). sum +ℚ right_side model path l)))
 
 -- the end of the shares

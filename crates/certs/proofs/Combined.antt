@@ -77,7 +77,7 @@ pub shares_known : (model : Program) (set : List Member) (path : List Branch) (s
     → usable_test model set path shares ≡ true → n ≡ length model.columns → All (λ s. All (λ t. t.column < n) (source_form model s.source)) shares
 shares_known model set path shares n f h u e =
     subst (λ (m : ℕ). All (λ s. All (λ t. t.column < m) (source_form model s.source)) shares) (sym e)
-    (All-weaker (IsThere model set path) (λ s. All (λ t. t.column < length model.columns) (source_form model s.source)) (λ s k. source_known model path f h s.source s.side k.number) shares
+    (All-weaker (IsThere model set path) (λ s. All (λ t. t.column < length model.columns) (source_form model s.source)) (λ s k. source_known model path f h s.source k.number) shares
     (usable_there model set path shares u))
 
 -- ---- the sums, from 0

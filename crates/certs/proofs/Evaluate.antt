@@ -8,20 +8,19 @@ use Rattle.rational.specs.Linear.{Assignment}
 use Rattle.rational.proofs.Order.{le_q-true, lt_q-true}
 use Rattle.rational.proofs.Compare.{eq-Decides}
 use Rattle.lp_model.specs.declared.members.Member.{Member}
-use Rattle.lp_model.specs.declared.members.Member.TheVariants.{Row, Lower, Upper, Whole}
-use Rattle.lp_model.specs.declared.members.Side.TheVariants.{Lo, Up}
+use Rattle.lp_model.specs.declared.members.Member.TheVariants.{RowLo, RowUp, Lower, Upper, Whole}
 use Rattle.lp_model.specs.declared.parts.Weight.{Weight}
 use Rattle.lp_model.specs.declared.parts.Weight.TheVariants.{Soft, Rigid}
 use Rattle.lp_model.specs.Program.{Program}
 use Rattle.lp_model.specs.Members.{value, number, weight}
-use Rattle.lp_model.specs.Satisfaction.{Point, coordinate, IsAtLeast, IsAtMost, KeepsSides, Holds, IsSatisfiable}
+use Rattle.lp_model.specs.Satisfaction.{Point, coordinate, IsAtLeast, IsAtMost, Holds, IsSatisfiable}
 use Rattle.certs.specs.declared.evidence.Branch.{Branch}
 use Rattle.certs.specs.declared.evidence.Source.{Source}
 use Rattle.certs.specs.declared.evidence.Source.TheVariants.{Member as Of, Below, Above}
 use Rattle.certs.specs.declared.evidence.Share.{Share}
 use Rattle.certs.specs.Combination.{source_form, source_number, IsFrom, IsThere, column_sum, right_side, IsCombination}
 use Rattle.certs.specs.Violation.{weight_on, IsWithinWeight, IsLeastDual}
-use Rattle.certs.specs.Checks.{every, every_below, at_least_test, at_most_test, sides_test, holds_test, from_test, there_test, within_test}
+use Rattle.certs.specs.Checks.{every, every_below, at_least_test, at_most_test, holds_test, from_test, there_test, within_test}
 use Rattle.lp_model.proofs.Sets.{contains_of_has}
 use Rattle.certs.proofs.Further.{shares_past}
 
@@ -49,16 +48,11 @@ at_most-true : (o : Option ℚ) (v : ℚ) → at_most_test o v ≡ true → IsAt
 at_most-true None v e = tt
 at_most-true (Some b) v e = le_q-true v b e
 
-sides-true : (model : Program) (x : Assignment) (m : Member) → sides_test model x m ≡ true → KeepsSides model x m
-sides-true model x m e =
-    let both : (at_least_test (number model m Lo) (value model m x) ≡ true) × (at_most_test (number model m Up) (value model m x) ≡ true) =
-    and_parts (at_least_test (number model m Lo) (value model m x)) (at_most_test (number model m Up) (value model m x)) e in
-    record { above = at_least-true (number model m Lo) (value model m x) both.0; below = at_most-true (number model m Up) (value model m x) both.1 }
-
 pub holds-true : (model : Program) (x : Assignment) (m : Member) → holds_test model x m ≡ true → Holds model x m
-holds-true model x (Row i) e = sides-true model x (Row i) e
-holds-true model x (Lower j) e = sides-true model x (Lower j) e
-holds-true model x (Upper j) e = sides-true model x (Upper j) e
+holds-true model x (RowLo i) e = at_least-true (number model (RowLo i)) (value model (RowLo i) x) e
+holds-true model x (RowUp i) e = at_most-true (number model (RowUp i)) (value model (RowUp i) x) e
+holds-true model x (Lower j) e = at_least-true (number model (Lower j)) (value model (Lower j) x) e
+holds-true model x (Upper j) e = at_most-true (number model (Upper j)) (value model (Upper j) x) e
 holds-true model x (Whole j) e = λ t. eqb-true (x j).den 1 (subst (λ b. cond b ((x j).den == 1) true ≡ true) t e)
 
 pub satisfiable_by : (model : Program) (set : List Member) (p : Point) → every (holds_test model (coordinate p)) set ≡ true → IsSatisfiable model set
@@ -72,7 +66,7 @@ from-true set (Above j) e = tt
 
 pub there-true : (model : Program) (set : List Member) (path : List Branch) (s : Share) → there_test model set path s ≡ true → IsThere model set path s
 there-true model set path s e =
-    let both : (from_test set s.source ≡ true) × (is_some (source_number model path s.source s.side) ≡ true) = and_parts (from_test set s.source) (is_some (source_number model path s.source s.side)) e in
+    let both : (from_test set s.source ≡ true) × (is_some (source_number model path s.source) ≡ true) = and_parts (from_test set s.source) (is_some (source_number model path s.source)) e in
     record { from = from-true set s.source both.0; number = both.1 }
 
 abbrev pub known_test : ℕ → Program → Share → Bool

@@ -8,9 +8,7 @@ use Rattle.algebra.proofs.Ring.{x0, ◌:+◌, ◌:*◌, zero_of}
 use Rattle.rational.specs.Rational.{ℚ, whole, zero_ℚ, one_ℚ, ◌+ℚ◌, ◌*ℚ◌}
 use Rattle.rational.specs.Linear.{Term, factor_of}
 use Rattle.rational.proofs.Field.{ring_ℚ}
-use Rattle.lp_model.specs.declared.members.Member.TheVariants.{Row, Lower, Upper, Whole}
-use Rattle.lp_model.specs.declared.members.Side.{Side}
-use Rattle.lp_model.specs.declared.members.Side.TheVariants.{Lo, Up}
+use Rattle.lp_model.specs.declared.members.Member.TheVariants.{RowLo, RowUp, Lower, Upper, Whole}
 use Rattle.lp_model.specs.Program.{Program, NamedRow, IsWellFormedRow, IsWellFormed, empty_row}
 use Rattle.lp_model.specs.Members.{column_form}
 use Rattle.lp_model.proofs.Sets.{lower_there, upper_there}
@@ -62,18 +60,14 @@ column_known n j l = All-cons (λ t. t.column < n) (record { column = j; factor 
 
 -- the form of a source that is there speaks of known columns
 pub source_known : (model : Program) (path : List Branch) → IsWellFormed model → All (λ b. b.column < length model.columns) path
-    → (s : Source) (side : Side) → IsSome (source_number model path s side) → All (λ t. t.column < length model.columns) (source_form model s)
-source_known model path f h (Of (Row i)) side e = row_known (length model.columns) model.rows i f.rows
-source_known model path f h (Of (Lower j)) Lo e = column_known (length model.columns) j (lower_there model.columns j e)
-source_known model path f h (Of (Lower j)) Up e = absurd (true≢false (sym e))
-source_known model path f h (Of (Upper j)) Lo e = absurd (true≢false (sym e))
-source_known model path f h (Of (Upper j)) Up e = column_known (length model.columns) j (upper_there model.columns j e)
-source_known model path f h (Of (Whole j)) Lo e = absurd (true≢false (sym e))
-source_known model path f h (Of (Whole j)) Up e = absurd (true≢false (sym e))
-source_known model path f h (Below j) Lo e = absurd (true≢false (sym e))
-source_known model path f h (Below j) Up e = column_known (length model.columns) j (least_there (length model.columns) path j h e)
-source_known model path f h (Above j) Lo e = column_known (length model.columns) j (greatest_there (length model.columns) path j h e)
-source_known model path f h (Above j) Up e = absurd (true≢false (sym e))
+    → (s : Source) → IsSome (source_number model path s) → All (λ t. t.column < length model.columns) (source_form model s)
+source_known model path f h (Of (RowLo i)) e = row_known (length model.columns) model.rows i f.rows
+source_known model path f h (Of (RowUp i)) e = row_known (length model.columns) model.rows i f.rows
+source_known model path f h (Of (Lower j)) e = column_known (length model.columns) j (lower_there model.columns j e)
+source_known model path f h (Of (Upper j)) e = column_known (length model.columns) j (upper_there model.columns j e)
+source_known model path f h (Of (Whole j)) e = absurd (true≢false (sym e))
+source_known model path f h (Below j) e = column_known (length model.columns) j (least_there (length model.columns) path j h e)
+source_known model path f h (Above j) e = column_known (length model.columns) j (greatest_there (length model.columns) path j h e)
 
 pub shares_past : (n : ℕ) (model : Program) (shares : List Share) (j : ℕ) → All (λ s. All (λ t. t.column < n) (source_form model s.source)) shares → n ≤ j → column_sum model shares j ≡ zero_ℚ
 shares_past n model [] j h l = refl
@@ -86,4 +80,4 @@ shares_past n model (s ∷ shares) j h l =
 pub further_columns_law : FurtherColumnsLaw
 further_columns_law model set path shares f h t j l =
     shares_past (length model.columns) model shares j
-    (All-weaker (IsThere model set path) (λ s. All (λ t. t.column < length model.columns) (source_form model s.source)) (λ s e. source_known model path f h s.source s.side e.number) shares t) l
+    (All-weaker (IsThere model set path) (λ s. All (λ t. t.column < length model.columns) (source_form model s.source)) (λ s e. source_known model path f h s.source e.number) shares t) l

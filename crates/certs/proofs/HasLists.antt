@@ -1,8 +1,9 @@
 -- Filters of lists of members: where two tests give the same, and what a filtered list has.
-use Rattle.std.proofs.Common.{◌≡◌, ◌<◌, refl, sym, ◌∙◌, ap, suc, Bool, true, false, true≢false, cond, ◌||◌, List, [], ◌∷◌, length, filter, arith}
+use Rattle.std.proofs.Common.{◌≡◌, ◌<◌, refl, sym, ◌∙◌, ap, suc, Bool, true, false, true≢false, cond, not, ◌||◌, List, [], ◌∷◌, length, filter, arith}
 use Rattle.std.specs.Prelude.{Contains}
 use Rattle.lp_model.specs.declared.members.Member.{Member}
 use Rattle.lp_model.specs.Members.{is_same, has}
+use Rattle.lp_model.specs.MemberSets.{SetValue, possible_in, set_with, set_without}
 use Rattle.lp_model.proofs.Sets.{same_members, has_of_contains}
 
 -- tests that agree on the elements give one list
@@ -40,3 +41,11 @@ has_of_filter test list m c = by (test m) refl
     by : (b : Bool) → test m ≡ b → has (filter test list) m ≡ test m
     by true e = has_kept test list m e ∙ (has_of_contains list m c ∙ sym e)
     by false e = never_has test list m e ∙ sym e
+
+-- what is taken out of a set, and put back, leaves the set as it was
+pub put_back : (set : SetValue) (m : Member) → set.members ≡ filter (has set.members) (possible_in set) → has set.members m ≡ true → set_with (set_without set m) m ≡ set
+put_back set m is there = ap (λ (l : List Member). record set { members = l }) (agree_on (λ n. is_same n m || has (set_without set m).members n) (has set.members) (possible_in set) (λ n c. by n (is_same n m) refl) ∙ sym is)
+  where
+    by : (n : Member) (b : Bool) → is_same n m ≡ b → (is_same n m || has (set_without set m).members n) ≡ has set.members n
+    by n true e = ap (λ c. c || has (set_without set m).members n) e ∙ (sym there ∙ ap (has set.members) (sym (same_members n m e)))
+    by n false e = ap (λ c. c || has (set_without set m).members n) e ∙ has_kept (λ k. not (is_same k m)) set.members n (ap not e)

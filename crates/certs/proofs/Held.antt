@@ -1,17 +1,14 @@
 -- A point's members, one after another.
-use Rattle.std.proofs.Common.{◌≡◌, refl, sym, ◌∙◌, ap, ℕ, Bool, true, false, true≢false, cond, ◌&&◌, nat_lt, List, [], ◌∷◌, length, get_or, Option, None, Some, is_some, IsTrue, Result, Ok, Err}
+use Rattle.std.proofs.Common.{◌≡◌, refl, sym, ◌∙◌, ap, Bool, true, false, true≢false, cond, List, [], ◌∷◌, Option, None, Some, is_some, IsTrue, Result, Ok, Err}
 use Rattle.std.specs.Prelude.{◌↔◌, MatchResult}
-use Rattle.std.proofs.Common.{inl, inr, lt-ltb}
-use Rattle.std.proofs.lemmas.Bool.{cases_lt}
-use Rattle.std.proofs.lemmas.List.{get_or_past}
 use Rattle.rational.specs.Rational.{ℚ}
-use Rattle.rational.specs.Linear.{Assignment, form_value}
+use Rattle.rational.specs.Linear.{Term, Assignment, form_value}
 use Rattle.lp_model.specs.declared.members.Member.{Member}
-use Rattle.lp_model.specs.declared.members.Member.TheVariants.{Row, Lower, Upper, Whole}
-use Rattle.lp_model.specs.Program.{Program, NamedRow, column_at, empty_row}
+use Rattle.lp_model.specs.declared.members.Member.TheVariants.{RowLo, RowUp, Lower, Upper, Whole}
+use Rattle.lp_model.specs.Program.{Program, row_at, column_at}
 use Rattle.lp_model.specs.Members.{exists}
 use Rattle.lp_model.specs.Satisfaction.{Holds}
-use Rattle.lp_model.specs.Evaluation.{value_operations, member_operations}
+use Rattle.lp_model.specs.Evaluation.{side_operations, member_operations}
 use Rattle.frac128.specs.declared.Wide.{Wide as Operation}
 use Rattle.frac128.specs.Limit.{limit}
 use Rattle.frac128.specs.Calculation.{first_wide, product_steps}
@@ -41,14 +38,7 @@ answered model x m (Ok b) h =
     ∙ sym (ap (λ (o : Option Operation). unless_wide o (cond (holds_test model x m) Yes No)) h.1))
 answered model x m (Err w) h = sym (ap (λ (o : Option Operation). unless_wide o (cond (holds_test model x m) Yes No)) h)
 
-row_past : (rows : List NamedRow) (i : ℕ) → nat_lt i (length rows) ≡ false → get_or rows i empty_row ≡ empty_row
-row_past rows i e =
-    elim (cases_lt i (length rows)) [
-      | inl l ↦ absurd (true≢false (sym (lt-ltb i (length rows) l) ∙ e))
-      | inr l ↦ get_or_past rows i empty_row l
-    ]
-
-no_lower : (o : Option ℚ) (v : ℚ) → is_some o ≡ false → Yes ≡ cond (at_least_test o v && true) Yes No
+no_lower : (o : Option ℚ) (v : ℚ) → is_some o ≡ false → Yes ≡ cond (at_least_test o v) Yes No
 no_lower None v e = refl
 no_lower (Some b) v e = absurd (true≢false e)
 
@@ -60,14 +50,20 @@ no_mark : (t b : Bool) → t ≡ false → Yes ≡ cond (cond t b true) Yes No
 no_mark true b e = absurd (true≢false e)
 no_mark false b e = refl
 
+no_lower_side : (o : Option ℚ) (terms : List Term) (x : Assignment) → is_some o ≡ false → Yes ≡ unless_wide (first_wide limit (side_operations o terms x)) (cond (at_least_test o (form_value terms x)) Yes No)
+unfolding first_wide
+no_lower_side None terms x e = refl
+no_lower_side (Some b) terms x e = absurd (true≢false e)
+
+no_upper_side : (o : Option ℚ) (terms : List Term) (x : Assignment) → is_some o ≡ false → Yes ≡ unless_wide (first_wide limit (side_operations o terms x)) (cond (at_most_test o (form_value terms x)) Yes No)
+unfolding first_wide
+no_upper_side None terms x e = refl
+no_upper_side (Some b) terms x e = absurd (true≢false e)
+
 pub absent : (model : Program) (x : Assignment) (m : Member) → exists model m ≡ false → Yes ≡ outcome (point_steps model (m ∷ []) x)
 unfolding first_wide product_steps
-absent model x (Row i) e =
-    sym
-    (ap
-    (λ (r : NamedRow).
-    unless_wide (first_wide limit (value_operations r.terms x)) (cond (at_least_test r.lower (form_value r.terms x) && at_most_test r.upper (form_value r.terms x)) Yes No))
-    (row_past model.rows i e))
+absent model x (RowLo i) e = no_lower_side (row_at model i).lower (row_at model i).terms x e
+absent model x (RowUp i) e = no_upper_side (row_at model i).upper (row_at model i).terms x e
 absent model x (Lower j) e = no_lower (column_at model j).lower (x j) e
 absent model x (Upper j) e = no_upper (column_at model j).upper (x j) e
 absent model x (Whole j) e = no_mark (column_at model j).whole _ e

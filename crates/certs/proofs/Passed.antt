@@ -4,7 +4,7 @@ use Rattle.std.specs.Prelude.{All}
 use Rattle.std.proofs.lemmas.Bool.{and_parts, cases_lt}
 use Rattle.std.proofs.lemmas.List.Elements.{All-head, All-tail, All-nil, All-cons}
 use Rattle.algebra.proofs.Ring.{minus, zero_of}
-use Rattle.rational.specs.Rational.{ℚ, neg_ℚ, zero_ℚ, lt_q, le_q, ◌-ℚ◌, ◌*ℚ◌, ◌≤ℚ◌, ◌<ℚ◌, eq_ℚ}
+use Rattle.rational.specs.Rational.{ℚ, neg_ℚ, zero_ℚ, lt_q, ◌-ℚ◌, ◌*ℚ◌, ◌≤ℚ◌, ◌<ℚ◌, eq_ℚ}
 use Rattle.rational.specs.Linear.{Assignment, factor_of}
 use Rattle.rational.proofs.Field.{ring_ℚ}
 use Rattle.rational.proofs.Order.{le_q-true, lt_q-true}
@@ -15,7 +15,7 @@ use Rattle.lp_model.specs.declared.members.Side.TheVariants.{Lo, Up}
 use Rattle.lp_model.specs.declared.parts.Weight.{Weight}
 use Rattle.lp_model.specs.declared.parts.Weight.TheVariants.{Soft, Rigid}
 use Rattle.lp_model.specs.Program.{Program, IsWellFormed}
-use Rattle.lp_model.specs.Members.{value, number, weight}
+use Rattle.lp_model.specs.Members.{value, number, side, weight}
 use Rattle.lp_model.specs.Satisfaction.{Holds}
 use Rattle.frac128.specs.declared.Wide.{Wide as Operation}
 use Rattle.frac128.specs.Calculation.{first_wide}
@@ -23,11 +23,11 @@ use Rattle.certs.specs.declared.evidence.Branch.{Branch}
 use Rattle.certs.specs.declared.evidence.Share.{Share}
 use Rattle.certs.specs.Combination.{IsThere, signed, column_sum, right_side}
 use Rattle.certs.specs.Violation.{weight_on, is_rigid, IsWithinWeight}
-use Rattle.certs.specs.Bound.{directed, objective_value, KeepsRay}
+use Rattle.certs.specs.Bound.{directed, objective_value, IsKeptOn, KeepsRay}
 use Rattle.certs.specs.Alternative.{cost_of, IsPriced, IsPrice}
 use Rattle.certs.specs.declared.evidence.Checked.{Checked}
 use Rattle.certs.specs.declared.evidence.Checked.TheVariants.{Yes, No}
-use Rattle.certs.specs.Checks.{Step, unless_wide, outcome_within, every, every_below, holds_test, there_test, usable_test, within_test, point_steps, weight_operations, usable_step, columns_step, right_step, combination_steps, bound_steps, within_steps, least_steps, ray_test, ray_steps, priced_steps, price_steps, PointCheckLaw, CombinationCheckLaw, BoundCheckLaw, LeastCheckLaw, RayCheckLaw, PriceCheckLaw}
+use Rattle.certs.specs.Checks.{Step, unless_wide, outcome_within, every, every_below, holds_test, there_test, usable_test, within_test, point_steps, weight_operations, usable_step, columns_step, right_step, combination_steps, bound_steps, within_steps, least_steps, kept_test, ray_test, ray_steps, priced_steps, price_steps, PointCheckLaw, CombinationCheckLaw, BoundCheckLaw, LeastCheckLaw, RayCheckLaw, PriceCheckLaw}
 use Rattle.lp_model.specs.Evaluation.{value_operations, member_operations}
 use Rattle.certs.proofs.Lists.{All-passed, all_front, all_back}
 use Rattle.certs.proofs.Further.{factor_past, further_columns_law}
@@ -140,19 +140,16 @@ least_check_law most model set path shares t f h e =
     }
 
 -- ---- rays
+kept_by : (s : Side) (v : ℚ) → kept_test s v ≡ true → IsKeptOn s v
+kept_by Lo v e = le_q-true zero_ℚ v e
+kept_by Up v e = le_q-true v zero_ℚ e
+
 side_ray : (t : Bool) (P : Type 0) (b : Bool) → (b ≡ true → P) → cond t b true ≡ true → t ≡ true → P
 side_ray true P b h e k = h e
 side_ray false P b h e k = absurd (true≢false (sym k))
 
 ray_kept : (model : Program) (ray : Assignment) (m : Member) → ray_test model ray m ≡ true → KeepsRay model ray m
-ray_kept model ray m e =
-    let lo : Bool = cond (is_some (number model m Lo)) (le_q zero_ℚ (value model m ray)) true in
-    let up : Bool = cond (is_some (number model m Up)) (le_q (value model m ray) zero_ℚ) true in
-    let both : (lo ≡ true) × (up ≡ true) = and_parts lo up e in
-    record {
-      above = side_ray (is_some (number model m Lo)) (zero_ℚ ≤ℚ value model m ray) (le_q zero_ℚ (value model m ray)) (λ k. le_q-true zero_ℚ (value model m ray) k) both.0;
-      below = side_ray (is_some (number model m Up)) (value model m ray ≤ℚ zero_ℚ) (le_q (value model m ray) zero_ℚ) (λ k. le_q-true (value model m ray) zero_ℚ k) both.1;
-    }
+ray_kept model ray m e = side_ray (is_some (number model m)) (IsKeptOn (side m) (value model m ray)) (kept_test (side m) (value model m ray)) (λ k. kept_by (side m) (value model m ray) k) e
 
 pub ray_check_law : RayCheckLaw
 unfolding Passes
@@ -168,23 +165,20 @@ ray_check_law most model set ray e =
     }
 
 -- ---- prices
-side_priced : (model : Program) (t : ℚ) (z : Assignment) (m : Member) (side : Side) (o : Option ℚ) → All Passes (priced_steps model t z m side o)
-    → IfSome o (λ b. signed side (value model m z) -ℚ t *ℚ signed side b ≤ℚ cost_of (weight model m))
+member_priced : (model : Program) (t : ℚ) (z : Assignment) (m : Member) (o : Option ℚ) → All Passes (priced_steps model t z m o)
+    → IfSome o (λ b. signed (side m) (value model m z) -ℚ t *ℚ signed (side m) b ≤ℚ cost_of (weight model m))
 unfolding Passes
-side_priced model t z m side None h = tt
-side_priced model t z m side (Some b) h =
-    le_q-true (signed side (value model m z) -ℚ t *ℚ signed side b) (cost_of (weight model m)) (h 0 (record { operations = []; passes = true }) (omega arith))
+member_priced model t z m None h = tt
+member_priced model t z m (Some b) h =
+    le_q-true (signed (side m) (value model m z) -ℚ t *ℚ signed (side m) b) (cost_of (weight model m)) (h 0 (record { operations = []; passes = true }) (omega arith))
 
 priced_all : (model : Program) (set : List Member) (t : ℚ) (z : Assignment) → All Passes (price_steps model set t z) → IsPrice model set t z
 priced_all model [] t z h = All-nil (IsPriced model t z)
 priced_all model (m ∷ set) t z h =
-    let lo : List Step = priced_steps model t z m Lo (number model m Lo) in
-    let up : List Step = priced_steps model t z m Up (number model m Up) in
-    let rest : List Step = price_steps model set t z in
-    let later : All Passes (up ++ rest) = all_back Passes lo (up ++ rest) h in
+    let own : List Step = priced_steps model t z m (number model m) in
     All-cons (IsPriced model t z) m set
-    (record { lo = side_priced model t z m Lo (number model m Lo) (all_front Passes lo (up ++ rest) h); up = side_priced model t z m Up (number model m Up) (all_front Passes up rest later) })
-    (priced_all model set t z (all_back Passes up rest later))
+    (member_priced model t z m (number model m) (all_front Passes own (price_steps model set t z) h))
+    (priced_all model set t z (all_back Passes own (price_steps model set t z) h))
 
 pub price_check_law : PriceCheckLaw
 price_check_law most model set t z e = priced_all model set t z (yes_passes most (price_steps model set t z) e)

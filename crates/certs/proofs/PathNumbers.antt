@@ -71,6 +71,6 @@ or_zero : (o : Option ℚ) → unwrap_or o zero_ℚ ≡ number_or_zero o
 or_zero None = refl
 or_zero (Some b) = refl
 
-pub number_read : (model : Program) (path : List Branch) (s : Share) (o : Option ℚ) (z n : ℚ) → o ≡ source_number model path s.source s.side → z ≡ zero_ℚ → n ≡ unwrap_or o z
-    → n ≡ number_or_zero (source_number model path s.source s.side)
+pub number_read : (model : Program) (path : List Branch) (s : Share) (o : Option ℚ) (z n : ℚ) → o ≡ source_number model path s.source → z ≡ zero_ℚ → n ≡ unwrap_or o z
+    → n ≡ number_or_zero (source_number model path s.source)
 number_read model path s o z n e f g = g ∙ (ap (λ (q : ℚ). unwrap_or o q) f ∙ (or_zero o ∙ ap number_or_zero e))

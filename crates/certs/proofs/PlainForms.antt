@@ -107,7 +107,7 @@ plain_formed model set path objective formed apart =
     let count : length model.columns ≡ length (map (column_limits model set path) (numbers_from 0 (length model.columns))) = sym (length_mapped (column_limits model set path) (length model.columns)) in
     record {
       rows =
-          All-map (λ (r : SystemRow). IsForm (length (map (column_limits model set path) (numbers_from 0 (length model.columns)))) r.terms) (plain_row model) (rows_in model set)
+          All-map (λ (r : SystemRow). IsForm (length (map (column_limits model set path) (numbers_from 0 (length model.columns)))) r.terms) (plain_row model set) (rows_in model set)
           (All-from_get_or (λ i. IsForm (length (map (column_limits model set path) (numbers_from 0 (length model.columns)))) (row_at model i).terms) (rows_in model set) 0
           (λ k l. subst (λ n. IsForm n (row_at model (get_or (rows_in model set) k 0)).terms) count (row_form model (get_or (rows_in model set) k 0) formed)));
       objective = subst (λ n. IfSome (cond objective (Some (greatest_objective model)) None) (IsForm n)) count (objective_form model objective formed);

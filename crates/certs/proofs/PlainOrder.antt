@@ -1,7 +1,6 @@
 -- The shares of a plain cut stand in order.
-use Rattle.std.proofs.Common.{◌≡◌, ◌+◌, ◌-◌, ◌<◌, ◌≤◌, refl, sym, ◌∙◌, ap, subst, ℕ, zero, suc, Bool, true, false, cond, not, ◌&&◌, ◌||◌, List, [], ◌∷◌, ◌++◌, append-nil, map, length, get_or, filter, ltb, arith, inl, inr, lt-ltb}
+use Rattle.std.proofs.Common.{◌≡◌, ◌+◌, ◌-◌, ◌*◌, ◌<◌, ◌≤◌, refl, sym, ◌∙◌, ap, subst, ℕ, zero, suc, Bool, true, false, cond, not, List, [], ◌∷◌, ◌++◌, append-nil, map, length, get_or, filter, ltb, arith, inl, inr, lt-ltb}
 use Rattle.std.specs.Prelude.{All, AllPairs, IsTrue, ◌⊎◌, flat_map, slice_index}
-use Rattle.std.proofs.Math.Bool.{or-true}
 use Rattle.std.specs.List.{list_all}
 use Rattle.std.proofs.lemmas.Bool.{and_parts, le-ltb, ltb-true}
 use Rattle.std.proofs.lemmas.List.{length-map}
@@ -9,19 +8,18 @@ use Rattle.std.proofs.lemmas.List.Elements.{All-nil, All-cons, All-head, All-tai
 use Rattle.std.proofs.lemmas.List.Kept.{AllPairs-cons, AllPairs-filter}
 use Rattle.rational.specs.Rational.{ℚ, neg_ℚ, zero_ℚ, one_ℚ, eq_ℚ, lt_q}
 use Rattle.lp_model.specs.declared.members.Member.{Member}
-use Rattle.lp_model.specs.declared.members.Member.TheVariants.{Row, Lower, Upper}
+use Rattle.lp_model.specs.declared.members.Member.TheVariants.{RowLo, RowUp, Lower, Upper}
 use Rattle.lp_model.specs.declared.members.Side.{Side}
 use Rattle.lp_model.specs.declared.members.Side.TheVariants.{Lo, Up}
 use Rattle.lp_model.specs.Program.{Program}
-use Rattle.lp_model.specs.Members.{comes_before, has, is_same}
-use Rattle.lp_model.proofs.Sets.{same_self}
+use Rattle.lp_model.specs.Members.{comes_before}
 use Rattle.certs.specs.declared.evidence.Source.{Source}
 use Rattle.certs.specs.declared.evidence.Source.TheVariants.{Member as Of, Below, Above}
 use Rattle.certs.specs.declared.evidence.Share.{Share}
 use Rattle.certs.specs.Ended.{blocked_multiple, is_upper, numbers_from, share_for, shares_for}
-use Rattle.certs.specs.Named.{arranged, bound_of, is_above, is_below, is_member, named, on_column, program_shares, stands_for, translated}
-use Rattle.certs.specs.Order.{AreSharesInOrder, are_in_order, share_before, side_before}
-use Rattle.certs.specs.Plain.{column_limits, crossing_shares, plain_row, plain_system, rows_in}
+use Rattle.certs.specs.Named.{arranged, bound_of, row_side_of, is_above, is_below, is_member, named, on_column, program_shares, stands_for, translated}
+use Rattle.certs.specs.Order.{AreSharesInOrder, are_in_order, source_before}
+use Rattle.certs.specs.Plain.{column_limits, crossing_shares, has_row, plain_row, plain_system, rows_in}
 use Rattle.certs.specs.Solves.{BlocksWith, CrossesWith, IsPlainCut}
 use Rattle.certs.specs.System.{LinearSystem, VariableShare}
 use Rattle.certs.proofs.Translated.{length_mapped}
@@ -69,11 +67,11 @@ passes_all p [] h = All-nil (λ x. IsTrue (p x))
 passes_all p (x ∷ xs) h = let both = and_parts (p x) (list_all p xs) h in All-cons (λ y. IsTrue (p y)) x xs both.0 (passes_all p xs both.1)
 
 pub in_order_by_test : (shares : List Share) → are_in_order shares ≡ true → AreSharesInOrder shares
-in_order_by_test [] h = no_pairs (λ (s t : Share). IsTrue (share_before s.source s.side t.source t.side))
+in_order_by_test [] h = no_pairs (λ (s t : Share). IsTrue (source_before s.source t.source))
 in_order_by_test (s ∷ shares) h =
-    let both = and_parts (list_all (λ (t : Share). share_before s.source s.side t.source t.side) shares) (are_in_order shares) h in
-    AllPairs-cons (λ (a b : Share). IsTrue (share_before a.source a.side b.source b.side)) s shares
-    (passes_all (λ (t : Share). share_before s.source s.side t.source t.side) shares both.0) (in_order_by_test shares both.1)
+    let both = and_parts (list_all (λ (t : Share). source_before s.source t.source) shares) (are_in_order shares) h in
+    AllPairs-cons (λ (a b : Share). IsTrue (source_before a.source b.source)) s shares
+    (passes_all (λ (t : Share). source_before s.source t.source) shares both.0) (in_order_by_test shares both.1)
 
 -- ---- numbers in order
 numbers_within : (a n : ℕ) → All (λ v. (a ≤ v) × (v < a + n)) (numbers_from a n)
@@ -90,7 +88,7 @@ numbers_ascend a (suc n) =
     (All-weaker (λ v. (a ≤ v) × (v < a + n)) (λ v. All (λ w. v < w) ((a + n) ∷ [])) (λ v h. All-cons (λ w. v < w) (a + n) [] h.1 (All-nil (λ w. v < w))) (numbers_from a n) (numbers_within a n))
 
 rows_ascend : (model : Program) (set : List Member) → AllPairs (λ v w. v < w) (rows_in model set)
-rows_ascend model set = AllPairs-filter (λ v w. v < w) (λ i. has set (Row i)) (numbers_from 0 (length model.rows)) (numbers_ascend 0 (length model.rows))
+rows_ascend model set = AllPairs-filter (λ v w. v < w) (has_row set) (numbers_from 0 (length model.rows)) (numbers_ascend 0 (length model.rows))
 
 -- ---- shares of variables
 abbrev Ascends : VariableShare → VariableShare → Type 0
@@ -129,14 +127,29 @@ shares_ascend c (v ∷ list) h =
 
 -- ---- as shares of the program
 -- by their members
-by_members : (a b : Share) (m n : Member) → a.source ≡ Of m → b.source ≡ Of n → comes_before m n ≡ true → IsTrue (share_before a.source a.side b.source b.side)
+by_members : (a b : Share) (m n : Member) → a.source ≡ Of m → b.source ≡ Of n → comes_before m n ≡ true → IsTrue (source_before a.source b.source)
 by_members a b m n e f h =
-    subst (λ (x : Source). IsTrue (share_before x a.side b.source b.side)) (sym e)
-    (subst (λ (y : Source). IsTrue (share_before (Of m) a.side y b.side)) (sym f) (ap (λ z. z || (is_same m n && side_before a.side b.side)) h))
+    subst (λ (x : Source). IsTrue (source_before x b.source)) (sym e) (subst (λ (y : Source). IsTrue (source_before (Of m) y)) (sym f) h)
 
--- of one member the lower side stands before the upper one
-by_sides : (m : Member) → IsTrue (share_before (Of m) Lo (Of m) Up)
-by_sides m = ap (λ z. comes_before m m || (z && true)) (same_self m) ∙ or-true (comes_before m m)
+-- a side of an earlier row stands before one of a later row
+row_before : (i j : ℕ) (a b : Side) → i < j → comes_before (row_side_of i a) (row_side_of j b) ≡ true
+row_before i j Lo Lo l = lt-ltb (2 * i) (2 * j) (omega arith)
+row_before i j Lo Up l = lt-ltb (2 * i) (2 * j + 1) (omega arith)
+row_before i j Up Lo l = lt-ltb (2 * i + 1) (2 * j) (omega arith)
+row_before i j Up Up l = lt-ltb (2 * i + 1) (2 * j + 1) (omega arith)
+
+-- of one row the lower side stands before the upper one
+lower_first : (i : ℕ) → comes_before (RowLo i) (RowUp i) ≡ true
+lower_first i = lt-ltb (2 * i) (2 * i + 1) (omega arith)
+
+-- a side of a row stands before a bound
+row_before_lower : (i j : ℕ) (a : Side) → comes_before (row_side_of i a) (Lower j) ≡ true
+row_before_lower i j Lo = refl
+row_before_lower i j Up = refl
+
+row_before_upper : (i j : ℕ) (a : Side) → comes_before (row_side_of i a) (Upper j) ≡ true
+row_before_upper i j Lo = refl
+row_before_upper i j Up = refl
 
 module _ (model : Program) (set : List Member) where
   abbrev columns : ℕ
@@ -146,7 +159,7 @@ module _ (model : Program) (set : List Member) where
   placed s = translated model set [] (named columns s)
 
   abbrev Stands : VariableShare → VariableShare → Type 0
-  Stands s t = IsTrue (share_before (placed s).source (placed s).side (placed t).source (placed t).side)
+  Stands s t = IsTrue (source_before (placed s).source (placed t).source)
 
   -- a row of the set, a lower limit, and an upper one
   abbrev IsRow : VariableShare → Type 0
@@ -158,23 +171,31 @@ module _ (model : Program) (set : List Member) where
   abbrev IsHigh : VariableShare → Type 0
   IsHigh s = (s.variable < columns) × (s.side ≡ Up)
 
-  row_of : (s : VariableShare) → IsRow s → (placed s).source ≡ Of (Row (slice_index (rows_in model set) (s.variable - columns)))
-  row_of s h = ap (λ b. stands_for model set [] (Of (cond b (bound_of s.variable s.side) (Row (s.variable - columns))))) (le-ltb s.variable columns h.0)
+  -- the row of a share
+  abbrev index_of : VariableShare → ℕ
+  index_of s = slice_index (rows_in model set) (s.variable - columns)
+
+  row_source : (k : ℕ) (side : Side) → stands_for model set [] (Of (row_side_of k side)) ≡ Of (row_side_of (slice_index (rows_in model set) k) side)
+  row_source k Lo = refl
+  row_source k Up = refl
+
+  row_of : (s : VariableShare) → IsRow s → (placed s).source ≡ Of (row_side_of (index_of s) s.side)
+  row_of s h = ap (λ b. stands_for model set [] (Of (cond b (bound_of s.variable s.side) (row_side_of (s.variable - columns) s.side)))) (le-ltb s.variable columns h.0) ∙ row_source (s.variable - columns) s.side
 
   low_of : (s : VariableShare) → IsLow s → (placed s).source ≡ Of (Lower s.variable)
   low_of s h =
-      ap (λ b. stands_for model set [] (Of (cond b (bound_of s.variable s.side) (Row (s.variable - columns))))) (lt-ltb s.variable columns h.0)
+      ap (λ b. stands_for model set [] (Of (cond b (bound_of s.variable s.side) (row_side_of (s.variable - columns) s.side)))) (lt-ltb s.variable columns h.0)
       ∙ ap (λ (side : Side). stands_for model set [] (Of (bound_of s.variable side))) h.1
 
   high_of : (s : VariableShare) → IsHigh s → (placed s).source ≡ Of (Upper s.variable)
   high_of s h =
-      ap (λ b. stands_for model set [] (Of (cond b (bound_of s.variable s.side) (Row (s.variable - columns))))) (lt-ltb s.variable columns h.0)
+      ap (λ b. stands_for model set [] (Of (cond b (bound_of s.variable s.side) (row_side_of (s.variable - columns) s.side)))) (lt-ltb s.variable columns h.0)
       ∙ ap (λ (side : Side). stands_for model set [] (Of (bound_of s.variable side))) h.1
 
   rows_stand : (s t : VariableShare) → IsRow s → IsRow t → Ascends s t → Stands s t
   rows_stand s t h k l =
-      by_members (placed s) (placed t) (Row (slice_index (rows_in model set) (s.variable - columns))) (Row (slice_index (rows_in model set) (t.variable - columns))) (row_of s h) (row_of t k)
-      (lt-ltb (slice_index (rows_in model set) (s.variable - columns)) (slice_index (rows_in model set) (t.variable - columns))
+      by_members (placed s) (placed t) (row_side_of (index_of s) s.side) (row_side_of (index_of t) t.side) (row_of s h) (row_of t k)
+      (row_before (index_of s) (index_of t) s.side t.side
       (rows_ascend model set (s.variable - columns) (t.variable - columns) 0
       (let a = h.0 in let b = k.0 in omega (arith, a, b, l)) (let b = k.0 in let c = k.1 in omega (arith, b, c))))
 
@@ -185,10 +206,10 @@ module _ (model : Program) (set : List Member) where
   highs_stand s t h k l = by_members (placed s) (placed t) (Upper s.variable) (Upper t.variable) (high_of s h) (high_of t k) (lt-ltb s.variable t.variable l)
 
   row_before_low : (s t : VariableShare) → IsRow s → IsLow t → Stands s t
-  row_before_low s t h k = by_members (placed s) (placed t) (Row (slice_index (rows_in model set) (s.variable - columns))) (Lower t.variable) (row_of s h) (low_of t k) refl
+  row_before_low s t h k = by_members (placed s) (placed t) (row_side_of (index_of s) s.side) (Lower t.variable) (row_of s h) (low_of t k) (row_before_lower (index_of s) t.variable s.side)
 
   row_before_high : (s t : VariableShare) → IsRow s → IsHigh t → Stands s t
-  row_before_high s t h k = by_members (placed s) (placed t) (Row (slice_index (rows_in model set) (s.variable - columns))) (Upper t.variable) (row_of s h) (high_of t k) refl
+  row_before_high s t h k = by_members (placed s) (placed t) (row_side_of (index_of s) s.side) (Upper t.variable) (row_of s h) (high_of t k) (row_before_upper (index_of s) t.variable s.side)
 
   low_before_high : (s t : VariableShare) → IsLow s → IsHigh t → Stands s t
   low_before_high s t h k = by_members (placed s) (placed t) (Lower s.variable) (Upper t.variable) (low_of s h) (high_of t k) refl
@@ -271,11 +292,12 @@ module _ (model : Program) (set : List Member) where
       by : (b : Bool) → ltb v columns ≡ b → Stands (record { variable = v; side = Lo; weight = q }) (record { variable = v; side = Up; weight = q })
       by true e = low_before_high (record { variable = v; side = Lo; weight = q }) (record { variable = v; side = Up; weight = q }) (ltb-true v columns e, refl) (ltb-true v columns e, refl)
       by false e =
-          let here : Source = Of (Row (slice_index (rows_in model set) (v - columns))) in
-          let first : (placed (record { variable = v; side = Lo; weight = q })).source ≡ here = ap (λ b. stands_for model set [] (Of (cond b (bound_of v Lo) (Row (v - columns))))) e in
-          let second : (placed (record { variable = v; side = Up; weight = q })).source ≡ here = ap (λ b. stands_for model set [] (Of (cond b (bound_of v Up) (Row (v - columns))))) e in
-          subst (λ (x : Source). IsTrue (share_before x Lo (placed (record { variable = v; side = Up; weight = q })).source Up)) (sym first)
-          (subst (λ (y : Source). IsTrue (share_before here Lo y Up)) (sym second) (by_sides (Row (slice_index (rows_in model set) (v - columns)))))
+          let low : VariableShare = record { variable = v; side = Lo; weight = q } in
+          let high : VariableShare = record { variable = v; side = Up; weight = q } in
+          let i : ℕ = slice_index (rows_in model set) (v - columns) in
+          let first : (placed low).source ≡ Of (RowLo i) = ap (λ b. stands_for model set [] (Of (cond b (bound_of v Lo) (row_side_of (v - columns) Lo)))) e in
+          let second : (placed high).source ≡ Of (RowUp i) = ap (λ b. stands_for model set [] (Of (cond b (bound_of v Up) (row_side_of (v - columns) Up)))) e in
+          by_members (placed low) (placed high) (RowLo i) (RowUp i) first second (lower_first i)
 
   crossing_stand : (v : ℕ) → AllPairs Stands (crossing_shares v)
   crossing_stand v =
@@ -287,10 +309,11 @@ module _ (model : Program) (set : List Member) where
   is_placed_member : (s : VariableShare) → is_member (placed s).source ≡ true
   is_placed_member s = by (ltb s.variable columns) s.side
     where
-      by : (b : Bool) (side : Side) → is_member (stands_for model set [] (Of (cond b (bound_of s.variable side) (Row (s.variable - columns))))) ≡ true
+      by : (b : Bool) (side : Side) → is_member (stands_for model set [] (Of (cond b (bound_of s.variable side) (row_side_of (s.variable - columns) side)))) ≡ true
       by true Lo = refl
       by true Up = refl
-      by false side = refl
+      by false Lo = refl
+      by false Up = refl
 
 not_below : (j : ℕ) (source : Source) → is_member source ≡ true → is_below j source ≡ false
 not_below j (Of m) e = refl
@@ -339,7 +362,7 @@ in_order model set of h =
     let together : map (translated model set []) (map (named (length model.columns)) of) ≡ map g of = map_twice (named (length model.columns)) (translated model set []) of in
     let members : All (λ (s : Share). is_member s.source ≡ true) (map g of) = All-map (λ (s : Share). is_member s.source ≡ true) g of (all_of (λ s. is_member (g s).source ≡ true) (is_placed_member model set) of) in
     subst AreSharesInOrder (sym (ap (arranged (length model.columns)) together ∙ stay_arranged (length model.columns) (map g of) members))
-    (pairs_map g (λ (s t : Share). IsTrue (share_before s.source s.side t.source t.side)) of h)
+    (pairs_map g (λ (s t : Share). IsTrue (source_before s.source t.source)) of h)
 
 -- the shares of a blocked row, in a system with so many columns and rows
 abbrev parts : ℕ → ℕ → (ℕ → ℚ) → List VariableShare
@@ -351,7 +374,7 @@ given_stand model set pivots of (inl h) = subst (AllPairs (Stands model set)) (s
 given_stand model set pivots of (inr h) =
     let system : LinearSystem = plain_system model set [] false in
     let columns_are : length system.columns ≡ length model.columns = length_mapped (column_limits model set []) (length model.columns) in
-    let rows_are : length system.rows ≡ length (rows_in model set) = length-map (rows_in model set) (plain_row model) in
+    let rows_are : length system.rows ≡ length (rows_in model set) = length-map (rows_in model set) (plain_row model set) in
     let c : ℕ → ℚ = blocked_multiple h.here.tableau h.variable h.side in
     subst (AllPairs (Stands model set)) (sym h.shares_are)
     (subst (λ a. AllPairs (Stands model set) (parts a (length system.rows) c)) (sym columns_are)

@@ -1,7 +1,7 @@
 -- Where the run of a set's plain system settles, the point satisfies the members of the set but the marks.
 use Rattle.std.proofs.Common.{◌≡◌, ◌+◌, ◌-◌, ◌<◌, refl, sym, ◌∙◌, ap, subst, ℕ, Bool, true, false, true≢false, cond, List, length, get_or, Option, None, Some, ltb, arith, lt-ltb}
 use Rattle.std.specs.Prelude.{IfSome, Contains}
-use Rattle.std.proofs.lemmas.Bool.{cond-true, cond-false, le-ltb}
+use Rattle.std.proofs.lemmas.Bool.{cond-true, cond-false, le-ltb, or_left, or_right}
 use Rattle.std.proofs.lemmas.List.{get_or-map, length-map}
 use Rattle.std.proofs.lemmas.List.Elements.{All-contains_itself}
 use Rattle.rational.specs.Rational.{ℚ, ◌*ℚ◌, ◌≤ℚ◌}
@@ -11,9 +11,8 @@ use Rattle.rational.proofs.Order.{le_of_lt_ℚ, le_trans_ℚ, lt_q-true}
 use Rattle.rational.proofs.Sums.{sum_below-ext}
 use Rattle.frac128.specs.Limit.{limit}
 use Rattle.lp_model.specs.declared.members.Member.{Member}
-use Rattle.lp_model.specs.declared.members.Member.TheVariants.{Row, Lower, Upper, Whole}
-use Rattle.lp_model.specs.declared.members.Side.TheVariants.{Lo, Up}
-use Rattle.lp_model.specs.Program.{Program, IsWellFormed, column_at, row_at}
+use Rattle.lp_model.specs.declared.members.Member.TheVariants.{RowLo, RowUp, Lower, Upper, Whole}
+use Rattle.lp_model.specs.Program.{Program, IsWellFormed, row_at}
 use Rattle.lp_model.specs.Members.{has, is_mark, number}
 use Rattle.lp_model.specs.MemberSets.{IsMemberFor}
 use Rattle.lp_model.specs.Satisfaction.{Holds, IsAtLeast, IsAtMost, values_at}
@@ -26,7 +25,7 @@ use Rattle.certs.specs.Tableau.{value_of}
 use Rattle.certs.specs.Turns.{settle_choice}
 use Rattle.certs.specs.Turns.Choice.{Settled}
 use Rattle.certs.specs.Ended.{IsSolution, IsWithin, numbers_from}
-use Rattle.certs.specs.Plain.{column_limits, is_lowered, is_raised, limit_number, number_in, plain_row, plain_system, rows_in}
+use Rattle.certs.specs.Plain.{column_limits, has_row, is_lowered, is_raised, limit_number, number_in, plain_row, plain_system, rows_in}
 use Rattle.certs.specs.Solves.{SettlesAt}
 use Rattle.certs.specs.PlainLaws.{PlainPointLaw}
 use Rattle.certs.proofs.Agreement.{agreed_choice}
@@ -79,25 +78,36 @@ module _ (model : Program) (set : List Member) (path : List Branch) (x y : Assig
         ∙ sum_below-ext columns (λ j. factor_of terms j *ℚ y j) (λ j. factor_of terms j *ℚ x j) (λ j l. ap (λ z. factor_of terms j *ℚ z) (same j l))
         ∙ sym (by_known columns terms x known)
 
-    row_holds : (i : ℕ) → i < length model.rows → has set (Row i) ≡ true → Holds model y (Row i)
-    row_holds i l h =
-        let kept : Contains (rows_in model set) i = Contains-filter (λ n. has set (Row n)) (numbers_from 0 (length model.rows)) i (listed i l) h in
+    -- where the system's row is for a row of which the set has a side, the row's sum is within those sides
+    row_within : (i : ℕ) → i < length model.rows → has_row set i ≡ true → IsWithin (plain_row model set i).limits (form_value (row_at model i).terms y)
+    row_within i l h =
+        let kept : Contains (rows_in model set) i = Contains-filter (has_row set) (numbers_from 0 (length model.rows)) i (listed i l) h in
         let k : ℕ = kept.0 in
         let n : ℕ = length system.columns in
-        let row : get_or system.rows k empty_system_row ≡ plain_row model i = get_or-map (plain_row model) (rows_in model set) k i empty_system_row kept.1 ∙ ap (plain_row model) kept.2 in
-        let below : k < length system.rows = subst (λ z. k < z) (sym (length-map (rows_in model set) (plain_row model))) kept.1 in
+        let row : get_or system.rows k empty_system_row ≡ plain_row model set i = get_or-map (plain_row model set) (rows_in model set) k i empty_system_row kept.1 ∙ ap (plain_row model set) kept.2 in
+        let below : k < length system.rows = subst (λ z. k < z) (sym (length-map (rows_in model set) (plain_row model set))) kept.1 in
         let is : x (n + k) ≡ form_value (row_at model i).terms x = solution.rows.rows k below ∙ ap (λ (r : SystemRow). form_value r.terms x) row in
         let back : (n + k) - n ≡ k = omega arith in
-        let limits : variable_limits system (n + k) ≡ (plain_row model i).limits =
+        let limits : variable_limits system (n + k) ≡ (plain_row model set i).limits =
         cond-false (ltb (n + k) n) (get_or system.columns (n + k) no_limits) (get_or system.rows ((n + k) - n) empty_system_row).limits (le-ltb (n + k) n (omega arith))
         ∙ ap (λ d. (get_or system.rows d empty_system_row).limits) back
         ∙ ap (λ (r : SystemRow). r.limits) row in
-        let within : IsWithin (plain_row model i).limits (x (n + k)) = subst (λ z. IsWithin z (x (n + k))) limits (solution.limits (n + k) (omega arith)) in
-        let value : x (n + k) ≡ form_value (row_at model i).terms y = is ∙ sym (value_same i) in
-        record {
-          above = subst (IsAtLeast (row_at model i).lower) value (at_least (row_at model i).lower (x (n + k)) within.lower);
-          below = subst (IsAtMost (row_at model i).upper) value (at_most (row_at model i).upper (x (n + k)) within.upper);
-        }
+        let within : IsWithin (plain_row model set i).limits (x (n + k)) = subst (λ z. IsWithin z (x (n + k))) limits (solution.limits (n + k) (omega arith)) in
+        subst (IsWithin (plain_row model set i).limits) (is ∙ sym (value_same i)) within
+
+    -- the number of a member that the set has
+    number_there : (m : Member) → has set m ≡ true → number_in model set m ≡ number model m
+    number_there m h = cond-true (has set m) (number model m) None h
+
+    row_lower_holds : (i : ℕ) → i < length model.rows → has set (RowLo i) ≡ true → Holds model y (RowLo i)
+    row_lower_holds i l h =
+        let v : ℚ = form_value (row_at model i).terms y in
+        subst (λ o. IsAtLeast o v) (number_there (RowLo i) h) (at_least (number_in model set (RowLo i)) v (row_within i l (or_left (has set (RowLo i)) (has set (RowUp i)) h)).lower)
+
+    row_upper_holds : (i : ℕ) → i < length model.rows → has set (RowUp i) ≡ true → Holds model y (RowUp i)
+    row_upper_holds i l h =
+        let v : ℚ = form_value (row_at model i).terms y in
+        subst (λ o. IsAtMost o v) (number_there (RowUp i) h) (at_most (number_in model set (RowUp i)) v (row_within i l (or_right (has set (RowLo i)) (has set (RowUp i)) h)).upper)
 
     -- ---- bounds
     pub column_within : (j : ℕ) → j < columns → IsWithin (column_limits model set path j) (x j)
@@ -108,30 +118,29 @@ module _ (model : Program) (set : List Member) (path : List Branch) (x y : Assig
         ∙ mapped_at (column_limits model set path) columns j no_limits l in
         subst (λ z. IsWithin z (x j)) limits (solution.limits j (omega arith))
 
-    lower_kept : (j : ℕ) (t : Bool) → is_raised (number_in model set (Lower j) Lo) (source_number model path (Above j) Lo) ≡ t
-        → IfSome (limit_number model set path (cond t (Above j) (Of (Lower j))) Lo) (λ l. l ≤ℚ x j) → IsAtLeast (number_in model set (Lower j) Lo) (x j)
-    lower_kept j true e h = raised (number_in model set (Lower j) Lo) (source_number model path (Above j) Lo) (x j) e h
-    lower_kept j false e h = at_least (number_in model set (Lower j) Lo) (x j) h
+    lower_kept : (j : ℕ) (t : Bool) → is_raised (number_in model set (Lower j)) (source_number model path (Above j)) ≡ t
+        → IfSome (limit_number model set path (cond t (Above j) (Of (Lower j)))) (λ l. l ≤ℚ x j) → IsAtLeast (number_in model set (Lower j)) (x j)
+    lower_kept j true e h = raised (number_in model set (Lower j)) (source_number model path (Above j)) (x j) e h
+    lower_kept j false e h = at_least (number_in model set (Lower j)) (x j) h
 
-    upper_kept : (j : ℕ) (t : Bool) → is_lowered (number_in model set (Upper j) Up) (source_number model path (Below j) Up) ≡ t
-        → IfSome (limit_number model set path (cond t (Below j) (Of (Upper j))) Up) (λ u. x j ≤ℚ u) → IsAtMost (number_in model set (Upper j) Up) (x j)
-    upper_kept j true e h = lowered (number_in model set (Upper j) Up) (source_number model path (Below j) Up) (x j) e h
-    upper_kept j false e h = at_most (number_in model set (Upper j) Up) (x j) h
+    upper_kept : (j : ℕ) (t : Bool) → is_lowered (number_in model set (Upper j)) (source_number model path (Below j)) ≡ t
+        → IfSome (limit_number model set path (cond t (Below j) (Of (Upper j)))) (λ u. x j ≤ℚ u) → IsAtMost (number_in model set (Upper j)) (x j)
+    upper_kept j true e h = lowered (number_in model set (Upper j)) (source_number model path (Below j)) (x j) e h
+    upper_kept j false e h = at_most (number_in model set (Upper j)) (x j) h
 
     lower_holds : (j : ℕ) → j < columns → has set (Lower j) ≡ true → Holds model y (Lower j)
     lower_holds j l h =
-        let number_is : number_in model set (Lower j) Lo ≡ (column_at model j).lower = cond-true (has set (Lower j)) (number model (Lower j) Lo) None h in
-        let kept : IsAtLeast (number_in model set (Lower j) Lo) (x j) = lower_kept j (is_raised (number_in model set (Lower j) Lo) (source_number model path (Above j) Lo)) refl (column_within j l).lower in
-        record { above = subst (λ o. IsAtLeast o (y j)) number_is (subst (IsAtLeast (number_in model set (Lower j) Lo)) (sym (same j l)) kept); below = tt }
+        let kept : IsAtLeast (number_in model set (Lower j)) (x j) = lower_kept j (is_raised (number_in model set (Lower j)) (source_number model path (Above j))) refl (column_within j l).lower in
+        subst (λ o. IsAtLeast o (y j)) (number_there (Lower j) h) (subst (IsAtLeast (number_in model set (Lower j))) (sym (same j l)) kept)
 
     upper_holds : (j : ℕ) → j < columns → has set (Upper j) ≡ true → Holds model y (Upper j)
     upper_holds j l h =
-        let number_is : number_in model set (Upper j) Up ≡ (column_at model j).upper = cond-true (has set (Upper j)) (number model (Upper j) Up) None h in
-        let kept : IsAtMost (number_in model set (Upper j) Up) (x j) = upper_kept j (is_lowered (number_in model set (Upper j) Up) (source_number model path (Below j) Up)) refl (column_within j l).upper in
-        record { above = tt; below = subst (λ o. IsAtMost o (y j)) number_is (subst (IsAtMost (number_in model set (Upper j) Up)) (sym (same j l)) kept) }
+        let kept : IsAtMost (number_in model set (Upper j)) (x j) = upper_kept j (is_lowered (number_in model set (Upper j)) (source_number model path (Below j))) refl (column_within j l).upper in
+        subst (λ o. IsAtMost o (y j)) (number_there (Upper j) h) (subst (IsAtMost (number_in model set (Upper j))) (sym (same j l)) kept)
 
     pub member_holds : (m : Member) → IsMemberFor (length model.rows) columns m → has set m ≡ true → is_mark m ≡ false → Holds model y m
-    member_holds (Row i) l h e = row_holds i l h
+    member_holds (RowLo i) l h e = row_lower_holds i l h
+    member_holds (RowUp i) l h e = row_upper_holds i l h
     member_holds (Lower j) l h e = lower_holds j l h
     member_holds (Upper j) l h e = upper_holds j l h
     member_holds (Whole j) l h e = absurd (true≢false e)

@@ -7,14 +7,14 @@ use Rattle.rational.specs.Rational.{ℚ, neg_ℚ, zero_ℚ, lt_q, le_q, ◌-ℚ�
 use Rattle.rational.specs.Linear.{Assignment, factor_of}
 use Rattle.rational.proofs.Compare.{eq-Decides, le_q-Decides, lt_q-Decides}
 use Rattle.lp_model.specs.declared.members.Member.{Member}
-use Rattle.lp_model.specs.declared.members.Member.TheVariants.{Row, Lower, Upper, Whole}
+use Rattle.lp_model.specs.declared.members.Member.TheVariants.{RowLo, RowUp, Lower, Upper, Whole}
 use Rattle.lp_model.specs.declared.members.Side.{Side}
 use Rattle.lp_model.specs.declared.members.Side.TheVariants.{Lo, Up}
 use Rattle.lp_model.specs.declared.parts.Weight.{Weight}
 use Rattle.lp_model.specs.declared.parts.Weight.TheVariants.{Soft, Rigid}
 use Rattle.lp_model.specs.Program.{Program, column_at}
-use Rattle.lp_model.specs.Members.{form, value, number, weight}
-use Rattle.lp_model.specs.Satisfaction.{IsAtLeast, IsAtMost, KeepsSides, Holds}
+use Rattle.lp_model.specs.Members.{form, value, number, side, weight}
+use Rattle.lp_model.specs.Satisfaction.{IsAtLeast, IsAtMost, Holds}
 use Rattle.frac128.specs.declared.Op.TheVariants.{Times, Minus}
 use Rattle.frac128.specs.declared.Wide.{Wide as Operation}
 use Rattle.frac128.specs.Width.{operation}
@@ -27,11 +27,11 @@ use Rattle.certs.specs.declared.evidence.Source.TheVariants.{Member as Of, Below
 use Rattle.certs.specs.declared.evidence.Share.{Share}
 use Rattle.certs.specs.Combination.{IsFrom, IsThere, source_number, signed, column_sum, right_side}
 use Rattle.certs.specs.Violation.{weight_on, is_rigid, IsWithinWeight}
-use Rattle.certs.specs.Bound.{directed, objective_value, KeepsRay}
+use Rattle.certs.specs.Bound.{directed, objective_value, IsKeptOn, KeepsRay}
 use Rattle.certs.specs.Alternative.{cost_of, IsPriced, IsPrice}
 use Rattle.certs.specs.declared.evidence.Checked.{Checked}
 use Rattle.certs.specs.declared.evidence.Checked.TheVariants.{No}
-use Rattle.certs.specs.Checks.{Step, unless_wide, outcome_within, every, every_below, at_least_test, at_most_test, sides_test, holds_test, from_test, there_test, usable_test, within_test, weight_operations, point_steps, usable_step, columns_step, right_step, combination_steps, bound_steps, within_steps, least_steps, ray_test, ray_steps, signed_terms, priced_steps, price_steps, PointNoLaw, CombinationNoLaw, BoundNoLaw, LeastNoLaw, RayNoLaw, PriceNoLaw}
+use Rattle.certs.specs.Checks.{Step, unless_wide, outcome_within, every, every_below, at_least_test, at_most_test, holds_test, from_test, there_test, usable_test, within_test, weight_operations, point_steps, usable_step, columns_step, right_step, combination_steps, bound_steps, within_steps, least_steps, kept_test, ray_test, ray_steps, signed_terms, priced_steps, price_steps, PointNoLaw, CombinationNoLaw, BoundNoLaw, LeastNoLaw, RayNoLaw, PriceNoLaw}
 use Rattle.lp_model.specs.Evaluation.{value_operations, member_operations}
 
 step_never : (o : Option Operation) (p : Bool) (r : Checked) → p ≡ true → (r ≡ No → ⊥) → unless_wide o (cond p r No) ≡ No → ⊥
@@ -61,19 +61,15 @@ at_most_passes : (o : Option ℚ) (v : ℚ) → IsAtMost o v → at_most_test o 
 at_most_passes None v h = refl
 at_most_passes (Some b) v h = (le_q-Decides v b).1 h
 
-sides_pass : (model : Program) (x : Assignment) (m : Member) → KeepsSides model x m → sides_test model x m ≡ true
-sides_pass model x m h =
-    and_from (at_least_test (number model m Lo) (value model m x)) (at_most_test (number model m Up) (value model m x)) (at_least_passes (number model m Lo) (value model m x) h.above)
-    (at_most_passes (number model m Up) (value model m x) h.below)
-
 mark_passes : (t : Bool) (d : ℕ) → (t ≡ true → d ≡ 1) → cond t (d == 1) true ≡ true
 mark_passes true d h = eq-eqb d 1 (h refl)
 mark_passes false d h = refl
 
 pub holds_passes : (model : Program) (x : Assignment) (m : Member) → Holds model x m → holds_test model x m ≡ true
-holds_passes model x (Row i) h = sides_pass model x (Row i) h
-holds_passes model x (Lower j) h = sides_pass model x (Lower j) h
-holds_passes model x (Upper j) h = sides_pass model x (Upper j) h
+holds_passes model x (RowLo i) h = at_least_passes (number model (RowLo i)) (value model (RowLo i) x) h
+holds_passes model x (RowUp i) h = at_most_passes (number model (RowUp i)) (value model (RowUp i) x) h
+holds_passes model x (Lower j) h = at_least_passes (number model (Lower j)) (value model (Lower j) x) h
+holds_passes model x (Upper j) h = at_most_passes (number model (Upper j)) (value model (Upper j) x) h
 holds_passes model x (Whole j) h = mark_passes (column_at model j).whole (x j).den h
 
 from_passes : (set : List Member) (s : Source) → IsFrom set s → from_test set s ≡ true
@@ -85,7 +81,7 @@ usable_passes : (model : Program) (set : List Member) (path : List Branch) (shar
 usable_passes model set path shares p t =
     and_from (every (λ s. lt_q zero_ℚ s.weight) shares) (every (there_test model set path) shares)
     (every_passes (λ s. lt_q zero_ℚ s.weight) (λ s. zero_ℚ <ℚ s.weight) (λ s h. (lt_q-Decides zero_ℚ s.weight).1 h) shares p)
-    (every_passes (there_test model set path) (IsThere model set path) (λ s h. and_from (from_test set s.source) (is_some (source_number model path s.source s.side)) (from_passes set s.source h.from) h.number) shares t)
+    (every_passes (there_test model set path) (IsThere model set path) (λ s h. and_from (from_test set s.source) (is_some (source_number model path s.source)) (from_passes set s.source h.from) h.number) shares t)
 
 -- ---- the laws
 pub point_no_law : PointNoLaw
@@ -136,15 +132,17 @@ least_no_law most model set path shares t d =
     (All-filter (λ m. not (is_rigid (weight model m))) (λ m. IsWithinWeight (weight_on shares m) (weight model m)) set d.within)))
     (All-cons Passes last [] ((eq-Decides t (neg_ℚ (right_side model path shares))).1 d.total) (All-nil Passes)))))
 
+kept_passes : (s : Side) (v : ℚ) → IsKeptOn s v → kept_test s v ≡ true
+kept_passes Lo v h = (le_q-Decides zero_ℚ v).1 h
+kept_passes Up v h = (le_q-Decides v zero_ℚ).1 h
+
 ray_side_passes : (t b : Bool) → (t ≡ true → b ≡ true) → cond t b true ≡ true
 ray_side_passes true b h = h refl
 ray_side_passes false b h = refl
 
 ray_passes : (model : Program) (ray : Assignment) (m : Member) → KeepsRay model ray m → ray_test model ray m ≡ true
 ray_passes model ray m h =
-    and_from (cond (is_some (number model m Lo)) (le_q zero_ℚ (value model m ray)) true) (cond (is_some (number model m Up)) (le_q (value model m ray) zero_ℚ) true)
-    (ray_side_passes (is_some (number model m Lo)) (le_q zero_ℚ (value model m ray)) (λ e. (le_q-Decides zero_ℚ (value model m ray)).1 (h.above e)))
-    (ray_side_passes (is_some (number model m Up)) (le_q (value model m ray) zero_ℚ) (λ e. (le_q-Decides (value model m ray) zero_ℚ).1 (h.below e)))
+    ray_side_passes (is_some (number model m)) (kept_test (side m) (value model m ray)) (λ e. kept_passes (side m) (value model m ray) (h e))
 
 pub ray_no_law : RayNoLaw
 unfolding Passes
@@ -156,27 +154,25 @@ ray_no_law most model set ray d =
     (All-map Passes (λ m. record { operations = member_operations model m ray; passes = ray_test model ray m }) set (All-weaker (KeepsRay model ray) (λ m. ray_test model ray m ≡ true) (ray_passes model ray) set d.keeps))
     (All-cons Passes last [] ((lt_q-Decides (directed model zero_ℚ) (directed model (objective_value model ray))).1 d.improves) (All-nil Passes)))
 
-side_passes : (model : Program) (t : ℚ) (z : Assignment) (m : Member) (side : Side) (o : Option ℚ) → IfSome o (λ b. signed side (value model m z) -ℚ t *ℚ signed side b ≤ℚ cost_of (weight model m)) → All Passes (priced_steps model t z m side o)
+member_passes : (model : Program) (t : ℚ) (z : Assignment) (m : Member) (o : Option ℚ) → IfSome o (λ b. signed (side m) (value model m z) -ℚ t *ℚ signed (side m) b ≤ℚ cost_of (weight model m)) → All Passes (priced_steps model t z m o)
 unfolding Passes
-side_passes model t z m side None h = All-nil Passes
-side_passes model t z m side (Some b) h =
+member_passes model t z m None h = All-nil Passes
+member_passes model t z m (Some b) h =
     All-cons Passes
     (record {
-      operations = value_operations (signed_terms side (form model m)) z
-          ++ operation Times t (signed side b)
-          ∷ operation Minus (signed side (value model m z)) (t *ℚ signed side b)
+      operations = value_operations (signed_terms (side m) (form model m)) z
+          ++ operation Times t (signed (side m) b)
+          ∷ operation Minus (signed (side m) (value model m z)) (t *ℚ signed (side m) b)
           ∷ [];
-      passes = le_q (signed side (value model m z) -ℚ t *ℚ signed side b) (cost_of (weight model m));
+      passes = le_q (signed (side m) (value model m z) -ℚ t *ℚ signed (side m) b) (cost_of (weight model m));
     }) []
-    ((le_q-Decides (signed side (value model m z) -ℚ t *ℚ signed side b) (cost_of (weight model m))).1 h) (All-nil Passes)
+    ((le_q-Decides (signed (side m) (value model m z) -ℚ t *ℚ signed (side m) b) (cost_of (weight model m))).1 h) (All-nil Passes)
 
 price_passes : (model : Program) (set : List Member) (t : ℚ) (z : Assignment) → IsPrice model set t z → All Passes (price_steps model set t z)
 price_passes model [] t z h = All-nil Passes
 price_passes model (m ∷ set) t z h =
-    let p : IsPriced model t z m = All-head (IsPriced model t z) m set h in
-    All-append Passes (priced_steps model t z m Lo (number model m Lo)) (priced_steps model t z m Up (number model m Up) ++ price_steps model set t z) (side_passes model t z m Lo (number model m Lo) p.lo)
-    (All-append Passes (priced_steps model t z m Up (number model m Up)) (price_steps model set t z) (side_passes model t z m Up (number model m Up) p.up)
-    (price_passes model set t z (All-tail (IsPriced model t z) m set h)))
+    All-append Passes (priced_steps model t z m (number model m)) (price_steps model set t z) (member_passes model t z m (number model m) (All-head (IsPriced model t z) m set h))
+    (price_passes model set t z (All-tail (IsPriced model t z) m set h))
 
 pub price_no_law : PriceNoLaw
 price_no_law most model set t z h = never_no most (price_steps model set t z) (price_passes model set t z h)

@@ -13,18 +13,18 @@ use Rattle.rational.proofs.Sums.{alone}
 use Rattle.rational.proofs.Order.{le_by, le_refl_ℚ, add-le_ℚ, nonneg-mul, nonneg_of_le, nonneg_is}
 use Rattle.rational.proofs.Forms.{exchange}
 use Rattle.lp_model.specs.declared.members.Member.{Member}
-use Rattle.lp_model.specs.declared.members.Member.TheVariants.{Row, Lower, Upper, Whole}
+use Rattle.lp_model.specs.declared.members.Member.TheVariants.{RowLo, RowUp, Lower, Upper, Whole}
 use Rattle.lp_model.specs.declared.members.Side.{Side}
 use Rattle.lp_model.specs.declared.members.Side.TheVariants.{Lo, Up}
 use Rattle.lp_model.specs.Program.{Program}
-use Rattle.lp_model.specs.Members.{value, number}
-use Rattle.lp_model.specs.Satisfaction.{IsAtLeast, IsAtMost, KeepsSides, Holds, Satisfies}
+use Rattle.lp_model.specs.Members.{value, number, side}
+use Rattle.lp_model.specs.Satisfaction.{IsAtLeast, IsAtMost, Holds, Satisfies}
 use Rattle.lp_model.proofs.Points.{value_law}
 use Rattle.certs.specs.declared.evidence.Branch.{Branch}
 use Rattle.certs.specs.declared.evidence.Source.{Source}
 use Rattle.certs.specs.declared.evidence.Source.TheVariants.{Member as Of, Below, Above}
 use Rattle.certs.specs.declared.evidence.Share.{Share}
-use Rattle.certs.specs.Combination.{KeepsBranch, KeepsPath, lesser, greater, least_upper, greatest_lower, source_form, source_value, source_number, number_or_zero, signed, multiple, IsFrom, IsThere, column_sum, right_side}
+use Rattle.certs.specs.Combination.{KeepsBranch, KeepsPath, lesser, greater, least_upper, greatest_lower, source_form, source_side, source_value, source_number, number_or_zero, signed, multiple, IsFrom, IsThere, column_sum, right_side}
 
 -- sums keep an inequality of their parts
 pub sum_over-le : {A : Type 0} (P : A → Type 0) (f g : A → ℚ) → ((a : A) → P a → f a ≤ℚ g a) → (xs : List A) → All P xs → sum_over f xs ≤ℚ sum_over g xs
@@ -49,12 +49,6 @@ unfolding left_side
 left_side-is model shares g h x = exchange multiple (λ s. source_form model s.source) shares g h x
 
 -- ---- what a source keeps
-pub holds_sides : (model : Program) (x : Assignment) (m : Member) → Holds model x m → KeepsSides model x m
-holds_sides model x (Row i) h = h
-holds_sides model x (Lower j) h = h
-holds_sides model x (Upper j) h = h
-holds_sides model x (Whole j) h = record { above = tt; below = tt }
-
 branch_up : (x : Assignment) (c j : ℕ) (u : Bool) (k : ℚ) → ((c == j) && u) ≡ true → cond u (x c ≤ℚ k) (k ≤ℚ x c) → x j ≤ℚ k
 branch_up x c j true k e h = subst (λ i. x i ≤ℚ k) (eqb→eq c j (subst T (sym (and_parts (c == j) true e).0) tt)) h
 branch_up x c j false k e h = absurd (true≢false (sym (and_parts (c == j) false e).1))
@@ -100,19 +94,20 @@ unfoldable pub KeepsSide : Side → Option ℚ → ℚ → Type 0
 KeepsSide Lo o v = IsAtLeast o v
 KeepsSide Up o v = IsAtMost o v
 
-member_keeps : (model : Program) (x : Assignment) (m : Member) (side : Side) → KeepsSides model x m → KeepsSide side (number model m side) (value model m x)
+pub member_keeps : (model : Program) (x : Assignment) (m : Member) → Holds model x m → KeepsSide (side m) (number model m) (value model m x)
 unfolding KeepsSide
-member_keeps model x m Lo h = h.above
-member_keeps model x m Up h = h.below
+member_keeps model x (RowLo i) h = h
+member_keeps model x (RowUp i) h = h
+member_keeps model x (Lower j) h = h
+member_keeps model x (Upper j) h = h
+member_keeps model x (Whole j) h = tt
 
 pub source_keeps : (model : Program) (set : List Member) (path : List Branch) (x : Assignment) → Satisfies model set x → KeepsPath x path
-    → (s : Source) (side : Side) → IsFrom set s → KeepsSide side (source_number model path s side) (source_value model x s)
+    → (s : Source) → IsFrom set s → KeepsSide (source_side s) (source_number model path s) (source_value model x s)
 unfolding KeepsSide
-source_keeps model set path x h k (Of m) side c = member_keeps model x m side (holds_sides model x m (All-contains (Holds model x) set m h c))
-source_keeps model set path x h k (Below j) Lo c = tt
-source_keeps model set path x h k (Below j) Up c = upper_kept x path j k
-source_keeps model set path x h k (Above j) Lo c = lower_kept x path j k
-source_keeps model set path x h k (Above j) Up c = tt
+source_keeps model set path x h k (Of m) c = member_keeps model x m (All-contains (Holds model x) set m h c)
+source_keeps model set path x h k (Below j) c = upper_kept x path j k
+source_keeps model set path x h k (Above j) c = lower_kept x path j k
 
 -- ---- a share's inequality
 pub side_le : (side : Side) (o : Option ℚ) (w v : ℚ) → zero_ℚ ≤ℚ w → IsSome o → KeepsSide side o v → signed side w *ℚ v ≤ℚ signed side w *ℚ number_or_zero o
@@ -127,7 +122,7 @@ pub left-le-right : (model : Program) (set : List Member) (path : List Branch) (
 unfolding left_side
 left-le-right model set path shares x h k w t =
     sum_over-le (λ s. (zero_ℚ ≤ℚ s.weight) × IsThere model set path s) (λ s. multiple s *ℚ form_value (source_form model s.source) x)
-    (λ s. multiple s *ℚ number_or_zero (source_number model path s.source s.side))
-    (λ s a. subst (λ v. signed s.side s.weight *ℚ v ≤ℚ signed s.side s.weight *ℚ number_or_zero (source_number model path s.source s.side)) (source_value-is model x s.source)
-    (side_le s.side (source_number model path s.source s.side) s.weight (source_value model x s.source) a.0 a.1.number (source_keeps model set path x h k s.source s.side a.1.from)))
+    (λ s. multiple s *ℚ number_or_zero (source_number model path s.source))
+    (λ s a. subst (λ v. multiple s *ℚ v ≤ℚ multiple s *ℚ number_or_zero (source_number model path s.source)) (source_value-is model x s.source)
+    (side_le (source_side s.source) (source_number model path s.source) s.weight (source_value model x s.source) a.0 a.1.number (source_keeps model set path x h k s.source a.1.from)))
     shares (all_both (λ s. zero_ℚ ≤ℚ s.weight) (IsThere model set path) shares w t)

@@ -4,7 +4,7 @@ use Rattle.std.specs.Prelude.{All, flat_map}
 use Rattle.std.proofs.lemmas.Bool.{cases_eq, cases_lt, cond_both, cond-true, cond-false, le-ltb}
 use Rattle.std.proofs.lemmas.List.{get_or-map, length-map}
 use Rattle.std.proofs.lemmas.List.Concat.{flat_map-append}
-use Rattle.std.proofs.lemmas.List.Elements.{All-head, All-tail, All-nil, All-cons, All-append, All-filter, All-get_or, All-map, All-weaker, filter_passes}
+use Rattle.std.proofs.lemmas.List.Elements.{All-head, All-tail, All-nil, All-cons, All-append, All-filter, All-map, All-weaker}
 use Rattle.algebra.proofs.Ring.{x0, x1, ◌:+◌, ◌:*◌, zero_of, unit_of}
 use Rattle.rational.specs.Rational.{ℚ, ◌+ℚ◌, ◌*ℚ◌, zero_ℚ, one_ℚ, ◌<ℚ◌}
 use Rattle.rational.specs.Sum.{sum_over, sum_below}
@@ -12,7 +12,7 @@ use Rattle.rational.specs.Linear.{factor_of}
 use Rattle.rational.proofs.Field.{ring_ℚ}
 use Rattle.rational.proofs.Sums.{nothing_twice, sum_over-zero, sum_over-add, sum_over-append, sum_over-ext_on, sum_below-zero, sum_below-ext, sum_below-one}
 use Rattle.lp_model.specs.declared.members.Member.{Member}
-use Rattle.lp_model.specs.declared.members.Member.TheVariants.{Row, Lower, Upper}
+use Rattle.lp_model.specs.declared.members.Member.TheVariants.{Lower, Upper}
 use Rattle.lp_model.specs.declared.members.Side.{Side}
 use Rattle.lp_model.specs.declared.members.Side.TheVariants.{Lo, Up}
 use Rattle.lp_model.specs.Program.{Program, IsWellFormed}
@@ -22,11 +22,11 @@ use Rattle.certs.specs.declared.evidence.Branch.{Branch}
 use Rattle.certs.specs.declared.evidence.Source.{Source}
 use Rattle.certs.specs.declared.evidence.Source.TheVariants.{Member as Of, Below, Above}
 use Rattle.certs.specs.declared.evidence.Share.{Share}
-use Rattle.certs.specs.Combination.{number_or_zero, signed, multiple, source_form, source_number, IsFrom, IsThere, IsCombination, column_sum, right_side}
+use Rattle.certs.specs.Combination.{number_or_zero, signed, multiple, source_form, source_side, source_number, IsFrom, IsThere, IsCombination, column_sum, right_side}
 use Rattle.certs.specs.System.{LinearSystem, VariableShare, IsVariableCombination, empty_system_row, no_limits, limit_on, variable_form, variable_limits}
 use Rattle.certs.specs.Ended.{numbers_from}
 use Rattle.certs.specs.Plain.{number_in, is_raised, is_lowered, limit_source, limit_number, limit_of, column_limits, rows_in, plain_row, plain_system}
-use Rattle.certs.specs.Named.{bound_of, member_of, named, stands_for, translated, is_member, is_below, is_above, on_column, arranged, program_shares, TranslationLaw}
+use Rattle.certs.specs.Named.{bound_of, row_side_of, member_of, named, stands_for, translated, is_member, is_below, is_above, on_column, arranged, program_shares, TranslationLaw}
 use Rattle.certs.proofs.Further.{further_columns_law}
 
 -- ---- numbers in order
@@ -177,27 +177,32 @@ module _ (model : Program) (set : List Member) (path : List Branch) (objective :
   -- it has the form and the number of the variable
   record StandsFor (v : ℕ) (side : Side) (q : Source) : Type 0 where
     form : source_form model q ≡ variable_form system v
-    number_is : source_number model path q side ≡ limit_on (variable_limits system v) side
+    side_is : source_side q ≡ side
+    number_is : source_number model path q ≡ limit_on (variable_limits system v) side
     from : IsFrom set q
     placed : IsPlaced columns q
 
   -- a limit's number is in the system only where the set has the member
-  member_number : (m : Member) (side : Side) (b : Bool) → has set m ≡ b → IsSome (cond b (number model m side) None) → (number model m side ≡ cond b (number model m side) None) × IsFrom set (Of m)
-  member_number m side true e h = (refl, contains_of_has set m e)
-  member_number m side false e h = absurd (true≢false (sym h))
+  member_there : (m : Member) (b : Bool) → has set m ≡ b → IsSome (cond b (number model m) None) → (number model m ≡ cond b (number model m) None) × IsFrom set (Of m)
+  member_there m true e h = (refl, contains_of_has set m e)
+  member_there m false e h = absurd (true≢false (sym h))
 
-  limit_there : (q : Source) (side : Side) → IsSome (limit_number model set path q side) → (source_number model path q side ≡ limit_number model set path q side) × IsFrom set q
-  limit_there (Of m) side h = member_number m side (has set m) refl h
-  limit_there (Below j) side h = (refl, tt)
-  limit_there (Above j) side h = (refl, tt)
+  limit_there : (q : Source) → IsSome (limit_number model set path q) → (source_number model path q ≡ limit_number model set path q) × IsFrom set q
+  limit_there (Of m) h = member_there m (has set m) refl h
+  limit_there (Below j) h = (refl, tt)
+  limit_there (Above j) h = (refl, tt)
 
-  bound_form : (v : ℕ) (side : Side) → v < columns → (source_form model (limit_source model set path v side) ≡ column_form v) × IsPlaced columns (limit_source model set path v side)
+  -- the source of a column's limit has the column's form, and its own side
+  abbrev IsBound : ℕ → Side → Source → Type 0
+  IsBound v side q = (source_form model q ≡ column_form v) × ((source_side q ≡ side) × IsPlaced columns q)
+
+  bound_form : (v : ℕ) (side : Side) → v < columns → IsBound v side (limit_source model set path v side)
   bound_form v Lo l =
-      cond_both (is_raised (number_in model set (Lower v) Lo) (source_number model path (Above v) Lo)) (Above v) (Of (Lower v))
-      (λ q. (source_form model q ≡ column_form v) × IsPlaced columns q) (λ e. (refl, l)) (λ e. (refl, tt))
+      cond_both (is_raised (number_in model set (Lower v)) (source_number model path (Above v))) (Above v) (Of (Lower v))
+      (IsBound v Lo) (λ e. (refl, (refl, l))) (λ e. (refl, (refl, tt)))
   bound_form v Up l =
-      cond_both (is_lowered (number_in model set (Upper v) Up) (source_number model path (Below v) Up)) (Below v) (Of (Upper v))
-      (λ q. (source_form model q ≡ column_form v) × IsPlaced columns q) (λ e. (refl, l)) (λ e. (refl, tt))
+      cond_both (is_lowered (number_in model set (Upper v)) (source_number model path (Below v))) (Below v) (Of (Upper v))
+      (IsBound v Up) (λ e. (refl, (refl, l))) (λ e. (refl, (refl, tt)))
 
   column_limit : (v : ℕ) (side : Side) → limit_on (column_limits model set path v) side ≡ limit_of model set path v side
   column_limit v Lo = refl
@@ -216,41 +221,57 @@ module _ (model : Program) (set : List Member) (path : List Branch) (objective :
       ∙ mapped_at (column_limits model set path) columns v no_limits below in
       let limit : limit_on (variable_limits system v) side ≡ limit_of model set path v side = ap (λ z. limit_on z side) limits ∙ column_limit v side in
       let source : source_of v side ≡ limit_source model set path v side =
-      ap (λ m. stands_for model set path (Of m)) (cond-true (ltb v (length system.columns)) (bound_of v side) (Row (v - length system.columns)) first) ∙ bound_source v side in
-      let there = limit_there (limit_source model set path v side) side (subst (λ z. IsSome z) limit h) in
+      ap (λ m. stands_for model set path (Of m)) (cond-true (ltb v (length system.columns)) (bound_of v side) (row_side_of (v - length system.columns) side) first) ∙ bound_source v side in
+      let there = limit_there (limit_source model set path v side) (subst (λ z. IsSome z) limit h) in
       let formed = bound_form v side below in
       subst (StandsFor v side) (sym source)
       (record {
         form = formed.0 ∙ sym (cond-true (ltb v (length system.columns)) (column_form v) (get_or system.rows (v - length system.columns) empty_system_row).terms first);
+        side_is = formed.1.0;
         number_is = there.0 ∙ sym limit;
         from = there.1;
-        placed = formed.1;
+        placed = formed.1.1;
       })
 
-  row_limit : (i : ℕ) (side : Side) → limit_on (plain_row model i).limits side ≡ number model (Row i) side
+  row_limit : (i : ℕ) (side : Side) → limit_on (plain_row model set i).limits side ≡ number_in model set (row_side_of i side)
   row_limit i Lo = refl
   row_limit i Up = refl
 
-  row_stands : (v : ℕ) (side : Side) → length system.columns ≤ v → v < length system.columns + length system.rows → StandsFor v side (source_of v side)
-  row_stands v side l h =
+  row_source : (k : ℕ) (side : Side) → stands_for model set path (Of (row_side_of k side)) ≡ Of (row_side_of (get_or (rows_in model set) k 0) side)
+  row_source k Lo = refl
+  row_source k Up = refl
+
+  row_form : (i : ℕ) (side : Side) → source_form model (Of (row_side_of i side)) ≡ (plain_row model set i).terms
+  row_form i Lo = refl
+  row_form i Up = refl
+
+  row_side : (i : ℕ) (side : Side) → source_side (Of (row_side_of i side)) ≡ side
+  row_side i Lo = refl
+  row_side i Up = refl
+
+  row_stands : (v : ℕ) (side : Side) → length system.columns ≤ v → v < length system.columns + length system.rows → IsSome (limit_on (variable_limits system v) side) → StandsFor v side (source_of v side)
+  row_stands v side l h some =
       let k : ℕ = v - length system.columns in
       let i : ℕ = get_or (rows_in model set) k 0 in
-      let below : k < length (rows_in model set) = subst (λ z. k < z) (length-map (rows_in model set) (plain_row model)) (let g : v - length system.columns < length system.rows = omega arith in g) in
+      let below : k < length (rows_in model set) = subst (λ z. k < z) (length-map (rows_in model set) (plain_row model set)) (let g : v - length system.columns < length system.rows = omega arith in g) in
       let later : ltb v (length system.columns) ≡ false = le-ltb v (length system.columns) l in
-      let row : get_or system.rows k empty_system_row ≡ plain_row model i = get_or-map (plain_row model) (rows_in model set) k 0 empty_system_row below in
-      let source : source_of v side ≡ Of (Row i) =
-      ap (λ m. stands_for model set path (Of m)) (cond-false (ltb v (length system.columns)) (bound_of v side) (Row (v - length system.columns)) later) in
-      let has_row : has set (Row i) ≡ true = All-get_or (λ n. has set (Row n) ≡ true) (rows_in model set) k 0 below (filter_passes (λ n. has set (Row n)) (numbers_from 0 (length model.rows))) in
+      let row : get_or system.rows k empty_system_row ≡ plain_row model set i = get_or-map (plain_row model set) (rows_in model set) k 0 empty_system_row below in
+      let source : source_of v side ≡ Of (row_side_of i side) =
+      ap (λ m. stands_for model set path (Of m)) (cond-false (ltb v (length system.columns)) (bound_of v side) (row_side_of (v - length system.columns) side) later) ∙ row_source k side in
+      let limit : limit_on (variable_limits system v) side ≡ number_in model set (row_side_of i side) =
+      ap (λ z. limit_on z side) (cond-false (ltb v (length system.columns)) (get_or system.columns v no_limits) (get_or system.rows (v - length system.columns) empty_system_row).limits later ∙ ap (λ r. r.limits) row) ∙ row_limit i side in
+      let there = limit_there (Of (row_side_of i side)) (subst (λ z. IsSome z) limit some) in
       subst (StandsFor v side) (sym source)
       (record {
-        form = sym (cond-false (ltb v (length system.columns)) (column_form v) (get_or system.rows (v - length system.columns) empty_system_row).terms later ∙ ap (λ r. r.terms) row);
-        number_is = sym (ap (λ z. limit_on z side) (cond-false (ltb v (length system.columns)) (get_or system.columns v no_limits) (get_or system.rows (v - length system.columns) empty_system_row).limits later ∙ ap (λ r. r.limits) row) ∙ row_limit i side);
-        from = contains_of_has set (Row i) has_row;
+        form = row_form i side ∙ sym (cond-false (ltb v (length system.columns)) (column_form v) (get_or system.rows (v - length system.columns) empty_system_row).terms later ∙ ap (λ r. r.terms) row);
+        side_is = row_side i side;
+        number_is = there.0 ∙ sym limit;
+        from = there.1;
         placed = tt;
       })
 
   stands : (v : ℕ) (side : Side) → v < length system.columns + length system.rows → IsSome (limit_on (variable_limits system v) side) → StandsFor v side (source_of v side)
-  stands v side l h = elim (cases_lt v (length system.columns)) [ inl c ↦ column_stands v side c h | inr c ↦ row_stands v side c l ]
+  stands v side l h = elim (cases_lt v (length system.columns)) [ inl c ↦ column_stands v side c h | inr c ↦ row_stands v side c l h ]
 
   -- ---- the shares
   abbrev share_of : VariableShare → Share
@@ -305,14 +326,14 @@ module _ (model : Program) (set : List Member) (path : List Branch) (objective :
     cancels_in : (j : ℕ) → j < columns → column_sum model (arranged columns shares) j ≡ zero_ℚ
     cancels_in j l =
         total (λ s. multiple s *ℚ factor_of (source_form model s.source) j) (λ s. signed s.side s.weight *ℚ factor_of (variable_form system s.variable) j)
-        (λ s t. ap (λ z. signed s.side s.weight *ℚ factor_of z j) t.stands_as.form)
+        (λ s t. (λ i. signed (t.stands_as.side_is i) s.weight *ℚ factor_of (t.stands_as.form i) j))
         ∙ combination.cancels j (subst (λ z. j < z) (sym columns_are) l)
 
     contradicts_in : right_side model path (arranged columns shares) <ℚ zero_ℚ
     contradicts_in =
         subst (λ z. z <ℚ zero_ℚ)
-        (sym (total (λ s. multiple s *ℚ number_or_zero (source_number model path s.source s.side)) (λ s. signed s.side s.weight *ℚ number_or_zero (limit_on (variable_limits system s.variable) s.side))
-        (λ s t. ap (λ z. signed s.side s.weight *ℚ number_or_zero z) t.stands_as.number_is)))
+        (sym (total (λ s. multiple s *ℚ number_or_zero (source_number model path s.source)) (λ s. signed s.side s.weight *ℚ number_or_zero (limit_on (variable_limits system s.variable) s.side))
+        (λ s t. (λ i. signed (t.stands_as.side_is i) s.weight *ℚ number_or_zero (t.stands_as.number_is i)))))
         combination.contradicts
 
     translated_is : IsWellFormed model → All (λ b. b.column < columns) path → IsCombination model set path (arranged columns shares)

@@ -1,7 +1,6 @@
--- The members of a set, one after another, and what a check of each gives.
+-- What a check of each member, one after another, gives.
 use Rattle.std.proofs.Common.{◌≡◌, sym, ap, Bool, true, false, cond, List, [], ◌∷◌, Option, Some, None, ℕ}
 use Rattle.lp_model.specs.declared.members.Member.{Member}
-pub use Rattle.lp_model.proofs.Walk.{found_in, next_step, none_follow, all_follow, next_possible, fewer_follow}
 use Rattle.rational.specs.Linear.{Assignment}
 use Rattle.lp_model.specs.Program.{Program}
 use Rattle.lp_model.specs.Evaluation.{member_operations}

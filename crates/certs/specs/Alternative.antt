@@ -1,15 +1,13 @@
--- Weightings of the sides of a set that cancel the columns and leave -1, their cost, and its lower bounds.
+-- Weightings of the members of a set that cancel the columns and leave -1, their cost, and its lower bounds.
 use Rattle.std.specs.Prelude.{◌≡◌, ℕ, List, [], ◌∷◌, ◌++◌, Some, IfSome, All}
 use Rattle.rational.specs.Rational.{ℚ, ◌-ℚ◌, ◌*ℚ◌, neg_ℚ, zero_ℚ, one_ℚ, ◌≤ℚ◌, ◌<ℚ◌}
 use Rattle.rational.specs.Sum.{sum_over}
 use Rattle.rational.specs.Linear.{Assignment}
 use Rattle.lp_model.specs.declared.members.Member.{Member}
-use Rattle.lp_model.specs.declared.members.Side.{Side}
-use Rattle.lp_model.specs.declared.members.Side.TheVariants.{Lo, Up}
 use Rattle.lp_model.specs.declared.parts.Weight.{Weight}
 use Rattle.lp_model.specs.declared.parts.Weight.TheVariants.{Soft, Rigid}
 use Rattle.lp_model.specs.Program.{Program}
-use Rattle.lp_model.specs.Members.{value, number, weight}
+use Rattle.lp_model.specs.Members.{value, number, side, weight}
 use Rattle.lp_model.specs.Satisfaction.{values_at, IsIrreducible}
 use Rattle.certs.specs.declared.evidence.Source.{Source}
 use Rattle.certs.specs.declared.evidence.Source.TheVariants.{Member as Of, Below, Above}
@@ -43,14 +41,9 @@ pub record IsCheapest (model : Program) (set : List Member) (shares : List Share
   pub weighting : IsWeighting model set shares
   pub cheapest : (others : List Share) → IsWeighting model set others → cost model shares ≤ℚ cost model others
 
--- On each side that the member has, its value at the price less t times its number is at most its cost; both negated on `lo`.
-abbrev pub IsPricedOn : Program → ℚ → Assignment → Member → Side → Type 0
-IsPricedOn model t z m side = IfSome (number model m side) (λ b. signed side (value model m z) -ℚ t *ℚ signed side b ≤ℚ cost_of (weight model m))
-
--- on both sides
-pub record IsPriced (model : Program) (t : ℚ) (z : Assignment) (m : Member) : Type 0 where
-  pub lo : IsPricedOn model t z m Lo
-  pub up : IsPricedOn model t z m Up
+-- Where the member asks for a number, its value at the price less t times the number is at most its cost; both negated on `lo`.
+abbrev pub IsPriced : Program → ℚ → Assignment → Member → Type 0
+IsPriced model t z m = IfSome (number model m) (λ b. signed (side m) (value model m z) -ℚ t *ℚ signed (side m) b ≤ℚ cost_of (weight model m))
 
 -- a price for a total: each member is priced
 abbrev pub IsPrice : Program → List Member → ℚ → Assignment → Type 0
@@ -68,19 +61,15 @@ abbrev pub members_of : List Share → List Member
 members_of [] = []
 members_of (s ∷ shares) = with_source s.source (members_of shares)
 
--- the member's own sides do not cross
-abbrev pub IsOrdered : Program → Member → Type 0
-IsOrdered model m = IfSome (number model m Lo) (λ l. IfSome (number model m Up) (λ u. l ≤ℚ u))
-
--- the values meet the side of each share exactly
+-- the values meet the number of each share exactly
 pub record IsMet (model : Program) (shares : List Share) : Type 0 where
   pub values : List ℚ
-  pub meets : All (λ s. source_number model [] s.source s.side ≡ Some (source_value model (values_at values) s.source)) shares
+  pub meets : All (λ s. source_number model [] s.source ≡ Some (source_value model (values_at values) s.source)) shares
 
 -- ---- the laws
 -- where values meet all shares but one, whichever one it is, the members of the weighting are irreducible
 abbrev pub SupportLaw : Type 0
-SupportLaw = (model : Program) (shares : List Share) → All (λ s. zero_ℚ <ℚ s.weight) shares → IsWeighting model (members_of shares) shares → All (IsOrdered model) (members_of shares)
+SupportLaw = (model : Program) (shares : List Share) → All (λ s. zero_ℚ <ℚ s.weight) shares → IsWeighting model (members_of shares) shares
     → ((front : List Share) (s : Share) (back : List Share) → shares ≡ front ++ s ∷ back → IsMet model (front ++ back)) → IsIrreducible model (members_of shares)
 
 -- no weighting costs less than what has a price

@@ -3,9 +3,10 @@ use Rattle.std.specs.Prelude.{◌≡◌, ℕ, cond, not, List, [], IsSome, filte
 use Rattle.rational.specs.Rational.{ℚ, neg_ℚ, zero_ℚ, ◌≤ℚ◌, ◌<ℚ◌}
 use Rattle.rational.specs.Linear.{Assignment, form_value, factor_of}
 use Rattle.lp_model.specs.declared.members.Member.{Member}
+use Rattle.lp_model.specs.declared.members.Side.{Side}
 use Rattle.lp_model.specs.declared.members.Side.TheVariants.{Lo, Up}
 use Rattle.lp_model.specs.Program.{Program}
-use Rattle.lp_model.specs.Members.{value, number, is_mark}
+use Rattle.lp_model.specs.Members.{value, number, side, is_mark}
 use Rattle.lp_model.specs.Satisfaction.{Point, coordinate, values_at, Satisfies}
 use Rattle.certs.specs.declared.evidence.Share.{Share}
 use Rattle.certs.specs.Combination.{IsThere, column_sum, right_side}
@@ -43,10 +44,14 @@ pub record IsBoundDual (model : Program) (set : List Member) (shares : List Shar
   pub matches : (j : ℕ) → column_sum model shares j ≡ directed model (factor_of model.objective j)
   pub bound : right_side model [] shares ≡ directed model b
 
--- a move along the ray does not leave the sides that the member has
-pub record KeepsRay (model : Program) (ray : Assignment) (m : Member) : Type 0 where
-  pub above : IsSome (number model m Lo) → zero_ℚ ≤ℚ value model m ray
-  pub below : IsSome (number model m Up) → value model m ray ≤ℚ zero_ℚ
+-- a change is not towards the wrong side
+abbrev pub IsKeptOn : Side → ℚ → Type 0
+IsKeptOn Lo v = zero_ℚ ≤ℚ v
+IsKeptOn Up v = v ≤ℚ zero_ℚ
+
+-- a move along the ray does not leave the number that the member asks for
+abbrev pub KeepsRay : Program → Assignment → Member → Type 0
+KeepsRay model ray m = IsSome (number model m) → IsKeptOn (side m) (value model m ray)
 
 -- every member keeps it, and the objective becomes better
 pub record IsImproving (model : Program) (set : List Member) (ray : Assignment) : Type 0 where

@@ -3,13 +3,13 @@ use Rattle.std.specs.Prelude.{◌≡◌, ℕ, ◌==◌, zero, suc, Bool, true, f
 use Rattle.rational.specs.Rational.{ℚ, ◌+ℚ◌, ◌-ℚ◌, ◌*ℚ◌, neg_ℚ, zero_ℚ, le_q, lt_q, eq_ℚ}
 use Rattle.rational.specs.Linear.{Term, Assignment, factor_of}
 use Rattle.lp_model.specs.declared.members.Member.{Member}
-use Rattle.lp_model.specs.declared.members.Member.TheVariants.{Row, Lower, Upper, Whole}
+use Rattle.lp_model.specs.declared.members.Member.TheVariants.{RowLo, RowUp, Lower, Upper, Whole}
 use Rattle.lp_model.specs.declared.members.Side.{Side}
 use Rattle.lp_model.specs.declared.members.Side.TheVariants.{Lo, Up}
 use Rattle.lp_model.specs.declared.parts.Weight.{Weight}
 use Rattle.lp_model.specs.declared.parts.Weight.TheVariants.{Soft, Rigid}
 use Rattle.lp_model.specs.Program.{Program, column_at, IsWellFormed}
-use Rattle.lp_model.specs.Members.{form, value, number, weight, has}
+use Rattle.lp_model.specs.Members.{form, value, number, side, weight, has}
 use Rattle.lp_model.specs.Satisfaction.{values_at, Satisfies, IsSatisfiable, IsUnsatisfiable}
 use Rattle.lp_model.specs.Evaluation.{value_operations, member_operations}
 use Rattle.lp_model.specs.MemberSets.{SetValue}
@@ -25,7 +25,7 @@ use Rattle.certs.specs.declared.evidence.Source.TheVariants.{Member as Of, Below
 use Rattle.certs.specs.declared.evidence.Share.{Share}
 use Rattle.certs.specs.declared.evidence.Checked.{Checked}
 use Rattle.certs.specs.declared.evidence.Checked.TheVariants.{Yes, No, Wide}
-use Rattle.certs.specs.Combination.{source_form, source_number, number_or_zero, signed, column_sum, right_side, IsCombination, KeepsPath}
+use Rattle.certs.specs.Combination.{source_form, source_side, source_number, number_or_zero, signed, column_sum, right_side, IsCombination, KeepsPath}
 use Rattle.certs.specs.Violation.{weight_on, is_of, violation, is_rigid, IsLeastDual}
 use Rattle.certs.specs.Bound.{directed, objective_value, IsBoundDual, IsImproving}
 use Rattle.certs.specs.Alternative.{cost_of, IsPrice}
@@ -81,15 +81,12 @@ abbrev pub at_most_test : Option ℚ → ℚ → Bool
 at_most_test None v = true
 at_most_test (Some b) v = le_q v b
 
--- whether a member keeps its sides
-abbrev pub sides_test : Program → Assignment → Member → Bool
-sides_test model x m = at_least_test (number model m Lo) (value model m x) && at_most_test (number model m Up) (value model m x)
-
 -- whether a member holds
 abbrev pub holds_test : Program → Assignment → Member → Bool
-holds_test model x (Row i) = sides_test model x (Row i)
-holds_test model x (Lower j) = sides_test model x (Lower j)
-holds_test model x (Upper j) = sides_test model x (Upper j)
+holds_test model x (RowLo i) = at_least_test (number model (RowLo i)) (value model (RowLo i) x)
+holds_test model x (RowUp i) = at_most_test (number model (RowUp i)) (value model (RowUp i) x)
+holds_test model x (Lower j) = at_least_test (number model (Lower j)) (value model (Lower j) x)
+holds_test model x (Upper j) = at_most_test (number model (Upper j)) (value model (Upper j) x)
 holds_test model x (Whole j) = cond (column_at model j).whole ((x j).den == 1) true
 
 -- whether a source is a member of the set, or the path
@@ -98,11 +95,11 @@ from_test set (Of m) = has set m
 from_test set (Below j) = true
 from_test set (Above j) = true
 
--- whether the set or the path has the side that a share names
+-- whether the set or the path has the source of a share, with a number
 abbrev pub there_test : Program → List Member → List Branch → Share → Bool
-there_test model set path s = from_test set s.source && is_some (source_number model path s.source s.side)
+there_test model set path s = from_test set s.source && is_some (source_number model path s.source)
 
--- whether all weights are positive and all sides are there
+-- whether all weights are positive and all sources are there
 abbrev pub usable_test : Program → List Member → List Branch → List Share → Bool
 usable_test model set path shares = every (λ s. lt_q zero_ℚ s.weight) shares && every (there_test model set path) shares
 
@@ -146,16 +143,17 @@ sums_after sums side w (t ∷ terms) = sums_after (added_at sums t.column (signe
 abbrev pub column_operations : Program → Assignment → List Share → Calculation
 column_operations model sums [] = []
 column_operations model sums (s ∷ shares) =
-    form_operations sums s.side s.weight (source_form model s.source) ++ column_operations model (sums_after sums s.side s.weight (source_form model s.source)) shares
+    form_operations sums (source_side s.source) s.weight (source_form model s.source)
+    ++ column_operations model (sums_after sums (source_side s.source) s.weight (source_form model s.source)) shares
 
 -- the right side, from 0: number times weight, and then plus or minus
 abbrev pub right_operations : Program → List Branch → ℚ → List Share → Calculation
 right_operations model path sum [] = []
 right_operations model path sum (s ∷ shares) =
-    share_operations sum s.side (number_or_zero (source_number model path s.source s.side)) s.weight
-    ++ right_operations model path (sum +ℚ signed s.side (number_or_zero (source_number model path s.source s.side) *ℚ s.weight)) shares
+    share_operations sum (source_side s.source) (number_or_zero (source_number model path s.source)) s.weight
+    ++ right_operations model path (sum +ℚ signed (source_side s.source) (number_or_zero (source_number model path s.source) *ℚ s.weight)) shares
 
--- before any arithmetic: weights and sides
+-- before any arithmetic: weights and sources
 abbrev pub usable_step : Program → List Member → List Branch → List Share → Step
 usable_step model set path shares = record { operations = []; passes = usable_test model set path shares }
 
@@ -194,9 +192,14 @@ least_steps model set path shares t =
     usable_step model set path shares ∷ columns_step model shares (λ j. zero_ℚ) ∷ (within_steps model set shares ++ right_step model path shares (λ r. eq_ℚ t (neg_ℚ r)) ∷ [])
 
 -- ---- a ray: the members in order, and the objective last
--- whether a ray keeps the member's sides
+-- whether a change is not towards the wrong side
+abbrev pub kept_test : Side → ℚ → Bool
+kept_test Lo v = le_q zero_ℚ v
+kept_test Up v = le_q v zero_ℚ
+
+-- whether a ray keeps the member
 abbrev pub ray_test : Program → Assignment → Member → Bool
-ray_test model ray m = cond (is_some (number model m Lo)) (le_q zero_ℚ (value model m ray)) true && cond (is_some (number model m Up)) (le_q (value model m ray) zero_ℚ) true
+ray_test model ray m = cond (is_some (number model m)) (kept_test (side m) (value model m ray)) true
 
 -- each member's sum at the ray, and the objective's
 abbrev pub ray_steps : Program → List Member → Assignment → List Step
@@ -204,39 +207,37 @@ ray_steps model set ray =
     map (λ m. record { operations = member_operations model m ray; passes = ray_test model ray m }) set
     ++ record { operations = value_operations model.objective ray; passes = lt_q (directed model zero_ℚ) (directed model (objective_value model ray)) } ∷ []
 
--- ---- a price: the sides of each member, `lo` before `up`
+-- ---- a price: the members in order
 -- negated on `lo`
 abbrev pub signed_terms : Side → List Term → List Term
 signed_terms side terms = map (λ t. record { column = t.column; factor = signed side t.factor }) terms
 
 -- the form at the price, less the total times the number
-abbrev pub priced_steps : Program → ℚ → Assignment → Member → Side → Option ℚ → List Step
-priced_steps model t z m side None = []
-priced_steps model t z m side (Some b) =
+abbrev pub priced_steps : Program → ℚ → Assignment → Member → Option ℚ → List Step
+priced_steps model t z m None = []
+priced_steps model t z m (Some b) =
     record {
-      operations = value_operations (signed_terms side (form model m)) z
-          ++ operation Times t (signed side b)
-          ∷ operation Minus (signed side (value model m z)) (t *ℚ signed side b)
+      operations = value_operations (signed_terms (side m) (form model m)) z
+          ++ operation Times t (signed (side m) b)
+          ∷ operation Minus (signed (side m) (value model m z)) (t *ℚ signed (side m) b)
           ∷ [];
-      passes = le_q (signed side (value model m z) -ℚ t *ℚ signed side b) (cost_of (weight model m));
+      passes = le_q (signed (side m) (value model m z) -ℚ t *ℚ signed (side m) b) (cost_of (weight model m));
     }
     ∷ []
 
 -- for all members
 abbrev pub price_steps : Program → List Member → ℚ → Assignment → List Step
 price_steps model [] t z = []
-price_steps model (m ∷ set) t z = priced_steps model t z m Lo (number model m Lo) ++ (priced_steps model t z m Up (number model m Up) ++ price_steps model set t z)
+price_steps model (m ∷ set) t z = priced_steps model t z m (number model m) ++ price_steps model set t z
 
 -- ---- totals
--- a missed side: the greater number minus the less
-abbrev pub missed_operations : Option ℚ → Option ℚ → ℚ → Calculation
-missed_operations None None v = []
-missed_operations (Some l) None v = cond (lt_q v l) (operation Minus l v ∷ []) []
-missed_operations None (Some u) v = cond (lt_q u v) (operation Minus v u ∷ []) []
-missed_operations (Some l) (Some u) v =
-    cond (lt_q v l) (operation Minus l v ∷ []) [] ++ cond (lt_q u v) (operation Minus v u ∷ []) []
+-- a missed number: the greater minus the less
+abbrev pub missed_operations : Side → Option ℚ → ℚ → Calculation
+missed_operations side None v = []
+missed_operations Lo (Some b) v = cond (lt_q v b) (operation Minus b v ∷ []) []
+missed_operations Up (Some b) v = cond (lt_q b v) (operation Minus v b ∷ []) []
 
--- the weighted violation, from 0: each soft member's sum, its missed sides, weight times violation, and then plus
+-- the weighted violation, from 0: each soft member's sum, its missed number, weight times violation, and then plus
 abbrev pub weighted_operations : Program → ℚ → List Member → Assignment → Calculation
 weighted_operations model total [] x = []
 weighted_operations model total (m ∷ set) x =
@@ -244,7 +245,7 @@ weighted_operations model total (m ∷ set) x =
       | Rigid ↦ weighted_operations model total set x
       | Soft w ↦
           member_operations model m x
-          ++ (missed_operations (number model m Lo) (number model m Up) (value model m x)
+          ++ (missed_operations (side m) (number model m) (value model m x)
           ++ operation Times w (violation model x m)
           ∷ operation Plus total (w *ℚ violation model x m)
           ∷ weighted_operations model (total +ℚ w *ℚ violation model x m) set x)

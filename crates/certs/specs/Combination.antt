@@ -1,4 +1,4 @@
--- Combinations of members' sides, and what a combination shows.
+-- Combinations of members, and what a combination shows.
 use Rattle.std.specs.Prelude.{◌≡◌, ℕ, ◌<◌, ◌≤◌, ◌==◌, ℤ, unsigned_abs, int_lt, ◌&&◌, not, cond, List, [], ◌∷◌, length, Option, Some, None, option_map, IsSome, All, Contains}
 use Rattle.rational.specs.Rational.{ℚ, whole, ◌*ℚ◌, neg_ℚ, zero_ℚ, ◌≤ℚ◌, ◌<ℚ◌}
 use Rattle.rational.specs.Sum.{sum_over}
@@ -12,7 +12,7 @@ use Rattle.certs.specs.declared.evidence.Source.TheVariants.{Member as Of, Below
 use Rattle.certs.specs.declared.evidence.Share.{Share}
 use Rattle.frac128.specs.Limit.{limit}
 use Rattle.lp_model.specs.Program.{Program, IsWellFormed}
-use Rattle.lp_model.specs.Members.{column_form, form, value, number}
+use Rattle.lp_model.specs.Members.{column_form, form, value, number, side as member_side}
 use Rattle.lp_model.specs.Satisfaction.{Satisfies}
 
 -- ---- branches
@@ -66,13 +66,17 @@ source_value model x (Of m) = value model m x
 source_value model x (Below j) = x j
 source_value model x (Above j) = x j
 
--- the number on a side of a source, where it has that side
-abbrev pub source_number : Program → List Branch → Source → Side → Option ℚ
-source_number model path (Of m) side = number model m side
-source_number model path (Below j) Lo = None
-source_number model path (Below j) Up = option_map whole (least_upper path j)
-source_number model path (Above j) Lo = option_map whole (greatest_lower path j)
-source_number model path (Above j) Up = None
+-- the side on which a source bounds its form: what is below bounds it above, and what is above, below
+abbrev pub source_side : Source → Side
+source_side (Of m) = member_side m
+source_side (Below j) = Up
+source_side (Above j) = Lo
+
+-- the number that it asks for, where there is one
+abbrev pub source_number : Program → List Branch → Source → Option ℚ
+source_number model path (Of m) = number model m
+source_number model path (Below j) = option_map whole (least_upper path j)
+source_number model path (Above j) = option_map whole (greatest_lower path j)
 
 -- 0 where there is none
 abbrev pub number_or_zero : Option ℚ → ℚ
@@ -84,9 +88,9 @@ abbrev pub signed : Side → ℚ → ℚ
 signed Lo q = neg_ℚ q
 signed Up q = q
 
--- how often the share takes its source, with the sign of the side
+-- how often the share takes its source, with the sign of the source's side
 abbrev pub multiple : Share → ℚ
-multiple s = signed s.side s.weight
+multiple s = signed (source_side s.source) s.weight
 
 -- a member of the set, or the path
 abbrev pub IsFrom : List Member → Source → Type 0
@@ -94,10 +98,10 @@ IsFrom set (Of m) = Contains set m
 IsFrom set (Below j) = Unit {0}
 IsFrom set (Above j) = Unit {0}
 
--- the source belongs to the set or the path, and has that side there
+-- the source belongs to the set or the path, and asks for a number there
 pub record IsThere (model : Program) (set : List Member) (path : List Branch) (s : Share) : Type 0 where
   pub from : IsFrom set s.source
-  pub number : IsSome (source_number model path s.source s.side)
+  pub number : IsSome (source_number model path s.source)
 
 -- what the shares add up to for a column
 abbrev pub column_sum : Program → List Share → ℕ → ℚ
@@ -105,7 +109,7 @@ column_sum model shares j = sum_over (λ s. multiple s *ℚ factor_of (source_fo
 
 -- and for the numbers
 abbrev pub right_side : Program → List Branch → List Share → ℚ
-right_side model path shares = sum_over (λ s. multiple s *ℚ number_or_zero (source_number model path s.source s.side)) shares
+right_side model path shares = sum_over (λ s. multiple s *ℚ number_or_zero (source_number model path s.source)) shares
 
 -- The columns cancel, and what is left says that 0 is below 0.
 pub record IsCombination (model : Program) (set : List Member) (path : List Branch) (shares : List Share) : Type 0 where

@@ -2,7 +2,7 @@
 use Rattle.std.specs.Prelude.{◌≡◌, ℕ, ◌<◌, ◌-◌, ◌==◌, nat_lt, Bool, true, false, ◌&&◌, cond, List, ◌++◌, map, length, filter, flat_map, slice_index, All}
 use Rattle.std.specs.List.{list_any}
 use Rattle.lp_model.specs.declared.members.Member.{Member}
-use Rattle.lp_model.specs.declared.members.Member.TheVariants.{Row, Lower, Upper, Whole}
+use Rattle.lp_model.specs.declared.members.Member.TheVariants.{RowLo, RowUp, Lower, Upper, Whole}
 use Rattle.lp_model.specs.declared.members.Side.{Side}
 use Rattle.lp_model.specs.declared.members.Side.TheVariants.{Lo, Up}
 use Rattle.lp_model.specs.Program.{Program, IsWellFormed}
@@ -26,13 +26,18 @@ abbrev pub bound_of : ℕ → Side → Member
 bound_of j Lo = Lower j
 bound_of j Up = Upper j
 
+-- a side of a row
+abbrev pub row_side_of : ℕ → Side → Member
+row_side_of i Lo = RowLo i
+row_side_of i Up = RowUp i
+
 -- the constraint that a side of a variable is, in a system with so many columns
 abbrev pub member_of : ℕ → ℕ → Side → Member
-member_of columns v side = cond (nat_lt v columns) (bound_of v side) (Row (v - columns))
+member_of columns v side = cond (nat_lt v columns) (bound_of v side) (row_side_of (v - columns) side)
 
 -- the share of that
 abbrev pub named : ℕ → VariableShare → Share
-named columns s = record { source = Of (member_of columns s.variable s.side); side = s.side; weight = s.weight }
+named columns s = record { source = Of (member_of columns s.variable s.side); weight = s.weight }
 
 -- the shares are those that name a combination of the system
 pub record IsNamedCombination (system : LinearSystem) (shares : List Share) : Type 0 where
@@ -41,16 +46,17 @@ pub record IsNamedCombination (system : LinearSystem) (shares : List Share) : Ty
   pub same : shares ≡ map (named (length system.columns)) of
 
 -- ---- what they stand for in a program
--- a row of the plain system is a row of the set, and a limit is the bound or the branches that gave it
+-- a side of a row of the plain system is that of the program's row, and a limit is the bound or the branches that gave it
 abbrev pub stands_for : Program → List Member → List Branch → Source → Source
-stands_for model set path (Of (Row k)) = Of (Row (slice_index (rows_in model set) k))
+stands_for model set path (Of (RowLo k)) = Of (RowLo (slice_index (rows_in model set) k))
+stands_for model set path (Of (RowUp k)) = Of (RowUp (slice_index (rows_in model set) k))
 stands_for model set path (Of (Lower j)) = limit_source model set path j Lo
 stands_for model set path (Of (Upper j)) = limit_source model set path j Up
 stands_for model set path (Of (Whole j)) = Of (Whole j)
 stands_for model set path (Below j) = Below j
 stands_for model set path (Above j) = Above j
 
--- the share of that, with the same side and weight
+-- the share of that, with the same weight
 abbrev pub translated : Program → List Member → List Branch → Share → Share
 translated model set path s = record s { source = stands_for model set path s.source }
 
@@ -84,9 +90,10 @@ arranged columns shares = filter (λ s. is_member s.source) shares ++ flat_map (
 abbrev pub program_shares : Program → List Member → List Branch → List Share → List Share
 program_shares model set path shares = arranged (length model.columns) (map (translated model set path) shares)
 
--- a row of a system with so many columns and rows, or a limit of a column of it
+-- a side of a row of a system with so many columns and rows, or a limit of a column of it
 abbrev pub IsOfSystem : ℕ → ℕ → Source → Type 0
-IsOfSystem columns rows (Of (Row k)) = k < rows
+IsOfSystem columns rows (Of (RowLo k)) = k < rows
+IsOfSystem columns rows (Of (RowUp k)) = k < rows
 IsOfSystem columns rows (Of (Lower j)) = j < columns
 IsOfSystem columns rows (Of (Upper j)) = j < columns
 IsOfSystem columns rows _ = ⊥

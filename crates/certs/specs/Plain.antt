@@ -1,9 +1,9 @@
--- The plain system of a set of members on a path: the columns with their bounds, and the rows of the set.
-use Rattle.std.specs.Prelude.{ℕ, ◌+◌, Bool, true, false, cond, List, [], ◌∷◌, map, length, filter, find, Option, Some, None}
+-- The plain system of a set of members on a path: the columns with their bounds, and the rows of which the set has a side.
+use Rattle.std.specs.Prelude.{ℕ, ◌+◌, Bool, true, false, ◌||◌, cond, List, [], ◌∷◌, map, length, filter, find, Option, Some, None}
 use Rattle.rational.specs.Rational.{ℚ, neg_ℚ, one_ℚ, lt_q}
 use Rattle.rational.specs.Linear.{Term}
 use Rattle.lp_model.specs.declared.members.Member.{Member}
-use Rattle.lp_model.specs.declared.members.Member.TheVariants.{Row, Lower, Upper}
+use Rattle.lp_model.specs.declared.members.Member.TheVariants.{RowLo, RowUp, Lower, Upper}
 use Rattle.lp_model.specs.declared.members.Side.{Side}
 use Rattle.lp_model.specs.declared.members.Side.TheVariants.{Lo, Up}
 use Rattle.lp_model.specs.Program.{Program, row_at}
@@ -16,9 +16,9 @@ use Rattle.certs.specs.System.{Limits, SystemRow, LinearSystem, VariableShare, v
 use Rattle.certs.specs.Ended.{numbers_from}
 
 -- ---- limits of the columns
--- the number on a side of a member, where the set has the member
-abbrev pub number_in : Program → List Member → Member → Side → Option ℚ
-number_in model set m side = cond (has set m) (number model m side) None
+-- the number that a member asks for, where the set has the member
+abbrev pub number_in : Program → List Member → Member → Option ℚ
+number_in model set m = cond (has set m) (number model m) None
 
 -- whether the path asks for more than the bound: there is a number on the path, and it is above that of the bound, or there is no bound
 abbrev pub is_raised : Option ℚ → Option ℚ → Bool
@@ -34,31 +34,35 @@ is_lowered (Some b) (Some p) = lt_q p b
 
 -- what limits a column on a side: the path, where it is strictly tighter than the set's bound, and else the bound
 abbrev pub limit_source : Program → List Member → List Branch → ℕ → Side → Source
-limit_source model set path j Lo = cond (is_raised (number_in model set (Lower j) Lo) (source_number model path (Above j) Lo)) (Above j) (Of (Lower j))
-limit_source model set path j Up = cond (is_lowered (number_in model set (Upper j) Up) (source_number model path (Below j) Up)) (Below j) (Of (Upper j))
+limit_source model set path j Lo = cond (is_raised (number_in model set (Lower j)) (source_number model path (Above j))) (Above j) (Of (Lower j))
+limit_source model set path j Up = cond (is_lowered (number_in model set (Upper j)) (source_number model path (Below j))) (Below j) (Of (Upper j))
 
--- the number of a source on a side, of a member only where the set has it
-abbrev pub limit_number : Program → List Member → List Branch → Source → Side → Option ℚ
-limit_number model set path (Of m) side = number_in model set m side
-limit_number model set path (Below j) side = source_number model path (Below j) side
-limit_number model set path (Above j) side = source_number model path (Above j) side
+-- the number of a source, of a member only where the set has it
+abbrev pub limit_number : Program → List Member → List Branch → Source → Option ℚ
+limit_number model set path (Of m) = number_in model set m
+limit_number model set path (Below j) = source_number model path (Below j)
+limit_number model set path (Above j) = source_number model path (Above j)
 
 -- the limit of a column on a side
 abbrev pub limit_of : Program → List Member → List Branch → ℕ → Side → Option ℚ
-limit_of model set path j side = limit_number model set path (limit_source model set path j side) side
+limit_of model set path j side = limit_number model set path (limit_source model set path j side)
 
 -- both limits of a column
 abbrev pub column_limits : Program → List Member → List Branch → ℕ → Limits
 column_limits model set path j = record { lower = limit_of model set path j Lo; upper = limit_of model set path j Up }
 
 -- ---- rows
--- the numbers of the set's rows, in order
-abbrev pub rows_in : Program → List Member → List ℕ
-rows_in model set = filter (λ i. has set (Row i)) (numbers_from 0 (length model.rows))
+-- whether the set has a side of a row
+abbrev pub has_row : List Member → ℕ → Bool
+has_row set i = has set (RowLo i) || has set (RowUp i)
 
--- a row of the program, with both its sides
-abbrev pub plain_row : Program → ℕ → SystemRow
-plain_row model i = record { terms = (row_at model i).terms; limits = record { lower = (row_at model i).lower; upper = (row_at model i).upper } }
+-- the numbers of the rows of which the set has a side, in order
+abbrev pub rows_in : Program → List Member → List ℕ
+rows_in model set = filter (has_row set) (numbers_from 0 (length model.rows))
+
+-- a row of the program, with those of its sides that the set has
+abbrev pub plain_row : Program → List Member → ℕ → SystemRow
+plain_row model set i = record { terms = (row_at model i).terms; limits = record { lower = number_in model set (RowLo i); upper = number_in model set (RowUp i) } }
 
 -- ---- the system
 -- each factor with the other sign
@@ -73,7 +77,7 @@ greatest_objective model = cond model.maximise model.objective (negated model.ob
 abbrev pub plain_system : Program → List Member → List Branch → Bool → LinearSystem
 plain_system model set path objective = record {
   columns = map (column_limits model set path) (numbers_from 0 (length model.columns));
-  rows = map (plain_row model) (rows_in model set);
+  rows = map (plain_row model set) (rows_in model set);
   objective = cond objective (Some (greatest_objective model)) None;
 }
 

@@ -1,5 +1,5 @@
 -- Linear systems with limits on their variables, bases, and tables; and the system of the alternative.
-use Rattle.std.specs.Prelude.{◌≡◌, ℕ, ◌+◌, ◌-◌, ◌<◌, nat_lt, zero, suc, Bool, true, false, cond, List, [], ◌∷◌, ◌++◌, map, length, slice_index_or, Option, Some, None, is_some, IsSome, IfSome, All}
+use Rattle.std.specs.Prelude.{◌≡◌, ℕ, ◌+◌, ◌-◌, ◌<◌, nat_lt, zero, suc, Bool, true, false, cond, List, [], ◌∷◌, ◌++◌, map, length, slice_index_or, filter, Option, Some, None, is_some, IsSome, IfSome, All}
 use Rattle.rational.specs.Rational.{ℚ, neg_ℚ, zero_ℚ, one_ℚ, lt_q, ◌*ℚ◌, ◌≤ℚ◌, ◌<ℚ◌, eq_ℚ}
 use Rattle.rational.specs.Sum.{sum_over}
 use Rattle.rational.specs.Linear.{Term, Assignment, factor_of, form_value}
@@ -7,12 +7,12 @@ use Rattle.lp_model.specs.declared.members.Member.{Member}
 use Rattle.lp_model.specs.declared.members.Side.{Side}
 use Rattle.lp_model.specs.declared.members.Side.TheVariants.{Lo, Up}
 use Rattle.lp_model.specs.Program.{Program, IsWellFormed}
-use Rattle.lp_model.specs.Members.{column_form, form, number, weight, is_mark}
+use Rattle.lp_model.specs.Members.{column_form, form, number, side, weight, is_mark}
 use Rattle.lp_model.specs.Satisfaction.{IsSatisfiable, IsIrreducible}
 use Rattle.certs.specs.declared.evidence.Source.TheVariants.{Member as Of}
 use Rattle.certs.specs.declared.evidence.Share.{Share}
 use Rattle.certs.specs.Combination.{number_or_zero, signed}
-use Rattle.certs.specs.Alternative.{cost_of, cost, IsWeighting, IsCheapest, IsPrice, members_of, IsOrdered}
+use Rattle.certs.specs.Alternative.{cost_of, cost, IsWeighting, IsCheapest, IsPrice, members_of}
 
 -- a least and a greatest value, each where it is there
 pub record Limits : Type 0 where
@@ -61,93 +61,83 @@ pub record IsTable (system : LinearSystem) (basis : List Place) (table : ℕ →
   pub known : (i : ℕ) → is_basic basis i ≡ true → All (λ t. t.column < length system.columns + suc (length system.rows)) (table i)
 
 -- ---- the system of the alternative
--- one side of one member
-pub record SideOf : Type 0 where
-  pub member : Member
-  pub side : Side
+-- the members of the set that ask for a number, in order
+abbrev pub bounding : Program → List Member → List Member
+bounding model set = filter (λ m. is_some (number model m)) set
 
--- the side, where the member has it
-abbrev pub side_on : Program → Member → Side → List SideOf
-side_on model m side = cond (is_some (number model m side)) (record { member = m; side = side } ∷ []) []
-
--- the sides of the set's members, in order, `lo` before `up`
-abbrev pub sides_of : Program → List Member → List SideOf
-sides_of model [] = []
-sides_of model (m ∷ set) = side_on model m Lo ++ (side_on model m Up ++ sides_of model set)
-
--- a side's factor of a column, its number and its cost; the first two are negated for `lo`
-abbrev pub side_factor : Program → ℕ → SideOf → ℚ
-side_factor model j s = signed s.side (factor_of (form model s.member) j)
+-- a member's factor of a column, its number and its cost; the first two are negated for `lo`
+abbrev pub member_factor : Program → ℕ → Member → ℚ
+member_factor model j m = signed (side m) (factor_of (form model m) j)
 
 -- its number
-abbrev pub side_number : Program → SideOf → ℚ
-side_number model s = signed s.side (number_or_zero (number model s.member s.side))
+abbrev pub member_number : Program → Member → ℚ
+member_number model m = signed (side m) (number_or_zero (number model m))
 
 -- its cost
-abbrev pub side_cost : Program → SideOf → ℚ
-side_cost model s = cost_of (weight model s.member)
+abbrev pub member_cost : Program → Member → ℚ
+member_cost model m = cost_of (weight model m)
 
--- a term for each side whose factor is not 0, numbered from k
-abbrev pub terms_from : ℕ → (SideOf → ℚ) → List SideOf → List Term
+-- a term for each member whose factor is not 0, numbered from k
+abbrev pub terms_from : ℕ → (Member → ℚ) → List Member → List Term
 terms_from k f [] = []
-terms_from k f (s ∷ sides) = cond (eq_ℚ (f s) zero_ℚ) (terms_from (suc k) f sides) (record { column = k; factor = f s } ∷ terms_from (suc k) f sides)
+terms_from k f (m ∷ members) = cond (eq_ℚ (f m) zero_ℚ) (terms_from (suc k) f members) (record { column = k; factor = f m } ∷ terms_from (suc k) f members)
 
 -- both limits at one value
 abbrev pub equal_to : ℚ → Limits
 equal_to q = record { lower = Some q; upper = Some q }
 
 -- for each column of the model a row equal to 0
-abbrev pub column_rows : Program → List SideOf → ℕ → List SystemRow
-column_rows model sides zero = []
-column_rows model sides (suc c) = column_rows model sides c ++ record { terms = terms_from 0 (side_factor model c) sides; limits = equal_to zero_ℚ } ∷ []
+abbrev pub column_rows : Program → List Member → ℕ → List SystemRow
+column_rows model members zero = []
+column_rows model members (suc c) = column_rows model members c ++ record { terms = terms_from 0 (member_factor model c) members; limits = equal_to zero_ℚ } ∷ []
 
--- A variable from 0 on for each side; the columns cancel, and the numbers leave -1; the weighted sum is made least.
+-- A variable from 0 on for each member; the columns cancel, and the numbers leave -1; the weighted sum is made least.
 abbrev pub alternative_system : Program → List Member → LinearSystem
 alternative_system model set = record {
-  columns = map (λ s. record { lower = Some zero_ℚ; upper = None }) (sides_of model set);
-  rows = column_rows model (sides_of model set) (length model.columns) ++ record { terms = terms_from 0 (side_number model) (sides_of model set); limits = equal_to (neg_ℚ one_ℚ) } ∷ [];
-  objective = Some (terms_from 0 (λ s. neg_ℚ (side_cost model s)) (sides_of model set));
+  columns = map (λ m. record { lower = Some zero_ℚ; upper = None }) (bounding model set);
+  rows = column_rows model (bounding model set) (length model.columns) ++ record { terms = terms_from 0 (member_number model) (bounding model set); limits = equal_to (neg_ℚ one_ℚ) } ∷ [];
+  objective = Some (terms_from 0 (λ m. neg_ℚ (member_cost model m)) (bounding model set));
 }
 
--- the shares of the sides that have a positive value
-abbrev pub support : List SideOf → (ℕ → ℚ) → List Share
+-- the shares of the members that have a positive value
+abbrev pub support : List Member → (ℕ → ℚ) → List Share
 support [] y = []
-support (s ∷ sides) y = cond (lt_q zero_ℚ (y 0)) (record { source = Of s.member; side = s.side; weight = y 0 } ∷ support sides (λ k. y (suc k))) (support sides (λ k. y (suc k)))
+support (m ∷ members) y = cond (lt_q zero_ℚ (y 0)) (record { source = Of m; weight = y 0 } ∷ support members (λ k. y (suc k))) (support members (λ k. y (suc k)))
 
--- What the end of a run on that system gives: a table, and values that keep the rows and limits and are 0 on the nonbasic sides.
+-- What the end of a run on that system gives: a table, and values that keep the rows and limits and are 0 on the nonbasic members.
 pub record IsLastTable (model : Program) (set : List Member) (basis : List Place) (table : ℕ → List Term) (y : Assignment) : Type 0 where
   pub table_is : IsTable (alternative_system model set) basis table
   pub keeps : KeepsRows (alternative_system model set) y
-  pub nonnegative : (k : ℕ) → k < length (sides_of model set) → zero_ℚ ≤ℚ y k
-  pub at_zero : (k : ℕ) → k < length (sides_of model set) → is_basic basis k ≡ false → y k ≡ zero_ℚ
-  pub columns_at : (j : ℕ) → j < length model.columns → y (length (sides_of model set) + j) ≡ zero_ℚ
-  pub last_at : y (length (sides_of model set) + length model.columns) ≡ neg_ℚ one_ℚ
-  pub objective_basic : is_basic basis (length (sides_of model set) + suc (length model.columns)) ≡ true
+  pub nonnegative : (k : ℕ) → k < length (bounding model set) → zero_ℚ ≤ℚ y k
+  pub at_zero : (k : ℕ) → k < length (bounding model set) → is_basic basis k ≡ false → y k ≡ zero_ℚ
+  pub columns_at : (j : ℕ) → j < length model.columns → y (length (bounding model set) + j) ≡ zero_ℚ
+  pub last_at : y (length (bounding model set) + length model.columns) ≡ neg_ℚ one_ℚ
+  pub objective_basic : is_basic basis (length (bounding model set) + suc (length model.columns)) ≡ true
 
--- then the sides with positive values are a weighting, and their members are irreducible without further filtering
+-- then the members with positive values are a weighting, and irreducible without further filtering
 abbrev pub LastTableLaw : Type 0
-LastTableLaw = (model : Program) (set : List Member) (basis : List Place) (table : ℕ → List Term) (y : Assignment) → IsWellFormed model → All (IsOrdered model) set
-    → IsLastTable model set basis table y → IsWeighting model set (support (sides_of model set) y) × IsIrreducible model (members_of (support (sides_of model set) y))
+LastTableLaw = (model : Program) (set : List Member) (basis : List Place) (table : ℕ → List Term) (y : Assignment) → IsWellFormed model
+    → IsLastTable model set basis table y → IsWeighting model set (support (bounding model set) y) × IsIrreducible model (members_of (support (bounding model set) y))
 
--- At the end no nonbasic side makes the objective greater.
+-- At the end no nonbasic member makes the objective greater.
 pub record IsOptimal (model : Program) (set : List Member) (basis : List Place) (table : ℕ → List Term) : Type 0 where
-  pub no_gain : (k : ℕ) → k < length (sides_of model set) → is_basic basis k ≡ false → factor_of (table (length (sides_of model set) + suc (length model.columns))) k ≤ℚ zero_ℚ
+  pub no_gain : (k : ℕ) → k < length (bounding model set) → is_basic basis k ≡ false → factor_of (table (length (bounding model set) + suc (length model.columns))) k ≤ℚ zero_ℚ
 
 -- the objective's factor of the last row is the total, and its factors of the columns' rows, negated, are the price
 abbrev pub price_total : Program → List Member → (ℕ → List Term) → ℚ
-price_total model set table = factor_of (table (length (sides_of model set) + suc (length model.columns))) (length (sides_of model set) + length model.columns)
+price_total model set table = factor_of (table (length (bounding model set) + suc (length model.columns))) (length (bounding model set) + length model.columns)
 
 -- the price of a column
 abbrev pub price_at : Program → List Member → (ℕ → List Term) → Assignment
-price_at model set table j = neg_ℚ (factor_of (table (length (sides_of model set) + suc (length model.columns))) (length (sides_of model set) + j))
+price_at model set table j = neg_ℚ (factor_of (table (length (bounding model set) + suc (length model.columns))) (length (bounding model set) + j))
 
 -- then the support is a cheapest weighting, and its cost has a price
 abbrev pub CheapestLaw : Type 0
 CheapestLaw = (model : Program) (set : List Member) (basis : List Place) (table : ℕ → List Term) (y : Assignment) → IsWellFormed model
     → IsLastTable model set basis table y → IsOptimal model set basis table
     → IsPrice model set (price_total model set table) (price_at model set table)
-    × (cost model (support (sides_of model set) y) ≡ price_total model set table)
-    × IsCheapest model set (support (sides_of model set) y)
+    × (cost model (support (bounding model set) y) ≡ price_total model set table)
+    × IsCheapest model set (support (bounding model set) y)
 
 -- ---- combinations in variables
 -- the form of a variable: a column itself, or a row's terms

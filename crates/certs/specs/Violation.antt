@@ -4,11 +4,12 @@ use Rattle.rational.specs.Rational.{ℚ, ◌-ℚ◌, ◌*ℚ◌, neg_ℚ, zero_�
 use Rattle.rational.specs.Sum.{sum_over}
 use Rattle.rational.specs.Linear.{Assignment}
 use Rattle.lp_model.specs.declared.members.Member.{Member}
+use Rattle.lp_model.specs.declared.members.Side.{Side}
 use Rattle.lp_model.specs.declared.members.Side.TheVariants.{Lo, Up}
 use Rattle.lp_model.specs.declared.parts.Weight.{Weight}
 use Rattle.lp_model.specs.declared.parts.Weight.TheVariants.{Soft, Rigid}
 use Rattle.lp_model.specs.Program.{Program}
-use Rattle.lp_model.specs.Members.{value, number, weight, is_same}
+use Rattle.lp_model.specs.Members.{value, number, side, weight, is_same}
 use Rattle.lp_model.specs.Satisfaction.{Point, coordinate, Satisfies}
 use Rattle.certs.specs.declared.evidence.Branch.{Branch}
 use Rattle.certs.specs.declared.evidence.Source.{Source}
@@ -30,9 +31,14 @@ abbrev pub overrun : Option ℚ → ℚ → ℚ
 overrun None v = zero_ℚ
 overrun (Some b) v = larger zero_ℚ (v -ℚ b)
 
--- by how much the worse side of the member is missed, or 0
+-- how far a value is on the wrong side of a number, where the number is there; else 0
+abbrev pub missed_by : Side → Option ℚ → ℚ → ℚ
+missed_by Lo number v = shortfall number v
+missed_by Up number v = overrun number v
+
+-- by how much the member is missed, or 0
 abbrev pub violation : Program → Assignment → Member → ℚ
-violation model x m = larger (shortfall (number model m Lo) (value model m x)) (overrun (number model m Up) (value model m x))
+violation model x m = missed_by (side m) (number model m) (value model m x)
 
 -- whether it is missed at all
 abbrev pub is_violated : Program → Assignment → Member → Bool
@@ -73,7 +79,7 @@ is_of m (Of n) = is_same m n
 is_of m (Below j) = false
 is_of m (Above j) = false
 
--- how much weight the shares put on a member, on both its sides
+-- how much weight the shares put on a member
 abbrev pub weight_on : List Share → Member → ℚ
 weight_on shares m = sum_over (λ s. cond (is_of m s.source) s.weight zero_ℚ) shares
 

@@ -14,10 +14,11 @@ use lp_model::{MemberSet, Model};
 
 /// Whether the combination shows that no point on the path satisfies the set.
 ///
-/// Before any arithmetic it is `No` where a weight is not above 0, or where the set and the path do not have a side that
-/// is named. Then each column is summed: the shares in order, the terms of each in order, factor times weight, and that
-/// plus on `Up` and minus on `Lo`. All sums must be 0. Last comes the right side in the same way, from the numbers on the
-/// sides: it must be below 0. `Wide` comes with the first operation that is too wide, where no test before it fails.
+/// Before any arithmetic it is `No` where a weight is not above 0, or where a source is a mark or one that the set and the
+/// path do not have. Then each column is summed: the shares in order, the terms of each in order, factor times weight, and
+/// that plus where the source is on `Up` and minus on `Lo`. All sums must be 0. Last comes the right side in the same way,
+/// from the sources' numbers: it must be below 0. `Wide` comes with the first operation that is too wide, where no test
+/// before it fails.
 /// A yes shows that no point that keeps the path satisfies the set, and without a path that no point does.
 ///
 /// `sums` is room for one number a column: what it held does not matter.

@@ -1,47 +1,12 @@
-//! What evidence is made of: points, rays, and combinations of sides.
+//! What evidence is made of: points, rays, and combinations of members.
 ghost use Rattle.std.specs.Prelude.{◌≡◌};
+ghost use Rattle.certs.specs.Combination.{source_side};
 
 use frac128::{Frac, Wide};
-use lp_model::{Member, Side};
-use std::marker::Model;
+use lp_model::{Items, Member, Side};
 
 /// A value for each column, as a list.
-#[derive(Drop)]
-pub struct Values {
-    items: Vec<Frac>,
-}
-
-impl Model for Values {
-    ghost use Rattle.std.specs.Prelude.{List};
-    ghost use Rattle.rational.specs.Rational.{ℚ};
-
-    ghost Value = { List ℚ };
-
-    ghost view = { λ v. v.items.items };
-}
-
-impl Values {
-    /// These values.
-    pub fn new(items: Vec<Frac>) -> Values
-        ensures { result ≡ items.items }
-    {
-        Values { items }
-    }
-
-    /// The values.
-    pub fn as_slice(&self) -> &[Frac]
-        ensures { result.now ≡ self.now }
-    {
-        self.items.as_slice()
-    }
-
-    /// The values, given back.
-    pub fn into_vec(self) -> Vec<Frac>
-        ensures { result.items ≡ self }
-    {
-        self.items
-    }
-}
+pub type Values = Items<Frac>;
 
 /// A point: column number j has the value number j.
 #[derive(Drop)]
@@ -63,51 +28,28 @@ pub enum Source {
     Above(u32),
 }
 
-/// A side of a source, so many times. In a combination the weight is above 0.
+impl Source {
+    /// The side on which it bounds its form: what is below bounds it above, and what is above, below.
+    pub fn side(self) -> Side
+        ensures { result ≡ source_side self }
+    {
+        match self {
+            Source::Member(member) => member.side(),
+            Source::Below(_) => Side::Up,
+            Source::Above(_) => Side::Lo,
+        }
+    }
+}
+
+/// A source, so many times. In a combination the weight is above 0.
 #[derive(Clone, Copy, PartialEq, Eq, Debug)]
 pub struct Share {
     pub source: Source,
-    pub side: Side,
     pub weight: Frac,
 }
 
 /// Shares, as a list.
-#[derive(Drop)]
-pub struct Shares {
-    items: Vec<Share>,
-}
-
-impl Model for Shares {
-    ghost use Rattle.std.specs.Prelude.{List};
-    ghost use Rattle.certs.specs.declared.evidence.Share.{Share};
-
-    ghost Value = { List Share };
-
-    ghost view = { λ s. s.items.items };
-}
-
-impl Shares {
-    /// These shares.
-    pub fn new(items: Vec<Share>) -> Shares
-        ensures { result ≡ items.items }
-    {
-        Shares { items }
-    }
-
-    /// The shares.
-    pub fn as_slice(&self) -> &[Share]
-        ensures { result.now ≡ self.now }
-    {
-        self.items.as_slice()
-    }
-
-    /// The shares, given back.
-    pub fn into_vec(self) -> Vec<Share>
-        ensures { result.items ≡ self }
-    {
-        self.items
-    }
-}
+pub type Shares = Items<Share>;
 
 /// A combination: shares that are to add up to a contradiction.
 #[derive(Drop)]
@@ -123,42 +65,7 @@ pub enum Node {
 }
 
 /// The nodes of a proof, as a list: each before its children, the lower child first.
-#[derive(Drop)]
-pub struct Nodes {
-    items: Vec<Node>,
-}
-
-impl Model for Nodes {
-    ghost use Rattle.std.specs.Prelude.{List};
-    ghost use Rattle.certs.specs.declared.evidence.Node.{Node};
-
-    ghost Value = { List Node };
-
-    ghost view = { λ n. n.items.items };
-}
-
-impl Nodes {
-    /// These nodes.
-    pub fn new(items: Vec<Node>) -> Nodes
-        ensures { result ≡ items.items }
-    {
-        Nodes { items }
-    }
-
-    /// The nodes.
-    pub fn as_slice(&self) -> &[Node]
-        ensures { result.now ≡ self.now }
-    {
-        self.items.as_slice()
-    }
-
-    /// The nodes, given back.
-    pub fn into_vec(self) -> Vec<Node>
-        ensures { result.items ≡ self }
-    {
-        self.items
-    }
-}
+pub type Nodes = Items<Node>;
 
 /// A proof by branches that no point satisfies a set.
 #[derive(Drop)]

@@ -21,7 +21,7 @@ pub use evidence::{
 pub use lp_model::{Member, MemberSet, Side};
 pub use naming::{members_used, named_combo};
 pub use oracles::{BranchAsk, Oracle, Stretcher};
-pub use ordering::{are_in_order, side_stands_before};
+pub use ordering::{are_in_order, stands_before};
 pub use plain_systems::plain_system;
 pub use points::check_point;
 pub use solving::{Irreducible, NodeEnd, Path, Site, SiteKind, Stop, Stretched, Verdict};

@@ -11,14 +11,15 @@ ghost use Rattle.certs.specs.Plain.{plain_system, rows_in};
 ghost use Rattle.certs.specs.Violation.{is_of};
 
 use crate::evidence::{Branch, Combo, Node, Proof, Share, Shares, Source};
-use crate::plain_systems::limit_source;
+use crate::plain_systems::{has_row, limit_source};
 use lp_model::{Member, MemberSet, Model, Side};
 use std::alloc::{AllocError, Global};
 
-/// A combination of a plain system, whose shares name rows and limits of that system, as one of the program on the path.
+/// A combination of a plain system, whose shares name sides of rows and limits of that system, as one of the program on the
+/// path.
 ///
-/// Each row becomes the program's row that it stands for, on the same side; each limit the bound that gave it, or the
-/// branches where the path gave it. Weights stay. The shares of members come first, in the order in which they stood,
+/// Each side of a row becomes the member that it stands for; each limit the bound that gave it, or the branches where the
+/// path gave it. Weights stay. The shares of members come first, in the order in which they stood,
 /// and then those of branches by column, `Below` before `Above`.
 pub fn named_combo(
     alloc: Global,
@@ -46,14 +47,14 @@ pub fn named_combo(
     })
 }
 
-// The numbers of the set's rows.
+// The numbers of the rows of which the set has a side.
 fn set_rows(alloc: Global, model: &Model, set: &MemberSet) -> Result<Vec<u32>, AllocError>
     requires same { IsSetOf model.now set.now }
     ensures { IfOk result (λ rows. rows.items ≡ rows_in model.now set.now.members) }
 {
     let mut rows = Vec::new(alloc);
     for row in 0..model.row_count() {
-        if set.contains(Member::Row(row)) {
+        if has_row(set, row) {
             rows.push(row)?;
         }
     }
@@ -70,12 +71,11 @@ fn translated(model: &Model, set: &MemberSet, path: &[Branch], rows: &[u32], sha
 {
     Share {
         source: stands_for(model, set, path, rows, share.source),
-        side: share.side,
         weight: share.weight,
     }
 }
 
-// What a row or a limit of the system stands for.
+// What a side of a row or a limit of the system stands for.
 fn stands_for(
     model: &Model,
     set: &MemberSet,
@@ -93,7 +93,8 @@ fn stands_for(
         return source;
     };
     match member {
-        Member::Row(row) => Source::Member(Member::Row(rows[row as usize])),
+        Member::RowLo(row) => Source::Member(Member::RowLo(rows[row as usize])),
+        Member::RowUp(row) => Source::Member(Member::RowUp(rows[row as usize])),
         Member::Lower(column) => limit_source(model, set, path, column, Side::Lo),
         Member::Upper(column) => limit_source(model, set, path, column, Side::Up),
         Member::Whole(_) => source,

@@ -1,18 +1,18 @@
-//! The sides of members and of paths.
+//! The numbers that members and paths ask for.
 ghost use Rattle.std.specs.Prelude.{◌≡◌, ◌&&◌, Some, None, is_some, All, IfSome, ◌≤◌, unsigned_abs};
 ghost use Rattle.std.specs.Option.{option_map};
 ghost use Rattle.rational.specs.Rational.{whole, zero_ℚ, lt_q};
 ghost use Rattle.frac128.specs.Limit.{limit};
 ghost use Rattle.lp_model.specs.Members.{number, has};
-ghost use Rattle.certs.specs.Combination.{source_number as number_of_source, least_upper as least_on, greatest_lower as greatest_on, lesser as lesser_of, greater as greater_of, on_side as number_on, IsFitting};
+ghost use Rattle.certs.specs.Combination.{source_number as number_of_source, least_upper as least_on, greatest_lower as greatest_on, lesser as lesser_of, greater as greater_of, IsFitting};
 ghost use Rattle.certs.specs.Checks.{IsSetOf, there_test, usable_test};
 
 use crate::evidence::{Branch, Share, Source};
 use crate::points::is_present;
 use frac128::Frac;
-use lp_model::{Member, MemberSet, Model, Side};
+use lp_model::{Member, MemberSet, Model};
 
-/// Whether each share has a weight above 0, and a side that the set and the path have.
+/// Whether each share has a weight above 0, and a source that the set and the path have, with a number.
 pub(crate) fn are_usable(model: &Model, set: &MemberSet, path: &[Branch], shares: &[Share]) -> bool
     requires fitting { All IsFitting path.now }
     requires same { IsSetOf model.now set.now }
@@ -49,72 +49,55 @@ pub(crate) fn is_less(a: Frac, b: Frac) -> bool
     a < b
 }
 
-// Whether the set or the path has the side of a share.
+// Whether the set or the path has the source of a share, with a number.
 fn is_there(model: &Model, set: &MemberSet, path: &[Branch], share: &Share) -> bool
     requires fitting { All IsFitting path.now }
     requires same { IsSetOf model.now set.now }
     ensures { result ≡ there_test model.now set.now.members path.now share.now }
 {
     match share.source {
-        Source::Member(member) => is_member_there(model, set, member, share.side),
-        Source::Below(_) => source_number(model, path, share.source, share.side).is_some(),
-        Source::Above(_) => source_number(model, path, share.source, share.side).is_some(),
+        Source::Member(member) => is_member_there(model, set, member),
+        Source::Below(_) => source_number(model, path, share.source).is_some(),
+        Source::Above(_) => source_number(model, path, share.source).is_some(),
     }
 }
 
-// Whether the set has the member, and the member the side.
-fn is_member_there(model: &Model, set: &MemberSet, member: Member, side: Side) -> bool
+// Whether the set has the member, and the member asks for a number.
+fn is_member_there(model: &Model, set: &MemberSet, member: Member) -> bool
     requires { IsSetOf model.now set.now }
-    ensures { result ≡ (has set.now.members member && is_some (number model.now member side)) }
+    ensures { result ≡ (has set.now.members member && is_some (number model.now member)) }
 {
     if !is_present(model, member) {
         return false;
     }
-    set.contains(member) && member_number(model, member, side).is_some()
+    set.contains(member) && member_number(model, member).is_some()
 }
 
-/// The number on a side of a source, where it has that side.
-pub(crate) fn source_number(
-    model: &Model,
-    path: &[Branch],
-    source: Source,
-    side: Side,
-) -> Option<Frac>
+/// The number that a source asks for, where there is one.
+pub(crate) fn source_number(model: &Model, path: &[Branch], source: Source) -> Option<Frac>
     requires { All IsFitting path.now }
-    ensures { result ≡ number_of_source model.now path.now source side }
+    ensures { result ≡ number_of_source model.now path.now source }
 {
     match source {
-        Source::Member(member) => member_number(model, member, side),
-        Source::Below(column) => on_side(side, None, as_fraction(least_upper(path, column))),
-        Source::Above(column) => on_side(side, as_fraction(greatest_lower(path, column)), None),
+        Source::Member(member) => member_number(model, member),
+        Source::Below(column) => as_fraction(least_upper(path, column)),
+        Source::Above(column) => as_fraction(greatest_lower(path, column)),
     }
 }
 
-// The number on a side of a member, where it has that side.
-fn member_number(model: &Model, member: Member, side: Side) -> Option<Frac>
-    ensures { result ≡ number model.now member side }
+// The number that a member asks for, where it is there; a mark asks for none.
+fn member_number(model: &Model, member: Member) -> Option<Frac>
+    ensures { result ≡ number model.now member }
 {
     if !is_present(model, member) {
         return None;
     }
     match member {
-        Member::Row(index) => {
-            let row = model.row(index);
-            on_side(side, row.lo, row.up)
-        }
-        Member::Lower(index) => on_side(side, model.column(index).lo, None),
-        Member::Upper(index) => on_side(side, None, model.column(index).up),
+        Member::RowLo(index) => model.row(index).lo,
+        Member::RowUp(index) => model.row(index).up,
+        Member::Lower(index) => model.column(index).lo,
+        Member::Upper(index) => model.column(index).up,
         Member::Whole(_) => None,
-    }
-}
-
-// The one of two that stands on the side.
-fn on_side(side: Side, lo: Option<Frac>, up: Option<Frac>) -> Option<Frac>
-    ensures { result ≡ number_on side lo up }
-{
-    match side {
-        Side::Lo => lo,
-        Side::Up => up,
     }
 }
 

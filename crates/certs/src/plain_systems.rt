@@ -7,7 +7,7 @@ ghost use Rattle.certs.specs.Combination.{IsFitting};
 ghost use Rattle.certs.specs.Ended.{numbers_from};
 ghost use Rattle.certs.specs.Rows.{row_of};
 ghost use Rattle.lp_model.specs.MemberSets.{IsPossibleIn};
-ghost use Rattle.certs.specs.Plain.{column_limits, greatest_objective as objective_of, is_lowered as allows_less, is_raised as asks_more, limit_number as number_of, limit_of as limit_on, limit_source as source_of, negated as opposite, number_in as number_within, plain_row as row_of_program, plain_system as system_of, rows_in};
+ghost use Rattle.certs.specs.Plain.{column_limits, greatest_objective as objective_of, has_row as has_side, is_lowered as allows_less, is_raised as asks_more, limit_number as number_of, limit_of as limit_on, limit_source as source_of, negated as opposite, number_in as number_within, plain_row as row_of_program, plain_system as system_of, rows_in};
 
 use crate::evidence::{Branch, Source};
 use crate::numbers::{is_less, source_number};
@@ -17,7 +17,7 @@ use lp_model::{Member, MemberSet, Model, Row, Side, Term, Terms, Weight};
 use std::alloc::{AllocError, Global};
 
 /// The system of a set on a path, marks left out: all columns of the program, each limited by the set's bounds and by the
-/// path where that is strictly tighter; the set's rows in order; and the program's objective exactly where `objective` is
+/// path where that is strictly tighter; the rows of which the set has a side, in order, each with those sides; and the program's objective exactly where `objective` is
 /// true, negated where it is to be made least.
 ///
 /// The branches are on columns of the program, with numbers of magnitude at most 2^127 - 1.
@@ -78,16 +78,16 @@ pub(crate) fn limit_source(
 {
     match side {
         Side::Lo => {
-            let bound = number_in(model, set, Member::Lower(column), Side::Lo);
-            let branch = source_number(model, path, Source::Above(column), Side::Lo);
+            let bound = number_in(model, set, Member::Lower(column));
+            let branch = source_number(model, path, Source::Above(column));
             if is_raised(bound, branch) {
                 return Source::Above(column);
             }
             Source::Member(Member::Lower(column))
         }
         Side::Up => {
-            let bound = number_in(model, set, Member::Upper(column), Side::Up);
-            let branch = source_number(model, path, Source::Below(column), Side::Up);
+            let bound = number_in(model, set, Member::Upper(column));
+            let branch = source_number(model, path, Source::Below(column));
             if is_lowered(bound, branch) {
                 return Source::Below(column);
             }
@@ -122,16 +122,16 @@ fn is_lowered(bound: Option<Frac>, branch: Option<Frac>) -> bool
     }
 }
 
-// The number on a side of a member, where the set has the member.
-fn number_in(model: &Model, set: &MemberSet, member: Member, side: Side) -> Option<Frac>
+// The number that a member asks for, where the set has the member.
+fn number_in(model: &Model, set: &MemberSet, member: Member) -> Option<Frac>
     requires possible { IsPossibleIn set.now member }
     requires same { IsSetOf model.now set.now }
-    ensures { result ≡ number_within model.now set.now.members member side }
+    ensures { result ≡ number_within model.now set.now.members member }
 {
     if !set.contains(member) {
         return None;
     }
-    source_number(model, &[], Source::Member(member), side)
+    source_number(model, &[], Source::Member(member))
 }
 
 // The limit of a column on a side.
@@ -149,37 +149,48 @@ fn limit_of(
 {
     let source = limit_source(model, set, path, column, side);
     if let Source::Member(member) = source {
-        return number_in(model, set, member, side);
+        return number_in(model, set, member);
     }
-    source_number(model, path, source, side)
+    source_number(model, path, source)
 }
 
-// The rows of the set.
+/// Whether the set has a side of a row.
+pub(crate) fn has_row(set: &MemberSet, row: u32) -> bool
+    requires { row < set.now.rows }
+    ensures { result ≡ has_side set.now.members row }
+{
+    set.contains(Member::RowLo(row)) || set.contains(Member::RowUp(row))
+}
+
+// The rows of which the set has a side.
 fn plain_rows(alloc: Global, model: &Model, set: &MemberSet) -> Result<Vec<Row>, AllocError>
     requires same { IsSetOf model.now set.now }
-    ensures { IfOk result (λ rows. map row_of rows.items ≡ map (row_of_program model.now) (rows_in model.now set.now.members)) }
+    ensures { IfOk result (λ rows. map row_of rows.items ≡ map (row_of_program model.now set.now.members) (rows_in model.now set.now.members)) }
 {
     let mut rows = Vec::new(alloc);
     for row in 0..model.row_count() {
-        if set.contains(Member::Row(row)) {
-            rows.push(plain_row(alloc, model, row)?)?;
+        if has_row(set, row) {
+            rows.push(plain_row(alloc, model, set, row)?)?;
         }
     }
     Ok(rows)
 }
 
-// A row of the program, with both its sides.
-fn plain_row(alloc: Global, model: &Model, index: u32) -> Result<Row, AllocError>
+// A row of the program, with those of its sides that the set has.
+fn plain_row(alloc: Global, model: &Model, set: &MemberSet, index: u32) -> Result<Row, AllocError>
     requires known { index < length model.now.rows }
-    ensures { IfOk result (λ row. row_of row ≡ row_of_program model.now index) }
+    requires same { IsSetOf model.now set.now }
+    ensures { IfOk result (λ row. row_of row ≡ row_of_program model.now set.now.members index) }
 {
     let row = model.row(index);
     Ok(Row {
         terms: Terms::new(Vec::from_slice(alloc, row.terms.as_slice())?),
-        lo: row.lo,
-        up: row.up,
-        active: true,
-        weight: Weight::Soft(Frac::whole(1)),
+        lo: number_in(model, set, Member::RowLo(index)),
+        up: number_in(model, set, Member::RowUp(index)),
+        lo_active: true,
+        up_active: true,
+        lo_weight: Weight::Soft(Frac::whole(1)),
+        up_weight: Weight::Soft(Frac::whole(1)),
     })
 }
 

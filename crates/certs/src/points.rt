@@ -64,7 +64,8 @@ pub(crate) fn is_present(model: &Model, member: Member) -> bool
     ensures in_range { IsTrue result → IsInRange model.now member }
 {
     let known = match member {
-        Member::Row(index) => index < model.row_count(),
+        Member::RowLo(index) => index < model.row_count(),
+        Member::RowUp(index) => index < model.row_count(),
         Member::Lower(index) => index < model.column_count(),
         Member::Upper(index) => index < model.column_count(),
         Member::Whole(index) => index < model.column_count(),

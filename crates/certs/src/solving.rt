@@ -1,10 +1,8 @@
 //! What solvers are asked and what they answer.
-ghost use Rattle.std.specs.Prelude.{◌≡◌};
 
 use crate::evidence::{Branch, Combo, Point, Proof};
 use frac128::Wide;
-use lp_model::MemberSet;
-use std::marker::Model;
+use lp_model::{Items, MemberSet};
 
 /// Which system a run is of, and whether it goes on to improve the objective.
 #[derive(Clone, Copy, PartialEq, Eq, Debug)]
@@ -22,42 +20,7 @@ pub enum SiteKind {
 }
 
 /// The branches on the way to a node, as a list.
-#[derive(Drop)]
-pub struct Path {
-    items: Vec<Branch>,
-}
-
-impl Model for Path {
-    ghost use Rattle.std.specs.Prelude.{List};
-    ghost use Rattle.certs.specs.declared.evidence.Branch.{Branch};
-
-    ghost Value = { List Branch };
-
-    ghost view = { λ p. p.items.items };
-}
-
-impl Path {
-    /// These branches.
-    pub fn new(items: Vec<Branch>) -> Path
-        ensures { result ≡ items.items }
-    {
-        Path { items }
-    }
-
-    /// The branches.
-    pub fn as_slice(&self) -> &[Branch]
-        ensures { result.now ≡ self.now }
-    {
-        self.items.as_slice()
-    }
-
-    /// The branches, given back.
-    pub fn into_vec(self) -> Vec<Branch>
-        ensures { result.items ≡ self }
-    {
-        self.items
-    }
-}
+pub type Path = Items<Branch>;
 
 /// The run at which a solve stopped: the set, its enforced part, and the branches.
 #[derive(Drop)]

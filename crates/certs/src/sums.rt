@@ -4,9 +4,10 @@ ghost use Rattle.rational.specs.Rational.{◌+ℚ◌, ◌*ℚ◌, zero_ℚ, eq_�
 ghost use Rattle.frac128.specs.Limit.{limit};
 ghost use Rattle.frac128.specs.Width.{operation, is_wide};
 ghost use Rattle.frac128.specs.Calculation.{first_wide};
+ghost use Rattle.lp_model.specs.Program.{row_at};
 ghost use Rattle.lp_model.specs.Members.{column_form, form};
 ghost use Rattle.lp_model.specs.Satisfaction.{values_at};
-ghost use Rattle.certs.specs.Combination.{source_form, signed, column_sum, right_side as right_of, IsFitting};
+ghost use Rattle.certs.specs.Combination.{source_form, source_side, signed, column_sum, right_side as right_of, IsFitting};
 ghost use Rattle.certs.specs.Checks.{every, sign_of, share_operations, added_at, sums_after, form_operations, column_operations, right_operations};
 
 use crate::evidence::{Branch, Share, Source};
@@ -32,14 +33,15 @@ pub(crate) fn add_shares(model: &Model, shares: &[Share], sums: &mut [Frac]) -> 
 fn add_share(model: &Model, share: &Share, sums: &mut [Frac]) -> Result<(), Wide>
     requires { All (λ t. t.column < length sums.old) (source_form model.now share.now.source) }
     ensures { MatchResult result
-        (λ done. (first_wide limit (form_operations (values_at sums.old) share.now.side share.now.weight (source_form model.now share.now.source)) ≡ None)
-        × (values_at sums.new ≡ sums_after (values_at sums.old) share.now.side share.now.weight (source_form model.now share.now.source)))
-        (λ w. first_wide limit (form_operations (values_at sums.old) share.now.side share.now.weight (source_form model.now share.now.source)) ≡ Some w) }
+        (λ done. (first_wide limit (form_operations (values_at sums.old) (source_side share.now.source) share.now.weight (source_form model.now share.now.source)) ≡ None)
+        × (values_at sums.new ≡ sums_after (values_at sums.old) (source_side share.now.source) share.now.weight (source_form model.now share.now.source)))
+        (λ w. first_wide limit (form_operations (values_at sums.old) (source_side share.now.source) share.now.weight (source_form model.now share.now.source)) ≡ Some w) }
 {
+    let side = share.source.side();
     match share.source {
-        Source::Member(member) => add_member(model, member, share.side, share.weight, sums),
-        Source::Below(column) => add_column(column, share.side, share.weight, sums),
-        Source::Above(column) => add_column(column, share.side, share.weight, sums),
+        Source::Member(member) => add_member(model, member, side, share.weight, sums),
+        Source::Below(column) => add_column(column, side, share.weight, sums),
+        Source::Above(column) => add_column(column, side, share.weight, sums),
     }
 }
 
@@ -58,7 +60,8 @@ fn add_member(
         (λ w. first_wide limit (form_operations (values_at sums.old) side weight (form model.now member)) ≡ Some w) }
 {
     match member {
-        Member::Row(index) => add_row(model, index, side, weight, sums),
+        Member::RowLo(index) => add_row(model, index, side, weight, sums),
+        Member::RowUp(index) => add_row(model, index, side, weight, sums),
         Member::Lower(column) => add_column(column, side, weight, sums),
         Member::Upper(column) => add_column(column, side, weight, sums),
         Member::Whole(column) => add_column(column, side, weight, sums),
@@ -73,11 +76,11 @@ fn add_row(
     weight: Frac,
     sums: &mut [Frac],
 ) -> Result<(), Wide>
-    requires { All (λ t. t.column < length sums.old) (form model.now (Member.Row index)) }
+    requires { All (λ t. t.column < length sums.old) (row_at model.now index).terms }
     ensures { MatchResult result
-        (λ done. (first_wide limit (form_operations (values_at sums.old) side weight (form model.now (Member.Row index))) ≡ None)
-        × (values_at sums.new ≡ sums_after (values_at sums.old) side weight (form model.now (Member.Row index))))
-        (λ w. first_wide limit (form_operations (values_at sums.old) side weight (form model.now (Member.Row index))) ≡ Some w) }
+        (λ done. (first_wide limit (form_operations (values_at sums.old) side weight (row_at model.now index).terms) ≡ None)
+        × (values_at sums.new ≡ sums_after (values_at sums.old) side weight (row_at model.now index).terms))
+        (λ w. first_wide limit (form_operations (values_at sums.old) side weight (row_at model.now index).terms) ≡ Some w) }
 {
     if index >= model.row_count() {
         return Ok(());
@@ -182,8 +185,8 @@ pub(crate) fn right_side(model: &Model, path: &[Branch], shares: &[Share]) -> Re
     let zero = Frac::whole(0);
     let mut sum = zero;
     for share in shares {
-        let number = source_number(model, path, share.source, share.side).unwrap_or(zero);
-        sum = added(sum, share.side, number, share.weight)?;
+        let number = source_number(model, path, share.source).unwrap_or(zero);
+        sum = added(sum, share.source.side(), number, share.weight)?;
     }
     Ok(sum)
 }

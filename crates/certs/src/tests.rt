@@ -1,32 +1,15 @@
 //! A program of the rows 3x + 3y <= 1, 2x + 2y >= 1 and x + y >= 1/2, where x is at least 3 and at most 2, and evidence
 //! of what it cannot do.
-ghost use Rattle.std.specs.Prelude.{◌≡◌, ◌≢◌, ◌<◌, ℕ, false, List, IfOk};
+ghost use Rattle.std.specs.Prelude.{◌≡◌, ◌≢◌, ◌<◌, ℕ, false, IfOk};
 ghost use Rattle.rational.specs.Rational.{zero_ℚ};
-ghost use Rattle.lp_model.specs.Program.{IsForm, IsWellFormedColumn};
-ghost use Rattle.lp_model.specs.Shown.{named_column};
+ghost use Rattle.lp_model.specs.Program.{IsForm};
 ghost use Rattle.certs.specs.Checks.{IsSetOf};
 
 use super::*;
 use frac128::{Frac, Op, Wide};
-use lp_model::{Column, Model, ModelStop, Row, Term, Terms, Weight};
+use lp_model::{Column, Model, ModelStop, Row, Term, Terms};
 use std::alloc::{AllocError, Global};
 use std::test::Fail;
-
-// A column between these, without a mark.
-fn column(lo: i64, up: i64) -> Column
-    ensures { (name : List ℕ) → IsWellFormedColumn (named_column name result) }
-{
-    Column {
-        lo: Some(Frac::whole(lo)),
-        up: Some(Frac::whole(up)),
-        whole: false,
-        lower_active: true,
-        upper_active: true,
-        whole_active: true,
-        lower_weight: Weight::Rigid,
-        upper_weight: Weight::Rigid,
-    }
-}
 
 // Puts a column last.
 fn add_column(
@@ -36,7 +19,8 @@ fn add_column(
     lo: i64,
     up: i64,
 ) -> Result<(), ModelStop> {
-    model.add_column(alloc, name, column(lo, up))?;
+    let column = Column::new(Some(Frac::whole(lo)), Some(Frac::whole(up)), false);
+    model.add_column(alloc, name, column)?;
     Ok(())
 }
 
@@ -49,20 +33,6 @@ fn both(alloc: Global, factor: Frac) -> Result<Terms, AllocError>
     items.push(Term { column: 0, factor })?;
     items.push(Term { column: 1, factor })?;
     Ok(Terms::new(items))
-}
-
-// A row of these terms.
-fn row(terms: Terms, lo: Option<Frac>, up: Option<Frac>) -> Row
-    ensures terms { result.terms ≡ terms }
-    ensures weight { result.weight ≡ Weight.Rigid }
-{
-    Row {
-        terms,
-        lo,
-        up,
-        active: true,
-        weight: Weight::Rigid,
-    }
 }
 
 // Whether a factor is 0.
@@ -91,7 +61,7 @@ fn add_both(
     let Ok(terms) = both(alloc, factor) else {
         return Err(ModelStop::Memory);
     };
-    model.add_row(alloc, name, row(terms, lo, up))?;
+    model.add_row(alloc, name, Row::new(terms, lo, up))?;
     Ok(())
 }
 
@@ -113,11 +83,14 @@ fn put(model: &Model, set: &mut MemberSet, member: Member)
     ensures { IsSetOf model.now set.new }
 {
     let most = match member {
-        Member::Row(_) => model.row_count(),
+        Member::RowLo(_) | Member::RowUp(_) => model.row_count(),
         _ => model.column_count(),
     };
-    let (Member::Row(index) | Member::Lower(index) | Member::Upper(index) | Member::Whole(index)) =
-        member;
+    let (Member::RowLo(index)
+    | Member::RowUp(index)
+    | Member::Lower(index)
+    | Member::Upper(index)
+    | Member::Whole(index)) = member;
     if index < most {
         set.insert(member);
     }
@@ -144,16 +117,15 @@ fn number(parts: Parts) -> Frac {
     }
 }
 
-// Sides of two sources, each so many times.
-type Uses = [(Source, Side, Parts); 2];
+// Two sources, each so many times.
+type Uses = [(Source, Parts); 2];
 
 // The combination of the uses.
 fn combo(alloc: Global, uses: Uses) -> Result<Combo, AllocError> {
     let mut shares = Vec::new(alloc);
-    for (source, side, parts) in uses {
+    for (source, parts) in uses {
         shares.push(Share {
             source,
-            side,
             weight: number(parts),
         })?;
     }
@@ -239,65 +211,52 @@ fn say_of(alloc: Global, members: [Member; 2], x: Parts, y: Parts) -> Result<Che
 
 const MOST: Parts = (i128::MAX, 1);
 
-const FIRST: Member = Member::Row(0);
+const FIRST: Member = Member::RowUp(0);
 
-const SECOND: Member = Member::Row(1);
+const SECOND: Member = Member::RowLo(1);
 
-const THIRD: Member = Member::Row(2);
+// The side that the first row does not have.
+const ABSENT: Member = Member::RowLo(0);
+
+const THIRD: Member = Member::RowLo(2);
 
 const LOWER: Member = Member::Lower(0);
 
 const UPPER: Member = Member::Upper(0);
 
-// A side of a member, so many times.
-fn side_of(member: Member, side: Side, weight: Parts) -> (Source, Side, Parts) {
-    (Source::Member(member), side, weight)
+// A member, so many times.
+fn of(member: Member, weight: Parts) -> (Source, Parts) {
+    (Source::Member(member), weight)
 }
 
 #[test]
 fn combinations(rt: HostRuntime) -> Result<(), Fail> {
-    let first = side_of(FIRST, Side::Up, (1, 1));
-    let second = side_of(SECOND, Side::Lo, (3, 2));
-    let third = side_of(THIRD, Side::Lo, (3, 1));
-    let lower = side_of(LOWER, Side::Lo, (1, 1));
-    let upper = side_of(UPPER, Side::Up, (1, 1));
+    let first = of(FIRST, (1, 1));
+    let second = of(SECOND, (3, 2));
+    let third = of(THIRD, (3, 1));
     let table = [
         // The right side is 1 - 3/2.
         ([FIRST, THIRD], [first, third], Want::Yes),
         ([FIRST, SECOND], [first, second], Want::Yes),
         // The right side is 2 - 3.
-        ([LOWER, UPPER], [lower, upper], Want::Yes),
+        (
+            [LOWER, UPPER],
+            [of(LOWER, (1, 1)), of(UPPER, (1, 1))],
+            Want::Yes,
+        ),
         // The columns do not cancel.
-        (
-            [FIRST, SECOND],
-            [first, side_of(SECOND, Side::Lo, (1, 1))],
-            Want::No,
-        ),
-        // The set does not have the second row.
+        ([FIRST, SECOND], [first, of(SECOND, (1, 1))], Want::No),
+        // The set does not have the second row, or has the other side of the first.
         ([FIRST, THIRD], [first, second], Want::No),
+        ([ABSENT, SECOND], [first, second], Want::No),
         // A weight that is not above 0, and a side that is not there.
-        (
-            [FIRST, SECOND],
-            [first, side_of(SECOND, Side::Lo, (0, 1))],
-            Want::No,
-        ),
-        (
-            [FIRST, SECOND],
-            [side_of(FIRST, Side::Lo, (1, 1)), second],
-            Want::No,
-        ),
+        ([FIRST, SECOND], [first, of(SECOND, (0, 1))], Want::No),
+        ([ABSENT, SECOND], [of(ABSENT, (1, 1)), second], Want::No),
         // The test of the weights comes before any arithmetic.
+        ([FIRST, THIRD], [of(FIRST, MOST), third], Want::Wide),
         (
             [FIRST, THIRD],
-            [side_of(FIRST, Side::Up, MOST), third],
-            Want::Wide,
-        ),
-        (
-            [FIRST, THIRD],
-            [
-                side_of(FIRST, Side::Up, MOST),
-                side_of(THIRD, Side::Lo, (0, 1)),
-            ],
+            [of(FIRST, MOST), of(THIRD, (0, 1))],
             Want::No,
         ),
     ];
@@ -309,15 +268,15 @@ fn combinations(rt: HostRuntime) -> Result<(), Fail> {
 
 #[test]
 fn branches(rt: HostRuntime) -> Result<(), Fail> {
-    let below = (Source::Below(0), Side::Up, (1, 1));
+    let below = (Source::Below(0), (1, 1));
     let table = [
         // The right side is 3 - 4.
-        ((Source::Above(0), Side::Lo, (1, 1)), Want::Yes),
+        ((Source::Above(0), (1, 1)), Want::Yes),
         // The column does not cancel.
-        ((Source::Above(0), Side::Lo, (2, 1)), Want::No),
-        // The path says nothing of the column y, and no lower side comes from a greatest number.
-        ((Source::Above(1), Side::Lo, (1, 1)), Want::No),
-        ((Source::Below(0), Side::Lo, (1, 1)), Want::No),
+        ((Source::Above(0), (2, 1)), Want::No),
+        // The path says nothing of the column y.
+        ((Source::Above(1), (1, 1)), Want::No),
+        ((Source::Below(1), (1, 1)), Want::No),
     ];
     for (other, want) in table {
         assert!(rt; is_wanted(say_apart(rt.alloc(), [below, other])?, want));
@@ -332,8 +291,9 @@ fn points(rt: HostRuntime) -> Result<(), Fail> {
         ([FIRST, SECOND], (0, 1), (0, 1), Want::No),
         ([SECOND, THIRD], (1, 1), (1, 1), Want::Yes),
         ([LOWER, UPPER], (1, 1), (1, 1), Want::No),
-        // A mark that the column does not have.
+        // A mark that the column does not have, and a side that the row does not have.
         ([UPPER, Member::Whole(0)], (1, 1), (1, 1), Want::Yes),
+        ([ABSENT, ABSENT], (-9, 1), MOST, Want::Yes),
         ([FIRST, SECOND], (0, 1), MOST, Want::Wide),
     ];
     for (members, x, y, want) in table {

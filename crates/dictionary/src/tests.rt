@@ -10,7 +10,7 @@ use super::*;
 use crate::numbers::is_zero;
 use certs::{Limits, System};
 use frac128::Frac;
-use lp_model::{Row, Term, Terms, Weight};
+use lp_model::{Row, Term, Terms};
 use std::alloc::{AllocError, Global};
 use std::test::Fail;
 
@@ -41,13 +41,7 @@ fn system(alloc: Global) -> Result<System, AllocError> {
     columns.push(limits)?;
     columns.push(limits)?;
     let mut rows = Vec::new(alloc);
-    rows.push(Row {
-        terms: terms(alloc)?,
-        lo: Some(Frac::whole(3)),
-        up: None,
-        active: true,
-        weight: Weight::Rigid,
-    })?;
+    rows.push(Row::new(terms(alloc)?, Some(Frac::whole(3)), None))?;
     Ok(System {
         columns,
         rows,

@@ -14,17 +14,18 @@ use Rattle.rational.proofs.Order.{le_by, lt_by, lt-le_trans_ℚ, lt-le_clash_ℚ
 use Rattle.rational.proofs.Whole.{whole-num, whole-whole, whole-add, whole-mul, whole-le, whole-lt, lt-floor}
 use Rattle.rational.proofs.Forms.{linear_law}
 use Rattle.lp_model.specs.declared.members.Member.{Member}
-use Rattle.lp_model.specs.declared.members.Member.TheVariants.{Row, Lower, Upper, Whole}
+use Rattle.lp_model.specs.declared.members.Member.TheVariants.{RowLo, RowUp, Lower, Upper, Whole}
+use Rattle.lp_model.specs.declared.members.Side.{Side}
 use Rattle.lp_model.specs.declared.members.Side.TheVariants.{Lo, Up}
 use Rattle.lp_model.specs.Program.{Program, row_at}
-use Rattle.lp_model.specs.Members.{value, number, is_mark}
-use Rattle.lp_model.specs.Satisfaction.{Point, coordinate, values_at, IsAtLeast, IsAtMost, KeepsSides, Holds, Satisfies}
+use Rattle.lp_model.specs.Members.{value, number, side, is_mark}
+use Rattle.lp_model.specs.Satisfaction.{Point, coordinate, values_at, Holds, Satisfies}
 use Rattle.lp_model.proofs.Points.{common_denominator}
 use Rattle.certs.specs.declared.evidence.Share.{Share}
 use Rattle.certs.specs.Combination.{column_sum, KeepsBranch}
-use Rattle.certs.specs.Bound.{objective_value, directed, IsBetter, KeepsRay, IsImproving, Unbounded, without_marks, BoundLaw, ValidBoundLaw, RayLaw}
+use Rattle.certs.specs.Bound.{objective_value, directed, IsBetter, IsKeptOn, KeepsRay, IsImproving, Unbounded, without_marks, BoundLaw, ValidBoundLaw, RayLaw}
 use Rattle.certs.proofs.Lists.{All-passed}
-use Rattle.certs.proofs.Sides.{left_side, left_side-is, left-le-right}
+use Rattle.certs.proofs.Sides.{left_side, left_side-is, left-le-right, KeepsSide, member_keeps}
 use Rattle.certs.proofs.Refuted.{positive_nonneg}
 
 -- ---- the form with each factor negated
@@ -133,25 +134,19 @@ along_path : (p r : Point) (k : ℕ) → coordinate (along p r k) ≡ (λ j. coo
 along_path p r k = λ i. λ j. along_is p r k j i
 
 -- ---- what holds, holds further on
-lo_kept : (o : Option ℚ) (v r s : ℚ) → IsAtLeast o v → (IsSome o → zero_ℚ ≤ℚ r) → zero_ℚ ≤ℚ s → IsAtLeast o (v +ℚ s *ℚ r)
-lo_kept None v r s h k l = tt
-lo_kept (Some b) v r s h k l = le_by (b ∷ v ∷ r ∷ s ∷ []) x0 (x1 :+ x3 :* x2) ((x1 :- x0) :+ x3 :* x2) (nonneg-add (nonneg_of_le h) (nonneg-mul (nonneg_is.0 l) (nonneg_is.0 (k refl)))) tt
-
-up_kept : (o : Option ℚ) (v r s : ℚ) → IsAtMost o v → (IsSome o → r ≤ℚ zero_ℚ) → zero_ℚ ≤ℚ s → IsAtMost o (v +ℚ s *ℚ r)
-up_kept None v r s h k l = tt
-up_kept (Some b) v r s h k l = le_by (b ∷ v ∷ r ∷ s ∷ []) (x1 :+ x3 :* x2) x0 ((x0 :- x1) :+ x3 :* (zero_of :- x2)) (nonneg-add (nonneg_of_le h) (nonneg-mul (nonneg_is.0 l) (nonneg_of_le (k refl)))) tt
+kept_further : (side : Side) (o : Option ℚ) (v r s : ℚ) → KeepsSide side o v → (IsSome o → IsKeptOn side r) → zero_ℚ ≤ℚ s → KeepsSide side o (v +ℚ s *ℚ r)
+unfolding KeepsSide
+kept_further Lo None v r s h k l = tt
+kept_further Up None v r s h k l = tt
+kept_further Lo (Some b) v r s h k l = le_by (b ∷ v ∷ r ∷ s ∷ []) x0 (x1 :+ x3 :* x2) ((x1 :- x0) :+ x3 :* x2) (nonneg-add (nonneg_of_le h) (nonneg-mul (nonneg_is.0 l) (nonneg_is.0 (k refl)))) tt
+kept_further Up (Some b) v r s h k l = le_by (b ∷ v ∷ r ∷ s ∷ []) (x1 :+ x3 :* x2) x0 ((x0 :- x1) :+ x3 :* (zero_of :- x2)) (nonneg-add (nonneg_of_le h) (nonneg-mul (nonneg_is.0 l) (nonneg_of_le (k refl)))) tt
 
 value_moved : (model : Program) (m : Member) (x y : Assignment) (s : ℚ) → value model m (λ j. x j +ℚ s *ℚ y j) ≡ value model m x +ℚ s *ℚ value model m y
-value_moved model (Row i) x y s = linear_law (row_at model i).terms x y s
+value_moved model (RowLo i) x y s = linear_law (row_at model i).terms x y s
+value_moved model (RowUp i) x y s = linear_law (row_at model i).terms x y s
 value_moved model (Lower j) x y s = refl
 value_moved model (Upper j) x y s = refl
 value_moved model (Whole j) x y s = refl
-
-sides_moved : (model : Program) (m : Member) (x y : Assignment) (s : ℚ) → zero_ℚ ≤ℚ s → KeepsSides model x m → KeepsRay model y m → KeepsSides model (λ j. x j +ℚ s *ℚ y j) m
-sides_moved model m x y s l h k = record {
-  above = subst (IsAtLeast (number model m Lo)) (sym (value_moved model m x y s)) (lo_kept (number model m Lo) (value model m x) (value model m y) s h.above k.above l);
-  below = subst (IsAtMost (number model m Up)) (sym (value_moved model m x y s)) (up_kept (number model m Up) (value model m x) (value model m y) s h.below k.below l);
-}
 
 whole_more : (q : ℚ) (n : ℤ) → IsWhole q → IsWhole (q +ℚ whole n)
 whole_more q n h = subst (λ z. IsWhole (z +ℚ whole n)) (whole-num q h) (subst IsWhole (whole-add q.num n) (whole-whole (q.num +ℤ n)))
@@ -161,13 +156,17 @@ unfolding far
 far_nonneg r k =
     nonneg_is.1 (nonneg-mul (nonneg_is.0 (whole-le (pos 0) (pos k) (omega (arith, ints)))) (nonneg_is.0 (whole-le (pos 0) (pos r.denominator) (omega (arith, ints)))))
 
-sides_along : (model : Program) (p r : Point) (k : ℕ) (m : Member) → KeepsSides model (coordinate p) m → KeepsRay model (coordinate r) m → KeepsSides model (coordinate (along p r k)) m
-sides_along model p r k m h y = subst (λ x. KeepsSides model x m) (sym (along_path p r k)) (sides_moved model m (coordinate p) (coordinate r) (far r k) (far_nonneg r k) h y)
+kept_along : (model : Program) (p r : Point) (k : ℕ) (m : Member) → Holds model (coordinate p) m → KeepsRay model (coordinate r) m → KeepsSide (side m) (number model m) (value model m (coordinate (along p r k)))
+kept_along model p r k m h y =
+    subst (KeepsSide (side m) (number model m)) (sym (ap (value model m) (along_path p r k) ∙ value_moved model m (coordinate p) (coordinate r) (far r k)))
+    (kept_further (side m) (number model m) (value model m (coordinate p)) (value model m (coordinate r)) (far r k) (member_keeps model (coordinate p) m h) y (far_nonneg r k))
 
 holds_along : (model : Program) (p r : Point) (k : ℕ) (m : Member) → Holds model (coordinate p) m → (not (is_mark m) ≡ true → KeepsRay model (coordinate r) m) → Holds model (coordinate (along p r k)) m
-holds_along model p r k (Row i) h y = sides_along model p r k (Row i) h (y refl)
-holds_along model p r k (Lower j) h y = sides_along model p r k (Lower j) h (y refl)
-holds_along model p r k (Upper j) h y = sides_along model p r k (Upper j) h (y refl)
+unfolding KeepsSide
+holds_along model p r k (RowLo i) h y = kept_along model p r k (RowLo i) h (y refl)
+holds_along model p r k (RowUp i) h y = kept_along model p r k (RowUp i) h (y refl)
+holds_along model p r k (Lower j) h y = kept_along model p r k (Lower j) h (y refl)
+holds_along model p r k (Upper j) h y = kept_along model p r k (Upper j) h (y refl)
 holds_along model p r k (Whole j) h y = λ t. subst IsWhole (sym (along_whole p r k j)) (whole_more (coordinate p j) (pos k *ℤ get_or r.numerators j (pos 0)) (h t))
 
 -- ---- the objective

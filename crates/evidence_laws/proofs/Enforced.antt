@@ -8,59 +8,41 @@ use Rattle.rational.specs.Rational.{ℚ, ◌-ℚ◌, zero_ℚ, ◌≤ℚ◌}
 use Rattle.rational.specs.Linear.{Assignment}
 use Rattle.rational.proofs.Order.{le_by, le_refl_ℚ, le_trans_ℚ, nonneg_of_le, lt_q-true, lt_q-false, lt-le_clash_ℚ}
 use Rattle.lp_model.specs.declared.members.Member.{Member}
-use Rattle.lp_model.specs.declared.members.Member.TheVariants.{Row, Lower, Upper, Whole}
+use Rattle.lp_model.specs.declared.members.Side.{Side}
 use Rattle.lp_model.specs.declared.members.Side.TheVariants.{Lo, Up}
 use Rattle.lp_model.specs.Program.{Program}
-use Rattle.lp_model.specs.Members.{has, is_mark, value, number}
-use Rattle.lp_model.specs.Satisfaction.{coordinate, IsAtLeast, IsAtMost, KeepsSides, Holds, IsUnsatisfiable, IsPart}
+use Rattle.lp_model.specs.Members.{has, is_mark, value, number, side}
+use Rattle.lp_model.specs.Satisfaction.{coordinate, Holds, IsUnsatisfiable, IsPart}
 use Rattle.lp_model.proofs.Sets.{Contains-cons, Contains-filter, contains_of_has, has_of_contains}
-use Rattle.certs.specs.Violation.{shortfall, overrun, violation, is_violated}
+use Rattle.certs.specs.Violation.{missed_by, violation, is_violated}
 use Rattle.certs.specs.Filter.{Stretches, Enforces, first, further, RoundsLaw}
-use Rattle.certs.proofs.Sides.{holds_sides}
-use Rattle.evidence_laws.proofs.Missed.{larger_left, larger_right, larger_least}
+use Rattle.certs.proofs.Sides.{KeepsSide, member_keeps}
+use Rattle.evidence_laws.proofs.Kept.{holds_of}
+use Rattle.evidence_laws.proofs.Missed.{larger_right, larger_least}
 
 -- ---- a member is violated, or holds
-at_least_of : (o : Option ℚ) (v : ℚ) → shortfall o v ≤ℚ zero_ℚ → IsAtLeast o v
-at_least_of None v h = tt
-at_least_of (Some b) v h = le_by (b ∷ v ∷ []) x0 x1 (zero_of :- (x0 :- x1)) (nonneg_of_le (le_trans_ℚ (larger_right zero_ℚ (b -ℚ v)) h)) tt
+keeps_unless_missed : (side : Side) (o : Option ℚ) (v : ℚ) → missed_by side o v ≤ℚ zero_ℚ → KeepsSide side o v
+unfolding KeepsSide
+keeps_unless_missed Lo None v h = tt
+keeps_unless_missed Up None v h = tt
+keeps_unless_missed Lo (Some b) v h = le_by (b ∷ v ∷ []) x0 x1 (zero_of :- (x0 :- x1)) (nonneg_of_le (le_trans_ℚ (larger_right zero_ℚ (b -ℚ v)) h)) tt
+keeps_unless_missed Up (Some b) v h = le_by (b ∷ v ∷ []) x1 x0 (zero_of :- (x1 :- x0)) (nonneg_of_le (le_trans_ℚ (larger_right zero_ℚ (v -ℚ b)) h)) tt
 
-at_most_of : (o : Option ℚ) (v : ℚ) → overrun o v ≤ℚ zero_ℚ → IsAtMost o v
-at_most_of None v h = tt
-at_most_of (Some b) v h = le_by (b ∷ v ∷ []) x1 x0 (zero_of :- (x1 :- x0)) (nonneg_of_le (le_trans_ℚ (larger_right zero_ℚ (v -ℚ b)) h)) tt
-
-no_shortfall : (o : Option ℚ) (v : ℚ) → IsAtLeast o v → shortfall o v ≤ℚ zero_ℚ
-no_shortfall None v h = le_refl_ℚ zero_ℚ
-no_shortfall (Some b) v h = larger_least zero_ℚ (b -ℚ v) zero_ℚ (le_refl_ℚ zero_ℚ) (le_by (b ∷ v ∷ []) (x0 :- x1) zero_of (x1 :- x0) (nonneg_of_le h) tt)
-
-no_overrun : (o : Option ℚ) (v : ℚ) → IsAtMost o v → overrun o v ≤ℚ zero_ℚ
-no_overrun None v h = le_refl_ℚ zero_ℚ
-no_overrun (Some b) v h = larger_least zero_ℚ (v -ℚ b) zero_ℚ (le_refl_ℚ zero_ℚ) (le_by (b ∷ v ∷ []) (x1 :- x0) zero_of (x0 :- x1) (nonneg_of_le h) tt)
-
-sides_unless_violated : (model : Program) (x : Assignment) (m : Member) → is_violated model x m ≡ false → KeepsSides model x m
-sides_unless_violated model x m e =
-    let nothing : violation model x m ≤ℚ zero_ℚ = lt_q-false zero_ℚ (violation model x m) e in
-    record {
-      above = at_least_of (number model m Lo) (value model m x) (le_trans_ℚ (larger_left (shortfall (number model m Lo) (value model m x)) (overrun (number model m Up) (value model m x))) nothing);
-      below = at_most_of (number model m Up) (value model m x) (le_trans_ℚ (larger_right (shortfall (number model m Lo) (value model m x)) (overrun (number model m Up) (value model m x))) nothing);
-    }
+nothing_missed : (side : Side) (o : Option ℚ) (v : ℚ) → KeepsSide side o v → missed_by side o v ≤ℚ zero_ℚ
+unfolding KeepsSide
+nothing_missed Lo None v h = le_refl_ℚ zero_ℚ
+nothing_missed Up None v h = le_refl_ℚ zero_ℚ
+nothing_missed Lo (Some b) v h = larger_least zero_ℚ (b -ℚ v) zero_ℚ (le_refl_ℚ zero_ℚ) (le_by (b ∷ v ∷ []) (x0 :- x1) zero_of (x1 :- x0) (nonneg_of_le h) tt)
+nothing_missed Up (Some b) v h = larger_least zero_ℚ (v -ℚ b) zero_ℚ (le_refl_ℚ zero_ℚ) (le_by (b ∷ v ∷ []) (x1 :- x0) zero_of (x0 :- x1) (nonneg_of_le h) tt)
 
 pub holds_unless_violated : (model : Program) (x : Assignment) (m : Member) → is_mark m ≡ false → is_violated model x m ≡ false → Holds model x m
-holds_unless_violated model x (Row i) h e = sides_unless_violated model x (Row i) e
-holds_unless_violated model x (Lower j) h e = sides_unless_violated model x (Lower j) e
-holds_unless_violated model x (Upper j) h e = sides_unless_violated model x (Upper j) e
-holds_unless_violated model x (Whole j) h e = absurd (true≢false h)
+holds_unless_violated model x m h e = holds_of model x m h (keeps_unless_missed (side m) (number model m) (value model m x) (lt_q-false zero_ℚ (violation model x m) e))
 
 pub not_violated : (model : Program) (x : Assignment) (m : Member) → Holds model x m → is_violated model x m ≡ false
 not_violated model x m h = go (is_violated model x m) refl
   where
-    keeps : KeepsSides model x m
-    keeps = holds_sides model x m h
-
     go : (t : Bool) → is_violated model x m ≡ t → t ≡ false
-    go true e =
-        lt-le_clash_ℚ (lt_q-true zero_ℚ (violation model x m) e)
-        (larger_least (shortfall (number model m Lo) (value model m x)) (overrun (number model m Up) (value model m x)) zero_ℚ
-        (no_shortfall (number model m Lo) (value model m x) keeps.above) (no_overrun (number model m Up) (value model m x) keeps.below))
+    go true e = lt-le_clash_ℚ (lt_q-true zero_ℚ (violation model x m) e) (nothing_missed (side m) (number model m) (value model m x) (member_keeps model x m h))
     go false e = refl
 
 -- ---- how many pass a test

@@ -1,4 +1,5 @@
 mod Missed
+mod Kept
 mod Bounded
 mod Priced
 mod Enforced

@@ -1,40 +1,31 @@
 -- What it means to stay: a filter's walk, at any place of it, keeps of the members passed just those that can be satisfied as said.
-use Rattle.std.proofs.Common.{◌≡◌, ◌<◌, ◌+◌, refl, sym, ◌∙◌, ap, subst, ℕ, zero, suc, Bool, true, false, true≢false, cond, ◌||◌, ◌↔◌, List, [], ◌∷◌, ◌++◌, append_assoc, append-nil, length, filter, arith, ◌⊎◌, inl, inr}
-use Rattle.std.specs.Prelude.{All, AllPairs, Contains}
+use Rattle.std.proofs.Common.{◌≡◌, ◌<◌, refl, sym, ◌∙◌, ap, subst, zero, suc, Bool, true, false, true≢false, cond, ◌||◌, ◌↔◌, List, [], ◌∷◌, ◌++◌, append_assoc, append-nil, length, filter, arith, ◌⊎◌, inl, inr}
+use Rattle.std.specs.Prelude.{Contains}
 use Rattle.std.proofs.lemmas.List.Elements.{filter-append, Contains-append_left, Contains-append_right, All-contains}
 use Rattle.lp_model.specs.declared.members.Member.{Member}
-use Rattle.lp_model.specs.Program.{Program}
 use Rattle.lp_model.specs.Members.{has, is_same, comes_before, IsInOrder}
 use Rattle.lp_model.specs.Satisfaction.{IsSatisfiable}
 use Rattle.lp_model.proofs.Orders.{not_itself}
+use Rattle.lp_model.proofs.Walk.{order_head, order_tail, in_middle}
 use Rattle.lp_model.proofs.Sets.{same_members, contains_of_has, has_of_contains}
 use Rattle.certs.specs.Filter.{LateReaches, start, stays, goes, EarlyReaches, LateMeansLaw, EarlyMeansLaw}
 use Rattle.certs.proofs.Filters.{last_apart, push_apart}
 use Rattle.certs.proofs.HasLists.{agree_on, has_kept}
 
 -- ---- lists in order have each member once
-pairs_tail : (x : Member) (xs : List Member) → IsInOrder (x ∷ xs) → IsInOrder xs
-pairs_tail x xs h i j d l m = h (suc i) (suc j) d (omega arith) (let g : suc j < suc (length xs) = omega arith in g)
-
-pairs_head : (x : Member) (xs : List Member) → IsInOrder (x ∷ xs) → All (λ y. comes_before x y ≡ true) xs
-pairs_head x xs h k d l = h 0 (suc k) d (omega arith) (let g : suc k < suc (length xs) = omega arith in g)
-
-is_first : (x : Member) (xs : List Member) → Contains (x ∷ xs) x
-is_first x xs = (0, (let l : 0 < suc (length xs) = omega arith in l), refl)
-
 not_before_itself : (x a : Member) → x ≡ a → comes_before x a ≡ true → {Z : Type 0} → Z
 not_before_itself x a e h = absurd (true≢false (sym h ∙ (ap (λ z. comes_before x z) (sym e) ∙ not_itself x)))
 
 not_after : (f : List Member) (x : Member) (b : List Member) → IsInOrder (f ++ x ∷ b) → (a : Member) → Contains b a → x ≡ a → {Z : Type 0} → Z
-not_after [] x b h a c e = not_before_itself x a e (All-contains (λ y. comes_before x y ≡ true) b a (pairs_head x b h) c)
-not_after (z ∷ f) x b h a c e = not_after f x b (pairs_tail z (f ++ x ∷ b) h) a c e
+not_after [] x b h a c e = not_before_itself x a e (All-contains (λ y. comes_before x y ≡ true) b a (order_head x b h) c)
+not_after (z ∷ f) x b h a c e = not_after f x b (order_tail z (f ++ x ∷ b) h) a c e
 
 not_before : (f : List Member) (x : Member) (b : List Member) → IsInOrder (f ++ x ∷ b) → (a : Member) → Contains f a → x ≡ a → {Z : Type 0} → Z
 not_before [] x b h a (k, l, e) p = absurd (omega arith)
 not_before (z ∷ f) x b h a (zero, l, e) p =
     let q : z ≡ a = e in
-    not_before_itself z x (q ∙ sym p) (All-contains (λ y. comes_before z y ≡ true) (f ++ x ∷ b) x (pairs_head z (f ++ x ∷ b) h) (Contains-append_right f (x ∷ b) x (is_first x b)))
-not_before (z ∷ f) x b h a (suc k, l, e) p = not_before f x b (pairs_tail z (f ++ x ∷ b) h) a (k, (let g : k < length f = omega arith in g), e) p
+    not_before_itself z x (q ∙ sym p) (All-contains (λ y. comes_before z y ≡ true) (f ++ x ∷ b) x (order_head z (f ++ x ∷ b) h) (in_middle f x b))
+not_before (z ∷ f) x b h a (suc k, l, e) p = not_before f x b (order_tail z (f ++ x ∷ b) h) a (k, (let g : k < length f = omega arith in g), e) p
 
 -- ---- what a list has, with one more
 not_same : (y a : Member) → (y ≡ a → ⊥) → is_same y a ≡ false
@@ -52,10 +43,10 @@ has_behind : (k : List Member) (y a : Member) → (y ≡ a → ⊥) → has (y �
 has_behind k y a n = ap (λ s. s || has k a) (not_same y a n)
 
 has_last : (k : List Member) (y : Member) → has (k ++ y ∷ []) y ≡ true
-has_last k y = has_of_contains (k ++ y ∷ []) y (Contains-append_right k (y ∷ []) y (is_first y []))
+has_last k y = has_of_contains (k ++ y ∷ []) y (in_middle k y [])
 
 has_first : (k : List Member) (y : Member) → has (y ∷ k) y ≡ true
-has_first k y = has_of_contains (y ∷ k) y (is_first y k)
+has_first k y = has_of_contains (y ∷ k) y (in_middle [] y k)
 
 -- what is kept of a list without the member has not the member
 not_kept : (k passed : List Member) (y : Member) → k ≡ filter (has k) passed → (Contains passed y → ⊥) → has k y ≡ false
@@ -123,7 +114,7 @@ module _ (Can : List Member → Type 0) (set : List Member) (order : IsInOrder s
           let old = s.means f x c whole in
           let list : filter (has kept) f ++ (c ++ y ∷ rest) ≡ filter more f ++ (b ++ rest) =
           ap (λ l. l ++ (c ++ y ∷ rest)) (sym (same f (x ∷ c) whole)) ∙ ap (λ l. filter more f ++ l) (sym (ap (λ l. l ++ rest) behind ∙ append_assoc c (y ∷ []) rest)) in
-          let held : has (kept ++ y ∷ []) x ≡ has kept x = has_before kept y x (other x (subst (λ l. Contains l x) (sym whole) (Contains-append_right f (x ∷ c) x (is_first x c)))) in
+          let held : has (kept ++ y ∷ []) x ≡ has kept x = has_before kept y x (other x (subst (λ l. Contains l x) (sym whole) (in_middle f x c))) in
           ((λ h. subst Can list (old.0 (sym held ∙ h))), (λ h. held ∙ old.1 (subst Can (sym list) h)))
 
   without_next : (kept rest : List Member) (y : Member) → Kept kept (y ∷ rest) → ¬ (Can (kept ++ rest)) → Kept kept rest
@@ -213,7 +204,7 @@ module _ (Can : List Member → Type 0) (set : List Member) (order : IsInOrder s
           let old = s.means f x b whole in
           let list : ((front ++ y ∷ []) ++ f) ++ filter (has kept) b ≡ (front ++ z ∷ f) ++ filter more b =
           ap (λ l. l ++ filter (has kept) b) (append_assoc front (y ∷ []) f ∙ ap (λ w. front ++ w ∷ f) first) ∙ ap (λ l. (front ++ z ∷ f) ++ l) (sym (same (f ++ x ∷ []) b (whole ∙ sym (append_assoc f (x ∷ []) b)))) in
-          let held : has (y ∷ kept) x ≡ has kept x = has_behind kept y x (other x (subst (λ l. Contains l x) (sym whole) (Contains-append_right f (x ∷ b) x (is_first x b)))) in
+          let held : has (y ∷ kept) x ≡ has kept x = has_behind kept y x (other x (subst (λ l. Contains l x) (sym whole) (in_middle f x b))) in
           ((λ h. subst Can list (old.0 (sym held ∙ h))), (λ h. held ∙ old.1 (subst Can (sym list) h)))
 
   without_last : (front kept : List Member) (y : Member) → KeptBack (front ++ y ∷ []) kept → ¬ (Can (front ++ kept)) → KeptBack front kept

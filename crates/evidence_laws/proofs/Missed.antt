@@ -2,11 +2,11 @@
 use Rattle.std.proofs.Common.{◌≡◌, refl, sym, ap, subst, Bool, true, false, true≢false, cond, List, [], ◌∷◌, Option, None, Some, IsSome}
 use Rattle.std.specs.Prelude.{All}
 use Rattle.std.proofs.lemmas.List.Elements.{All-nil, All-contains}
-use Rattle.algebra.proofs.Ring.{x0, x1, x2, x3, x4, ◌:+◌, ◌:-◌, ◌:*◌, minus, zero_of}
+use Rattle.algebra.proofs.Ring.{x0, x1, x2, x3, ◌:+◌, ◌:-◌, ◌:*◌, minus, zero_of}
 use Rattle.rational.specs.Rational.{ℚ, ◌+ℚ◌, ◌-ℚ◌, ◌*ℚ◌, zero_ℚ, lt_q, ◌≤ℚ◌}
 use Rattle.rational.specs.Sum.{sum_over}
 use Rattle.rational.specs.Linear.{Assignment, form_value}
-use Rattle.rational.proofs.Order.{le_by, le_refl_ℚ, le_trans_ℚ, le_of_lt_ℚ, nonneg-mul, nonneg-add, nonneg-zero, nonneg_of_le, nonneg_is, lt_q-true, lt_q-false}
+use Rattle.rational.proofs.Order.{le_by, le_refl_ℚ, le_trans_ℚ, le_of_lt_ℚ, nonneg-mul, nonneg-zero, nonneg_of_le, nonneg_is, lt_q-true, lt_q-false}
 use Rattle.rational.proofs.Sums.{sum_over-add, sum_over-exchange, sum_over-nonneg, part-le-sum, sum_over-times}
 use Rattle.lp_model.specs.declared.members.Member.{Member}
 use Rattle.lp_model.specs.declared.members.Side.{Side}
@@ -14,21 +14,21 @@ use Rattle.lp_model.specs.declared.members.Side.TheVariants.{Lo, Up}
 use Rattle.lp_model.specs.declared.parts.Weight.{Weight}
 use Rattle.lp_model.specs.declared.parts.Weight.TheVariants.{Soft, Rigid}
 use Rattle.lp_model.specs.Program.{Program}
-use Rattle.lp_model.specs.Members.{value, number, weight}
-use Rattle.lp_model.specs.Satisfaction.{coordinate, KeepsSides, Holds}
+use Rattle.lp_model.specs.Members.{value, number, side, weight}
+use Rattle.lp_model.specs.Satisfaction.{coordinate, Holds}
 use Rattle.lp_model.proofs.Sets.{same_self}
 use Rattle.certs.specs.declared.evidence.Branch.{Branch}
 use Rattle.certs.specs.declared.evidence.Source.{Source}
 use Rattle.certs.specs.declared.evidence.Source.TheVariants.{Member as Of, Below, Above}
 use Rattle.certs.specs.declared.evidence.Share.{Share}
-use Rattle.certs.specs.Combination.{KeepsBranch, KeepsPath, source_form, source_value, source_number, number_or_zero, signed, multiple, IsFrom, IsThere, right_side}
-use Rattle.certs.specs.Violation.{larger, shortfall, overrun, violation, weighed, weighted_violation, is_rigid, is_of, weight_on, IsWithinWeight, IsLeastDual, LeastLaw, LeastPointLaw}
+use Rattle.certs.specs.Combination.{KeepsBranch, KeepsPath, source_form, source_side, source_value, source_number, number_or_zero, signed, multiple, IsFrom, IsThere, right_side}
+use Rattle.certs.specs.Violation.{larger, missed_by, violation, weighed, weighted_violation, is_rigid, is_of, weight_on, IsWithinWeight, IsLeastDual, LeastLaw, LeastPointLaw}
 use Rattle.certs.proofs.Lists.{All-passed}
-use Rattle.certs.proofs.Sides.{sum_over-le, all_both, source_value-is, left_side, left_side-is, holds_sides, KeepsSide, side_le, upper_kept, lower_kept}
+use Rattle.certs.proofs.Sides.{sum_over-le, all_both, source_value-is, left_side, left_side-is, member_keeps, KeepsSide, side_le, upper_kept, lower_kept}
 use Rattle.certs.proofs.Refuted.{positive_nonneg}
 
 -- ---- the larger of two
-pub larger_left : (a b : ℚ) → a ≤ℚ larger a b
+larger_left : (a b : ℚ) → a ≤ℚ larger a b
 larger_left a b = go (lt_q a b) refl
   where
     go : (t : Bool) → lt_q a b ≡ t → a ≤ℚ cond t b a
@@ -49,22 +49,17 @@ larger_least a b c h k = go (lt_q a b)
     go true = k
     go false = h
 
-shortfall_nonneg : (o : Option ℚ) (v : ℚ) → zero_ℚ ≤ℚ shortfall o v
-shortfall_nonneg None v = le_refl_ℚ zero_ℚ
-shortfall_nonneg (Some b) v = larger_left zero_ℚ (b -ℚ v)
+missed_nonneg : (side : Side) (o : Option ℚ) (v : ℚ) → zero_ℚ ≤ℚ missed_by side o v
+missed_nonneg Lo None v = le_refl_ℚ zero_ℚ
+missed_nonneg Up None v = le_refl_ℚ zero_ℚ
+missed_nonneg Lo (Some b) v = larger_left zero_ℚ (b -ℚ v)
+missed_nonneg Up (Some b) v = larger_left zero_ℚ (v -ℚ b)
 
 pub violation_nonneg : (model : Program) (x : Assignment) (m : Member) → zero_ℚ ≤ℚ violation model x m
-violation_nonneg model x m =
-    le_trans_ℚ (shortfall_nonneg (number model m Lo) (value model m x))
-    (larger_left (shortfall (number model m Lo) (value model m x)) (overrun (number model m Up) (value model m x)))
+violation_nonneg model x m = missed_nonneg (side m) (number model m) (value model m x)
 
 -- ---- a share's inequality, with what its source is missed by
-missed_by : Side → Option ℚ → ℚ → ℚ
-missed_by Lo o v = shortfall o v
-missed_by Up o v = overrun o v
-
 missed_le : (side : Side) (o : Option ℚ) (w v : ℚ) → zero_ℚ ≤ℚ w → IsSome o → signed side w *ℚ v ≤ℚ (signed side w *ℚ number_or_zero o) +ℚ (w *ℚ missed_by side o v)
-unfolding missed_by
 missed_le side None w v h t = absurd (true≢false (sym t))
 missed_le Lo (Some b) w v h t =
     le_by (b ∷ w ∷ v ∷ larger zero_ℚ (b -ℚ v) ∷ []) (minus x1 :* x2) (minus x1 :* x0 :+ x1 :* x3) (x1 :* (x3 :- (x0 :- x2)))
@@ -72,11 +67,6 @@ missed_le Lo (Some b) w v h t =
 missed_le Up (Some b) w v h t =
     le_by (b ∷ w ∷ v ∷ larger zero_ℚ (v -ℚ b) ∷ []) (x1 :* x2) (x1 :* x0 :+ x1 :* x3) (x1 :* (x3 :- (x2 :- x0)))
     (nonneg-mul (nonneg_is.0 h) (nonneg_of_le (larger_right zero_ℚ (v -ℚ b)))) tt
-
-missed-le-violation : (model : Program) (x : Assignment) (m : Member) (side : Side) → missed_by side (number model m side) (value model m x) ≤ℚ violation model x m
-unfolding missed_by
-missed-le-violation model x m Lo = larger_left (shortfall (number model m Lo) (value model m x)) (overrun (number model m Up) (value model m x))
-missed-le-violation model x m Up = larger_right (shortfall (number model m Lo) (value model m x)) (overrun (number model m Up) (value model m x))
 
 -- what a share may be short of: the violation of a soft member, and nothing for the rest
 soft_part : Weight → ℚ → ℚ
@@ -104,32 +94,21 @@ no_slack : (side : Side) (o : Option ℚ) (w v : ℚ) → zero_ℚ ≤ℚ w → 
 no_slack side o w v h t k =
     le_by (signed side w ∷ v ∷ number_or_zero o ∷ w ∷ []) (x0 :* x1) (x0 :* x2 :+ x3 :* zero_of) (x0 :* x2 :- x0 :* x1) (nonneg_of_le (side_le side o w v h t k)) tt
 
-more_slack : (a b w p q : ℚ) → zero_ℚ ≤ℚ w → p ≤ℚ q → a ≤ℚ b +ℚ w *ℚ p → a ≤ℚ b +ℚ w *ℚ q
-more_slack a b w p q h k l =
-    le_by (a ∷ b ∷ w ∷ p ∷ q ∷ []) x0 (x1 :+ x2 :* x4) (((x1 :+ x2 :* x3) :- x0) :+ x2 :* (x4 :- x3)) (nonneg-add (nonneg_of_le l) (nonneg-mul (nonneg_is.0 h) (nonneg_of_le k))) tt
-
-member_side : (model : Program) (x : Assignment) (m : Member) (side : Side) → KeepsSides model x m → KeepsSide side (number model m side) (value model m x)
-unfolding KeepsSide
-member_side model x m Lo h = h.above
-member_side model x m Up h = h.below
-
-member_missed : (model : Program) (x : Assignment) (m : Member) (side : Side) (w : ℚ) → zero_ℚ ≤ℚ w → IsSome (number model m side)
+member_missed : (model : Program) (x : Assignment) (m : Member) (w : ℚ) → zero_ℚ ≤ℚ w → IsSome (number model m)
     → (is_rigid (weight model m) ≡ true → Holds model x m) → (g : Weight) → weight model m ≡ g
-    → signed side w *ℚ value model m x ≤ℚ (signed side w *ℚ number_or_zero (number model m side)) +ℚ (w *ℚ soft_part g (violation model x m))
+    → signed (side m) w *ℚ value model m x ≤ℚ (signed (side m) w *ℚ number_or_zero (number model m)) +ℚ (w *ℚ soft_part g (violation model x m))
 unfolding soft_part
-member_missed model x m side w h t r (Soft v) e = more_slack _ _ w _ _ h (missed-le-violation model x m side) (missed_le side (number model m side) w (value model m x) h t)
-member_missed model x m side w h t r Rigid e = no_slack side (number model m side) w (value model m x) h t (member_side model x m side (holds_sides model x m (r (ap is_rigid e))))
+member_missed model x m w h t r (Soft v) e = missed_le (side m) (number model m) w (value model m x) h t
+member_missed model x m w h t r Rigid e = no_slack (side m) (number model m) w (value model m x) h t (member_keeps model x m (r (ap is_rigid e)))
 
 source_missed : (model : Program) (set : List Member) (path : List Branch) (x : Assignment) → All (λ m. is_rigid (weight model m) ≡ true → Holds model x m) set → KeepsPath x path
-    → (s : Source) (side : Side) (w : ℚ) → zero_ℚ ≤ℚ w → IsFrom set s → IsSome (source_number model path s side)
-    → signed side w *ℚ source_value model x s ≤ℚ (signed side w *ℚ number_or_zero (source_number model path s side)) +ℚ (w *ℚ slack model x s)
+    → (s : Source) (w : ℚ) → zero_ℚ ≤ℚ w → IsFrom set s → IsSome (source_number model path s)
+    → signed (source_side s) w *ℚ source_value model x s ≤ℚ (signed (source_side s) w *ℚ number_or_zero (source_number model path s)) +ℚ (w *ℚ slack model x s)
 unfolding slack soft KeepsSide
-source_missed model set path x r k (Of m) side w h c t =
-    member_missed model x m side w h t (All-contains (λ m. is_rigid (weight model m) ≡ true → Holds model x m) set m r c) (weight model m) refl
-source_missed model set path x r k (Below j) Lo w h c t = absurd (true≢false (sym t))
-source_missed model set path x r k (Below j) Up w h c t = no_slack Up (source_number model path (Below j) Up) w (x j) h t (upper_kept x path j k)
-source_missed model set path x r k (Above j) Lo w h c t = no_slack Lo (source_number model path (Above j) Lo) w (x j) h t (lower_kept x path j k)
-source_missed model set path x r k (Above j) Up w h c t = absurd (true≢false (sym t))
+source_missed model set path x r k (Of m) w h c t =
+    member_missed model x m w h t (All-contains (λ m. is_rigid (weight model m) ≡ true → Holds model x m) set m r c) (weight model m) refl
+source_missed model set path x r k (Below j) w h c t = no_slack Up (source_number model path (Below j)) w (x j) h t (upper_kept x path j k)
+source_missed model set path x r k (Above j) w h c t = no_slack Lo (source_number model path (Above j)) w (x j) h t (lower_kept x path j k)
 
 -- ---- the slack of the shares, gathered by members
 given : Program → Assignment → Share → Member → ℚ
@@ -146,16 +125,16 @@ given_nonneg model x s h m = go (is_of m s.source)
 nothing_le : (a w : ℚ) → zero_ℚ ≤ℚ a → w *ℚ zero_ℚ ≤ℚ a
 nothing_le a w h = le_by (a ∷ w ∷ []) (x1 :* zero_of) x0 x0 (nonneg_is.0 h) tt
 
-slack_given : (model : Program) (set : List Member) (x : Assignment) (s : Source) (side : Side) (w : ℚ) → zero_ℚ ≤ℚ w → IsFrom set s
-    → w *ℚ slack model x s ≤ℚ sum_over (given model x (record { source = s; side = side; weight = w })) set
+slack_given : (model : Program) (set : List Member) (x : Assignment) (s : Source) (w : ℚ) → zero_ℚ ≤ℚ w → IsFrom set s
+    → w *ℚ slack model x s ≤ℚ sum_over (given model x (record { source = s; weight = w })) set
 unfolding slack given
-slack_given model set x (Of m) side w h c =
-    subst (λ t. cond t w zero_ℚ *ℚ soft model x m ≤ℚ sum_over (given model x (record { source = Of m; side = side; weight = w })) set) (same_self m)
-    (part-le-sum (given model x (record { source = Of m; side = side; weight = w })) (given_nonneg model x (record { source = Of m; side = side; weight = w }) h) set m c)
-slack_given model set x (Below j) side w h c =
-    nothing_le _ w (sum_over-nonneg (given model x (record { source = Below j; side = side; weight = w })) (given_nonneg model x (record { source = Below j; side = side; weight = w }) h) set)
-slack_given model set x (Above j) side w h c =
-    nothing_le _ w (sum_over-nonneg (given model x (record { source = Above j; side = side; weight = w })) (given_nonneg model x (record { source = Above j; side = side; weight = w }) h) set)
+slack_given model set x (Of m) w h c =
+    subst (λ t. cond t w zero_ℚ *ℚ soft model x m ≤ℚ sum_over (given model x (record { source = Of m; weight = w })) set) (same_self m)
+    (part-le-sum (given model x (record { source = Of m; weight = w })) (given_nonneg model x (record { source = Of m; weight = w }) h) set m c)
+slack_given model set x (Below j) w h c =
+    nothing_le _ w (sum_over-nonneg (given model x (record { source = Below j; weight = w })) (given_nonneg model x (record { source = Below j; weight = w }) h) set)
+slack_given model set x (Above j) w h c =
+    nothing_le _ w (sum_over-nonneg (given model x (record { source = Above j; weight = w })) (given_nonneg model x (record { source = Above j; weight = w }) h) set)
 
 gathered : (model : Program) (x : Assignment) (shares : List Share) (m : Member) → sum_over (λ s. given model x s m) shares ≡ weight_on shares m *ℚ soft model x m
 unfolding given
@@ -175,11 +154,11 @@ least_steps : (model : Program) (set : List Member) (path : List Branch) (shares
     → left_side model shares x ≤ℚ right_side model path shares +ℚ sum_over (λ s. s.weight *ℚ slack model x s.source) shares
 unfolding left_side
 least_steps model set path shares t d x r k =
-    subst (λ z. left_side model shares x ≤ℚ z) (sum_over-add (λ s. multiple s *ℚ number_or_zero (source_number model path s.source s.side)) (λ s. s.weight *ℚ slack model x s.source) shares)
+    subst (λ z. left_side model shares x ≤ℚ z) (sum_over-add (λ s. multiple s *ℚ number_or_zero (source_number model path s.source)) (λ s. s.weight *ℚ slack model x s.source) shares)
     (sum_over-le (λ s. (zero_ℚ ≤ℚ s.weight) × IsThere model set path s) (λ s. multiple s *ℚ form_value (source_form model s.source) x)
-    (λ s. (multiple s *ℚ number_or_zero (source_number model path s.source s.side)) +ℚ (s.weight *ℚ slack model x s.source))
-    (λ s a. subst (λ v. signed s.side s.weight *ℚ v ≤ℚ (signed s.side s.weight *ℚ number_or_zero (source_number model path s.source s.side)) +ℚ (s.weight *ℚ slack model x s.source)) (source_value-is model x s.source)
-    (source_missed model set path x r k s.source s.side s.weight a.0 a.1.from a.1.number))
+    (λ s. (multiple s *ℚ number_or_zero (source_number model path s.source)) +ℚ (s.weight *ℚ slack model x s.source))
+    (λ s a. subst (λ v. multiple s *ℚ v ≤ℚ (multiple s *ℚ number_or_zero (source_number model path s.source)) +ℚ (s.weight *ℚ slack model x s.source)) (source_value-is model x s.source)
+    (source_missed model set path x r k s.source s.weight a.0 a.1.from a.1.number))
     shares (all_both (λ s. zero_ℚ ≤ℚ s.weight) (IsThere model set path) shares (positive_nonneg shares d.positive) d.there))
 
 slack_le : (model : Program) (set : List Member) (path : List Branch) (shares : List Share) (x : Assignment) → All (λ s. zero_ℚ ≤ℚ s.weight) shares → All (IsThere model set path) shares
@@ -188,7 +167,7 @@ slack_le : (model : Program) (set : List Member) (path : List Branch) (shares : 
 slack_le model set path shares x w t within =
     le_trans_ℚ
     (sum_over-le (λ s. (zero_ℚ ≤ℚ s.weight) × IsThere model set path s) (λ s. s.weight *ℚ slack model x s.source) (λ s. sum_over (given model x s) set)
-    (λ s a. slack_given model set x s.source s.side s.weight a.0 a.1.from)
+    (λ s a. slack_given model set x s.source s.weight a.0 a.1.from)
     shares (all_both (λ s. zero_ℚ ≤ℚ s.weight) (IsThere model set path) shares w t))
     (subst (λ z. z ≤ℚ weighted_violation model set x) (sym (sum_over-exchange (given model x) shares set))
     (sum_over-le (λ m. IsWithinWeight (weight_on shares m) (weight model m)) (λ m. sum_over (λ s. given model x s m) shares) (λ m. weighed (weight model m) (violation model x m))

@@ -1,8 +1,9 @@
 -- What shows that there is no weighting of a set gives a point of it.
-use Rattle.std.proofs.Common.{◌≡◌, ◌≢◌, ◌+◌, ◌-◌, ◌<◌, refl, sym, ◌∙◌, ap, subst, ℕ, zero, suc, Bool, true, false, true≢false, cond, ◌==◌, ltb, List, [], ◌∷◌, ◌++◌, map, length, get_or, Option, None, Some, IsSome, is_some, arith, inl, inr, eq-eqb, ne_eqb, lt-ltb, ltb-true}
+use Rattle.std.proofs.Common.{◌≡◌, ◌≢◌, ◌+◌, ◌-◌, ◌<◌, refl, sym, ◌∙◌, ap, subst, ℕ, suc, Bool, true, false, true≢false, cond, ◌==◌, ltb, List, [], ◌∷◌, length, get_or, None, Some, IsSome, is_some, arith, inl, inr, eq-eqb, ne_eqb, lt-ltb, ltb-true}
 use Rattle.std.specs.Prelude.{All}
+use Rattle.std.proofs.lemmas.List.{get_or-map}
 use Rattle.std.proofs.lemmas.Bool.{cond-true, cond-false, cases_lt, cases_Bool, cases_eq}
-use Rattle.std.proofs.lemmas.List.Elements.{All-head, All-tail, All-nil, All-cons, All-get_or, All-from_get_or, All-contains_itself}
+use Rattle.std.proofs.lemmas.List.Elements.{All-head, All-tail, All-nil, All-cons, All-from_get_or}
 use lib.Dec.{T, eqb→eq}
 use Rattle.algebra.proofs.Ring.{x0, x1, x2, x3, ◌:+◌, ◌:-◌, ◌:*◌, minus, zero_of, unit_of}
 use Rattle.rational.specs.Rational.{ℚ, ◌+ℚ◌, ◌-ℚ◌, ◌*ℚ◌, neg_ℚ, inv_ℚ, zero_ℚ, one_ℚ, ◌≤ℚ◌, ◌<ℚ◌}
@@ -13,22 +14,20 @@ use Rattle.rational.proofs.Order.{le_by, lt_by, le_refl_ℚ, le_of_lt_ℚ, lt_ir
 use Rattle.rational.proofs.Sums.{sum_below-ext, sum_below-zero, sum_below-scale, sum_below-split, sum_over-ext_on}
 use Rattle.rational.proofs.Forms.{by_known}
 use Rattle.lp_model.specs.declared.members.Member.{Member}
-use Rattle.lp_model.specs.declared.members.Member.TheVariants.{Row, Lower, Upper, Whole}
 use Rattle.lp_model.specs.declared.members.Side.{Side}
 use Rattle.lp_model.specs.declared.members.Side.TheVariants.{Lo, Up}
 use Rattle.lp_model.specs.Program.{Program, IsWellFormed}
-use Rattle.lp_model.specs.Members.{column_form, form, value, number, is_mark}
-use Rattle.lp_model.specs.Satisfaction.{values_at, IsAtLeast, IsAtMost, KeepsSides, Holds, Satisfies, IsSatisfiable}
-use Rattle.certs.specs.declared.evidence.Branch.{Branch}
-use Rattle.certs.specs.declared.evidence.Source.TheVariants.{Member as Of}
+use Rattle.lp_model.specs.Members.{column_form, value, number, side, is_mark}
+use Rattle.lp_model.specs.Satisfaction.{values_at, IsSatisfiable}
 use Rattle.certs.specs.Combination.{number_or_zero, signed}
-use Rattle.certs.specs.System.{Limits, SystemRow, no_limits, empty_system_row, equal_to, SideOf, side_on, sides_of, side_factor, side_number, terms_from, alternative_system, variable_form, variable_limits, limit_on, VariableShare, IsVariableCombination, NoWeightingLaw}
-use Rattle.certs.proofs.Further.{source_known}
+use Rattle.certs.specs.System.{Limits, no_limits, empty_system_row, equal_to, bounding, member_factor, member_number, terms_from, alternative_system, variable_form, variable_limits, limit_on, VariableShare, IsVariableCombination, NoWeightingLaw}
 use Rattle.evidence_laws.proofs.Support.{satisfiable_at}
-use Rattle.evidence_laws.proofs.Columns.{sum_with-ext, terms_value, unit, unit-same, unit-other, sum_with-unit, row_for, whole_row_found, last_found, system_columns, system_rows}
+use Rattle.evidence_laws.proofs.Columns.{terms_from_zero, unit, unit-same, unit-other, sum_with-unit, row_is, number_row_is, system_columns, system_rows}
 use Rattle.evidence_laws.proofs.Cheapest.{sum_below-unit}
-use Rattle.evidence_laws.proofs.LastTable.{no_side, SideIn, sides_in, tabulate, tabulated, side_value}
-use Rattle.certs.proofs.Lists.{all_front, all_back}
+use Rattle.evidence_laws.proofs.LastTable.{no_member, bounding_known, tabulate, tabulated, member_value}
+use Rattle.certs.proofs.Lists.{All-passed}
+use Rattle.certs.proofs.Sides.{KeepsSide}
+use Rattle.evidence_laws.proofs.Kept.{holds_of, side_of_le}
 
 -- ---- the weights on each variable
 net_terms : List VariableShare → List Term
@@ -90,65 +89,44 @@ factor_unit (t ∷ ts) k =
 column_unit : (v k : ℕ) → factor_of (column_form v) k ≡ unit k v
 column_unit v k = factor_unit (column_form v) k ∙ ring_ℚ (unit k v ∷ []) (unit_of :* x0 :+ zero_of) x0 tt
 
-terms_factor : (f : SideOf → ℚ) (sides : List SideOf) (k : ℕ) → k < length sides → factor_of (terms_from 0 f sides) k ≡ f (get_or sides k no_side)
-terms_factor f sides k l =
-    factor_unit (terms_from 0 f sides) k ∙ terms_value 0 f sides (unit k) ∙ sum_with-ext f sides (λ e. unit k (0 + e)) (unit k) (λ e h. ap (unit k) (zero_plus e)) ∙ sum_with-unit f sides k no_side l
-  where
-    zero_plus : (e : ℕ) → 0 + e ≡ e
-    zero_plus e = omega arith
+terms_factor : (f : Member → ℚ) (members : List Member) (k : ℕ) → k < length members → factor_of (terms_from 0 f members) k ≡ f (get_or members k no_member)
+terms_factor f members k l = factor_unit (terms_from 0 f members) k ∙ terms_from_zero f members (unit k) ∙ sum_with-unit f members k no_member l
 
 -- ---- the variables of the alternative system
-side_limits : Limits
-side_limits = record { lower = Some zero_ℚ; upper = None }
-
-mapped : (sides : List SideOf) (v : ℕ) (d : Limits) → v < length sides → get_or (map (λ s. record { lower = Some zero_ℚ; upper = None }) sides) v d ≡ record { lower = Some zero_ℚ; upper = None }
-mapped [] v d l = absurd (omega arith)
-mapped (s ∷ sides) zero d l = refl
-mapped (s ∷ sides) (suc v) d l = mapped sides v d (let g : v < length sides = omega arith in g)
-
 module _ (model : Program) (set : List Member) where
-  last_row : SystemRow
-  last_row = record { terms = terms_from 0 (side_number model) (sides_of model set); limits = equal_to (neg_ℚ one_ℚ) }
+  is_column : (v : ℕ) → v < length (bounding model set) → ltb v (length (alternative_system model set).columns) ≡ true
+  is_column v l = lt-ltb v (length (alternative_system model set).columns) (let e : length (alternative_system model set).columns ≡ length (bounding model set) = system_columns model set in omega arith)
 
-  is_side : (v : ℕ) → v < length (sides_of model set) → ltb v (length (alternative_system model set).columns) ≡ true
-  is_side v l = lt-ltb v (length (alternative_system model set).columns) (let e : length (alternative_system model set).columns ≡ length (sides_of model set) = system_columns model set in omega arith)
-
-  is_row : (j : ℕ) → ltb (length (sides_of model set) + j) (length (alternative_system model set).columns) ≡ false
+  is_row : (j : ℕ) → ltb (length (bounding model set) + j) (length (alternative_system model set).columns) ≡ false
   is_row j =
-      elim (cases_Bool (ltb (length (sides_of model set) + j) (length (alternative_system model set).columns))) [
+      elim (cases_Bool (ltb (length (bounding model set) + j) (length (alternative_system model set).columns))) [
         | inl h ↦ absurd (below h)
         | inr h ↦ h
       ]
     where
-      below : ltb (length (sides_of model set) + j) (length (alternative_system model set).columns) ≡ true → ⊥
+      below : ltb (length (bounding model set) + j) (length (alternative_system model set).columns) ≡ true → ⊥
       below h =
-          let k : length (sides_of model set) + j < length (alternative_system model set).columns = ltb-true (length (sides_of model set) + j) (length (alternative_system model set).columns) h in
-          let e : length (alternative_system model set).columns ≡ length (sides_of model set) = system_columns model set in
+          let k : length (bounding model set) + j < length (alternative_system model set).columns = ltb-true (length (bounding model set) + j) (length (alternative_system model set).columns) h in
+          let e : length (alternative_system model set).columns ≡ length (bounding model set) = system_columns model set in
           omega arith
 
-  row_index : (j : ℕ) → (length (sides_of model set) + j) - length (alternative_system model set).columns ≡ j
-  row_index j = let e : length (alternative_system model set).columns ≡ length (sides_of model set) = system_columns model set in omega arith
+  row_index : (j : ℕ) → (length (bounding model set) + j) - length (alternative_system model set).columns ≡ j
+  row_index j = let e : length (alternative_system model set).columns ≡ length (bounding model set) = system_columns model set in omega arith
 
-  side_form : (v : ℕ) → v < length (sides_of model set) → variable_form (alternative_system model set) v ≡ column_form v
-  side_form v l = cond-true (ltb v (length (alternative_system model set).columns)) (column_form v) _ (is_side v l)
+  member_form : (v : ℕ) → v < length (bounding model set) → variable_form (alternative_system model set) v ≡ column_form v
+  member_form v l = cond-true (ltb v (length (alternative_system model set).columns)) (column_form v) _ (is_column v l)
 
-  side_limits_are : (v : ℕ) → v < length (sides_of model set) → variable_limits (alternative_system model set) v ≡ record { lower = Some zero_ℚ; upper = None }
-  side_limits_are v l = cond-true (ltb v (length (alternative_system model set).columns)) _ _ (is_side v l) ∙ mapped (sides_of model set) v no_limits l
+  member_limits_are : (v : ℕ) → v < length (bounding model set) → variable_limits (alternative_system model set) v ≡ record { lower = Some zero_ℚ; upper = None }
+  member_limits_are v l = cond-true (ltb v (length (alternative_system model set).columns)) _ _ (is_column v l) ∙ get_or-map (λ m. record { lower = Some zero_ℚ; upper = None }) (bounding model set) v no_member no_limits l
 
-  row_form : (j : ℕ) → variable_form (alternative_system model set) (length (sides_of model set) + j) ≡ (get_or (alternative_system model set).rows j empty_system_row).terms
+  row_form : (j : ℕ) → variable_form (alternative_system model set) (length (bounding model set) + j) ≡ (get_or (alternative_system model set).rows j empty_system_row).terms
   row_form j =
-      cond-false (ltb (length (sides_of model set) + j) (length (alternative_system model set).columns)) (column_form (length (sides_of model set) + j)) _ (is_row j)
+      cond-false (ltb (length (bounding model set) + j) (length (alternative_system model set).columns)) (column_form (length (bounding model set) + j)) _ (is_row j)
       ∙ ap (λ i. (get_or (alternative_system model set).rows i empty_system_row).terms) (row_index j)
 
-  row_limits : (j : ℕ) → variable_limits (alternative_system model set) (length (sides_of model set) + j) ≡ (get_or (alternative_system model set).rows j empty_system_row).limits
+  row_limits : (j : ℕ) → variable_limits (alternative_system model set) (length (bounding model set) + j) ≡ (get_or (alternative_system model set).rows j empty_system_row).limits
   row_limits j =
-      cond-false (ltb (length (sides_of model set) + j) (length (alternative_system model set).columns)) _ _ (is_row j) ∙ ap (λ i. (get_or (alternative_system model set).rows i empty_system_row).limits) (row_index j)
-
-  the_row : (j : ℕ) → j < length model.columns → get_or (alternative_system model set).rows j empty_system_row ≡ row_for model (sides_of model set) j
-  the_row j l = whole_row_found model (sides_of model set) (length model.columns) (record { terms = terms_from 0 (side_number model) (sides_of model set); limits = equal_to (neg_ℚ one_ℚ) } ∷ []) j empty_system_row l
-
-  the_last : get_or (alternative_system model set).rows (length model.columns) empty_system_row ≡ record { terms = terms_from 0 (side_number model) (sides_of model set); limits = equal_to (neg_ℚ one_ℚ) }
-  the_last = last_found model (sides_of model set) (length model.columns) (record { terms = terms_from 0 (side_number model) (sides_of model set); limits = equal_to (neg_ℚ one_ℚ) }) empty_system_row
+      cond-false (ltb (length (bounding model set) + j) (length (alternative_system model set).columns)) _ _ (is_row j) ∙ ap (λ i. (get_or (alternative_system model set).rows i empty_system_row).limits) (row_index j)
 
 -- ---- the point
 one_limit : (limits : Limits) (side : Side) (q : ℚ) → limits ≡ equal_to q → number_or_zero (limit_on limits side) ≡ q
@@ -164,80 +142,80 @@ lower_only limits Lo e h = refl
 lower_only limits Up e h = absurd (true≢false (sym h ∙ ap (λ l. is_some l.upper) e))
 
 module _ (model : Program) (set : List Member) (shares : List VariableShare) (formed : IsWellFormed model) (shown : IsVariableCombination (alternative_system model set) shares) where
-  known_shares : All (λ s. s.variable < length (sides_of model set) + suc (length model.columns)) shares
+  known_shares : All (λ s. s.variable < length (bounding model set) + suc (length model.columns)) shares
   known_shares =
-      subst (λ r. All (λ s. s.variable < length (sides_of model set) + r) shares) (system_rows model set)
+      subst (λ r. All (λ s. s.variable < length (bounding model set) + r) shares) (system_rows model set)
       (subst (λ a. All (λ s. s.variable < a + length (alternative_system model set).rows) shares) (system_columns model set) shown.known)
 
   parts : (f : ℕ → ℚ)
       → sum_over (λ s. signed s.side s.weight *ℚ f s.variable) shares
-      ≡ sum_below (length (sides_of model set)) (λ v. net shares v *ℚ f v)
-      +ℚ (sum_below (length model.columns) (λ j. net shares (length (sides_of model set) + j) *ℚ f (length (sides_of model set) + j))
-      +ℚ net shares (length (sides_of model set) + length model.columns) *ℚ f (length (sides_of model set) + length model.columns))
-  parts f = net_parts (length (sides_of model set)) (length model.columns) shares known_shares f
+      ≡ sum_below (length (bounding model set)) (λ v. net shares v *ℚ f v)
+      +ℚ (sum_below (length model.columns) (λ j. net shares (length (bounding model set) + j) *ℚ f (length (bounding model set) + j))
+      +ℚ net shares (length (bounding model set) + length model.columns) *ℚ f (length (bounding model set) + length model.columns))
+  parts f = net_parts (length (bounding model set)) (length model.columns) shares known_shares f
 
-  -- each side's column
-  balance : (k : ℕ) → k < length (sides_of model set)
+  -- each member's column
+  balance : (k : ℕ) → k < length (bounding model set)
       → zero_ℚ
       ≡ net shares k
-      +ℚ (sum_below (length model.columns) (λ j. net shares (length (sides_of model set) + j) *ℚ side_factor model j (get_or (sides_of model set) k no_side))
-      +ℚ net shares (length (sides_of model set) + length model.columns) *ℚ side_number model (get_or (sides_of model set) k no_side))
+      +ℚ (sum_below (length model.columns) (λ j. net shares (length (bounding model set) + j) *ℚ member_factor model j (get_or (bounding model set) k no_member))
+      +ℚ net shares (length (bounding model set) + length model.columns) *ℚ member_number model (get_or (bounding model set) k no_member))
   balance k l =
-      let sides : List SideOf = sides_of model set in
-      let n : ℕ = length sides in
+      let members : List Member = bounding model set in
+      let n : ℕ = length members in
       let c : ℕ = length model.columns in
-      let s : SideOf = get_or sides k no_side in
+      let here : Member = get_or members k no_member in
       let f : ℕ → ℚ = λ v. factor_of (variable_form (alternative_system model set) v) k in
-      let in_system : k < length (alternative_system model set).columns = (let e : length (alternative_system model set).columns ≡ length (sides_of model set) = system_columns model set in omega arith) in
+      let in_system : k < length (alternative_system model set).columns = (let e : length (alternative_system model set).columns ≡ length (bounding model set) = system_columns model set in omega arith) in
       sym (shown.cancels k in_system)
       ∙ parts f
       ∙ ap (λ z. z +ℚ (sum_below c (λ j. net shares (n + j) *ℚ f (n + j)) +ℚ net shares (n + c) *ℚ f (n + c)))
-      (sum_below-ext n (λ v. net shares v *ℚ f v) (λ v. net shares v *ℚ unit k v) (λ v h. ap (λ z. net shares v *ℚ z) (ap (λ terms. factor_of terms k) (side_form model set v h) ∙ column_unit v k))
+      (sum_below-ext n (λ v. net shares v *ℚ f v) (λ v. net shares v *ℚ unit k v) (λ v h. ap (λ z. net shares v *ℚ z) (ap (λ terms. factor_of terms k) (member_form model set v h) ∙ column_unit v k))
       ∙ sum_below-unit n k (net shares) l)
       ∙ ap (λ z. net shares k +ℚ (z +ℚ net shares (n + c) *ℚ f (n + c)))
-      (sum_below-ext c (λ j. net shares (n + j) *ℚ f (n + j)) (λ j. net shares (n + j) *ℚ side_factor model j s)
-      (λ j h. ap (λ z. net shares (n + j) *ℚ z) (ap (λ terms. factor_of terms k) (row_form model set j ∙ ap (λ r. r.terms) (the_row model set j h)) ∙ terms_factor (side_factor model j) sides k l)))
-      ∙ ap (λ z. net shares k +ℚ (sum_below c (λ j. net shares (n + j) *ℚ side_factor model j s) +ℚ net shares (n + c) *ℚ z))
-      (ap (λ terms. factor_of terms k) (row_form model set c ∙ ap (λ r. r.terms) (the_last model set)) ∙ terms_factor (side_number model) sides k l)
+      (sum_below-ext c (λ j. net shares (n + j) *ℚ f (n + j)) (λ j. net shares (n + j) *ℚ member_factor model j here)
+      (λ j h. ap (λ z. net shares (n + j) *ℚ z) (ap (λ terms. factor_of terms k) (row_form model set j ∙ ap (λ r. r.terms) (row_is model set j h)) ∙ terms_factor (member_factor model j) members k l)))
+      ∙ ap (λ z. net shares k +ℚ (sum_below c (λ j. net shares (n + j) *ℚ member_factor model j here) +ℚ net shares (n + c) *ℚ z))
+      (ap (λ terms. factor_of terms k) (row_form model set c ∙ ap (λ r. r.terms) (number_row_is model set)) ∙ terms_factor (member_number model) members k l)
 
-  net_low : (k : ℕ) → k < length (sides_of model set) → net shares k ≤ℚ zero_ℚ
+  net_low : (k : ℕ) → k < length (bounding model set) → net shares k ≤ℚ zero_ℚ
   net_low k l =
       net_below shares k shown.positive
       (λ i d h e. lower_only (variable_limits (alternative_system model set) (get_or shares i d).variable) (get_or shares i d).side
-      (ap (variable_limits (alternative_system model set)) e ∙ side_limits_are model set k l) (shown.there i d h))
+      (ap (variable_limits (alternative_system model set)) e ∙ member_limits_are model set k l) (shown.there i d h))
 
   -- the last row's numbers alone count
   last_number : ℕ → ℚ
-  last_number v = cond (v == length (sides_of model set) + length model.columns) (neg_ℚ one_ℚ) zero_ℚ
+  last_number v = cond (v == length (bounding model set) + length model.columns) (neg_ℚ one_ℚ) zero_ℚ
 
-  limit_is : (v : ℕ) (side : Side) → v < length (sides_of model set) + suc (length model.columns) → number_or_zero (limit_on (variable_limits (alternative_system model set) v) side) ≡ last_number v
+  limit_is : (v : ℕ) (side : Side) → v < length (bounding model set) + suc (length model.columns) → number_or_zero (limit_on (variable_limits (alternative_system model set) v) side) ≡ last_number v
   unfolding last_number
   limit_is v side l =
-      let n : ℕ = length (sides_of model set) in
+      let n : ℕ = length (bounding model set) in
       let c : ℕ = length model.columns in
       elim (cases_lt v n) [
         | inl h ↦
-            zero_limit (variable_limits (alternative_system model set) v) side (side_limits_are model set v h)
+            zero_limit (variable_limits (alternative_system model set) v) side (member_limits_are model set v h)
             ∙ sym (cond-false (v == n + c) (neg_ℚ one_ℚ) zero_ℚ (ne_eqb v (n + c) (λ e. omega arith)))
         | inr h ↦
             (let at : n + (v - n) ≡ v = omega arith in
             elim (cases_lt (v - n) c) [
               | inl m ↦
                   one_limit (variable_limits (alternative_system model set) v) side zero_ℚ
-                  (ap (variable_limits (alternative_system model set)) (sym at) ∙ row_limits model set (v - n) ∙ ap (λ r. r.limits) (the_row model set (v - n) m))
+                  (ap (variable_limits (alternative_system model set)) (sym at) ∙ row_limits model set (v - n) ∙ ap (λ r. r.limits) (row_is model set (v - n) m))
                   ∙ sym (cond-false (v == n + c) (neg_ℚ one_ℚ) zero_ℚ (ne_eqb v (n + c) (λ e. omega arith)))
               | inr m ↦
                   (let same : v ≡ n + c = omega arith in
                   one_limit (variable_limits (alternative_system model set) v) side (neg_ℚ one_ℚ)
-                  (ap (variable_limits (alternative_system model set)) same ∙ row_limits model set c ∙ ap (λ r. r.limits) (the_last model set))
+                  (ap (variable_limits (alternative_system model set)) same ∙ row_limits model set c ∙ ap (λ r. r.limits) (number_row_is model set))
                   ∙ sym (cond-true (v == n + c) (neg_ℚ one_ℚ) zero_ℚ (eq-eqb v (n + c) same)))
             ])
       ]
 
-  last_positive : zero_ℚ <ℚ net shares (length (sides_of model set) + length model.columns)
+  last_positive : zero_ℚ <ℚ net shares (length (bounding model set) + length model.columns)
   unfolding last_number
   last_positive =
-      let n : ℕ = length (sides_of model set) in
+      let n : ℕ = length (bounding model set) in
       let c : ℕ = length model.columns in
       let t : ℚ = net shares (n + c) in
       let f : ℕ → ℚ = λ v. cond (v == n + c) (neg_ℚ one_ℚ) zero_ℚ in
@@ -259,81 +237,45 @@ module _ (model : Program) (set : List Member) (shares : List VariableShare) (fo
 
   point : List ℚ
   point =
-      tabulate (length model.columns) (λ j. neg_ℚ (net shares (length (sides_of model set) + j)) *ℚ inv_ℚ (net shares (length (sides_of model set) + length model.columns)))
+      tabulate (length model.columns) (λ j. neg_ℚ (net shares (length (bounding model set) + j)) *ℚ inv_ℚ (net shares (length (bounding model set) + length model.columns)))
 
-  form_known : (k : ℕ) → k < length (sides_of model set) → All (λ t. t.column < length model.columns) (form model (get_or (sides_of model set) k no_side).member)
-  unfolding SideIn
-  form_known k l =
-      let s : SideOf = get_or (sides_of model set) k no_side in
-      source_known model [] formed (All-nil (λ (b : Branch). b.column < length model.columns)) (Of s.member) s.side
-      (All-get_or (SideIn model set) (sides_of model set) k no_side l (sides_in model set set (All-contains_itself set))).1
+  IsKept : Member → Type 0
+  IsKept m = signed (side m) (value model m (values_at point)) ≤ℚ member_number model m
 
-  SideKept : SideOf → Type 0
-  SideKept s = signed s.side (value model s.member (values_at point)) ≤ℚ side_number model s
-
-  side_kept : (k : ℕ) → k < length (sides_of model set) → SideKept (get_or (sides_of model set) k no_side)
-  unfolding point SideKept
-  side_kept k l =
-      let n : ℕ = length (sides_of model set) in
+  member_kept : (k : ℕ) → k < length (bounding model set) → IsKept (get_or (bounding model set) k no_member)
+  unfolding point IsKept
+  member_kept k l =
+      let n : ℕ = length (bounding model set) in
       let c : ℕ = length model.columns in
-      let s : SideOf = get_or (sides_of model set) k no_side in
+      let here : Member = get_or (bounding model set) k no_member in
       let t : ℚ = net shares (n + c) in
       let r : ℚ = inv_ℚ t in
-      let total : ℚ = sum_below c (λ j. net shares (n + j) *ℚ side_factor model j s) in
+      let total : ℚ = sum_below c (λ j. net shares (n + j) *ℚ member_factor model j here) in
       let some : t ≢ zero_ℚ = λ e. lt_irrefl_ℚ {a = zero_ℚ} (subst (λ z. zero_ℚ <ℚ z) e last_positive) in
-      let value_is : signed s.side (value model s.member (values_at point)) ≡ neg_ℚ r *ℚ total =
-      side_value model s (values_at point) (form_known k l)
-      ∙ sum_below-ext c (λ j. side_factor model j s *ℚ values_at point j) (λ j. neg_ℚ r *ℚ (net shares (n + j) *ℚ side_factor model j s))
+      let value_is : signed (side here) (value model here (values_at point)) ≡ neg_ℚ r *ℚ total =
+      member_value model here (values_at point) (bounding_known model set k l formed)
+      ∙ sum_below-ext c (λ j. member_factor model j here *ℚ values_at point j) (λ j. neg_ℚ r *ℚ (net shares (n + j) *ℚ member_factor model j here))
       (λ j h.
-      ap (λ z. side_factor model j s *ℚ z) (tabulated c (λ j. neg_ℚ (net shares (n + j)) *ℚ r) j h)
-      ∙ ring_ℚ (side_factor model j s ∷ net shares (n + j) ∷ r ∷ []) (x0 :* (minus x1 :* x2)) (minus x2 :* (x1 :* x0)) tt)
-      ∙ sum_below-scale c (neg_ℚ r) (λ j. net shares (n + j) *ℚ side_factor model j s) in
-      let total_is : total ≡ neg_ℚ (net shares k) -ℚ t *ℚ side_number model s =
-      ring_by_ℚ (total ∷ net shares k ∷ t ∷ side_number model s ∷ []) x0 (minus x1 :- x2 :* x3) (minus unit_of) zero_of (x1 :+ (x0 :+ x2 :* x3)) (balance k l) tt in
-      let done : signed s.side (value model s.member (values_at point)) ≡ side_number model s +ℚ r *ℚ net shares k =
+      ap (λ z. member_factor model j here *ℚ z) (tabulated c (λ j. neg_ℚ (net shares (n + j)) *ℚ r) j h)
+      ∙ ring_ℚ (member_factor model j here ∷ net shares (n + j) ∷ r ∷ []) (x0 :* (minus x1 :* x2)) (minus x2 :* (x1 :* x0)) tt)
+      ∙ sum_below-scale c (neg_ℚ r) (λ j. net shares (n + j) *ℚ member_factor model j here) in
+      let total_is : total ≡ neg_ℚ (net shares k) -ℚ t *ℚ member_number model here =
+      ring_by_ℚ (total ∷ net shares k ∷ t ∷ member_number model here ∷ []) x0 (minus x1 :- x2 :* x3) (minus unit_of) zero_of (x1 :+ (x0 :+ x2 :* x3)) (balance k l) tt in
+      let done : signed (side here) (value model here (values_at point)) ≡ member_number model here +ℚ r *ℚ net shares k =
       value_is ∙ ap (λ z. neg_ℚ r *ℚ z) total_is
-      ∙ ring_by_ℚ (r ∷ net shares k ∷ t ∷ side_number model s ∷ []) (minus x0 :* (minus x1 :- x2 :* x3)) (x3 :+ x0 :* x1) x3 (x2 :* x0) unit_of (mul-inv_ℚ t some) tt in
-      subst (λ z. z ≤ℚ side_number model s) (sym done)
-      (le_by (r ∷ net shares k ∷ side_number model s ∷ []) (x2 :+ x0 :* x1) x2 (x0 :* (zero_of :- x1)) (nonneg-mul (nonneg_is.0 (le_of_lt_ℚ (inv-pos_ℚ last_positive))) (nonneg_of_le (net_low k l))) tt)
+      ∙ ring_by_ℚ (r ∷ net shares k ∷ t ∷ member_number model here ∷ []) (minus x0 :* (minus x1 :- x2 :* x3)) (x3 :+ x0 :* x1) x3 (x2 :* x0) unit_of (mul-inv_ℚ t some) tt in
+      subst (λ z. z ≤ℚ member_number model here) (sym done)
+      (le_by (r ∷ net shares k ∷ member_number model here ∷ []) (x2 :+ x0 :* x1) x2 (x0 :* (zero_of :- x1)) (nonneg-mul (nonneg_is.0 (le_of_lt_ℚ (inv-pos_ℚ last_positive))) (nonneg_of_le (net_low k l))) tt)
 
-  all_kept : All SideKept (sides_of model set)
-  all_kept = All-from_get_or SideKept (sides_of model set) no_side side_kept
-
-  lower_kept : (m : Member) → All SideKept (side_on model m Lo) → IsAtLeast (number model m Lo) (value model m (values_at point))
-  unfolding SideKept
-  lower_kept m h = go (number model m Lo) refl h
-    where
-      go : (o : Option ℚ) → number model m Lo ≡ o → All SideKept (cond (is_some o) (record { member = m; side = Lo } ∷ []) []) → IsAtLeast o (value model m (values_at point))
-      go None e h = tt
-      go (Some b) e h =
-          let k : neg_ℚ (value model m (values_at point)) ≤ℚ neg_ℚ b = subst (λ o. neg_ℚ (value model m (values_at point)) ≤ℚ neg_ℚ (number_or_zero o)) e (All-head SideKept (record { member = m; side = Lo }) [] h) in
-          le_by (b ∷ value model m (values_at point) ∷ []) x0 x1 (minus x0 :- minus x1) (nonneg_of_le k) tt
-
-  upper_kept : (m : Member) → All SideKept (side_on model m Up) → IsAtMost (number model m Up) (value model m (values_at point))
-  unfolding SideKept
-  upper_kept m h = go (number model m Up) refl h
-    where
-      go : (o : Option ℚ) → number model m Up ≡ o → All SideKept (cond (is_some o) (record { member = m; side = Up } ∷ []) []) → IsAtMost o (value model m (values_at point))
-      go None e h = tt
-      go (Some b) e h = subst (λ o. value model m (values_at point) ≤ℚ number_or_zero o) e (All-head SideKept (record { member = m; side = Up }) [] h)
-
-  sides_hold : (m : Member) → is_mark m ≡ false → KeepsSides model (values_at point) m → Holds model (values_at point) m
-  sides_hold (Row i) e h = h
-  sides_hold (Lower j) e h = h
-  sides_hold (Upper j) e h = h
-  sides_hold (Whole j) e h = absurd (true≢false e)
-
-  members_hold : (part : List Member) → All (λ m. is_mark m ≡ false) part → All SideKept (sides_of model part) → Satisfies model part (values_at point)
-  members_hold [] p h = All-nil (Holds model (values_at point))
-  members_hold (m ∷ part) p h =
-      let rest : All SideKept (side_on model m Up ++ sides_of model part) = all_back SideKept (side_on model m Lo) (side_on model m Up ++ sides_of model part) h in
-      All-cons (Holds model (values_at point)) m part
-      (sides_hold m (All-head (λ m. is_mark m ≡ false) m part p)
-      (record { above = lower_kept m (all_front SideKept (side_on model m Lo) (side_on model m Up ++ sides_of model part) h); below = upper_kept m (all_front SideKept (side_on model m Up) (sides_of model part) rest) }))
-      (members_hold part (All-tail (λ m. is_mark m ≡ false) m part p) (all_back SideKept (side_on model m Up) (sides_of model part) rest))
+  kept_where_there : (m : Member) → (IsSome (number model m) → IsKept m) → KeepsSide (side m) (number model m) (value model m (values_at point))
+  unfolding IsKept
+  kept_where_there m = side_of_le (side m) (number model m) (value model m (values_at point))
 
   point_found : All (λ m. is_mark m ≡ false) set → IsSatisfiable model set
-  point_found linear = satisfiable_at model set point (members_hold set linear all_kept)
+  point_found linear =
+      let kept : All (λ m. is_some (number model m) ≡ true → IsKept m) set =
+      All-passed (λ m. is_some (number model m)) IsKept set (All-from_get_or IsKept (bounding model set) no_member member_kept) in
+      satisfiable_at model set point (λ k d l. holds_of model (values_at point) (get_or set k d) (linear k d l) (kept_where_there (get_or set k d) (kept k d l)))
 
 pub no_weighting_law : NoWeightingLaw
 no_weighting_law model set shares formed linear shown = point_found model set shares formed shown linear

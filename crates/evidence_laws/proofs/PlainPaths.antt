@@ -12,7 +12,6 @@ use Rattle.rational.proofs.Order.{le-fracs, le_trans_ℚ, lt_q-false}
 use Rattle.rational.proofs.Whole.{whole-is}
 use Rattle.lp_model.specs.declared.members.Member.{Member}
 use Rattle.lp_model.specs.declared.members.Member.TheVariants.{Lower, Upper}
-use Rattle.lp_model.specs.declared.members.Side.TheVariants.{Lo, Up}
 use Rattle.lp_model.specs.Program.{Program}
 use Rattle.lp_model.specs.Satisfaction.{IsAtLeast, IsAtMost, values_at}
 use Rattle.certs.specs.declared.evidence.Branch.{Branch}
@@ -87,21 +86,21 @@ not_lowered None (Some p) v e h = absurd (true≢false e)
 not_lowered (Some b) (Some p) v e h = le_trans_ℚ h (lt_q-false p b e)
 
 module _ (model : Program) (set : List Member) (path : List Branch) (j : ℕ) (v : ℚ) (within : IsWithin (column_limits model set path j) v) where
-  lower_by : (t : Bool) → is_raised (number_in model set (Lower j) Lo) (source_number model path (Above j) Lo) ≡ t
-      → IfSome (limit_number model set path (cond t (Above j) (Of (Lower j))) Lo) (λ l. l ≤ℚ v) → IsAtLeast (source_number model path (Above j) Lo) v
-  lower_by true e h = at_least (source_number model path (Above j) Lo) v h
-  lower_by false e h = not_raised (number_in model set (Lower j) Lo) (source_number model path (Above j) Lo) v e h
+  lower_by : (t : Bool) → is_raised (number_in model set (Lower j)) (source_number model path (Above j)) ≡ t
+      → IfSome (limit_number model set path (cond t (Above j) (Of (Lower j)))) (λ l. l ≤ℚ v) → IsAtLeast (source_number model path (Above j)) v
+  lower_by true e h = at_least (source_number model path (Above j)) v h
+  lower_by false e h = not_raised (number_in model set (Lower j)) (source_number model path (Above j)) v e h
 
-  upper_by : (t : Bool) → is_lowered (number_in model set (Upper j) Up) (source_number model path (Below j) Up) ≡ t
-      → IfSome (limit_number model set path (cond t (Below j) (Of (Upper j))) Up) (λ u. v ≤ℚ u) → IsAtMost (source_number model path (Below j) Up) v
-  upper_by true e h = at_most (source_number model path (Below j) Up) v h
-  upper_by false e h = not_lowered (number_in model set (Upper j) Up) (source_number model path (Below j) Up) v e h
+  upper_by : (t : Bool) → is_lowered (number_in model set (Upper j)) (source_number model path (Below j)) ≡ t
+      → IfSome (limit_number model set path (cond t (Below j) (Of (Upper j)))) (λ u. v ≤ℚ u) → IsAtMost (source_number model path (Below j)) v
+  upper_by true e h = at_most (source_number model path (Below j)) v h
+  upper_by false e h = not_lowered (number_in model set (Upper j)) (source_number model path (Below j)) v e h
 
-  pub path_under : IsAtMost (source_number model path (Below j) Up) v
-  path_under = upper_by (is_lowered (number_in model set (Upper j) Up) (source_number model path (Below j) Up)) refl within.upper
+  pub path_under : IsAtMost (source_number model path (Below j)) v
+  path_under = upper_by (is_lowered (number_in model set (Upper j)) (source_number model path (Below j))) refl within.upper
 
-  pub path_over : IsAtLeast (source_number model path (Above j) Lo) v
-  path_over = lower_by (is_raised (number_in model set (Lower j) Lo) (source_number model path (Above j) Lo)) refl within.lower
+  pub path_over : IsAtLeast (source_number model path (Above j)) v
+  path_over = lower_by (is_raised (number_in model set (Lower j)) (source_number model path (Above j))) refl within.lower
 
 -- ---- the law
 pub plain_path : PlainPathLaw

@@ -12,12 +12,12 @@ use Rattle.lp_model.specs.declared.members.Member.{Member}
 use Rattle.lp_model.specs.declared.members.Side.{Side}
 use Rattle.lp_model.specs.declared.members.Side.TheVariants.{Lo, Up}
 use Rattle.lp_model.specs.Program.{Program}
-use Rattle.lp_model.specs.Members.{value, number, weight}
+use Rattle.lp_model.specs.Members.{value, number, side, weight}
 use Rattle.certs.specs.declared.evidence.Source.{Source}
 use Rattle.certs.specs.declared.evidence.Source.TheVariants.{Member as Of, Below, Above}
 use Rattle.certs.specs.declared.evidence.Share.{Share}
-use Rattle.certs.specs.Combination.{source_form, source_value, source_number, number_or_zero, signed, multiple, IsFrom, IsThere, right_side}
-use Rattle.certs.specs.Alternative.{cost_of, source_cost, cost, IsPricedOn, IsPriced, IsPrice, PriceLaw}
+use Rattle.certs.specs.Combination.{source_form, source_side, source_value, source_number, number_or_zero, signed, multiple, IsFrom, IsThere, right_side}
+use Rattle.certs.specs.Alternative.{cost_of, source_cost, cost, IsPriced, IsPrice, PriceLaw}
 use Rattle.certs.proofs.Sides.{sum_over-le, all_both, source_value-is, left_side, left_side-is}
 
 priced_on : (side : Side) (o : Option ℚ) (w v t c : ℚ) → zero_ℚ ≤ℚ w → IsSome o → IfSome o (λ b. signed side v -ℚ t *ℚ signed side b ≤ℚ c)
@@ -28,31 +28,24 @@ priced_on Lo (Some b) w v t c h s p =
 priced_on Up (Some b) w v t c h s p =
     le_by (b ∷ w ∷ v ∷ t ∷ c ∷ []) (x1 :* x2 :+ minus x3 :* (x1 :* x0)) (x4 :* x1) (x1 :* (x4 :- (x2 :- x3 :* x0))) (nonneg-mul (nonneg_is.0 h) (nonneg_of_le p)) tt
 
-priced_side : (model : Program) (t : ℚ) (z : Assignment) (m : Member) (side : Side) → IsPriced model t z m → IsPricedOn model t z m side
-priced_side model t z m Lo p = p.lo
-priced_side model t z m Up p = p.up
-
-source_priced : (model : Program) (set : List Member) (t : ℚ) (z : Assignment) → IsPrice model set t z → (s : Source) (side : Side) (w : ℚ) → zero_ℚ ≤ℚ w → IsFrom set s → IsSome (source_number model [] s side)
-    → (signed side w *ℚ source_value model z s) +ℚ (neg_ℚ t *ℚ (signed side w *ℚ number_or_zero (source_number model [] s side))) ≤ℚ source_cost model s *ℚ w
-source_priced model set t z p (Of m) side w h c s =
-    priced_on side (number model m side) w (value model m z) t (cost_of (weight model m)) h s (priced_side model t z m side (All-contains (IsPriced model t z) set m p c))
-source_priced model set t z p (Below j) Lo w h c s = absurd (true≢false (sym s))
-source_priced model set t z p (Below j) Up w h c s = absurd (true≢false (sym s))
-source_priced model set t z p (Above j) Lo w h c s = absurd (true≢false (sym s))
-source_priced model set t z p (Above j) Up w h c s = absurd (true≢false (sym s))
+source_priced : (model : Program) (set : List Member) (t : ℚ) (z : Assignment) → IsPrice model set t z → (s : Source) (w : ℚ) → zero_ℚ ≤ℚ w → IsFrom set s → IsSome (source_number model [] s)
+    → (signed (source_side s) w *ℚ source_value model z s) +ℚ (neg_ℚ t *ℚ (signed (source_side s) w *ℚ number_or_zero (source_number model [] s))) ≤ℚ source_cost model s *ℚ w
+source_priced model set t z p (Of m) w h c s = priced_on (side m) (number model m) w (value model m z) t (cost_of (weight model m)) h s (All-contains (IsPriced model t z) set m p c)
+source_priced model set t z p (Below j) w h c s = absurd (true≢false (sym s))
+source_priced model set t z p (Above j) w h c s = absurd (true≢false (sym s))
 
 price_sum : (model : Program) (set : List Member) (t : ℚ) (z : Assignment) → IsPrice model set t z → (shares : List Share) → All (λ s. zero_ℚ ≤ℚ s.weight) shares → All (IsThere model set []) shares
     → left_side model shares z +ℚ neg_ℚ t *ℚ right_side model [] shares ≤ℚ cost model shares
 unfolding left_side
 price_sum model set t z p shares w there =
     subst (λ q. q ≤ℚ cost model shares)
-    (sum_over-add (λ s. multiple s *ℚ form_value (source_form model s.source) z) (λ s. neg_ℚ t *ℚ (multiple s *ℚ number_or_zero (source_number model [] s.source s.side))) shares
-    ∙ ap (λ q. left_side model shares z +ℚ q) (sum_over-scale (neg_ℚ t) (λ s. multiple s *ℚ number_or_zero (source_number model [] s.source s.side)) shares))
+    (sum_over-add (λ s. multiple s *ℚ form_value (source_form model s.source) z) (λ s. neg_ℚ t *ℚ (multiple s *ℚ number_or_zero (source_number model [] s.source))) shares
+    ∙ ap (λ q. left_side model shares z +ℚ q) (sum_over-scale (neg_ℚ t) (λ s. multiple s *ℚ number_or_zero (source_number model [] s.source)) shares))
     (sum_over-le (λ s. (zero_ℚ ≤ℚ s.weight) × IsThere model set [] s)
-    (λ s. (multiple s *ℚ form_value (source_form model s.source) z) +ℚ (neg_ℚ t *ℚ (multiple s *ℚ number_or_zero (source_number model [] s.source s.side))))
+    (λ s. (multiple s *ℚ form_value (source_form model s.source) z) +ℚ (neg_ℚ t *ℚ (multiple s *ℚ number_or_zero (source_number model [] s.source))))
     (λ s. source_cost model s.source *ℚ s.weight)
-    (λ s a. subst (λ v. (signed s.side s.weight *ℚ v) +ℚ (neg_ℚ t *ℚ (signed s.side s.weight *ℚ number_or_zero (source_number model [] s.source s.side))) ≤ℚ source_cost model s.source *ℚ s.weight) (source_value-is model z s.source)
-    (source_priced model set t z p s.source s.side s.weight a.0 a.1.from a.1.number))
+    (λ s a. subst (λ v. (multiple s *ℚ v) +ℚ (neg_ℚ t *ℚ (multiple s *ℚ number_or_zero (source_number model [] s.source))) ≤ℚ source_cost model s.source *ℚ s.weight) (source_value-is model z s.source)
+    (source_priced model set t z p s.source s.weight a.0 a.1.from a.1.number))
     shares (all_both (λ s. zero_ℚ ≤ℚ s.weight) (IsThere model set []) shares w there))
 
 pub price_law : PriceLaw

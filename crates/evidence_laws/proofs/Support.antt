@@ -1,24 +1,22 @@
 -- The members of a weighting of which values meet all shares but one, whichever one it is, are irreducible.
-use Rattle.std.proofs.Common.{◌≡◌, refl, sym, ◌∙◌, ap, subst, ℕ, List, [], ◌∷◌, ◌++◌, Option, None, Some, IfSome}
+use Rattle.std.proofs.Common.{◌≡◌, refl, sym, ◌∙◌, ap, subst, ℕ, List, [], ◌∷◌, ◌++◌, Option, None, Some}
 use Rattle.std.specs.Prelude.{All}
 use Rattle.std.proofs.lemmas.List.Elements.{All-head, All-tail, All-nil, All-cons}
-use Rattle.rational.specs.Rational.{ℚ, zero_ℚ, ◌≤ℚ◌, ◌<ℚ◌}
+use Rattle.rational.specs.Rational.{ℚ, zero_ℚ, ◌<ℚ◌}
 use Rattle.rational.specs.Linear.{Assignment}
 use Rattle.rational.proofs.Order.{le_refl_ℚ, positive-one, lt_by}
 use Rattle.algebra.proofs.Ring.{zero_of, unit_of, minus}
 use Rattle.lp_model.specs.declared.members.Member.{Member}
-use Rattle.lp_model.specs.declared.members.Member.TheVariants.{Row, Lower, Upper, Whole}
-use Rattle.lp_model.specs.declared.members.Side.{Side}
-use Rattle.lp_model.specs.declared.members.Side.TheVariants.{Lo, Up}
+use Rattle.lp_model.specs.declared.members.Member.TheVariants.{RowLo, RowUp, Lower, Upper, Whole}
 use Rattle.lp_model.specs.Program.{Program}
 use Rattle.lp_model.specs.Members.{value, number}
-use Rattle.lp_model.specs.Satisfaction.{Point, coordinate, values_at, IsAtLeast, IsAtMost, KeepsSides, Holds, Satisfies, IsSatisfiable}
+use Rattle.lp_model.specs.Satisfaction.{Point, coordinate, values_at, IsAtLeast, IsAtMost, Holds, Satisfies, IsSatisfiable}
 use Rattle.lp_model.proofs.Points.{common_denominator}
 use Rattle.certs.specs.declared.evidence.Source.{Source}
 use Rattle.certs.specs.declared.evidence.Source.TheVariants.{Member as Of, Below, Above}
 use Rattle.certs.specs.declared.evidence.Share.{Share}
 use Rattle.certs.specs.Combination.{KeepsBranch, source_value, source_number, IsCombination}
-use Rattle.certs.specs.Alternative.{IsWeighting, with_source, members_of, IsOrdered, IsMet, SupportLaw}
+use Rattle.certs.specs.Alternative.{IsWeighting, with_source, members_of, IsMet, SupportLaw}
 use Rattle.certs.proofs.Refuted.{combination_law}
 use Rattle.certs.proofs.Filters.{nil_apart}
 
@@ -28,52 +26,33 @@ satisfiable_at model set values h =
     let p : (p : Point) × ((j : ℕ) → coordinate p j ≡ values_at values j) = common_denominator values in
     record { point = p.0; satisfies = subst (Satisfies model set) (λ i. λ j. sym (p.1 j) i) h }
 
--- ---- what is met exactly holds, where its own sides do not cross
+-- ---- what is met exactly holds
 at_least_met : (o : Option ℚ) (v : ℚ) → o ≡ Some v → IsAtLeast o v
 at_least_met o v e = subst (λ z. IsAtLeast z v) (sym e) (le_refl_ℚ v)
 
 at_most_met : (o : Option ℚ) (v : ℚ) → o ≡ Some v → IsAtMost o v
 at_most_met o v e = subst (λ z. IsAtMost z v) (sym e) (le_refl_ℚ v)
 
-below_ordered : (l u : Option ℚ) (v : ℚ) → IfSome l (λ a. IfSome u (λ b. a ≤ℚ b)) → u ≡ Some v → IsAtLeast l v
-below_ordered None u v h e = tt
-below_ordered (Some a) u v h e = let k : IfSome (Some v) (λ b. a ≤ℚ b) = subst (λ z. IfSome z (λ b. a ≤ℚ b)) e h in k
-
-above_ordered : (l u : Option ℚ) (v : ℚ) → IfSome l (λ a. IfSome u (λ b. a ≤ℚ b)) → l ≡ Some v → IsAtMost u v
-above_ordered l None v h e = tt
-above_ordered l (Some b) v h e = let k : IfSome (Some v) (λ a. a ≤ℚ b) = subst (λ z. IfSome z (λ a. a ≤ℚ b)) e h in k
-
-sides_met : (model : Program) (x : Assignment) (m : Member) (side : Side) → IsOrdered model m → number model m side ≡ Some (value model m x) → KeepsSides model x m
-sides_met model x m Lo h e = record { above = at_least_met (number model m Lo) (value model m x) e; below = above_ordered (number model m Lo) (number model m Up) (value model m x) h e }
-sides_met model x m Up h e = record { above = below_ordered (number model m Lo) (number model m Up) (value model m x) h e; below = at_most_met (number model m Up) (value model m x) e }
-
 none_is_not : {v : ℚ} → None ≡ Some v → ⊥
 none_is_not e = cc
 
-holds_met : (model : Program) (x : Assignment) (m : Member) (side : Side) → IsOrdered model m → number model m side ≡ Some (value model m x) → Holds model x m
-holds_met model x (Row i) side h e = sides_met model x (Row i) side h e
-holds_met model x (Lower j) side h e = sides_met model x (Lower j) side h e
-holds_met model x (Upper j) side h e = sides_met model x (Upper j) side h e
-holds_met model x (Whole j) Lo h e = absurd (none_is_not e)
-holds_met model x (Whole j) Up h e = absurd (none_is_not e)
+holds_met : (model : Program) (x : Assignment) (m : Member) → number model m ≡ Some (value model m x) → Holds model x m
+holds_met model x (RowLo i) e = at_least_met (number model (RowLo i)) (value model (RowLo i) x) e
+holds_met model x (RowUp i) e = at_most_met (number model (RowUp i)) (value model (RowUp i) x) e
+holds_met model x (Lower j) e = at_least_met (number model (Lower j)) (x j) e
+holds_met model x (Upper j) e = at_most_met (number model (Upper j)) (x j) e
+holds_met model x (Whole j) e = absurd (none_is_not e)
 
-source_met : (model : Program) (x : Assignment) (s : Source) (side : Side) (members : List Member) → All (IsOrdered model) (with_source s members) → source_number model [] s side ≡ Some (source_value model x s)
-    → Satisfies model members x → Satisfies model (with_source s members) x
-source_met model x (Of m) side members h e k = All-cons (Holds model x) m members (holds_met model x m side (All-head (IsOrdered model) m members h) e) k
-source_met model x (Below j) side members h e k = k
-source_met model x (Above j) side members h e k = k
+source_met : (model : Program) (x : Assignment) (s : Source) (members : List Member) → source_number model [] s ≡ Some (source_value model x s) → Satisfies model members x → Satisfies model (with_source s members) x
+source_met model x (Of m) members e k = All-cons (Holds model x) m members (holds_met model x m e) k
+source_met model x (Below j) members e k = k
+source_met model x (Above j) members e k = k
 
-source_rest : (model : Program) (s : Source) (members : List Member) → All (IsOrdered model) (with_source s members) → All (IsOrdered model) members
-source_rest model (Of m) members h = All-tail (IsOrdered model) m members h
-source_rest model (Below j) members h = h
-source_rest model (Above j) members h = h
-
-all_met : (model : Program) (x : Assignment) (shares : List Share) → All (IsOrdered model) (members_of shares)
-    → All (λ s. source_number model [] s.source s.side ≡ Some (source_value model x s.source)) shares → Satisfies model (members_of shares) x
-all_met model x [] h e = All-nil (Holds model x)
-all_met model x (s ∷ shares) h e =
-    source_met model x s.source s.side (members_of shares) h (All-head (λ s. source_number model [] s.source s.side ≡ Some (source_value model x s.source)) s shares e)
-    (all_met model x shares (source_rest model s.source (members_of shares) h) (All-tail (λ s. source_number model [] s.source s.side ≡ Some (source_value model x s.source)) s shares e))
+all_met : (model : Program) (x : Assignment) (shares : List Share) → All (λ s. source_number model [] s.source ≡ Some (source_value model x s.source)) shares → Satisfies model (members_of shares) x
+all_met model x [] e = All-nil (Holds model x)
+all_met model x (s ∷ shares) e =
+    source_met model x s.source (members_of shares) (All-head (λ s. source_number model [] s.source ≡ Some (source_value model x s.source)) s shares e)
+    (all_met model x shares (All-tail (λ s. source_number model [] s.source ≡ Some (source_value model x s.source)) s shares e))
 
 -- ---- the shares, taken apart where their members are
 record Apart (shares : List Share) (front back : List Member) : Type 0 where
@@ -115,12 +94,7 @@ apart (s ∷ shares) front m back e = go (apart shares) s.source refl front e
     go rest (Below j) p front e = with_branch s shares front back (λ members. ap (λ z. with_source z members) p) (rest front m back e)
     go rest (Above j) p front e = with_branch s shares front back (λ members. ap (λ z. with_source z members) p) (rest front m back e)
 
--- ---- a part of what is in order is
-ordered_part : (model : Program) (front : List Member) (m : Member) (back : List Member) → All (IsOrdered model) (front ++ m ∷ back) → All (IsOrdered model) (front ++ back)
-ordered_part model [] m back h = All-tail (IsOrdered model) m back h
-ordered_part model (w ∷ front) m back h =
-    All-cons (IsOrdered model) w (front ++ back) (All-head (IsOrdered model) w (front ++ m ∷ back) h) (ordered_part model front m back (All-tail (IsOrdered model) w (front ++ m ∷ back) h))
-
+-- ---- the law
 weighting_refutes : (model : Program) (set : List Member) (shares : List Share) → All (λ s. zero_ℚ <ℚ s.weight) shares → IsWeighting model set shares → IsCombination model set [] shares
 weighting_refutes model set shares p y = record {
   positive = p;
@@ -130,13 +104,10 @@ weighting_refutes model set shares p y = record {
 }
 
 pub support_law : SupportLaw
-support_law model shares p y ordered met = record {
+support_law model shares p y met = record {
   cannot = λ s. combination_law model (members_of shares) [] shares (weighting_refutes model (members_of shares) shares p y) (coordinate s.point) s.satisfies (All-nil (KeepsBranch (coordinate s.point)));
   minimal = λ front m back e.
       (let a : Apart shares front back = apart shares front m back e in
       let z : IsMet model (a.before ++ a.after) = met a.before a.share a.after a.shares_are in
-      let fine : All (IsOrdered model) (front ++ back) = ordered_part model front m back (subst (All (IsOrdered model)) e ordered) in
-      satisfiable_at model (front ++ back) z.values
-      (subst (λ set. Satisfies model set (values_at z.values)) a.front_is
-      (all_met model (values_at z.values) (a.before ++ a.after) (subst (All (IsOrdered model)) (sym a.front_is) fine) z.meets)));
+      satisfiable_at model (front ++ back) z.values (subst (λ set. Satisfies model set (values_at z.values)) a.front_is (all_met model (values_at z.values) (a.before ++ a.after) z.meets)));
 }

@@ -5,12 +5,12 @@ use Rattle.std.proofs.lemmas.Bool.{not-true}
 use Rattle.std.proofs.lemmas.List.Elements.{All-map, All-weaker}
 use Rattle.algebra.proofs.Ring.{x0, ◌:+◌, zero_of}
 use Rattle.rational.specs.Rational.{ℚ, ◌+ℚ◌, ◌*ℚ◌, zero_ℚ}
-use Rattle.rational.specs.Sum.{sum_over, sum_below}
+use Rattle.rational.specs.Sum.{sum_over}
 use Rattle.rational.specs.Linear.{Term, factor_of}
 use Rattle.rational.proofs.Field.{ring_ℚ}
 use Rattle.rational.proofs.Sums.{sum_below-ext, sum_below-zero}
-use Rattle.certs.specs.System.{LinearSystem, IsTable, is_basic}
-use Rattle.certs.specs.Tableau.{Tableau, IsTableauOf, below, nonbasics}
+use Rattle.certs.specs.System.{LinearSystem, is_basic}
+use Rattle.certs.specs.Tableau.{Tableau, IsTableauOf, nonbasics}
 use Rattle.certs.proofs.Choices.{below_all}
 use Rattle.certs.proofs.Tableaus.{sum_passing, taken_out}
 use Rattle.evidence_laws.specs.Tables.{TermsLaw, terms_of}

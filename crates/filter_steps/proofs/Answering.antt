@@ -1,6 +1,6 @@
 -- What filters answer, and what they leave of an oracle.
-use Rattle.std.proofs.Common.{◌≡◌, ◌≤◌, ◌<◌, ◌+◌, ◌-◌, ◌^◌, ℕ, suc, nat_lt, Bool, cond, refl, sym, ◌∙◌, ap, subst, true, false, true≢false, List, [], ◌++◌, append-nil, arith, Some, Ok, Err, inl, inr}
-use Rattle.std.specs.Prelude.{Option, Result, IfOk, IfErr, IsTrue, ◌↔◌, ◌⊎◌}
+use Rattle.std.proofs.Common.{◌≡◌, ◌≤◌, ◌+◌, ◌-◌, ◌^◌, ℕ, suc, nat_lt, Bool, cond, refl, sym, ◌∙◌, ap, subst, true, false, true≢false, List, [], ◌++◌, append-nil, arith, Ok, Err, inl, inr}
+use Rattle.std.specs.Prelude.{Result, IfOk, IsTrue, ◌↔◌, ◌⊎◌}
 use Rattle.lp_model.specs.declared.members.Member.{Member}
 use Rattle.lp_model.specs.Program.{Program}
 use Rattle.lp_model.specs.Satisfaction.{IsSatisfiable}
@@ -15,9 +15,9 @@ use Rattle.certs.specs.declared.solving.Verdict.{Verdict}
 use Rattle.certs.specs.declared.solving.Verdict.TheVariants.{Feasible, Infeasible}
 use Rattle.certs.specs.Answers.{AnswersAt, IsAnsweredProof, IsAnsweredStop}
 use Rattle.certs.specs.Sites.{Budgets}
-use Rattle.certs.specs.Tales.{FirstCore, IsSiteWithin, IsVerdict, OracleState, Stopped, asked_after, first_core_after, listed_stop, one_more}
+use Rattle.certs.specs.Tales.{IsSiteWithin, IsVerdict, OracleState, asked_after, first_core_after, listed_stop, one_more}
 use Rattle.certs.proofs.Refuted.{proof_law}
-use Rattle.filter_steps.specs.Isolated.{IsIsolated, IsIsolation, IsLeft, IsReduced, IsStoppedAt, is_feasible, isolated_of}
+use Rattle.filter_steps.specs.Isolated.{IsIsolation, IsLeft, IsReduced, IsStoppedAt, is_feasible}
 use Rattle.filter_steps.proofs.Reducing.{point_of_verdict, proof_of_verdict}
 use Rattle.filter_steps.proofs.Witnessed.{satisfiable_by}
 

@@ -1,15 +1,15 @@
 -- Proofs of a set as proofs of its parts: those that have all members which the nodes use.
-use Rattle.std.proofs.Common.{◌≡◌, ◌<◌, refl, sym, ◌∙◌, ap, subst, suc, Bool, true, false, true≢false, not, List, [], ◌∷◌, ◌++◌, length, filter, arith, get_or}
-use Rattle.std.specs.Prelude.{All, Contains}
+use Rattle.std.proofs.Common.{◌≡◌, ◌<◌, refl, sym, ◌∙◌, ap, subst, suc, Bool, true, false, true≢false, not, List, [], ◌∷◌, ◌++◌, length, arith, get_or}
+use Rattle.std.specs.Prelude.{Contains}
 use Rattle.std.specs.List.{list_any}
-use Rattle.std.proofs.lemmas.List.Elements.{All-weaker, All-contains, All-contains_itself, All-append, All-cons, All-nil, Contains-append_left, Contains-append_right}
+use Rattle.std.proofs.lemmas.List.Elements.{All-contains_itself, Contains-append_left, Contains-append_right}
 use Rattle.std.proofs.lemmas.List.Folds.{list_any_at}
 use lib.IntN.{pos, ◌+ℤ◌}
 use Rattle.lp_model.specs.declared.members.Member.{Member}
 use Rattle.lp_model.specs.declared.members.Member.TheVariants.{Whole}
 use Rattle.lp_model.specs.Program.{Program}
 use Rattle.lp_model.specs.Members.{has, is_same}
-use Rattle.lp_model.specs.MemberSets.{SetValue, IsPossibleIn, possible_in, set_without}
+use Rattle.lp_model.specs.MemberSets.{SetValue, set_without}
 use Rattle.lp_model.proofs.Sets.{same_members, same_self, Contains-cons, Contains-filter}
 use Rattle.certs.specs.declared.evidence.Branch.{Branch}
 use Rattle.certs.specs.declared.evidence.Node.{Node}
@@ -18,7 +18,7 @@ use Rattle.certs.specs.declared.evidence.Share.{Share}
 use Rattle.certs.specs.declared.evidence.Source.{Source}
 use Rattle.certs.specs.declared.evidence.Source.TheVariants.{Member as Of, Below, Above}
 use Rattle.certs.specs.Combination.{IsFrom, IsThere}
-use Rattle.certs.specs.Named.{IsKnownNode, IsKnownSource, node_uses, used_set}
+use Rattle.certs.specs.Named.{node_uses, used_set}
 use Rattle.certs.specs.Proof.{Tree, Tip, Fork, preorder, at_most, at_least, IsMarked, IsTreeProof, IsProof}
 use Rattle.certs.specs.Violation.{is_of}
 use Rattle.certs.proofs.HasLists.{has_of_filter}

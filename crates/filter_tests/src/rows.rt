@@ -8,7 +8,7 @@ use certs::{Combo, Irreducible, MemberSet, Oracle, Point, Share, Shares, Source,
 use filter_steps::listed;
 use frac128::Frac;
 use linear_oracle::LinearOracle;
-use lp_model::{Member, Model, Side};
+use lp_model::{Member, Model};
 use mps_reader::read_mps;
 use std::alloc::{AllocError, Global};
 use table_oracle::{TableAnswer, TableOracle};
@@ -31,11 +31,10 @@ pub enum Filter {
     Sensitivity,
 }
 
-// A side of a row, once.
-fn share(row: u32, side: Side) -> Share {
+// A member, once.
+fn share(member: Member) -> Share {
     Share {
-        source: Source::Member(Member::Row(row)),
-        side,
+        source: Source::Member(member),
         weight: Frac::whole(1),
     }
 }
@@ -49,7 +48,7 @@ fn answer(alloc: Global, plan: Plan) -> Result<TableAnswer, AllocError> {
             }))
         }
         Plan::WithB(row) => {
-            let (other, b) = (share(row, Side::Up), share(1, Side::Lo));
+            let (other, b) = (share(Member::RowUp(row)), share(Member::RowLo(1)));
             let shares = if row < 1 { [other, b] } else { [b, other] };
             Ok(TableAnswer::Leaf(Combo {
                 shares: Shares::new(Vec::from_slice(alloc, &shares)?),
@@ -80,7 +79,7 @@ fn active(alloc: Global, model: &Model, without_b: bool) -> Result<MemberSet, Al
 {
     let mut set = model.members(alloc)?;
     if without_b && model.row_count() > 1 {
-        set.remove(Member::Row(1));
+        set.remove(Member::RowLo(1));
     }
     Ok(set)
 }
@@ -104,9 +103,9 @@ fn isolated<O: Oracle>(
 
 fn letter(member: Member) -> char {
     match member {
-        Member::Row(0) => 'A',
-        Member::Row(1) => 'B',
-        Member::Row(2) => 'C',
+        Member::RowUp(0) => 'A',
+        Member::RowLo(1) => 'B',
+        Member::RowUp(2) => 'C',
         Member::Lower(_) => 'l',
         _ => '?',
     }

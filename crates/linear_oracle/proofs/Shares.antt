@@ -5,7 +5,6 @@ use Rattle.std.proofs.lemmas.Bool.{ltb-true, ltb-false}
 use Rattle.std.proofs.lemmas.List.{length-map}
 use Rattle.std.proofs.lemmas.List.Elements.{All-map, All-weaker}
 use Rattle.lp_model.specs.declared.members.Member.{Member}
-use Rattle.lp_model.specs.declared.members.Member.TheVariants.{Row}
 use Rattle.lp_model.specs.declared.members.Side.{Side}
 use Rattle.lp_model.specs.declared.members.Side.TheVariants.{Lo, Up}
 use Rattle.lp_model.specs.Program.{Program}
@@ -13,10 +12,9 @@ use Rattle.certs.specs.declared.evidence.Branch.{Branch}
 use Rattle.certs.specs.declared.evidence.Share.{Share}
 use Rattle.certs.specs.declared.evidence.Source.TheVariants.{Member as Of}
 use Rattle.certs.specs.System.{VariableShare}
-use Rattle.lp_model.specs.Members.{has}
 use Rattle.certs.specs.Ended.{numbers_from}
-use Rattle.certs.specs.Named.{IsNamedCombination, IsOfSystem, bound_of, member_of, named}
-use Rattle.certs.specs.Plain.{column_limits, crossing_shares, first_crossing, plain_row, plain_system, rows_in}
+use Rattle.certs.specs.Named.{IsNamedCombination, IsOfSystem, bound_of, member_of, named, row_side_of}
+use Rattle.certs.specs.Plain.{column_limits, crossing_shares, first_crossing, has_row, plain_row, plain_system, rows_in}
 use Rattle.certs.proofs.PlainCuts.{crossing_combination}
 use Rattle.certs.proofs.Translated.{length_mapped, length_numbers}
 
@@ -25,19 +23,23 @@ pub columns_are : (model : Program) (set : List Member) (path : List Branch) →
 columns_are model set path = length_mapped (column_limits model set path) (length model.columns)
 
 pub rows_are : (model : Program) (set : List Member) (path : List Branch) → length (plain_system model set path false).rows ≡ length (rows_in model set)
-rows_are model set path = length-map (rows_in model set) (plain_row model)
+rows_are model set path = length-map (rows_in model set) (plain_row model set)
 
--- a limit of a variable is a row or a bound of a column
+-- a limit of a variable is a side of a row or a bound of a column
 bound_known : (columns rows v : ℕ) (side : Side) → v < columns → IsOfSystem columns rows (Of (bound_of v side))
 bound_known columns rows v Lo l = l
 bound_known columns rows v Up l = l
 
+row_known : (columns rows k : ℕ) (side : Side) → k < rows → IsOfSystem columns rows (Of (row_side_of k side))
+row_known columns rows k Lo l = l
+row_known columns rows k Up l = l
+
 known_one : (columns rows v : ℕ) (side : Side) → v < columns + rows → IsOfSystem columns rows (Of (member_of columns v side))
 known_one columns rows v side l = by (nat_lt v columns) refl
   where
-    by : (b : Bool) → nat_lt v columns ≡ b → IsOfSystem columns rows (Of (cond b (bound_of v side) (Row (v - columns))))
+    by : (b : Bool) → nat_lt v columns ≡ b → IsOfSystem columns rows (Of (cond b (bound_of v side) (row_side_of (v - columns) side)))
     by true e = bound_known columns rows v side (ltb-true v columns e)
-    by false e = let past = ltb-false v columns e in omega (arith, past)
+    by false e = let past = ltb-false v columns e in row_known columns rows (v - columns) side (omega (arith, past, l))
 
 pub all_known : (columns rows : ℕ) (shares : List VariableShare) → All (λ s. s.variable < columns + rows) shares → All (λ (s : Share). IsOfSystem columns rows s.source) (map (named columns) shares)
 all_known columns rows shares h =
@@ -78,6 +80,6 @@ pub few_variables : (model : Program) (set : List Member) (path : List Branch) �
 few_variables model set path r c =
     let columns = columns_are model set path in
     let rows = rows_are model set path in
-    let kept : length (rows_in model set) ≤ length (numbers_from 0 (length model.rows)) = kept_few (λ i. has set (Row i)) (numbers_from 0 (length model.rows)) in
+    let kept : length (rows_in model set) ≤ length (numbers_from 0 (length model.rows)) = kept_few (has_row set) (numbers_from 0 (length model.rows)) in
     let all = length_numbers 0 (length model.rows) in
     omega (arith, columns, rows, kept, all, r, c)

@@ -1,10 +1,6 @@
 -- What contracts see of an oracle by runs of plain systems.
-use Rattle.std.specs.Prelude.{◌≡◌, ℕ, List, [], ◌∷◌}
+use Rattle.std.specs.Prelude.{ℕ}
 use Rattle.lp_model.specs.Program.{Program}
-use Rattle.certs.specs.declared.evidence.Combo.{Combo}
-use Rattle.certs.specs.declared.evidence.Node.TheVariants.{Leaf}
-use Rattle.certs.specs.declared.solving.Verdict.{Verdict}
-use Rattle.certs.specs.declared.solving.Verdict.TheVariants.{Feasible, Infeasible}
 use Rattle.certs.specs.Answers.{is_linear}
 use Rattle.certs.specs.Tales.{OracleState, TaleValue}
 

@@ -1,36 +1,19 @@
 //! Asks over programs of two columns, x and y.
-ghost use Rattle.std.specs.Prelude.{◌≡◌, ◌≢◌, ◌<◌, ℕ, false, true, List, IfOk, length};
+ghost use Rattle.std.specs.Prelude.{◌≡◌, ◌≢◌, ◌<◌, ℕ, false, true, IfOk, length};
 ghost use Rattle.rational.specs.Rational.{zero_ℚ};
-ghost use Rattle.lp_model.specs.Program.{IsForm, IsWellFormedColumn};
-ghost use Rattle.lp_model.specs.Shown.{named_column};
+ghost use Rattle.lp_model.specs.Program.{IsForm};
 ghost use Rattle.certs.specs.Checks.{IsSetOf};
 ghost use Rattle.certs.specs.Answers.{is_linear};
 
 use super::*;
 use certs::{
-    Branch, BranchAsk, CoreRecord, MemberSet, NodeEnd, Oracle, Share, Side, SiteKind, Source, Stop,
+    Branch, BranchAsk, CoreRecord, MemberSet, NodeEnd, Oracle, Share, SiteKind, Source, Stop,
     StopRecord, Verdict,
 };
 use frac128::Frac;
-use lp_model::{Column, Member, Model, ModelStop, Row, Term, Terms, Weight};
+use lp_model::{Column, Member, Model, ModelStop, Row, Term, Terms};
 use std::alloc::{AllocError, Global};
 use std::test::Fail;
-
-// A column between these, without a mark.
-fn column(lo: i64, up: i64) -> Column
-    ensures { (name : List ℕ) → IsWellFormedColumn (named_column name result) }
-{
-    Column {
-        lo: Some(Frac::whole(lo)),
-        up: Some(Frac::whole(up)),
-        whole: false,
-        lower_active: true,
-        upper_active: true,
-        whole_active: true,
-        lower_weight: Weight::Rigid,
-        upper_weight: Weight::Rigid,
-    }
-}
 
 // Whether a factor is 0.
 fn is_zero(factor: Frac) -> bool
@@ -57,20 +40,6 @@ fn form(alloc: Global, x: Frac, y: Frac) -> Result<Terms, AllocError>
     Ok(Terms::new(items))
 }
 
-// A row of these terms.
-fn row(terms: Terms, lo: Option<Frac>, up: Option<Frac>) -> Row
-    ensures terms { result.terms ≡ terms }
-    ensures weight { result.weight ≡ Weight.Rigid }
-{
-    Row {
-        terms,
-        lo,
-        up,
-        active: true,
-        weight: Weight::Rigid,
-    }
-}
-
 // Puts a column last.
 fn add_column(
     model: &mut Model,
@@ -79,7 +48,8 @@ fn add_column(
     lo: i64,
     up: i64,
 ) -> Result<(), ModelStop> {
-    model.add_column(alloc, name, column(lo, up))?;
+    let column = Column::new(Some(Frac::whole(lo)), Some(Frac::whole(up)), false);
+    model.add_column(alloc, name, column)?;
     Ok(())
 }
 
@@ -102,7 +72,7 @@ fn add_row(
     let Ok(terms) = form(alloc, factor, factor) else {
         return Err(ModelStop::Memory);
     };
-    model.add_row(alloc, name, row(terms, lo, up))?;
+    model.add_row(alloc, name, Row::new(terms, lo, up))?;
     Ok(())
 }
 
@@ -117,7 +87,8 @@ fn program(alloc: Global) -> Result<Model, ModelStop> {
     Ok(model)
 }
 
-// Puts a row into a set.
+// Puts the upper side of the first row into a set, or the lower side of another.
+#[tactic(auto, using(crate::proofs::Answering::with_linear))]
 fn insert(model: &Model, set: &mut MemberSet, index: u32)
     requires same { IsSetOf model.now set.old }
     requires linear { is_linear set.old.members ≡ true }
@@ -125,7 +96,11 @@ fn insert(model: &Model, set: &mut MemberSet, index: u32)
     ensures same { IsSetOf model.now set.new }
     ensures linear { is_linear set.new.members ≡ true }
 {
-    set.insert(Member::Row(index));
+    if index == 0 {
+        set.insert(Member::RowUp(0));
+    } else {
+        set.insert(Member::RowLo(index));
+    }
 }
 
 // Puts a row into a set, where there is such a row.
@@ -284,9 +259,9 @@ fn asks(rt: HostRuntime) -> Result<(), Fail> {
     Ok(())
 }
 
-// Whether a share is this side of this source, once.
-fn is_share(share: &Share, source: Source, side: Side) -> bool {
-    share.source == source && share.side == side && share.weight == Frac::whole(1)
+// Whether a share is this source, once.
+fn is_share(share: &Share, source: Source) -> bool {
+    share.source == source && share.weight == Frac::whole(1)
 }
 
 // Whether a path is cut by what it says of the first column.
@@ -294,8 +269,7 @@ fn is_cut(end: &Result<NodeEnd, Stop>) -> bool {
     match end {
         Ok(NodeEnd::Cut(combo)) => match combo.shares.as_slice() {
             [below, above] => {
-                is_share(below, Source::Below(0), Side::Up)
-                    && is_share(above, Source::Above(0), Side::Lo)
+                is_share(below, Source::Below(0)) && is_share(above, Source::Above(0))
             }
             _ => false,
         },

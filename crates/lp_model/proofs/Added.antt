@@ -7,7 +7,7 @@ use Rattle.name_map.proofs.NameLists.{map_push}
 use Rattle.lp_model.specs.declared.models.ModelStop.{ModelStop}
 use Rattle.lp_model.specs.declared.parts.Row.{Row}
 use Rattle.lp_model.specs.declared.parts.Column.{Column}
-use Rattle.lp_model.specs.Program.{Program, NamedRow, NamedColumn, IsForm, IsPositiveWeight, IsWellFormedColumn}
+use Rattle.lp_model.specs.Program.{Program, NamedRow, NamedColumn, IsWellFormedRow, IsWellFormedColumn}
 use Rattle.lp_model.specs.Shown.{IsKept, CanAdd, row_names, column_names, with_more_row, with_more_column, named_row, named_column, most_rows, most_columns}
 use Rattle.lp_model.specs.Refusals.{IsAddRefusal}
 use Rattle.lp_model.proofs.Kept.{kept_row, kept_column}
@@ -32,12 +32,12 @@ row_more : (model : Program) (es : List (List ℕ × Row)) (name : List ℕ) (ro
 row_more model es name row = ap (λ (rs : List NamedRow). let p : Program = record model { rows = rs } in p) (map_push (λ e. named_row e.0 e.1) es (name, row))
 
 -- what is kept is kept
-pub kept_new_row : (model : Program) (old new : List (List ℕ × Row)) (name : List ℕ) (row : Row) (r : Result ℕ ModelStop) → IsKept (with_rows model old) → IsForm (length model.columns) row.terms → IsPositiveWeight row.weight → Answers most_rows old new name row r → OnErr r (new ≡ old) → IsKept (with_rows model new)
-kept_new_row model old new name row (Ok i) kept form weight answer same =
+pub kept_new_row : (model : Program) (old new : List (List ℕ × Row)) (name : List ℕ) (row : Row) (r : Result ℕ ModelStop) → IsKept (with_rows model old) → IsWellFormedRow (length model.columns) (named_row name row) → Answers most_rows old new name row r → OnErr r (new ≡ old) → IsKept (with_rows model new)
+kept_new_row model old new name row (Ok i) kept fits answer same =
     let can = subst (λ (ns : List (List ℕ)). CanAdd ns most_rows name) (sym (row_names_are model old)) answer.0 in
     subst IsKept (sym (ap (with_rows model) answer.2 ∙ row_more model old name row))
-    (kept_row (with_rows model old) (named_row name row) kept form weight can)
-kept_new_row model old new name row (Err stop) kept form weight answer same = subst (λ (es : List (List ℕ × Row)). IsKept (with_rows model es)) (sym same) kept
+    (kept_row (with_rows model old) (named_row name row) kept fits can)
+kept_new_row model old new name row (Err stop) kept fits answer same = subst (λ (es : List (List ℕ × Row)). IsKept (with_rows model es)) (sym same) kept
 
 -- the answer, of the programs
 pub answer_new_row : (model : Program) (old new : List (List ℕ × Row)) (name : List ℕ) (row : Row) (r : Result ℕ ModelStop) → Answers most_rows old new name row r

@@ -6,7 +6,7 @@ use Rattle.std.proofs.lemmas.List.Elements.{All-get_or}
 use Rattle.rational.specs.Rational.{ℚ, zero_ℚ, IsWhole}
 use Rattle.rational.specs.Linear.{Term}
 use Rattle.lp_model.specs.Program.{Program, IsWellFormedRow, row_at, column_at, empty_row}
-use Rattle.lp_model.specs.Members.{Lower, Upper, Whole}
+use Rattle.lp_model.specs.Members.{Whole}
 use Rattle.lp_model.specs.Satisfaction.{values_at, IsAtLeast, IsAtMost, Holds}
 use Rattle.lp_model.specs.Shown.{IsKept}
 
@@ -14,19 +14,13 @@ use Rattle.lp_model.specs.Shown.{IsKept}
 pub value_read : (values : List ℚ) (j : ℕ) (v : ℚ) → j < length values → v ≡ get_or values j v → v ≡ values_at values j
 value_read values j v h e = get_or_read_under values j (length values) v zero_ℚ e h refl
 
--- a lower bound
-pub lower_holds : (model : Program) (values : List ℚ) (j : ℕ) (lo : Option ℚ) (v : ℚ) (b : Bool) → (column_at model j).lower ≡ lo → v ≡ values_at values j → (IsTrue b ↔ IsAtLeast lo v) → IsTrue b ↔ Holds model (values_at values) (Lower j)
-lower_holds model values j lo v b same is h = (
-  λ t. record { above = subst (λ (o : Option ℚ). IsAtLeast o (values_at values j)) (sym same) (subst (IsAtLeast lo) is (h.0 t)); below = tt },
-  λ k. h.1 (subst (IsAtLeast lo) (sym is) (subst (λ (o : Option ℚ). IsAtLeast o (values_at values j)) same k.above)),
-)
+-- a lower side or bound
+pub at_least_is : (asked lo : Option ℚ) (v x : ℚ) (b : Bool) → asked ≡ lo → v ≡ x → (IsTrue b ↔ IsAtLeast lo v) → IsTrue b ↔ IsAtLeast asked x
+at_least_is asked lo v x b same is h = subst (λ (p : Option ℚ × ℚ). IsTrue b ↔ IsAtLeast p.0 p.1) (λ i. (sym same i, is i)) h
 
--- an upper bound
-pub upper_holds : (model : Program) (values : List ℚ) (j : ℕ) (up : Option ℚ) (v : ℚ) (b : Bool) → (column_at model j).upper ≡ up → v ≡ values_at values j → (IsTrue b ↔ IsAtMost up v) → IsTrue b ↔ Holds model (values_at values) (Upper j)
-upper_holds model values j up v b same is h = (
-  λ t. record { above = tt; below = subst (λ (o : Option ℚ). IsAtMost o (values_at values j)) (sym same) (subst (IsAtMost up) is (h.0 t)) },
-  λ k. h.1 (subst (IsAtMost up) (sym is) (subst (λ (o : Option ℚ). IsAtMost o (values_at values j)) same k.below)),
-)
+-- an upper one
+pub at_most_is : (asked up : Option ℚ) (v x : ℚ) (b : Bool) → asked ≡ up → v ≡ x → (IsTrue b ↔ IsAtMost up v) → IsTrue b ↔ IsAtMost asked x
+at_most_is asked up v x b same is h = subst (λ (p : Option ℚ × ℚ). IsTrue b ↔ IsAtMost p.0 p.1) (λ i. (sym same i, is i)) h
 
 -- a mark that is there
 pub whole_holds : (model : Program) (values : List ℚ) (j : ℕ) (v : ℚ) (b : Bool) → IsTrue (column_at model j).whole → v ≡ values_at values j → (IsTrue b ↔ IsWhole v) → IsTrue b ↔ Holds model (values_at values) (Whole j)

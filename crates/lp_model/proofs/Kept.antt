@@ -8,7 +8,7 @@ use Rattle.std.proofs.lemmas.List.Quantifiers.{all_pairs_push}
 use Rattle.std.proofs.lemmas.Slice.Eq.{bytes_eq-Decides}
 use Rattle.name_map.proofs.NameLists.{any_map}
 use Rattle.rational.specs.Linear.{Term}
-use Rattle.lp_model.specs.Program.{Program, NamedRow, NamedColumn, Note, noted_column, IsForm, IsPositiveWeight, IsWellFormedRow, IsWellFormedColumn}
+use Rattle.lp_model.specs.Program.{Program, NamedRow, NamedColumn, Note, noted_column, IsForm, IsWellFormedRow, IsWellFormedColumn}
 use Rattle.lp_model.specs.Shown.{IsKept, CanAdd, row_names, column_names, with_more_row, with_more_column, is_named, most_rows, most_columns}
 
 -- a list and one element more
@@ -31,13 +31,13 @@ form_wider n m terms le f = record {
 }
 
 -- one row more
-pub kept_row : (model : Program) (row : NamedRow) → IsKept model → IsForm (length model.columns) row.terms → IsPositiveWeight row.weight → CanAdd (row_names model) most_rows row.name → IsKept (with_more_row model row)
-kept_row model row kept form weight can =
+pub kept_row : (model : Program) (row : NamedRow) → IsKept model → IsWellFormedRow (length model.columns) row → CanAdd (row_names model) most_rows row.name → IsKept (with_more_row model row)
+kept_row model row kept fits can =
     let w = kept.well_formed in
     let room : length model.rows < most_rows = subst (λ (n : ℕ). n < most_rows) (length-map model.rows (λ r. r.name)) can.room in
     record {
       well_formed = record {
-        rows = All-push (IsWellFormedRow (length model.columns)) model.rows row w.rows (record { form = form; weight = weight });
+        rows = All-push (IsWellFormedRow (length model.columns)) model.rows row w.rows fits;
         columns = w.columns;
         objective = w.objective;
         notes = w.notes;
@@ -58,7 +58,7 @@ kept_column model column kept fits can =
     let room : n < most_columns = subst (λ (k : ℕ). k < most_columns) (length-map model.columns (λ c. c.name)) can.room in
     record {
       well_formed = record {
-        rows = All-weaker (IsWellFormedRow n) (IsWellFormedRow m) (λ r h. record { form = form_wider n m r.terms more h.form; weight = h.weight }) model.rows w.rows;
+        rows = All-weaker (IsWellFormedRow n) (IsWellFormedRow m) (λ r h. record { form = form_wider n m r.terms more h.form; lower_weight = h.lower_weight; upper_weight = h.upper_weight; no_lower = h.no_lower; no_upper = h.no_upper }) model.rows w.rows;
         columns = All-push IsWellFormedColumn model.columns column w.columns fits;
         objective = form_wider n m model.objective more w.objective;
         notes = All-weaker (λ note. noted_column note < n) (λ note. noted_column note < m) (λ note h. omega arith) model.notes w.notes;

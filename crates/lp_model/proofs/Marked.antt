@@ -1,5 +1,5 @@
 -- The members that a list of marks gives, by their places among the possible members.
-use Rattle.std.proofs.Common.{◌≡◌, ◌<◌, ◌≤◌, ◌+◌, ◌-◌, refl, sym, ◌∙◌, ap, subst, ℕ, zero, suc, Bool, true, false, true≢false, cond, not, ◌&&◌, ◌||◌, ltb, List, [], ◌∷◌, ◌++◌, length, get_or, set, map, take, drop, replicate, filter, arith, inl, inr, length-append, lt-ltb, Option, Some, None, drop-cons, add-one}
+use Rattle.std.proofs.Common.{◌≡◌, ◌<◌, ◌≤◌, ◌+◌, ◌-◌, ◌*◌, ◌/◌, ◌%◌, refl, sym, ◌∙◌, ap, subst, ℕ, zero, suc, Bool, true, false, true≢false, cond, not, ◌&&◌, ◌||◌, ltb, List, [], ◌∷◌, ◌++◌, length, get_or, set, map, take, drop, replicate, filter, arith, inl, inr, length-append, lt-ltb, Option, Some, None, drop-cons, add-one}
 use Rattle.std.proofs.lemmas.Bool.{cases_lt, le-ltb}
 use Rattle.std.proofs.lemmas.List.{take_all, get_or_read_under, length-map, get_or_append_left, get_or-append-add, get_or-set_same, get_or-set_other, get_or-map}
 use Rattle.std.proofs.lemmas.List.Elements.{filter_passes, All-contains}
@@ -8,9 +8,9 @@ use Rattle.std.proofs.lemmas.List.Kept.{AllPairs-filter}
 use Rattle.std.proofs.Math.ListN.{drop_of_length-le}
 use Rattle.std.specs.Prelude.{Contains, MatchOption, ⊤, find}
 use Rattle.lp_model.specs.Program.{Program}
-use Rattle.lp_model.specs.Members.{Member, Row, Lower, Upper, Whole, comes_before, is_same, has, is_active, numbered, IsInOrder}
+use Rattle.lp_model.specs.Members.{Member, RowLo, RowUp, Lower, Upper, Whole, row_side, comes_before, is_same, has, is_active, numbered, IsInOrder}
 use Rattle.lp_model.specs.MemberSets.{SetValue, members_for, IsMemberFor, follows, place_count, place_in, place_after, is_marked, marked_set, set_with, set_without, next_after, active_set}
-use Rattle.lp_model.proofs.Sets.{same_members, same_self, contains_of_has, has_of_contains, Contains-filter, possible_in_order}
+use Rattle.lp_model.proofs.Sets.{row_side_lower, row_side_upper, same_members, same_self, contains_of_has, has_of_contains, Contains-filter, possible_in_order}
 
 -- ---- lists
 filter_agree_on : {A : Type 0} (p q : A → Bool) (xs : List A) → ((x : A) → Contains xs x → p x ≡ q x) → filter p xs ≡ filter q xs
@@ -83,33 +83,43 @@ within_numbered make n i ys d l =
 
 pub length-members_for : (rows columns : ℕ) → length (members_for rows columns) ≡ place_count rows columns
 length-members_for rows columns =
-    let a : length (numbered Row rows) ≡ rows = length-numbered Row rows in
+    let a : length (numbered row_side (2 * rows)) ≡ 2 * rows = length-numbered row_side (2 * rows) in
     let b : length (numbered Lower columns) ≡ columns = length-numbered Lower columns in
     let c : length (numbered Upper columns) ≡ columns = length-numbered Upper columns in
     let d : length (numbered Whole columns) ≡ columns = length-numbered Whole columns in
     let e : length (numbered Upper columns ++ numbered Whole columns) ≡ length (numbered Upper columns) + length (numbered Whole columns) = length-append (numbered Upper columns) (numbered Whole columns) in
     let f : length (numbered Lower columns ++ (numbered Upper columns ++ numbered Whole columns)) ≡ length (numbered Lower columns) + length (numbered Upper columns ++ numbered Whole columns) = length-append (numbered Lower columns) (numbered Upper columns ++ numbered Whole columns) in
-    let g : length (numbered Row rows ++ (numbered Lower columns ++ (numbered Upper columns ++ numbered Whole columns))) ≡ length (numbered Row rows) + length (numbered Lower columns ++ (numbered Upper columns ++ numbered Whole columns)) = length-append (numbered Row rows) (numbered Lower columns ++ (numbered Upper columns ++ numbered Whole columns)) in
-    let h : length (numbered Row rows ++ (numbered Lower columns ++ (numbered Upper columns ++ numbered Whole columns))) ≡ rows + (columns + (columns + columns)) = omega arith in h
+    let g : length (numbered row_side (2 * rows) ++ (numbered Lower columns ++ (numbered Upper columns ++ numbered Whole columns))) ≡ length (numbered row_side (2 * rows)) + length (numbered Lower columns ++ (numbered Upper columns ++ numbered Whole columns)) = length-append (numbered row_side (2 * rows)) (numbered Lower columns ++ (numbered Upper columns ++ numbered Whole columns)) in
+    let h : length (numbered row_side (2 * rows) ++ (numbered Lower columns ++ (numbered Upper columns ++ numbered Whole columns))) ≡ 2 * rows + (columns + (columns + columns)) = omega arith in h
 
 module _ (rows columns : ℕ) where
   -- a member stands at its place
   pub at_place : (m d : Member) → IsMemberFor rows columns m → get_or (members_for rows columns) (place_in rows columns m) d ≡ m
-  at_place (Row i) d l = within_numbered Row rows i _ d l
-  at_place (Lower j) d l = after_numbered Row rows j _ d ∙ within_numbered Lower columns j _ d l
-  at_place (Upper j) d l = after_numbered Row rows (columns + j) _ d ∙ (after_numbered Lower columns j _ d ∙ within_numbered Upper columns j _ d l)
-  at_place (Whole j) d l = after_numbered Row rows (columns + (columns + j)) _ d ∙ (after_numbered Lower columns (columns + j) _ d ∙ (after_numbered Upper columns j _ d ∙ numbered_at Whole columns j d l))
+  at_place (RowLo i) d l = within_numbered row_side (2 * rows) (2 * i) _ d (omega arith) ∙ row_side_lower i
+  at_place (RowUp i) d l = within_numbered row_side (2 * rows) (2 * i + 1) _ d (omega arith) ∙ row_side_upper i
+  at_place (Lower j) d l = after_numbered row_side (2 * rows) j _ d ∙ within_numbered Lower columns j _ d l
+  at_place (Upper j) d l = after_numbered row_side (2 * rows) (columns + j) _ d ∙ (after_numbered Lower columns j _ d ∙ within_numbered Upper columns j _ d l)
+  at_place (Whole j) d l = after_numbered row_side (2 * rows) (columns + (columns + j)) _ d ∙ (after_numbered Lower columns (columns + j) _ d ∙ (after_numbered Upper columns j _ d ∙ numbered_at Whole columns j d l))
 
   -- each place has a member
-  member_there : (k : ℕ) → k < place_count rows columns → (m : Member) × (IsMemberFor rows columns m × (place_in rows columns m ≡ k))
+  abbrev Stands : ℕ → Type 0
+  Stands k = (m : Member) × (IsMemberFor rows columns m × (place_in rows columns m ≡ k))
+
+  side_there : (k : ℕ) → k < 2 * rows → Stands k
+  side_there k l = elim (cases_lt (k % 2) 1) [
+    | inl h ↦ (RowLo (k / 2), ((let e : k / 2 < rows = omega arith in e), (let e : 2 * (k / 2) ≡ k = omega arith in e)))
+    | inr h ↦ (RowUp (k / 2), ((let e : k / 2 < rows = omega arith in e), (let e : 2 * (k / 2) + 1 ≡ k = omega arith in e)))
+  ]
+
+  member_there : (k : ℕ) → k < place_count rows columns → Stands k
   member_there k l =
-      elim (cases_lt k rows) [
-        | inl h ↦ (Row k, (h, refl))
-        | inr h ↦ elim (cases_lt k (rows + columns)) [
-          | inl g ↦ (Lower (k - rows), ((let e : k - rows < columns = omega arith in e), (let e : rows + (k - rows) ≡ k = omega arith in e)))
-          | inr g ↦ elim (cases_lt k (rows + (columns + columns))) [
-            | inl f ↦ (Upper (k - (rows + columns)), ((let e : k - (rows + columns) < columns = omega arith in e), (let e : rows + (columns + (k - (rows + columns))) ≡ k = omega arith in e)))
-            | inr f ↦ (Whole (k - (rows + (columns + columns))), ((let e : k - (rows + (columns + columns)) < columns = omega arith in e), (let e : rows + (columns + (columns + (k - (rows + (columns + columns))))) ≡ k = omega arith in e)))
+      elim (cases_lt k (2 * rows)) [
+        | inl h ↦ side_there k h
+        | inr h ↦ elim (cases_lt k (2 * rows + columns)) [
+          | inl g ↦ (Lower (k - 2 * rows), ((let e : k - 2 * rows < columns = omega arith in e), (let e : 2 * rows + (k - 2 * rows) ≡ k = omega arith in e)))
+          | inr g ↦ elim (cases_lt k (2 * rows + (columns + columns))) [
+            | inl f ↦ (Upper (k - (2 * rows + columns)), ((let e : k - (2 * rows + columns) < columns = omega arith in e), (let e : 2 * rows + (columns + (k - (2 * rows + columns))) ≡ k = omega arith in e)))
+            | inr f ↦ (Whole (k - (2 * rows + (columns + columns))), ((let e : k - (2 * rows + (columns + columns)) < columns = omega arith in e), (let e : 2 * rows + (columns + (columns + (k - (2 * rows + (columns + columns))))) ≡ k = omega arith in e)))
           ]
         ]
       ]
@@ -117,15 +127,16 @@ module _ (rows columns : ℕ) where
   -- the place of the member at a place is that place, and it is a member for these numbers
   pub place_at : (k : ℕ) (d : Member) → k < place_count rows columns → IsMemberFor rows columns (get_or (members_for rows columns) k d) × (place_in rows columns (get_or (members_for rows columns) k d) ≡ k)
   place_at k d l =
-      let t : (m : Member) × (IsMemberFor rows columns m × (place_in rows columns m ≡ k)) = member_there k l in
+      let t : Stands k = member_there k l in
       let e : get_or (members_for rows columns) k d ≡ t.0 = ap (λ i. get_or (members_for rows columns) i d) (sym t.1.1) ∙ at_place t.0 d t.1.0 in
       (subst (IsMemberFor rows columns) (sym e) t.1.0, ap (place_in rows columns) e ∙ t.1.1)
 
   pub within_places : (m : Member) → IsMemberFor rows columns m → place_in rows columns m < place_count rows columns
-  within_places (Row i) l = (let g : i < rows + (columns + (columns + columns)) = omega arith in g)
-  within_places (Lower j) l = (let g : rows + j < rows + (columns + (columns + columns)) = omega arith in g)
-  within_places (Upper j) l = (let g : rows + (columns + j) < rows + (columns + (columns + columns)) = omega arith in g)
-  within_places (Whole j) l = (let g : rows + (columns + (columns + j)) < rows + (columns + (columns + columns)) = omega arith in g)
+  within_places (RowLo i) l = (let g : 2 * i < 2 * rows + (columns + (columns + columns)) = omega arith in g)
+  within_places (RowUp i) l = (let g : 2 * i + 1 < 2 * rows + (columns + (columns + columns)) = omega arith in g)
+  within_places (Lower j) l = (let g : 2 * rows + j < 2 * rows + (columns + (columns + columns)) = omega arith in g)
+  within_places (Upper j) l = (let g : 2 * rows + (columns + j) < 2 * rows + (columns + (columns + columns)) = omega arith in g)
+  within_places (Whole j) l = (let g : 2 * rows + (columns + (columns + j)) < 2 * rows + (columns + (columns + columns)) = omega arith in g)
 
   pub possible_of : (m : Member) → IsMemberFor rows columns m → Contains (members_for rows columns) m
   possible_of m l = (
@@ -150,22 +161,31 @@ module _ (rows columns : ℕ) where
       ]
 
   pub before_is : (m n : Member) → IsMemberFor rows columns m → IsMemberFor rows columns n → comes_before m n ≡ ltb (place_in rows columns m) (place_in rows columns n)
-  before_is (Row i) (Row j) h k = refl
-  before_is (Row i) (Lower j) h k = sym (lt-ltb i (rows + j) (omega arith))
-  before_is (Row i) (Upper j) h k = sym (lt-ltb i (rows + (columns + j)) (omega arith))
-  before_is (Row i) (Whole j) h k = sym (lt-ltb i (rows + (columns + (columns + j))) (omega arith))
-  before_is (Lower i) (Row j) h k = sym (le-ltb (rows + i) j (omega arith))
-  before_is (Lower i) (Lower j) h k = shifted rows i j
-  before_is (Lower i) (Upper j) h k = sym (lt-ltb (rows + i) (rows + (columns + j)) (omega arith))
-  before_is (Lower i) (Whole j) h k = sym (lt-ltb (rows + i) (rows + (columns + (columns + j))) (omega arith))
-  before_is (Upper i) (Row j) h k = sym (le-ltb (rows + (columns + i)) j (omega arith))
-  before_is (Upper i) (Lower j) h k = sym (le-ltb (rows + (columns + i)) (rows + j) (omega arith))
-  before_is (Upper i) (Upper j) h k = shifted columns i j ∙ shifted rows (columns + i) (columns + j)
-  before_is (Upper i) (Whole j) h k = sym (lt-ltb (rows + (columns + i)) (rows + (columns + (columns + j))) (omega arith))
-  before_is (Whole i) (Row j) h k = sym (le-ltb (rows + (columns + (columns + i))) j (omega arith))
-  before_is (Whole i) (Lower j) h k = sym (le-ltb (rows + (columns + (columns + i))) (rows + j) (omega arith))
-  before_is (Whole i) (Upper j) h k = sym (le-ltb (rows + (columns + (columns + i))) (rows + (columns + j)) (omega arith))
-  before_is (Whole i) (Whole j) h k = shifted columns i j ∙ (shifted columns (columns + i) (columns + j) ∙ shifted rows (columns + (columns + i)) (columns + (columns + j)))
+  before_is (RowLo i) (RowLo j) h k = refl
+  before_is (RowLo i) (RowUp j) h k = refl
+  before_is (RowLo i) (Lower j) h k = sym (lt-ltb (2 * i) (2 * rows + j) (omega arith))
+  before_is (RowLo i) (Upper j) h k = sym (lt-ltb (2 * i) (2 * rows + (columns + j)) (omega arith))
+  before_is (RowLo i) (Whole j) h k = sym (lt-ltb (2 * i) (2 * rows + (columns + (columns + j))) (omega arith))
+  before_is (RowUp i) (RowLo j) h k = refl
+  before_is (RowUp i) (RowUp j) h k = refl
+  before_is (RowUp i) (Lower j) h k = sym (lt-ltb (2 * i + 1) (2 * rows + j) (omega arith))
+  before_is (RowUp i) (Upper j) h k = sym (lt-ltb (2 * i + 1) (2 * rows + (columns + j)) (omega arith))
+  before_is (RowUp i) (Whole j) h k = sym (lt-ltb (2 * i + 1) (2 * rows + (columns + (columns + j))) (omega arith))
+  before_is (Lower i) (RowLo j) h k = sym (le-ltb (2 * rows + i) (2 * j) (omega arith))
+  before_is (Lower i) (RowUp j) h k = sym (le-ltb (2 * rows + i) (2 * j + 1) (omega arith))
+  before_is (Lower i) (Lower j) h k = shifted (2 * rows) i j
+  before_is (Lower i) (Upper j) h k = sym (lt-ltb (2 * rows + i) (2 * rows + (columns + j)) (omega arith))
+  before_is (Lower i) (Whole j) h k = sym (lt-ltb (2 * rows + i) (2 * rows + (columns + (columns + j))) (omega arith))
+  before_is (Upper i) (RowLo j) h k = sym (le-ltb (2 * rows + (columns + i)) (2 * j) (omega arith))
+  before_is (Upper i) (RowUp j) h k = sym (le-ltb (2 * rows + (columns + i)) (2 * j + 1) (omega arith))
+  before_is (Upper i) (Lower j) h k = sym (le-ltb (2 * rows + (columns + i)) (2 * rows + j) (omega arith))
+  before_is (Upper i) (Upper j) h k = shifted columns i j ∙ shifted (2 * rows) (columns + i) (columns + j)
+  before_is (Upper i) (Whole j) h k = sym (lt-ltb (2 * rows + (columns + i)) (2 * rows + (columns + (columns + j))) (omega arith))
+  before_is (Whole i) (RowLo j) h k = sym (le-ltb (2 * rows + (columns + (columns + i))) (2 * j) (omega arith))
+  before_is (Whole i) (RowUp j) h k = sym (le-ltb (2 * rows + (columns + (columns + i))) (2 * j + 1) (omega arith))
+  before_is (Whole i) (Lower j) h k = sym (le-ltb (2 * rows + (columns + (columns + i))) (2 * rows + j) (omega arith))
+  before_is (Whole i) (Upper j) h k = sym (le-ltb (2 * rows + (columns + (columns + i))) (2 * rows + (columns + j)) (omega arith))
+  before_is (Whole i) (Whole j) h k = shifted columns i j ∙ (shifted columns (columns + i) (columns + j) ∙ shifted (2 * rows) (columns + (columns + i)) (columns + (columns + j)))
 
 -- ---- what a filtered list has
 has_filter : (test : Member → Bool) (xs : List Member) (m : Member) → Contains xs m → has (filter test xs) m ≡ test m
@@ -236,8 +256,8 @@ module _ (rows columns : ℕ) (marks : List Bool) (each : length marks ≡ place
   -- ---- counting
   pub count_step : (k : ℕ) → k < place_count rows columns → length (filter (is_marked rows columns marks) (take (k + 1) (members_for rows columns))) ≡ length (filter (is_marked rows columns marks) (take k (members_for rows columns))) + cond (get_or marks k false) 1 0
   count_step k l =
-      length-filter_more (is_marked rows columns marks) (members_for rows columns) k (Row 0) (subst (λ n. k < n) (sym (length-members_for rows columns)) l)
-      ∙ ap (λ b. length (filter (is_marked rows columns marks) (take k (members_for rows columns))) + cond b 1 0) (mark_at k (Row 0) l)
+      length-filter_more (is_marked rows columns marks) (members_for rows columns) k (RowLo 0) (subst (λ n. k < n) (sym (length-members_for rows columns)) l)
+      ∙ ap (λ b. length (filter (is_marked rows columns marks) (take k (members_for rows columns))) + cond b 1 0) (mark_at k (RowLo 0) l)
 
   -- what an index reads is the mark
   pub mark_read : (k : ℕ) (b : Bool) → k < length marks → b ≡ get_or marks k b → get_or marks k false ≡ b
@@ -289,9 +309,9 @@ module _ (rows columns : ℕ) (marks : List Bool) (each : length marks ≡ place
 
   pub found_first : (after : Option Member) → MatchOption after ⊤ (IsMemberFor rows columns) → found_from after (place_after rows columns after) ≡ found_from after 0
   found_first after h =
-      find_skips (wanted after) (members_for rows columns) (place_after rows columns after) (Row 0)
+      find_skips (wanted after) (members_for rows columns) (place_after rows columns after) (RowLo 0)
       (λ k l m.
-      wanted_at after h k (Row 0) (subst (λ n. k < n) (length-members_for rows columns) m)
+      wanted_at after h k (RowLo 0) (subst (λ n. k < n) (length-members_for rows columns) m)
       ∙ (ap (λ b. get_or marks k false && not b) (lt-ltb k (place_after rows columns after) l) ∙ none (get_or marks k false)))
     where
       none : (b : Bool) → (b && false) ≡ false
@@ -299,11 +319,11 @@ module _ (rows columns : ℕ) (marks : List Bool) (each : length marks ≡ place
       none false = refl
 
   -- one place on: an unmarked place is passed over, and a marked one ends the search
-  found_step : (after : Option Member) → MatchOption after ⊤ (IsMemberFor rows columns) → (k : ℕ) → place_after rows columns after ≤ k → k < place_count rows columns → found_from after k ≡ cond (get_or marks k false) (Some (get_or (members_for rows columns) k (Row 0))) (found_from after (suc k))
+  found_step : (after : Option Member) → MatchOption after ⊤ (IsMemberFor rows columns) → (k : ℕ) → place_after rows columns after ≤ k → k < place_count rows columns → found_from after k ≡ cond (get_or marks k false) (Some (get_or (members_for rows columns) k (RowLo 0))) (found_from after (suc k))
   found_step after h k a l =
-      find_step (wanted after) (members_for rows columns) k (Row 0) (subst (λ n. k < n) (sym (length-members_for rows columns)) l)
-      ∙ ap (λ b. cond b (Some (get_or (members_for rows columns) k (Row 0))) (found_from after (suc k)))
-      (wanted_at after h k (Row 0) l ∙ (ap (λ b. get_or marks k false && not b) (le-ltb k (place_after rows columns after) a) ∙ all (get_or marks k false)))
+      find_step (wanted after) (members_for rows columns) k (RowLo 0) (subst (λ n. k < n) (sym (length-members_for rows columns)) l)
+      ∙ ap (λ b. cond b (Some (get_or (members_for rows columns) k (RowLo 0))) (found_from after (suc k)))
+      (wanted_at after h k (RowLo 0) l ∙ (ap (λ b. get_or marks k false && not b) (le-ltb k (place_after rows columns after) a) ∙ all (get_or marks k false)))
     where
       all : (b : Bool) → (b && true) ≡ b
       all true = refl
@@ -311,13 +331,13 @@ module _ (rows columns : ℕ) (marks : List Bool) (each : length marks ≡ place
 
   pub found_passes : (after : Option Member) → MatchOption after ⊤ (IsMemberFor rows columns) → (k : ℕ) → place_after rows columns after ≤ k → k < place_count rows columns → get_or marks k false ≡ false → found_from after (k + 1) ≡ found_from after k
   found_passes after h k a l e =
-      ap (found_from after) (add-one k) ∙ sym (found_step after h k a l ∙ ap (λ b. cond b (Some (get_or (members_for rows columns) k (Row 0))) (found_from after (suc k))) e)
+      ap (found_from after) (add-one k) ∙ sym (found_step after h k a l ∙ ap (λ b. cond b (Some (get_or (members_for rows columns) k (RowLo 0))) (found_from after (suc k))) e)
 
   pub found_here : (after : Option Member) → MatchOption after ⊤ (IsMemberFor rows columns) → (k : ℕ) → place_after rows columns after ≤ k → k < place_count rows columns → get_or marks k false ≡ true → (m : Member) → IsMemberFor rows columns m → k ≡ place_in rows columns m → found_from after k ≡ Some m
   found_here after h k a l e m i p =
       found_step after h k a l
-      ∙ (ap (λ b. cond b (Some (get_or (members_for rows columns) k (Row 0))) (found_from after (suc k))) e
-      ∙ ap Some (ap (λ j. get_or (members_for rows columns) j (Row 0)) p ∙ at_place rows columns m (Row 0) i))
+      ∙ (ap (λ b. cond b (Some (get_or (members_for rows columns) k (RowLo 0))) (found_from after (suc k))) e
+      ∙ ap Some (ap (λ j. get_or (members_for rows columns) j (RowLo 0)) p ∙ at_place rows columns m (RowLo 0) i))
 
   pub found_none : (after : Option Member) (k : ℕ) → length marks ≤ k → found_from after k ≡ None
   found_none after k l =

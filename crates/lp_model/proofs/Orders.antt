@@ -2,7 +2,7 @@
 use Rattle.std.proofs.Common.{◌≡◌, sym, ◌∙◌, refl, ℕ, Bool, true, false, true≢false, ltb, ◌==◌, ◌&&◌, ◌||◌, arith}
 use Rattle.std.proofs.lemmas.Bool.Decides.{nat_tests}
 use Rattle.lp_model.specs.declared.members.Member.{Member}
-use Rattle.lp_model.specs.Members.{comes_before, kind, place}
+use Rattle.lp_model.specs.Members.{comes_before, is_same, kind, place}
 
 -- the order by kind and number
 lex : ℕ → ℕ → ℕ → ℕ → Bool
@@ -31,3 +31,16 @@ not_itself m = by (comes_before m m) refl
     by : (b : Bool) → comes_before m m ≡ b → b ≡ false
     by true t = absurd (true≢false (sym t ∙ back m m t))
     by false t = refl
+
+-- what stands before another, or after it, is not the same
+differs : (a b c d : ℕ) → lex a b c d ≡ true → (((a == c) && (b == d)) ≡ false) × (((c == a) && (d == b)) ≡ false)
+unfolding lex
+differs a b c d h = (grind (arith, nat_tests), grind (arith, nat_tests))
+
+pub before_differs : (m n : Member) → comes_before m n ≡ true → is_same m n ≡ false
+unfolding lex
+before_differs m n h = (differs (kind m) (place m) (kind n) (place n) h).0
+
+pub after_differs : (m n : Member) → comes_before m n ≡ true → is_same n m ≡ false
+unfolding lex
+after_differs m n h = (differs (kind m) (place m) (kind n) (place n) h).1

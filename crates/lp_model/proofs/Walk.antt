@@ -1,24 +1,41 @@
 -- The members of a set, one after another.
-use Rattle.std.proofs.Common.{◌≡◌, ◌<◌, refl, sym, ◌∙◌, ap, subst, ℕ, zero, suc, Bool, true, false, cond, List, [], ◌∷◌, ◌++◌, length, filter, find, Option, Some, None, arith}
-use Rattle.std.specs.Prelude.{All}
-use Rattle.std.proofs.lemmas.List.Elements.{All-head, All-tail, All-nil, All-append, All-push, All-filter, All-weaker}
+use Rattle.std.proofs.Common.{◌≡◌, ◌<◌, refl, sym, ◌∙◌, ap, subst, ℕ, zero, suc, ◌*◌, ◌/◌, ◌%◌, ◌==◌, Bool, true, false, cond, not, List, [], ◌∷◌, ◌++◌, length, filter, find, Option, Some, None, arith}
+use Rattle.std.specs.Prelude.{All, Contains}
+use Rattle.std.proofs.lemmas.List.Elements.{All-head, All-tail, All-nil, All-append, All-push, All-filter, All-weaker, All-contains}
 use Rattle.lp_model.specs.declared.members.Member.{Member}
-use Rattle.lp_model.specs.declared.members.Member.TheVariants.{Row, Lower, Upper, Whole}
-use Rattle.lp_model.specs.Members.{comes_before, numbered, IsInOrder, has}
-use Rattle.lp_model.proofs.Orders.{over, back, not_itself}
+use Rattle.lp_model.specs.declared.members.Member.TheVariants.{Lower, Upper, Whole}
+use Rattle.lp_model.specs.Members.{comes_before, is_same, numbered, row_side, IsInOrder, has}
+use Rattle.lp_model.specs.declared.members.Member.TheVariants.{RowLo, RowUp}
+use Rattle.lp_model.proofs.Orders.{over, back, not_itself, before_differs, after_differs}
+use Rattle.lp_model.proofs.Sets.{pairs_head, pairs_tail, same_self}
 use Rattle.lp_model.specs.MemberSets.{SetValue, IsMemberFor, IsPossibleIn, members_for, possible_in, follows, next_after}
 
 -- ---- lists in order
-pairs_head : (m : Member) (list : List Member) → IsInOrder (m ∷ list) → All (λ n. comes_before m n ≡ true) list
-pairs_head m list h k d l = h 0 (suc k) d (omega arith) (omega arith)
+pub order_head : (m : Member) (list : List Member) → IsInOrder (m ∷ list) → All (λ n. comes_before m n ≡ true) list
+order_head m list h = pairs_head (λ a b. comes_before a b ≡ true) m list h
 
-pairs_tail : (m : Member) (list : List Member) → IsInOrder (m ∷ list) → IsInOrder list
-pairs_tail m list h i j d lt l = h (suc i) (suc j) d (omega arith) (omega arith)
+pub order_tail : (m : Member) (list : List Member) → IsInOrder (m ∷ list) → IsInOrder list
+order_tail m list h = pairs_tail (λ a b. comes_before a b ≡ true) m list h
 
 -- a test that each passes keeps all
-keeps_all : (test : Member → Bool) (list : List Member) → All (λ n. test n ≡ true) list → filter test list ≡ list
+pub keeps_all : (test : Member → Bool) (list : List Member) → All (λ n. test n ≡ true) list → filter test list ≡ list
 keeps_all test [] h = refl
 keeps_all test (n ∷ list) h = ap (λ b. cond b (n ∷ filter test list) (filter test list)) (All-head (λ m. test m ≡ true) n list h) ∙ ap (λ l. n ∷ l) (keeps_all test list (All-tail (λ m. test m ≡ true) n list h))
+
+-- a member in the middle of a list
+pub in_middle : (front : List Member) (m : Member) (back : List Member) → Contains (front ++ m ∷ back) m
+in_middle [] m back = (0, (let l : 0 < suc (length back) = omega arith in l), refl)
+in_middle (k ∷ front) m back = let c : Contains (front ++ m ∷ back) m = in_middle front m back in (suc c.0, (let g : c.0 < length (front ++ m ∷ back) = c.1 in let l : suc c.0 < suc (length (front ++ m ∷ back)) = omega arith in l), c.2)
+
+-- a list in order without one of its members
+pub list_without : (front : List Member) (m : Member) (back : List Member) → IsInOrder (front ++ m ∷ back) → filter (λ n. not (is_same n m)) (front ++ m ∷ back) ≡ front ++ back
+list_without [] m back h =
+    ap (λ b. cond (not b) (m ∷ filter (λ n. not (is_same n m)) back) (filter (λ n. not (is_same n m)) back)) (same_self m)
+    ∙ keeps_all (λ n. not (is_same n m)) back (All-weaker (λ n. comes_before m n ≡ true) (λ n. not (is_same n m) ≡ true) (λ n k. ap not (after_differs m n k)) back (order_head m back h))
+list_without (n ∷ front) m back h =
+    ap (λ b. cond (not b) (n ∷ filter (λ n. not (is_same n m)) (front ++ m ∷ back)) (filter (λ n. not (is_same n m)) (front ++ m ∷ back)))
+    (before_differs n m (All-contains (λ k. comes_before n k ≡ true) (front ++ m ∷ back) m (order_head n (front ++ m ∷ back) h) (in_middle front m back)))
+    ∙ ap (λ l. n ∷ l) (list_without front m back (order_tail n (front ++ m ∷ back) h))
 
 -- what a look-up gives, by the first test
 looked : (test : Member → Bool) (n : Member) (list : List Member) (o : Option Member) (b : Bool) → test n ≡ b → find test (n ∷ list) ≡ o → cond b (Some n) (find test list) ≡ o
@@ -47,10 +64,10 @@ later (Some a) n k t h = over a n k t h
 -- after the one that is found comes what follows it
 pub next_step : (after : Option Member) (list : List Member) (m : Member) → IsInOrder list → find (follows after) list ≡ Some m → filter (follows after) list ≡ m ∷ filter (follows (Some m)) list
 next_step after [] m order e = absurd (cc)
-next_step after (n ∷ list) m order e = by (follows after n) refl (λ rest. next_step after list m (pairs_tail n list order) rest)
+next_step after (n ∷ list) m order e = by (follows after n) refl (λ rest. next_step after list m (order_tail n list order) rest)
   where
     tail : All (λ k. comes_before n k ≡ true) list
-    tail = pairs_head n list order
+    tail = order_head n list order
 
     never : follows (Some m) m ≡ false
     never = not_itself m
@@ -86,10 +103,17 @@ numbered_all : (P : Member → Type 0) (make : ℕ → Member) (n : ℕ) → ((i
 numbered_all P make zero h = All-nil P
 numbered_all P make (suc n) h = All-push P (numbered make n) (make n) (numbered_all P make n (λ i l. h i (omega arith))) (h n (omega arith))
 
+side_possible : (rows columns k : ℕ) → k < 2 * rows → IsMemberFor rows columns (row_side k)
+side_possible rows columns k l = by (k % 2 == 0)
+  where
+    by : (b : Bool) → IsMemberFor rows columns (cond b (RowLo (k / 2)) (RowUp (k / 2)))
+    by true = omega arith
+    by false = omega arith
+
 possible_all : (rows columns : ℕ) → All (IsMemberFor rows columns) (members_for rows columns)
 possible_all rows columns =
     let P = IsMemberFor rows columns in
-    All-append P (numbered Row rows) (numbered Lower columns ++ (numbered Upper columns ++ numbered Whole columns)) (numbered_all P Row rows (λ i l. l))
+    All-append P (numbered row_side (2 * rows)) (numbered Lower columns ++ (numbered Upper columns ++ numbered Whole columns)) (numbered_all P row_side (2 * rows) (λ i l. side_possible rows columns i l))
     (All-append P (numbered Lower columns) (numbered Upper columns ++ numbered Whole columns) (numbered_all P Lower columns (λ i l. l))
     (All-append P (numbered Upper columns) (numbered Whole columns) (numbered_all P Upper columns (λ i l. l)) (numbered_all P Whole columns (λ i l. l))))
 
@@ -98,7 +122,3 @@ pub next_possible : (set : SetValue) (after : Option Member) (m : Member) → se
 next_possible set after m is e =
     let all = subst (All (IsPossibleIn set)) (sym is) (All-filter (has set.members) (IsPossibleIn set) (possible_in set) (possible_all set.rows set.columns)) in
     found_in (follows after) set.members m e (IsPossibleIn set) all
-
--- fewer follow
-pub fewer_follow : (list : List Member) (after : Option Member) (m : Member) → IsInOrder list → find (follows after) list ≡ Some m → length (filter (follows (Some m)) list) < length (filter (follows after) list)
-fewer_follow list after m order e = subst (λ (l : List Member). length (filter (follows (Some m)) list) < length l) (sym (next_step after list m order e)) (omega arith)

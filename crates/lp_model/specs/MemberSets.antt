@@ -1,8 +1,8 @@
 -- Sets of members: what contracts see of one, and what is asked of it.
-use Rattle.std.specs.Prelude.{◌≡◌, ℕ, ◌+◌, ◌<◌, ◌≤◌, Bool, true, false, not, ◌||◌, List, [], ◌++◌, length, slice_index_or, filter, find, Option, Some, None}
+use Rattle.std.specs.Prelude.{◌≡◌, ℕ, ◌+◌, ◌*◌, ◌<◌, ◌≤◌, Bool, true, false, not, ◌||◌, List, [], ◌++◌, length, slice_index_or, filter, find, Option, Some, None}
 use Rattle.std.proofs.Common.{zero, suc}
 use Rattle.lp_model.specs.Program.{Program}
-use Rattle.lp_model.specs.Members.{Member, Row, Lower, Upper, Whole, comes_before, is_same, has, numbered, active_members}
+use Rattle.lp_model.specs.Members.{Member, RowLo, RowUp, Lower, Upper, Whole, comes_before, is_same, has, numbered, row_side, active_members}
 use Rattle.lp_model.specs.Shown.{most_rows, most_columns}
 
 -- how many rows and columns the program has, and the set's members in their order
@@ -13,7 +13,7 @@ pub record SetValue : Type 0 where
 
 -- the members that a program with so many rows and columns may have, in order
 abbrev pub members_for : ℕ → ℕ → List Member
-members_for rows columns = numbered Row rows ++ (numbered Lower columns ++ (numbered Upper columns ++ numbered Whole columns))
+members_for rows columns = numbered row_side (2 * rows) ++ (numbered Lower columns ++ (numbered Upper columns ++ numbered Whole columns))
 
 -- the members that may be in the set, in order
 abbrev pub possible_in : SetValue → List Member
@@ -21,7 +21,8 @@ possible_in set = members_for set.rows set.columns
 
 -- the member's number is below that of the rows, or of the columns
 abbrev pub IsMemberFor : ℕ → ℕ → Member → Type 0
-IsMemberFor rows columns (Row i) = i < rows
+IsMemberFor rows columns (RowLo i) = i < rows
+IsMemberFor rows columns (RowUp i) = i < rows
 IsMemberFor rows columns (Lower j) = j < columns
 IsMemberFor rows columns (Upper j) = j < columns
 IsMemberFor rows columns (Whole j) = j < columns
@@ -62,14 +63,15 @@ members_after set after = filter (follows after) set.members
 -- ---- how the code keeps a set: one mark for each possible member, in order
 -- how many possible members there are
 abbrev pub place_count : ℕ → ℕ → ℕ
-place_count rows columns = rows + (columns + (columns + columns))
+place_count rows columns = 2 * rows + (columns + (columns + columns))
 
 -- the place of a member among them
 abbrev pub place_in : ℕ → ℕ → Member → ℕ
-place_in rows columns (Row i) = i
-place_in rows columns (Lower j) = rows + j
-place_in rows columns (Upper j) = rows + (columns + j)
-place_in rows columns (Whole j) = rows + (columns + (columns + j))
+place_in rows columns (RowLo i) = 2 * i
+place_in rows columns (RowUp i) = 2 * i + 1
+place_in rows columns (Lower j) = 2 * rows + j
+place_in rows columns (Upper j) = 2 * rows + (columns + j)
+place_in rows columns (Whole j) = 2 * rows + (columns + (columns + j))
 
 -- the first place after that of the given member; where none is given, the first of all
 abbrev pub place_after : ℕ → ℕ → Option Member → ℕ

@@ -1,15 +1,51 @@
 -- How a program stands in the code's parts, and what is asked of a new name.
-use Rattle.std.specs.Prelude.{◌≡◌, ℕ, ◌<◌, ◌≤◌, ◌⊎◌, Bool, false, List, [], ◌∷◌, ◌++◌, length, map}
+use Rattle.std.specs.Prelude.{◌≡◌, ℕ, ◌<◌, ◌≤◌, ◌⊎◌, Bool, true, false, List, [], ◌∷◌, ◌++◌, length, map, Option}
 use Rattle.std.specs.List.{list_any}
 use Rattle.std.specs.Str.{bytes_eq}
+use Rattle.rational.specs.Rational.{ℚ, one_ℚ}
+use Rattle.rational.specs.Linear.{Term}
 use Rattle.lp_model.specs.declared.parts.Row.{Row}
 use Rattle.lp_model.specs.declared.parts.Column.{Column}
-use Rattle.lp_model.specs.Program.{Program, NamedRow, NamedColumn, IsWellFormed}
+use Rattle.lp_model.specs.Program.{Program, NamedRow, NamedColumn, Soft, IsWellFormed}
 use Rattle.lp_model.specs.declared.limits.TheConstants.{MOST_ROWS, MOST_COLUMNS, MOST_FREE_ROWS, MOST_ENTRIES, LONGEST_NAME}
+
+-- a row between these sides, which are kept and weigh 1
+abbrev pub new_row : List Term → Option ℚ → Option ℚ → Row
+new_row terms lo up = record {
+  terms = terms;
+  lo = lo;
+  up = up;
+  lo_active = true;
+  up_active = true;
+  lo_weight = Soft one_ℚ;
+  up_weight = Soft one_ℚ;
+}
+
+-- a column between these bounds, which are kept and weigh 1, and with its mark kept where it has one
+abbrev pub new_column : Option ℚ → Option ℚ → Bool → Column
+new_column lo up whole = record {
+  lo = lo;
+  up = up;
+  whole = whole;
+  lower_active = true;
+  upper_active = true;
+  whole_active = true;
+  lower_weight = Soft one_ℚ;
+  upper_weight = Soft one_ℚ;
+}
 
 -- a row of the code, with a name
 abbrev pub named_row : List ℕ → Row → NamedRow
-named_row name row = record { name = name; terms = row.terms; lower = row.lo; upper = row.up; active = row.active; weight = row.weight }
+named_row name row = record {
+  name = name;
+  terms = row.terms;
+  lower = row.lo;
+  upper = row.up;
+  lower_active = row.lo_active;
+  upper_active = row.up_active;
+  lower_weight = row.lo_weight;
+  upper_weight = row.up_weight;
+}
 
 -- and a column
 abbrev pub named_column : List ℕ → Column → NamedColumn

@@ -10,8 +10,8 @@ use std::alloc::{AllocError, Global};
 
 /// A set of members of a program.
 ///
-/// Contracts see how many rows and columns the program has, and the members in member order: rows, lower bounds,
-/// upper bounds, marks, each by number.
+/// Contracts see how many rows and columns the program has, and the members in member order: the sides of rows, row by
+/// row, lower bounds, upper bounds, marks.
 #[derive(Drop)]
 pub struct MemberSet {
     rows: u32,
@@ -221,8 +221,8 @@ impl Iterator for PossibleMembers {
 }
 
 impl Model {
-    /// Each member that the program may have, whether it has it or not: every row, and both bounds and the mark of every
-    /// column.
+    /// Each member that the program may have, whether it has it or not: both sides of every row, and both bounds and the
+    /// mark of every column.
     pub fn possible_members(&self) -> PossibleMembers
         ensures { result ≡ possible_members self.now }
     {
@@ -258,7 +258,7 @@ fn count_places(rows: u32, columns: u32) -> usize
     requires few_columns { columns ≤ most_columns }
     ensures { result ≡ place_count rows columns }
 {
-    rows as usize + (columns as usize + (columns as usize + columns as usize))
+    2 * rows as usize + (columns as usize + (columns as usize + columns as usize))
 }
 
 // The place of a member among them, in order.
@@ -269,12 +269,13 @@ fn place_of(rows: u32, columns: u32, member: Member) -> usize
     ensures place { result ≡ place_in rows columns member }
     ensures within { result < place_count rows columns }
 {
-    let (rows, columns) = (rows as usize, columns as usize);
+    let (sides, columns) = (2 * rows as usize, columns as usize);
     match member {
-        Member::Row(index) => index as usize,
-        Member::Lower(index) => rows + index as usize,
-        Member::Upper(index) => rows + (columns + index as usize),
-        Member::Whole(index) => rows + (columns + (columns + index as usize)),
+        Member::RowLo(index) => 2 * index as usize,
+        Member::RowUp(index) => 2 * index as usize + 1,
+        Member::Lower(index) => sides + index as usize,
+        Member::Upper(index) => sides + (columns + index as usize),
+        Member::Whole(index) => sides + (columns + (columns + index as usize)),
     }
 }
 
@@ -300,10 +301,14 @@ fn member_at(rows: u32, columns: u32, place: usize) -> Member
     ensures in_range { IsMemberFor rows columns result }
     ensures place { place ≡ place_in rows columns result }
 {
-    let (lowers, uppers) = (rows as usize, rows as usize + columns as usize);
+    let lowers = 2 * rows as usize;
+    let uppers = lowers + columns as usize;
     let wholes = uppers + columns as usize;
+    if place < lowers && place % 2 == 0 {
+        return Member::RowLo((place / 2) as u32);
+    }
     if place < lowers {
-        return Member::Row(place as u32);
+        return Member::RowUp((place / 2) as u32);
     }
     if place < uppers {
         return Member::Lower((place - lowers) as u32);

@@ -4,9 +4,10 @@ ghost use Rattle.std.specs.Option.{ok_or};
 ghost use Rattle.std.specs.Str.{bytes_eq};
 ghost use Rattle.frac128.specs.Limit.{limit};
 ghost use Rattle.frac128.specs.Calculation.{first_wide};
-ghost use Rattle.lp_model.specs.Program.{row_at, column_at, noted_column, IsForm, IsPositiveWeight, IsWellFormedColumn, IsWellFormed};
+ghost use Rattle.rational.specs.Linear.{form_value};
+ghost use Rattle.lp_model.specs.Program.{row_at, column_at, noted_column, IsForm, IsWellFormedRow, IsWellFormedColumn, IsWellFormed};
 ghost use Rattle.lp_model.specs.Members.{exists as is_there, is_active as is_in_force};
-ghost use Rattle.lp_model.specs.Satisfaction.{Holds, KeepsSides, values_at};
+ghost use Rattle.lp_model.specs.Satisfaction.{Holds, values_at};
 ghost use Rattle.lp_model.specs.Shown.{named_row, named_column, empty_program, row_names, column_names, with_more_row, with_more_column, most_rows, most_columns, CanAdd};
 ghost use Rattle.lp_model.specs.Refusals.{IsAddRefusal};
 ghost use Rattle.lp_model.specs.Evaluation.{value_operations, member_operations, IsInRange};
@@ -82,8 +83,7 @@ impl Model {
     /// `DuplicateName` comes where a row has the name, before `Limit`, which comes where 2,000 rows are there or the
     /// name has more than 255 bytes. A refused row is dropped, and the program stays as it was.
     pub fn add_row(&mut self, alloc: Global, name: &[u8], row: Row) -> Result<u32, ModelStop>
-        requires form { IsForm (length self.old.columns) row.terms }
-        requires weight { IsPositiveWeight row.weight }
+        requires { IsWellFormedRow (length self.old.columns) (named_row name.now row) }
         ensures answer { MatchResult result
             (λ i. CanAdd (row_names self.old) most_rows name.now × (i ≡ length self.old.rows) × (self.new ≡ with_more_row self.old (named_row name.now row)))
             (λ stop. IsAddRefusal (row_names self.old) most_rows name.now stop) }
@@ -226,13 +226,14 @@ impl Model {
         self.notes.as_slice()
     }
 
-    /// Whether the program has the member: each row, and a bound or a mark where its column has it.
+    /// Whether the program has the member: a side where its row has it, a bound or a mark where its column has it.
     pub fn exists(&self, member: Member) -> bool
         requires { IsInRange self.now member }
         ensures { result ≡ is_there self.now member }
     {
         match member {
-            Member::Row(_) => true,
+            Member::RowLo(index) => self.row(index).lo.is_some(),
+            Member::RowUp(index) => self.row(index).up.is_some(),
             Member::Lower(index) => self.column(index).lo.is_some(),
             Member::Upper(index) => self.column(index).up.is_some(),
             Member::Whole(index) => self.column(index).whole,
@@ -245,7 +246,14 @@ impl Model {
         ensures { result ≡ is_in_force self.now member }
     {
         match member {
-            Member::Row(index) => self.row(index).active,
+            Member::RowLo(index) => {
+                let row = self.row(index);
+                row.lo.is_some() && row.lo_active
+            }
+            Member::RowUp(index) => {
+                let row = self.row(index);
+                row.up.is_some() && row.up_active
+            }
             Member::Lower(index) => {
                 let column = self.column(index);
                 column.lo.is_some() && column.lower_active
@@ -274,7 +282,14 @@ impl Model {
             (λ w. first_wide limit (member_operations self.now member (values_at values.now)) ≡ Some w) }
     {
         match member {
-            Member::Row(index) => self.row_holds(index, values),
+            Member::RowLo(index) => {
+                let sum = self.row_sum(index, values)?;
+                Ok(is_at_least(self.row(index).lo, sum))
+            }
+            Member::RowUp(index) => {
+                let sum = self.row_sum(index, values)?;
+                Ok(is_at_most(self.row(index).up, sum))
+            }
             Member::Lower(index) => {
                 let value = values[index as usize];
                 Ok(is_at_least(self.column(index).lo, value))
@@ -287,18 +302,16 @@ impl Model {
         }
     }
 
-    // Whether a row holds.
-    fn row_holds(&self, index: u32, values: &[Frac]) -> Result<bool, Wide>
+    // The sum of a row.
+    fn row_sum(&self, index: u32, values: &[Frac]) -> Result<Frac, Wide>
         requires counted { length values.now ≡ length self.now.columns }
         requires in_range { index < length self.now.rows }
         ensures { MatchResult result
-            (λ b. (IsTrue b ↔ KeepsSides self.now (values_at values.now) (Member.Row index)) × (first_wide limit (value_operations (row_at self.now index).terms (values_at values.now)) ≡ None))
+            (λ v. (v ≡ form_value (row_at self.now index).terms (values_at values.now)) × (first_wide limit (value_operations (row_at self.now index).terms (values_at values.now)) ≡ None))
             (λ w. first_wide limit (value_operations (row_at self.now index).terms (values_at values.now)) ≡ Some w) }
     {
         // What the type keeps of its terms is used here.
         let _ = &self.rows;
-        let row = self.row(index);
-        let sum = value_of(row.terms.as_slice(), values)?;
-        Ok(is_at_least(row.lo, sum) && is_at_most(row.up, sum))
+        value_of(self.row(index).terms.as_slice(), values)
     }
 }

@@ -1,6 +1,8 @@
 //! The parts of a program: terms, weights, rows, columns and notes.
 ghost use Rattle.std.specs.Prelude.{◌≡◌};
+ghost use Rattle.lp_model.specs.Shown.{new_column, new_row};
 
+use crate::items::Items;
 use frac128::Frac;
 use std::marker::Model;
 
@@ -36,53 +38,37 @@ impl Model for Term {
 }
 
 /// A linear form, as the list of its terms.
-#[derive(Drop)]
-pub struct Terms {
-    items: Vec<Term>,
-}
+pub type Terms = Items<Term>;
 
-impl Model for Terms {
-    ghost use Rattle.std.specs.Prelude.{List};
-    ghost use Rattle.rational.specs.Linear.{Term as LinearTerm};
-
-    ghost Value = { List LinearTerm };
-
-    ghost view = { λ t. t.items.items };
-}
-
-impl Terms {
-    /// The form of these terms.
-    pub fn new(items: Vec<Term>) -> Terms
-        ensures { result ≡ items.items }
-    {
-        Terms { items }
-    }
-
-    /// The terms.
-    pub fn as_slice(&self) -> &[Term]
-        ensures { result.now ≡ self.now }
-    {
-        self.items.as_slice()
-    }
-
-    /// The terms, given back.
-    pub fn into_vec(self) -> Vec<Term>
-        ensures { result.items ≡ self }
-    {
-        self.items
-    }
-}
-
-/// A row without its name: its form, its sides, whether it is active, and its weight.
+/// A row without its name: its form, its sides, and their flags and weights.
 ///
-/// The terms ascend by column, and no factor is 0. A side that is none is kept by every point.
+/// The terms ascend by column, and no factor is 0. An absent side has the flag `true` and the weight 1.
 #[derive(Drop)]
 pub struct Row {
     pub terms: Terms,
     pub lo: Option<Frac>,
     pub up: Option<Frac>,
-    pub active: bool,
-    pub weight: Weight,
+    pub lo_active: bool,
+    pub up_active: bool,
+    pub lo_weight: Weight,
+    pub up_weight: Weight,
+}
+
+impl Row {
+    /// The row of these terms between these sides, which are kept and weigh 1.
+    pub fn new(terms: Terms, lo: Option<Frac>, up: Option<Frac>) -> Row
+        ensures { result ≡ new_row terms lo up }
+    {
+        Row {
+            terms,
+            lo,
+            up,
+            lo_active: true,
+            up_active: true,
+            lo_weight: Weight::Soft(Frac::whole(1)),
+            up_weight: Weight::Soft(Frac::whole(1)),
+        }
+    }
 }
 
 /// A column without its name: its bounds, its integrality mark, and their flags and weights.
@@ -98,4 +84,22 @@ pub struct Column {
     pub whole_active: bool,
     pub lower_weight: Weight,
     pub upper_weight: Weight,
+}
+
+impl Column {
+    /// The column between these bounds, with or without a mark; all of them are kept, and the bounds weigh 1.
+    pub fn new(lo: Option<Frac>, up: Option<Frac>, whole: bool) -> Column
+        ensures { result ≡ new_column lo up whole }
+    {
+        Column {
+            lo,
+            up,
+            whole,
+            lower_active: true,
+            upper_active: true,
+            whole_active: true,
+            lower_weight: Weight::Soft(Frac::whole(1)),
+            upper_weight: Weight::Soft(Frac::whole(1)),
+        }
+    }
 }

@@ -1,7 +1,7 @@
 //! A small program, made part by part.
 ghost use Rattle.std.specs.Prelude.{◌≡◌, [], List, ℕ, IfOk, IsTrue};
-ghost use Rattle.lp_model.specs.Program.{IsWellFormedColumn};
-ghost use Rattle.lp_model.specs.Shown.{named_column};
+ghost use Rattle.lp_model.specs.Program.{IsWellFormedRow, IsWellFormedColumn};
+ghost use Rattle.lp_model.specs.Shown.{named_row, named_column};
 ghost use Rattle.lp_model.specs.Evaluation.{IsInRange};
 ghost use Rattle.lp_model.specs.MemberSets.{IsMemberFor};
 
@@ -28,16 +28,9 @@ fn box_column() -> Column
 
 // A row without terms, which is at least `lo`.
 fn empty_row(alloc: Global, lo: i64) -> Row
-    ensures terms { result.terms ≡ [] }
-    ensures weight { result.weight ≡ Weight.Rigid }
+    ensures { (name : List ℕ) (n : ℕ) → IsWellFormedRow n (named_row name result) }
 {
-    Row {
-        terms: Terms::new(Vec::new(alloc)),
-        lo: Some(Frac::whole(lo)),
-        up: None,
-        active: true,
-        weight: Weight::Rigid,
-    }
+    Row::new(Terms::new(Vec::new(alloc)), Some(Frac::whole(lo)), None)
 }
 
 // Puts that column last.
@@ -162,7 +155,8 @@ fn is_known(model: &Model, member: Member) -> bool
     ensures { IsTrue result → IsInRange model.now member }
 {
     match member {
-        Member::Row(index) => index < model.row_count(),
+        Member::RowLo(index) => index < model.row_count(),
+        Member::RowUp(index) => index < model.row_count(),
         Member::Lower(index) => index < model.column_count(),
         Member::Upper(index) => index < model.column_count(),
         Member::Whole(index) => index < model.column_count(),
@@ -184,8 +178,9 @@ fn members(rt: HostRuntime) -> Result<(), Fail> {
         return Err(Fail::from(AllocError));
     };
     let table = [
-        (Member::Row(0), (true, true, true)),
-        (Member::Row(1), (true, true, false)),
+        (Member::RowLo(0), (true, true, true)),
+        (Member::RowUp(0), (false, false, false)),
+        (Member::RowLo(1), (true, true, false)),
         (Member::Lower(0), (true, true, true)),
         (Member::Upper(0), (true, false, false)),
         (Member::Whole(0), (false, false, false)),
@@ -209,7 +204,7 @@ fn changed(alloc: Global, model: &Model) -> Result<MemberSet, AllocError>
     }
     let mut set = model.members(alloc)?;
     set.insert(Member::Upper(0));
-    set.remove(Member::Row(1));
+    set.remove(Member::RowLo(1));
     Ok(set)
 }
 
@@ -218,7 +213,8 @@ fn is_possible(member: Member) -> bool
     ensures { IsTrue result → IsMemberFor 2 1 member }
 {
     match member {
-        Member::Row(index) => index < 2,
+        Member::RowLo(index) => index < 2,
+        Member::RowUp(index) => index < 2,
         Member::Lower(index) => index < 1,
         Member::Upper(index) => index < 1,
         Member::Whole(index) => index < 1,
@@ -295,10 +291,11 @@ fn looked_up(alloc: Global, member: Member) -> Result<(Option<Member>, bool), Al
 #[test]
 fn sets(rt: HostRuntime) -> Result<(), Fail> {
     let alloc = rt.alloc();
-    assert_eq!(rt; first(alloc)?, Some(Member::Row(0)));
+    assert_eq!(rt; first(alloc)?, Some(Member::RowLo(0)));
     let table = [
-        (Member::Row(0), Some(Member::Lower(0)), true),
-        (Member::Row(1), Some(Member::Lower(0)), false),
+        (Member::RowLo(0), Some(Member::Lower(0)), true),
+        (Member::RowUp(0), Some(Member::Lower(0)), false),
+        (Member::RowLo(1), Some(Member::Lower(0)), false),
         (Member::Lower(0), Some(Member::Upper(0)), true),
         (Member::Upper(0), None, true),
     ];

@@ -14,7 +14,8 @@ use Rattle.name_map.specs.Names.{names_of, name_at}
 use Rattle.name_map.proofs.NameLists.{length_map}
 use Rattle.lp_model.specs.declared.parts.Row.{Row}
 use Rattle.lp_model.specs.declared.parts.Note.TheVariants.{LowerKept}
-use Rattle.lp_model.specs.Program.{Program, IsForm, IsPositiveWeight, empty_row}
+use Rattle.lp_model.specs.Program.{Program, IsForm, IsWellFormedRow, empty_row}
+use Rattle.lp_model.proofs.New.{new_row_formed}
 use Rattle.lp_model.specs.Shown.{named_row}
 use Rattle.lp_statements.specs.declared.parts.Relation.TheVariants.{AtMost}
 use Rattle.lp_statements.specs.Statements.{Term, Statement}
@@ -29,7 +30,6 @@ use Rattle.lp_reader.specs.Held.{Holds}
 use Rattle.lp_reader.specs.Building.{column_shown, keeps_lower_in, listed, columns_listed, no_row, rows_listed, note_of, notes_listed}
 use Rattle.lp_reader.proofs.Holding.{same_list}
 use Rattle.lp_reader.proofs.Fronts.{names_long}
-use Rattle.lp_reader.proofs.Columned.{positive_weight}
 
 -- ---- forms
 terms_low : (names : List (List ℕ)) (j : ℕ) (terms : List Term) → All (λ t. j ≤ t.column) (form_from j names terms)
@@ -155,14 +155,13 @@ module _ (reader : Reader) (statements : List Statement) (holds : Holds reader s
   pub rows_even : length reader.rows.items.items ≡ length reader.rows.names
   rows_even = ap length holds.rows ∙ (length_map (row_of (columns_of statements)) (rows_of statements) ∙ (sym names_counted ∙ (sym (ap length holds.named) ∙ length_map (λ e. e.0) reader.rows.names)))
 
-  pub row_formed : (i : ℕ) → i < length reader.rows.items.items → IsForm (length (names_of reader.columns.names)) (slice_index_or reader.rows.items.items i no_row).terms × IsPositiveWeight (slice_index_or reader.rows.items.items i no_row).weight
-  row_formed i h =
+  pub row_formed : (i : ℕ) → i < length reader.rows.items.items → (name : List ℕ) → IsWellFormedRow (length (names_of reader.columns.names)) (named_row name (slice_index_or reader.rows.items.items i no_row))
+  row_formed i h name =
       let long : length reader.rows.items.items ≡ length (rows_of statements) = ap length holds.rows ∙ length_map (row_of (columns_of statements)) (rows_of statements) in
       let part : RowPart = get_or (rows_of statements) i (record { label = None; left = None; terms = []; relation = AtMost; right = record { negative = false; infinite = false; text = record { text = []; line = 0 } } }) in
-      let is : slice_index_or reader.rows.items.items i no_row ≡ row_of (columns_of statements) part = ap (λ rs. slice_index_or rs i no_row) holds.rows ∙ get_or-map (row_of (columns_of statements)) (rows_of statements) i (record { label = None; left = None; terms = []; relation = AtMost; right = record { negative = false; infinite = false; text = record { text = []; line = 0 } } }) no_row (omega arith) in (
-        subst (λ (r : Row). IsForm (length (names_of reader.columns.names)) r.terms) (sym is) (subst (λ ns. IsForm (length ns) (form_of (columns_of statements) part.terms)) (sym holds.columns) (form_formed (columns_of statements) part.terms)),
-        subst (λ (r : Row). IsPositiveWeight r.weight) (sym is) positive_weight,
-      )
+      let is : slice_index_or reader.rows.items.items i no_row ≡ row_of (columns_of statements) part = ap (λ rs. slice_index_or rs i no_row) holds.rows ∙ get_or-map (row_of (columns_of statements)) (rows_of statements) i (record { label = None; left = None; terms = []; relation = AtMost; right = record { negative = false; infinite = false; text = record { text = []; line = 0 } } }) no_row (omega arith) in
+      subst (λ (r : Row). IsWellFormedRow (length (names_of reader.columns.names)) (named_row name r)) (sym is)
+      (new_row_formed (length (names_of reader.columns.names)) name _ _ _ (subst (λ ns. IsForm (length ns) (form_of (columns_of statements) part.terms)) (sym holds.columns) (form_formed (columns_of statements) part.terms)))
 
   pub objective_formed : IsForm (length (names_of reader.columns.names)) reader.objective
   objective_formed = subst (λ ts. IsForm (length (names_of reader.columns.names)) ts) (sym holds.objective) (subst (λ ns. IsForm (length ns) (form_of (columns_of statements) (last_or [] (filter_map objective_in statements)))) (sym holds.columns) (form_formed (columns_of statements) (last_or [] (filter_map objective_in statements))))

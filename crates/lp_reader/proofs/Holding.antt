@@ -3,8 +3,7 @@ use Rattle.std.proofs.Common.{nat_eq, true≢false, ◌≡◌, ℕ, suc, ◌+◌
 use Rattle.std.specs.Prelude.{unwrap_or, slice_index_or, slice_set}
 use Rattle.std.specs.List.{All, list_any, filter_map, cons_option}
 use Rattle.std.specs.Str.{bytes_eq}
-use Rattle.rational.specs.Rational.{ℚ, one_ℚ}
-use Rattle.lp_model.specs.declared.parts.Weight.TheVariants.{Soft}
+use Rattle.rational.specs.Rational.{ℚ}
 use Rattle.std.proofs.lemmas.List.{map-append, length-set, get_or-set_same, get_or-set_other, get_or-map}
 use Rattle.std.proofs.lemmas.Bool.{eqb-true, eqb-false}
 use Rattle.text_fields.proofs.Floors.{same_test}
@@ -15,7 +14,7 @@ use Rattle.rational.specs.Linear.{Term as LinearTerm}
 use Rattle.name_map.specs.Names.{names_of, name_at, StandsAt}
 use Rattle.name_map.proofs.NameLists.{map_agree, map_push, length_map}
 use Rattle.lp_model.specs.Shown.{is_named, most_columns, most_rows, longest_name}
-use Rattle.lp_model.specs.declared.parts.Row.{Row as CodeRow}
+use Rattle.lp_model.specs.Shown.{new_row}
 use Rattle.lp_statements.specs.declared.parts.Keyword.{Keyword}
 use Rattle.lp_statements.specs.declared.parts.Relation.{Relation}
 use Rattle.lp_statements.specs.Items.{Written}
@@ -106,7 +105,7 @@ module _ (old : Reader) (new : Columns) (front : List Statement) (s : Statement)
   pub rows_are : map (row_of (columns_of (front ++ s ∷ []))) (rows_of front) ≡ map (row_of (columns_of front)) (rows_of front)
   rows_are =
       map_agree (row_of (columns_of (front ++ s ∷ []))) (row_of (columns_of front)) (λ row. form_of (columns_of (front ++ s ∷ [])) row.terms ≡ form_of (columns_of front) row.terms)
-      (λ row e. ap (λ (ts : List LinearTerm). let r : CodeRow = record { terms = ts; lo = (row_of (columns_of front) row).lo; up = (row_of (columns_of front) row).up; active = true; weight = (row_of (columns_of front) row).weight } in r) e)
+      (λ row e. ap (λ (ts : List LinearTerm). new_row ts (row_of (columns_of front) row).lo (row_of (columns_of front) row).up) e)
       (rows_of front)
       (λ i d h. same_form (get_or (rows_of front) i d).terms (λ name none. rows_absent front name none i d h))
 
@@ -196,7 +195,7 @@ hold_row old new front label left terms relation right form holds takes puts obj
     let names : names_of new.rows.names ≡ names_from 1 (rows_of (front ++ s ∷ [])) =
     puts.names ∙ (ap (λ ns. ns ++ row_name (length ns + 1) label ∷ []) holds.named ∙ (sym (row_names_push (rows_of front) part) ∙ ap (names_from 1) (sym rows))) in
     let row : ended_row form relation (said_by left) (side_of right) ≡ row_of (columns_of (front ++ s ∷ [])) part =
-    ap (λ (r : List LinearTerm × Option ℚ × Option ℚ). let c : CodeRow = record { terms = r.0; lo = r.1; up = r.2; active = true; weight = Soft one_ℚ } in c)
+    ap (λ (r : List LinearTerm × Option ℚ × Option ℚ). new_row r.0 r.1 r.2)
     (λ i. ((takes.form_is ∙ ap (λ ns. form_of ns terms) columns) i, lower_is left relation right i, upper_is left relation right i)) in
     record {
       named = names;

@@ -1,12 +1,10 @@
 -- Columns of a model from a reader's tables.
-use Rattle.std.specs.Prelude.{ℕ, zero, suc, ◌&&◌, not, Bool, true, cond, List, [], ◌∷◌, ◌++◌, None, slice_index_or}
-use Rattle.rational.specs.Rational.{one_ℚ}
-use Rattle.lp_model.specs.declared.parts.Weight.TheVariants.{Soft}
+use Rattle.std.specs.Prelude.{ℕ, zero, suc, ◌&&◌, not, Bool, cond, List, [], ◌∷◌, ◌++◌, None, slice_index_or}
 use Rattle.lp_model.specs.declared.parts.Row.{Row}
 use Rattle.lp_model.specs.declared.parts.Note.{Note}
 use Rattle.lp_model.specs.declared.parts.Note.TheVariants.{LowerKept}
 use Rattle.lp_model.specs.Program.{NamedColumn, NamedRow}
-use Rattle.lp_model.specs.Shown.{named_row}
+use Rattle.lp_model.specs.Shown.{named_row, named_column, new_row, new_column}
 use Rattle.name_map.specs.Names.{name_at}
 use Rattle.lp_reader.specs.State.{plain}
 use Rattle.lp_reader.specs.declared.columns.Bounds.{Bounds}
@@ -14,17 +12,7 @@ use Rattle.lp_reader.specs.Program.{is_negative}
 
 -- a column with these bounds
 abbrev pub column_shown : List ℕ → Bounds → NamedColumn
-column_shown name bounds = record {
-  name = name;
-  lower = bounds.lo;
-  upper = bounds.up;
-  whole = bounds.whole;
-  lower_active = true;
-  upper_active = true;
-  whole_active = true;
-  lower_weight = Soft one_ℚ;
-  upper_weight = Soft one_ℚ;
-}
+column_shown name bounds = named_column name (new_column bounds.lo bounds.up bounds.whole)
 
 -- a negative upper bound where no statement set the lower one
 abbrev pub keeps_lower_in : Bounds → Bool
@@ -41,7 +29,7 @@ columns_listed names bounds n = listed (λ i. column_shown (name_at names i) (sl
 
 -- what stands past the last row
 abbrev pub no_row : Row
-no_row = record { terms = []; lo = None; up = None; active = true; weight = Soft one_ℚ }
+no_row = new_row [] None None
 
 -- the first n rows
 abbrev pub rows_listed : List (List ℕ) → List Row → ℕ → List NamedRow

@@ -1,14 +1,13 @@
 -- The program that statements declare.
 use Rattle.std.specs.Prelude.{ℕ, ◌+◌, ◌&&◌, not, Bool, true, false, cond, List, [], ◌∷◌, map, Option, Some, None}
 use Rattle.std.specs.List.{filter_map}
-use Rattle.rational.specs.Rational.{ℚ, zero_ℚ, one_ℚ, lt_q, eq_ℚ}
+use Rattle.rational.specs.Rational.{ℚ, zero_ℚ, lt_q, eq_ℚ}
 use Rattle.rational.specs.Linear.{Term as LinearTerm}
 use Rattle.lp_model.specs.declared.parts.Row.{Row}
-use Rattle.lp_model.specs.declared.parts.Weight.TheVariants.{Soft}
 use Rattle.lp_model.specs.declared.parts.Note.{Note}
 use Rattle.lp_model.specs.declared.parts.Note.TheVariants.{LowerKept}
 use Rattle.lp_model.specs.Program.{Program, NamedRow, NamedColumn}
-use Rattle.lp_model.specs.Shown.{named_row}
+use Rattle.lp_model.specs.Shown.{named_row, named_column, new_row, new_column}
 use Rattle.lp_statements.specs.Statements.{Constant, Term, Statement, Objective}
 use Rattle.lp_reader.specs.Numbers.{side_of, sum_of}
 use Rattle.lp_reader.specs.Names.{RowPart, rows_of, columns_of, row_name}
@@ -32,34 +31,19 @@ abbrev pub side_by : Option Constant → Option ℚ
 side_by (Some constant) = side_of constant
 side_by None = None
 
--- a row without its name: it is active, and weighs 1
+-- a row without its name
 abbrev pub row_of : List (List ℕ) → RowPart → Row
-row_of columns row = record {
-  terms = form_of columns row.terms;
-  lo = side_by (lower_constant row.left row.relation (Some row.right));
-  up = side_by (upper_constant row.left row.relation (Some row.right));
-  active = true;
-  weight = Soft one_ℚ;
-}
+row_of columns row =
+    new_row (form_of columns row.terms) (side_by (lower_constant row.left row.relation (Some row.right))) (side_by (upper_constant row.left row.relation (Some row.right)))
 
 -- the rows from the n-th on
 unfoldable pub rows_from : ℕ → List (List ℕ) → List RowPart → List NamedRow
 rows_from n columns [] = []
 rows_from n columns (row ∷ rows) = named_row (row_name n row.label) (row_of columns row) ∷ rows_from (n + 1) columns rows
 
--- a column: its bounds are active, and weigh 1
+-- a column
 abbrev pub column_of : List Statement → List ℕ → NamedColumn
-column_of statements name = record {
-  name = name;
-  lower = lower_of statements name;
-  upper = upper_of statements name;
-  whole = whole_of statements name;
-  lower_active = true;
-  upper_active = true;
-  whole_active = true;
-  lower_weight = Soft one_ℚ;
-  upper_weight = Soft one_ℚ;
-}
+column_of statements name = named_column name (new_column (lower_of statements name) (upper_of statements name) (whole_of statements name))
 
 -- the terms of an objective, and whether it is to be made greatest
 abbrev pub objective_in : Statement → Option (List Term)

@@ -1,11 +1,10 @@
 -- Rows from their forms and sides.
 use Rattle.std.specs.Prelude.{◌≡◌, ℕ, ◌≤◌, true, List, [], ◌∷◌, ◌++◌, length, Option, None}
-use Rattle.rational.specs.Rational.{ℚ, one_ℚ}
+use Rattle.rational.specs.Rational.{ℚ}
 use Rattle.rational.specs.Linear.{Term as LinearTerm}
 use Rattle.name_map.specs.Names.{names_of}
-use Rattle.lp_model.specs.Shown.{most_rows, longest_name}
+use Rattle.lp_model.specs.Shown.{most_rows, longest_name, new_row}
 use Rattle.lp_model.specs.declared.parts.Row.{Row}
-use Rattle.lp_model.specs.declared.parts.Weight.TheVariants.{Soft}
 use Rattle.lp_statements.specs.declared.parts.Relation.{Relation}
 use Rattle.lp_reader.specs.declared.bounds.Said.{Said}
 use Rattle.lp_reader.specs.declared.rows.Rows.{Rows}
@@ -23,9 +22,9 @@ upper_side Relation.AtMost left right = right
 upper_side Relation.AtLeast left right = bound_after None left
 upper_side Relation.Equal left right = bound_after right left
 
--- a row that is active, and weighs 1
+-- a row of this form, whose sides a relation and its constants give
 abbrev pub ended_row : List LinearTerm → Relation → Said → Option ℚ → Row
-ended_row form relation left right = record { terms = form; lo = lower_side relation left right; up = upper_side relation left right; active = true; weight = Soft one_ℚ }
+ended_row form relation left right = new_row form (lower_side relation left right) (upper_side relation left right)
 
 -- a new row stands last
 pub record PutsRow (old new : Rows) (name : List ℕ) (row : Row) : Type 0 where

@@ -3,7 +3,7 @@ ghost use Rattle.std.specs.Prelude.{◌≡◌, ℕ, ◌<◌, ◌≤◌, ◌^◌,
 ghost use Rattle.std.specs.List.{All};
 ghost use Rattle.rational.specs.Rational.{lt_q, zero_ℚ};
 ghost use Rattle.name_map.specs.Names.{names_of, name_at};
-ghost use Rattle.lp_model.specs.Program.{IsForm, IsPositiveWeight};
+ghost use Rattle.lp_model.specs.Program.{IsWellFormedRow};
 ghost use Rattle.lp_model.specs.Shown.{named_row, with_more_row, with_more_column, most_rows, most_columns, longest_name, row_names, column_names, CanAdd};
 ghost use Rattle.lp_statements.specs.Statements.{Statement as StatementOf};
 ghost use Rattle.lp_reader.specs.Program.{program_of, is_negative};
@@ -15,7 +15,7 @@ use crate::columns::{Bounds, Columns};
 use crate::reader::Reader;
 use crate::rows::Rows;
 use frac128::Frac;
-use lp_model::{Column, Model, ModelStop, Note, Row, Weight};
+use lp_model::{Column, Model, ModelStop, Note, Row};
 use name_map::NameMap;
 use std::alloc::{AllocError, Global};
 
@@ -42,18 +42,7 @@ fn put_column(
     ensures { OnOk result (model.new ≡ with_more_column model.old (column_shown (name_at (names_of columns.now.names) index) (slice_index_or columns.now.bounds.items index plain))) }
 {
     let bounds = bounds_at(columns, index);
-    let lower_weight = Weight::Soft(Frac::whole(1));
-    let upper_weight = lower_weight;
-    let column = Column {
-        lo: bounds.lo,
-        up: bounds.up,
-        whole: bounds.whole,
-        lower_active: true,
-        upper_active: true,
-        whole_active: true,
-        lower_weight,
-        upper_weight,
-    };
+    let column = Column::new(bounds.lo, bounds.up, bounds.whole);
     match model.add_column(alloc, columns.names.name(index), column) {
         Ok(_) => Ok(()),
         Err(stop) => Err(memory_alone(stop)),
@@ -62,8 +51,7 @@ fn put_column(
 
 // Puts a row last.
 fn put_row(alloc: Global, model: &mut Model, name: &[u8], row: Row) -> Result<(), AllocError>
-    requires form { IsForm (length model.old.columns) row.terms }
-    requires weight { IsPositiveWeight row.weight }
+    requires formed { IsWellFormedRow (length model.old.columns) (named_row name.now row) }
     requires fits { CanAdd (row_names model.old) most_rows name.now }
     ensures { OnOk result (model.new ≡ with_more_row model.old (named_row name.now row)) }
 {
@@ -132,8 +120,8 @@ fn put_rows(
     requires few { length (names_of names.now) ≤ most_rows }
     requires short { All (λ name. length name ≤ longest_name) (names_of names.now) }
     requires none { model.old.rows ≡ [] }
-    requires forms { (i : ℕ) → i < length rows.items → IsForm (length model.old.columns) (slice_index_or rows.items i no_row).terms }
-    requires weights { (i : ℕ) → i < length rows.items → IsPositiveWeight (slice_index_or rows.items i no_row).weight }
+    requires formed { (i : ℕ) → i < length rows.items → (name : List ℕ)
+        → IsWellFormedRow (length model.old.columns) (named_row name (slice_index_or rows.items i no_row)) }
     ensures { OnOk result (model.new ≡ record model.old { rows = rows_listed (names_of names.now) rows.items (length rows.items) }) }
 {
     let mut left = rows.into_iter();

@@ -4,7 +4,6 @@ ghost use Rattle.std.specs.List.{list_any};
 ghost use Rattle.std.specs.Option.{option_map};
 ghost use Rattle.std.specs.Str.{bytes_eq};
 ghost use Rattle.name_map.specs.Names.{names_of};
-ghost use Rattle.rational.specs.Rational.{one_ℚ};
 ghost use Rattle.lp_model.specs.Shown.{most_rows, longest_name};
 ghost use Rattle.lp_statements.specs.Statements.{shown_text, shown_constant};
 ghost use Rattle.lp_reader.specs.Numbers.{constant_fault_in, side_of};
@@ -18,7 +17,7 @@ use crate::bounds::Said;
 use crate::columns::is_too_long;
 use crate::numbers::constant_side;
 use frac128::Frac;
-use lp_model::{MOST_ROWS, Row, Terms, Weight};
+use lp_model::{MOST_ROWS, Row, Terms};
 use lp_statements::{Constant, Relation, Text};
 use name_map::NameMap;
 use std::alloc::{AllocError, Global};
@@ -102,17 +101,11 @@ fn upper_side(relation: Relation, left: &Said, right: &Option<Frac>) -> Option<F
     }
 }
 
-// A row that is active, and weighs 1.
+// A row of this form, whose sides a relation and its constants give.
 fn make_row(form: Terms, relation: Relation, left: &Said, right: &Option<Frac>) -> Row
     ensures { result ≡ ended_row form relation left.now right.now }
 {
-    Row {
-        terms: form,
-        lo: lower_side(relation, left, right),
-        up: upper_side(relation, left, right),
-        active: true,
-        weight: Weight::Soft(Frac::whole(1)),
-    }
+    Row::new(form, lower_side(relation, left, right), upper_side(relation, left, right))
 }
 
 // Puts a new row last.

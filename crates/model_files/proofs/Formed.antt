@@ -1,12 +1,12 @@
 -- When rows and columns are well formed.
-use Rattle.std.proofs.Common.{◌≡◌, ◌≢◌, ◌<◌, ◌≤◌, ◌+◌, ℕ, zero, suc, Bool, true, false, List, [], ◌∷◌, ◌++◌, length, refl, sym, ap, subst, ◌∙◌, arith, true≢false}
-use Rattle.std.specs.Prelude.{⊤, ◌||◌, not, cond, map, filter, All, AllPairs}
+use Rattle.std.proofs.Common.{◌≡◌, ◌≢◌, ◌<◌, ◌≤◌, ◌+◌, ℕ, Bool, true, false, List, [], ◌∷◌, ◌++◌, refl, sym, ◌∙◌, arith, true≢false}
+use Rattle.std.specs.Prelude.{⊤, ◌||◌, cond, map, filter, All, AllPairs}
 use Rattle.std.specs.List.{list_any}
 use Rattle.std.specs.Str.{bytes_eq}
 use Rattle.std.proofs.lemmas.List.Elements.{All-cons, All-nil, All-weaker}
 use Rattle.std.proofs.lemmas.List.Kept.{AllPairs-cons}
 use Rattle.std.proofs.lemmas.Slice.Eq.{bytes_eq-Decides}
-use Rattle.rational.specs.Rational.{ℚ, zero_ℚ, eq_ℚ}
+use Rattle.rational.specs.Rational.{zero_ℚ}
 use Rattle.rational.specs.Linear.{Term}
 use Rattle.lp_model.specs.Program.{IsForm}
 

@@ -1,19 +1,17 @@
 -- What a model in the LP format declares is well formed.
-use Rattle.std.proofs.Common.{◌≡◌, ◌≢◌, ◌<◌, ◌≤◌, ◌+◌, ℕ, suc, Bool, true, false, List, [], ◌∷◌, ◌++◌, length, refl, sym, ap, subst, ◌∙◌, arith}
-use Rattle.std.specs.Prelude.{cond, map, All, not, ◌&&◌, Option, Some, None}
-use Rattle.std.specs.List.{filter_map, list_any, cons_option}
+use Rattle.std.proofs.Common.{◌≡◌, ◌<◌, ◌≤◌, ◌+◌, ℕ, suc, Bool, true, false, List, [], ◌∷◌, ◌++◌, length, refl, sym, ap, subst, ◌∙◌, arith}
+use Rattle.std.specs.Prelude.{cond, map, All, Option, Some, None}
+use Rattle.std.specs.List.{filter_map, cons_option}
 use Rattle.std.specs.Option.{option_or}
-use Rattle.std.specs.Str.{bytes_eq}
-use Rattle.std.proofs.lemmas.List.{append-nil, length-append}
+use Rattle.std.proofs.lemmas.List.{append-nil}
 use Rattle.std.proofs.lemmas.List.Elements.{All-cons, All-nil, filter_map-append}
 use Rattle.std.proofs.lemmas.Option.{none-some}
 use Rattle.text_fields.specs.declared.faults.ReadStop.{ReadStop}
-use Rattle.lp_model.specs.declared.parts.Note.{Note}
 use Rattle.lp_model.specs.declared.parts.Note.TheVariants.{LowerKept}
-use Rattle.lp_model.specs.Program.{Program, NamedRow, NamedColumn, IsForm, IsWellFormed, IsWellFormedRow, IsWellFormedColumn, noted_column}
+use Rattle.lp_model.specs.Program.{NamedRow, NamedColumn, IsForm, IsWellFormed, IsWellFormedRow, IsWellFormedColumn, noted_column}
 use Rattle.lp_model.specs.Shown.{is_named, named_row}
 use Rattle.lp_statements.specs.Items.{Written}
-use Rattle.lp_statements.specs.Statements.{Constant, Term, Statement, Objective, Heading, Row, Free, Bound, Listed}
+use Rattle.lp_statements.specs.Statements.{Term, Statement, Objective, Heading, Row, Free, Bound, Listed}
 use Rattle.lp_statements.specs.Script.{script_of}
 use Rattle.lp_reader.specs.Names.{RowPart, row_in, rows_of, row_name, names_from, row_names, terms_of, with_name, with_names, columns_of}
 use Rattle.lp_reader.specs.Bounds.{last_or}
@@ -21,9 +19,9 @@ use Rattle.lp_reader.specs.Numbers.{sum_of, constant_fault, constant_fault_in}
 use Rattle.lp_reader.specs.Faults.{label_fault, unnamed_fault, full_fault, terms_fault, statement_fault, first_fault}
 use Rattle.lp_reader.specs.Program.{form_from, form_of, row_of, rows_from, column_of, keeps_lower, notes_from, program_of, objective_in}
 use Rattle.lp_reader.specs.Meaning.{lp_fault, lp_program}
+use Rattle.lp_model.proofs.New.{new_row_formed, new_column_formed}
 use Rattle.model_files.proofs.Formed.{Apart, apart-more, pairs-apart, Ascends, ascends-form}
-use Rattle.model_files.proofs.Lists.{map-same, all-made, ascends-with, length-made}
-use Rattle.model_files.proofs.MpsFormed.{one-positive}
+use Rattle.model_files.proofs.Lists.{all-made, ascends-with, length-made}
 
 -- ---- forms
 sums-ascend : (n j : ℕ) (names : List (List ℕ)) (terms : List Term) → j + length names ≤ n → Ascends n j (form_from j names terms)
@@ -39,7 +37,7 @@ unfolding rows_from
 rows-formed n k columns [] e = All-nil (IsWellFormedRow n)
 rows-formed n k columns (row ∷ rows) e =
     All-cons (IsWellFormedRow n) (named_row (row_name k row.label) (row_of columns row)) (rows_from (k + 1) columns rows)
-    (record { form = subst (λ (m : ℕ). IsForm m (form_of columns row.terms)) e (form-is columns row.terms); weight = one-positive })
+    (new_row_formed n (row_name k row.label) _ _ _ (subst (λ (m : ℕ). IsForm m (form_of columns row.terms)) e (form-is columns row.terms)))
     (rows-formed n (k + 1) columns rows e)
 
 -- ---- notes
@@ -154,7 +152,7 @@ program-formed statements rows =
     let same : length columns ≡ length (map (column_of statements) columns) = sym (length-made (column_of statements) columns) in
     record {
       rows = rows-formed (length (map (column_of statements) columns)) 1 columns (rows_of statements) same;
-      columns = all-made IsWellFormedColumn (column_of statements) (λ c. record { lower_weight = one-positive; upper_weight = one-positive; no_lower = λ h. (refl, refl); no_upper = λ h. (refl, refl); no_mark = λ h. refl }) columns;
+      columns = all-made IsWellFormedColumn (column_of statements) (λ name. new_column_formed name _ _ _) columns;
       objective = subst (λ (k : ℕ). IsForm k (form_of columns (last_or [] (filter_map objective_in statements)))) same (form-is columns (last_or [] (filter_map objective_in statements)));
       notes = subst (λ (k : ℕ). All (λ note. noted_column note < k) (notes_from statements 0 columns)) same (notes-known statements (length columns) 0 columns (omega arith));
       row_names = pairs-apart (λ (r : NamedRow). r.name) (rows_from 1 columns (rows_of statements)) (subst Apart (sym (made-names 1 columns (rows_of statements))) rows);

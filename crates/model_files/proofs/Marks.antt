@@ -1,11 +1,11 @@
 -- Whole columns and marks.
-use Rattle.std.proofs.Common.{◌≡◌, ◌<◌, refl, sym, subst, ℕ, zero, suc, Bool, true, false, ◌&&◌, true≢false, List, [], ◌∷◌, length, arith}
+use Rattle.std.proofs.Common.{◌≡◌, ◌<◌, refl, sym, ℕ, zero, suc, Bool, true, false, ◌&&◌, true≢false, List, [], ◌∷◌, length, arith}
 use Rattle.std.specs.Prelude.{slice_index_or, ◌||◌}
 use Rattle.std.specs.List.{list_any}
 use Rattle.std.proofs.lemmas.List.Elements.{All-weaker, filter_passes}
-use Rattle.lp_model.specs.Program.{Program, NamedColumn, column_at, empty_column}
+use Rattle.lp_model.specs.Program.{Program, NamedColumn, empty_column}
 use Rattle.lp_model.specs.declared.members.Member.{Member}
-use Rattle.lp_model.specs.declared.members.Member.TheVariants.{Row, Lower, Upper, Whole}
+use Rattle.lp_model.specs.declared.members.Member.TheVariants.{RowLo, RowUp, Lower, Upper, Whole}
 use Rattle.lp_model.specs.Members.{is_mark, is_active, active_members, possible_members}
 use Rattle.model_files.specs.Formats.{has_mark}
 use Rattle.model_files.specs.Reading.{IsMarkless}
@@ -39,7 +39,8 @@ not_kept true c e h = true≢false e
 
 -- an active member is no mark
 plain : (p : Program) → has_mark p ≡ false → (m : Member) → is_active p m ≡ true → is_mark m ≡ false
-plain p e (Row i) h = refl
+plain p e (RowLo i) h = refl
+plain p e (RowUp i) h = refl
 plain p e (Lower j) h = refl
 plain p e (Upper j) h = refl
 plain p e (Whole j) h = absurd (not_kept _ _ (each-plain p.columns j e) h)

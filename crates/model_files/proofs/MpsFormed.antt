@@ -1,5 +1,5 @@
 -- What a model in the MPS format declares is well formed.
-use Rattle.std.proofs.Common.{◌≡◌, ◌≢◌, ◌<◌, ◌≤◌, ◌+◌, ℕ, suc, Bool, true, false, List, [], ◌∷◌, ◌++◌, length, refl, sym, ap, subst, ◌∙◌, arith}
+use Rattle.std.proofs.Common.{◌≡◌, ◌<◌, ◌≤◌, ◌+◌, ℕ, Bool, true, false, List, [], ◌∷◌, ◌++◌, length, refl, sym, ap, subst, ◌∙◌, arith}
 use Rattle.std.specs.Prelude.{cond, map, filter, All, not, Option, Some, None}
 use Rattle.std.specs.List.{filter_map, list_any, cons_option}
 use Rattle.std.specs.Option.{option_map_or}
@@ -7,26 +7,21 @@ use Rattle.std.specs.Str.{bytes_eq}
 use Rattle.std.proofs.lemmas.List.{append-nil, map-append}
 use Rattle.std.proofs.lemmas.List.Elements.{All-cons, All-nil, filter_map-append}
 use Rattle.std.proofs.lemmas.Option.{none-some}
-use Rattle.rational.specs.Rational.{ℚ, zero_ℚ, one_ℚ, ◌<ℚ◌}
-use Rattle.rational.proofs.Order.{positive_is, positive-one}
+use Rattle.rational.specs.Rational.{ℚ}
 use Rattle.text_fields.specs.declared.faults.ReadKind.{ReadKind}
 use Rattle.text_fields.specs.declared.faults.ReadKind.TheVariants.{DuplicateName}
 use Rattle.text_fields.specs.declared.faults.ReadStop.{ReadStop}
-use Rattle.lp_model.specs.declared.parts.Note.{Note}
 use Rattle.lp_model.specs.declared.parts.Note.TheVariants.{LowerRemoved}
-use Rattle.lp_model.specs.Program.{Program, NamedRow, NamedColumn, IsForm, IsWellFormed, IsWellFormedRow, IsWellFormedColumn, noted_column}
+use Rattle.lp_model.specs.Program.{NamedRow, NamedColumn, IsForm, IsWellFormed, IsWellFormedRow, IsWellFormedColumn, noted_column}
 use Rattle.lp_model.specs.Shown.{is_named}
-use Rattle.mps_lines.specs.declared.shapes.RowKind.{RowKind}
 use Rattle.mps_lines.specs.Steps.{Step, Placed, Refused, ToSense, ToRow, ToColumn, ToEntry, ToSide, ToRange, ToBound, all_steps}
 use Rattle.mps_reader.specs.Tables.{RowRecord, ColumnRecord, row_in, rows_of, row_names, kept_rows, is_free, firsts, columns_of, column_names, column_in, objective_of}
 use Rattle.mps_reader.specs.Sides.{is_removed}
 use Rattle.mps_reader.specs.Faults.{first_true, fault, stop_or, first_fault, mps_fault}
 use Rattle.mps_reader.specs.Meaning.{terms_from, terms_of, named_row_of, named_column_of, notes_from, program_of, mps_program}
+use Rattle.lp_model.proofs.New.{new_row_formed, new_column_formed}
 use Rattle.model_files.proofs.Formed.{Apart, apart-more, apart-filter, pairs-apart, or-false, Ascends, ascends-form}
 use Rattle.model_files.proofs.Lists.{map-same, all-made, ascends-with, length-made}
-
-pub one-positive : zero_ℚ <ℚ one_ℚ
-one-positive = positive_is.1 positive-one
 
 -- ---- forms
 terms-ascend : (f : List ℕ → ℚ) (n j : ℕ) (names : List (List ℕ)) → j + length names ≤ n → Ascends n j (terms_from f j names)
@@ -130,8 +125,8 @@ program-formed steps rows =
     let n = length-made (named_column_of steps) (columns_of steps) in
     let same : length (column_names steps) ≡ length (map (named_column_of steps) (columns_of steps)) = length-made column_name (columns_of steps) ∙ sym n in
     record {
-      rows = all-made (IsWellFormedRow (length (map (named_column_of steps) (columns_of steps)))) (named_row_of steps) (λ r. record { form = subst (λ (k : ℕ). IsForm k (terms_of steps r.name)) same (form-of steps r.name); weight = one-positive }) (kept_rows steps);
-      columns = all-made IsWellFormedColumn (named_column_of steps) (λ c. record { lower_weight = one-positive; upper_weight = one-positive; no_lower = λ h. (refl, refl); no_upper = λ h. (refl, refl); no_mark = λ h. refl }) (columns_of steps);
+      rows = all-made (IsWellFormedRow (length (map (named_column_of steps) (columns_of steps)))) (named_row_of steps) (λ r. new_row_formed _ r.name _ _ _ (subst (λ (k : ℕ). IsForm k (terms_of steps r.name)) same (form-of steps r.name))) (kept_rows steps);
+      columns = all-made IsWellFormedColumn (named_column_of steps) (λ c. new_column_formed c.name _ _ _) (columns_of steps);
       objective = subst (λ (k : ℕ). IsForm k (option_map_or (terms_of steps) (objective_of steps) [])) same (objective-form steps (objective_of steps));
       notes = subst (λ (k : ℕ). All (λ note. noted_column note < k) (notes_from steps 0 (column_names steps))) same (notes-known steps (length (column_names steps)) 0 (column_names steps) (omega arith));
       row_names = pairs-apart (λ (r : NamedRow). r.name) (map (named_row_of steps) (kept_rows steps)) (subst Apart (sym (map-same (λ (r : NamedRow). r.name) (named_row_of steps) (kept_rows steps))) (apart-filter row_name (λ r. not (is_free r.kind)) (rows_of steps) rows));

@@ -7,20 +7,18 @@ use Rattle.name_map.specs.Names.{name_at}
 use Rattle.std.proofs.Math.Numerals.{add-one}
 use Rattle.std.proofs.lemmas.List.Elements.{All-push}
 use Rattle.std.proofs.lemmas.List.Quantifiers.{all_pairs_push}
-use Rattle.rational.specs.Rational.{ℚ, zero_ℚ, one_ℚ, eq_ℚ, ◌<ℚ◌}
+use Rattle.rational.specs.Rational.{ℚ, zero_ℚ, eq_ℚ}
 use Rattle.rational.specs.Linear.{Term}
 use Rattle.rational.proofs.Compare.{eq-Decides}
-use Rattle.rational.proofs.Order.{positive_is, positive-one}
 use Rattle.lp_model.specs.declared.parts.Note.TheVariants.{LowerRemoved}
-use Rattle.lp_model.specs.declared.parts.Weight.TheVariants.{Soft}
-use Rattle.lp_model.specs.Program.{Program, NamedRow, NamedColumn, IsForm, IsPositiveWeight, IsWellFormedColumn}
+use Rattle.lp_model.specs.Program.{Program, NamedRow, NamedColumn, IsForm, IsWellFormedColumn}
+use Rattle.lp_model.proofs.New.{new_column_formed}
 use Rattle.lp_model.specs.Shown.{with_more_row, with_more_column}
 use Rattle.mps_reader.specs.declared.tables.Reader.{Reader}
 use Rattle.mps_reader.specs.Gathered.{terms_to, listed, listed_where}
-use Rattle.mps_reader.specs.Built.{column_held, columns_to, is_removed_held, rows_to, row_held, is_kept_held, terms_held}
-
-pub positive_weight : zero_ℚ <ℚ one_ℚ
-positive_weight = positive_is.1 positive-one
+use Rattle.name_map.specs.Names.{name_at}
+use Rattle.mps_reader.specs.Held.{column_names_held}
+use Rattle.mps_reader.specs.Built.{column_held, columns_to, is_removed_held, lower_held, rows_to, row_held, is_kept_held, terms_held, upper_held, whole_held}
 
 -- ---- lists by number
 pub length_listed : {X : Type 0} (f : ℕ → X) (n : ℕ) → length (listed f n) ≡ n
@@ -48,18 +46,8 @@ form_to f (suc n) = by (eq_ℚ (f n) zero_ℚ) refl (form_to f n)
     }
 
 -- ---- columns
--- a column with no weights but 1 and no flag off is well formed
-pub column_formed : (column : NamedColumn) → column.lower_active ≡ true → column.upper_active ≡ true → column.whole_active ≡ true → column.lower_weight ≡ Soft one_ℚ → column.upper_weight ≡ Soft one_ℚ → IsWellFormedColumn column
-column_formed column lower upper whole first second = record {
-  lower_weight = subst IsPositiveWeight (sym first) positive_weight;
-  upper_weight = subst IsPositiveWeight (sym second) positive_weight;
-  no_lower = λ none. (lower, first);
-  no_upper = λ none. (upper, second);
-  no_mark = λ none. whole;
-}
-
 pub column_held_formed : (reader : Reader) (i : ℕ) → IsWellFormedColumn (column_held reader i)
-column_held_formed reader i = column_formed (column_held reader i) refl refl refl refl refl
+column_held_formed reader i = new_column_formed (name_at (column_names_held reader) i) (lower_held reader i) (upper_held reader i) (whole_held reader i)
 
 -- one column more, with its note
 pub column_more : (reader : Reader) (i : ℕ) (old mid new : Program) (named : NamedColumn) (place : ℕ) → old ≡ columns_to reader i → mid ≡ with_more_column old named → named ≡ column_held reader i → place ≡ i

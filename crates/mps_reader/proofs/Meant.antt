@@ -18,9 +18,8 @@ use Rattle.name_map.specs.Names.{StandsAt, name_at, names_of}
 use Rattle.name_map.proofs.NameLists.{length_map, map_push, place_is}
 use Rattle.lp_model.specs.declared.parts.Note.{Note}
 use Rattle.lp_model.specs.declared.parts.Note.TheVariants.{LowerRemoved}
-use Rattle.lp_model.specs.declared.parts.Weight.TheVariants.{Soft}
 use Rattle.lp_model.specs.Program.{Program, NamedRow, NamedColumn}
-use Rattle.lp_model.specs.Shown.{most_rows}
+use Rattle.lp_model.specs.Shown.{most_rows, named_row, named_column, new_row, new_column}
 use Rattle.mps_lines.specs.declared.shapes.RowKind.{RowKind}
 use Rattle.mps_lines.specs.declared.shapes.RowKind.TheVariants.{Free}
 use Rattle.mps_lines.specs.declared.shapes.BoundKind.{BoundKind}
@@ -204,17 +203,10 @@ module _ (reader : Reader) (steps : List Step) (h : Holds reader steps) (i : ℕ
 
   column_is : (c : List ℕ × Bool) → c.0 ≡ name → get_or (map (λ (e : List ℕ × Bool). e.1) reader.columns) i false ≡ c.1 → column_held reader i ≡ named_column_of steps (column_record c)
   unfolding whole_in
-  column_is c named marked = λ k. let q : NamedColumn = record {
-    name = sym named k;
-    lower = (lower_is ∙ ap (lower_in steps) (sym named)) k;
-    upper = (upper_is ∙ ap (upper_in steps) (sym named)) k;
-    whole = ((λ j. marked j || mark_is j) ∙ ap (λ n. c.1 || list_any (λ b. bytes_eq n b.column && makes_whole b.kind) (bounds_of steps)) (sym named)) k;
-    lower_active = true;
-    upper_active = true;
-    whole_active = true;
-    lower_weight = Soft one_ℚ;
-    upper_weight = Soft one_ℚ;
-  } in q
+  column_is c named marked = λ k. named_column (sym named k) (new_column
+      ((lower_is ∙ ap (lower_in steps) (sym named)) k)
+      ((upper_is ∙ ap (upper_in steps) (sym named)) k)
+      (((λ j. marked j || mark_is j) ∙ ap (λ n. c.1 || list_any (λ b. bytes_eq n b.column && makes_whole b.kind) (bounds_of steps)) (sym named)) k))
 
 module _ (reader : Reader) (steps : List Step) (h : Holds reader steps) (rows_apart : IsDistinct bytes_eq (row_names_held reader)) (columns_apart : IsDistinct bytes_eq (column_names_held reader)) where
   abbrev rows : List (List ℕ)
@@ -281,14 +273,7 @@ module _ (reader : Reader) (steps : List Step) (h : Holds reader steps) (rows_ap
       let sides : sides_held reader i ≡ row_sides r.1 (right_side steps (name_at rows i)) (range_of steps (name_at rows i)) =
       λ k. row_sides (sym kind k) (right_is reader steps (name_at rows i) i h (row_stands i lt) not_free k) (range_is i lt not_free k) in
       let all = sides ∙ ap (λ n. row_sides r.1 (right_side steps n) (range_of steps n)) (sym named) in
-      λ k. let q : NamedRow = record {
-        name = sym named k;
-        terms = (terms_are i lt (not_dropped i lt not_free) ∙ ap (terms_of steps) (sym named)) k;
-        lower = (all k).0;
-        upper = (all k).1;
-        active = true;
-        weight = Soft one_ℚ;
-      } in q
+      λ k. named_row (sym named k) (new_row ((terms_are i lt (not_dropped i lt not_free) ∙ ap (terms_of steps) (sym named)) k) (all k).0 (all k).1)
     where
       not_true : (b : Bool) → not b ≡ true → b ≡ false
       not_true true e = absurd (true≢false (sym e))

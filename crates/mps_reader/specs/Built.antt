@@ -1,15 +1,14 @@
 -- The program of a reader, by the places of rows and columns.
-use Rattle.std.specs.Prelude.{◌≡◌, ℕ, ◌<◌, ◌≤◌, ◌&&◌, ◌||◌, not, nat_eq, cond, Bool, true, false, is_some, unwrap_or, All, IfSome, List, [], length, map, slice_index_or, Option, Some, None}
+use Rattle.std.specs.Prelude.{◌≡◌, ℕ, ◌<◌, ◌≤◌, ◌&&◌, ◌||◌, not, nat_eq, cond, Bool, false, is_some, unwrap_or, All, IfSome, List, [], length, map, slice_index_or, Option, Some, None}
 use Rattle.std.specs.Option.{option_map_or}
 use Rattle.std.specs.List.{IsDistinct}
 use Rattle.std.specs.Map.{lookup}
 use Rattle.std.specs.Str.{bytes_eq}
-use Rattle.rational.specs.Rational.{ℚ, zero_ℚ, one_ℚ, lt_q}
+use Rattle.rational.specs.Rational.{ℚ, zero_ℚ, lt_q}
 use Rattle.rational.specs.Linear.{Term}
 use Rattle.lp_model.specs.declared.parts.Note.TheVariants.{LowerRemoved}
-use Rattle.lp_model.specs.declared.parts.Weight.TheVariants.{Soft}
 use Rattle.lp_model.specs.Program.{Program, NamedRow, NamedColumn}
-use Rattle.lp_model.specs.Shown.{most_columns, most_rows, longest_name}
+use Rattle.lp_model.specs.Shown.{most_columns, most_rows, longest_name, named_row, named_column, new_row, new_column}
 use Rattle.name_map.specs.Names.{name_at}
 use Rattle.mps_lines.specs.Steps.{Step}
 use Rattle.mps_reader.specs.declared.tables.Reader.{Reader}
@@ -47,17 +46,7 @@ whole_held reader column = slice_index_or (map (λ e. e.1) reader.columns) colum
 
 -- a column of the program
 abbrev pub column_held : Reader → ℕ → NamedColumn
-column_held reader column = record {
-  name = name_at (column_names_held reader) column;
-  lower = lower_held reader column;
-  upper = upper_held reader column;
-  whole = whole_held reader column;
-  lower_active = true;
-  upper_active = true;
-  whole_active = true;
-  lower_weight = Soft one_ℚ;
-  upper_weight = Soft one_ℚ;
-}
+column_held reader column = named_column (name_at (column_names_held reader) column) (new_column (lower_held reader column) (upper_held reader column) (whole_held reader column))
 
 -- the program after some columns, with no rows
 abbrev pub columns_to : Reader → ℕ → Program
@@ -84,14 +73,7 @@ sides_held reader row = row_sides (kind_held reader row) (right_held reader row)
 
 -- a row of the program
 abbrev pub row_held : Reader → ℕ → NamedRow
-row_held reader row = record {
-  name = name_at (row_names_held reader) row;
-  terms = terms_held reader row;
-  lower = (sides_held reader row).0;
-  upper = (sides_held reader row).1;
-  active = true;
-  weight = Soft one_ℚ;
-}
+row_held reader row = named_row (name_at (row_names_held reader) row) (new_row (terms_held reader row) (sides_held reader row).0 (sides_held reader row).1)
 
 -- whether a row is one of the program's
 abbrev pub is_kept_held : Reader → ℕ → Bool

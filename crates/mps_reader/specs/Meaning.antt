@@ -1,12 +1,12 @@
 -- The program that a model declares.
-use Rattle.std.specs.Prelude.{ℕ, ◌+◌, true, false, cond, List, [], ◌∷◌, map, slice_get}
+use Rattle.std.specs.Prelude.{ℕ, ◌+◌, false, cond, List, [], ◌∷◌, map, slice_get}
 use Rattle.std.specs.Option.{option_map_or}
-use Rattle.rational.specs.Rational.{ℚ, zero_ℚ, one_ℚ, eq_ℚ}
+use Rattle.rational.specs.Rational.{ℚ, zero_ℚ, eq_ℚ}
 use Rattle.rational.specs.Linear.{Term}
 use Rattle.lp_model.specs.declared.parts.Note.{Note}
 use Rattle.lp_model.specs.declared.parts.Note.TheVariants.{LowerRemoved}
-use Rattle.lp_model.specs.declared.parts.Weight.TheVariants.{Soft}
 use Rattle.lp_model.specs.Program.{Program, NamedRow, NamedColumn}
+use Rattle.lp_model.specs.Shown.{named_row, named_column, new_row, new_column}
 use Rattle.mps_lines.specs.Steps.{Step, all_steps}
 use Rattle.mps_reader.specs.Tables.{RowRecord, ColumnRecord, kept_rows, columns_of, column_names, objective_of, factor_in, right_side, range_of, senses_of}
 use Rattle.mps_reader.specs.Sides.{row_sides, lower_in, upper_in, whole_in, is_removed}
@@ -26,28 +26,13 @@ terms_of steps row = terms_from (λ column. factor_in steps column row) 0 (colum
 
 -- a row of the program
 abbrev pub named_row_of : List Step → RowRecord → NamedRow
-named_row_of steps r = record {
-  name = r.name;
-  terms = terms_of steps r.name;
-  lower = (row_sides r.kind (right_side steps r.name) (range_of steps r.name)).0;
-  upper = (row_sides r.kind (right_side steps r.name) (range_of steps r.name)).1;
-  active = true;
-  weight = Soft one_ℚ;
-}
+named_row_of steps r =
+    let sides = row_sides r.kind (right_side steps r.name) (range_of steps r.name) in
+    named_row r.name (new_row (terms_of steps r.name) sides.0 sides.1)
 
 -- a column of the program
 abbrev pub named_column_of : List Step → ColumnRecord → NamedColumn
-named_column_of steps c = record {
-  name = c.name;
-  lower = lower_in steps c.name;
-  upper = upper_in steps c.name;
-  whole = whole_in steps c;
-  lower_active = true;
-  upper_active = true;
-  whole_active = true;
-  lower_weight = Soft one_ℚ;
-  upper_weight = Soft one_ℚ;
-}
+named_column_of steps c = named_column c.name (new_column (lower_in steps c.name) (upper_in steps c.name) (whole_in steps c))
 
 -- the notes of columns, the first of which has this number: where the lower bound 0 is removed
 unfoldable pub notes_from : List Step → ℕ → List (List ℕ) → List Note

@@ -15,7 +15,7 @@ use crate::sides::{Sides, right_at, sides_of, sides_with};
 use crate::tables::{Reader, is_free_kind, kind_at, names_differ};
 use crate::terms::terms_by_row;
 use frac128::Frac;
-use lp_model::{Column, Model, ModelStop, Note, Row, Term, Terms, Weight};
+use lp_model::{Column, Model, ModelStop, Note, Row, Term, Terms};
 use std::alloc::{AllocError, Global};
 use std::mem;
 
@@ -72,16 +72,11 @@ fn make_column(reader: &Reader, column: usize) -> Column
     requires { column < length reader.now.columns }
     ensures { named_column (name_at (column_names_held reader.now) column) result ≡ column_held reader.now column }
 {
-    Column {
-        lo: lower_at(reader, column),
-        up: upper_at(reader, column),
-        whole: is_whole_at(reader, column),
-        lower_active: true,
-        upper_active: true,
-        whole_active: true,
-        lower_weight: Weight::Soft(Frac::whole(1)),
-        upper_weight: Weight::Soft(Frac::whole(1)),
-    }
+    Column::new(
+        lower_at(reader, column),
+        upper_at(reader, column),
+        is_whole_at(reader, column),
+    )
 }
 
 // Puts a note that the lower bound of a column is removed, if it is.
@@ -162,13 +157,7 @@ fn put_row(
         return Ok(());
     }
     let sides = sides_at(reader, index);
-    let row = Row {
-        terms: Terms::new(terms),
-        lo: sides.lower,
-        up: sides.upper,
-        active: true,
-        weight: Weight::Soft(Frac::whole(1)),
-    };
+    let row = Row::new(Terms::new(terms), sides.lower, sides.upper);
     match model.add_row(alloc, reader.rows.name(index), row) {
         Ok(_) => Ok(()),
         Err(stop) => Err(want(stop)),

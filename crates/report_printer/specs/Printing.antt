@@ -1,5 +1,5 @@
 -- What can be printed, and the parts of a printed report.
-use Rattle.std.specs.Prelude.{◌≡◌, ℕ, ◌<◌, ◌&&◌, not, List, [], ◌∷◌, ◌++◌, length, map, filter, codes, All}
+use Rattle.std.specs.Prelude.{◌≡◌, ℕ, ◌<◌, ◌&&◌, not, List, [], ◌∷◌, ◌++◌, length, map, filter, All}
 use Rattle.lp_model.specs.declared.parts.Note.{Note}
 use Rattle.lp_model.specs.Program.{Program}
 use Rattle.lp_model.specs.declared.members.Member.{Member}
@@ -19,7 +19,8 @@ use Rattle.report_text.specs.declared.report.Answer.{Answer}
 use Rattle.report_text.specs.declared.report.Answer.TheVariants.{Feasible, Infeasible, Irreducible, Done, Stopped}
 use Rattle.report_text.specs.declared.report.Report.{Report}
 use Rattle.report_text.specs.Turns.{after, gathered}
-use Rattle.report_text.specs.Grammar.{Line, without_line, entry_lines, note_line, report_lines, text_of}
+use Rattle.report_text.specs.Grammar.{Line, without_phrase, entry_phrases, report_lines, phrases_text, text_of}
+use Rattle.report_text.specs.declared.phrases.Phrase.{Phrase}
 use Rattle.report_text.specs.Form.{IsAnswerFor}
 
 -- a line with the byte that ends it
@@ -33,7 +34,7 @@ pub record Keeps (old new : List ℕ) : Type 0 where
 
 -- the text of the lines of those of some members that are active and not in a set
 abbrev pub missing_text : Program → List Member → List Member → List ℕ
-missing_text model set members = text_of (map (without_line model) (filter (λ m. is_active model m && not (has set m)) members))
+missing_text model set members = phrases_text model (map without_phrase (filter (λ m. is_active model m && not (has set m)) members))
 
 -- ---- what can be printed: what names rows and columns that there are
 -- a member whose row or column there is
@@ -82,13 +83,9 @@ IsKnownAnswer model Done = Unit {0}
 IsKnownAnswer model (Stopped stop) = IsKnownStop model stop
 
 -- ---- the parts of a report
--- the lines before the entries
-abbrev pub head_lines : Program → List Note → List Line
-head_lines model notes = codes "iisan report 1" ∷ map (note_line model) notes
-
--- the line after them
-abbrev pub foot_lines : List Line
-foot_lines = codes "report end" ∷ []
+-- what stands before the entries
+abbrev pub head_phrases : List Note → List Phrase
+head_phrases notes = Phrase.Head ∷ map Phrase.Note notes
 
 -- ---- laws
 -- what is in the form of an answer can be printed
@@ -97,4 +94,5 @@ CanPrintLaw = (model : Program) (answer : Answer) → IsAnswerFor model answer �
 
 -- the text of a report is the head, the entries one after another, each by the program after the commands before it, and the foot
 abbrev pub PartsLaw : Type 0
-PartsLaw = (model : Program) (report : Report) → text_of (report_lines model report) ≡ text_of (head_lines model report.notes) ++ (gathered (λ before e. text_of (entry_lines (after model before) e)) [] report.entries ++ text_of foot_lines)
+PartsLaw = (model : Program) (report : Report) → text_of (report_lines model report)
+    ≡ phrases_text model (head_phrases report.notes) ++ (gathered (λ before e. phrases_text model (entry_phrases (after model before) e)) [] report.entries ++ phrases_text model (Phrase.Foot ∷ []))

@@ -5,18 +5,18 @@ ghost use Rattle.std.specs.Prelude.{◌≡◌, ◌++◌, ◌∷◌, [], ◌<◌,
 ghost use Rattle.std.specs.Fmt.{signed_decimal};
 ghost use Rattle.frac128.specs.Printed.{printed};
 ghost use Rattle.certs.specs.Checks.{IsSetOf};
-ghost use Rattle.lp_model.specs.Program.{noted_column};
+ghost use Rattle.lp_model.specs.Program.{Program, noted_column};
 ghost use Rattle.lp_model.specs.Members.{has, is_active as is_in_force};
-ghost use Rattle.report_text.specs.Grammar.{◌then◌, column_name, name_of, kind_word, member_line, value_line, value_lines, point_lines, side_word, source_text, use_line, node_lines, proof_lines, op_word, site_word, without_line, left_out, site_lines, step_line, operation_line, stop_lines, witness_lines, answer_lines, method_word, command_text, entry_lines, note_line, text_of};
+ghost use Rattle.report_text.specs.Grammar.{◌then◌, spelled, column_name, name_of, kind_word, source_word, source_name, op_word, site_word, method_word, command_text, phrase_line, value_phrases, point_phrases, node_phrases, proof_phrases, without_phrase, left_out, site_phrases, stop_phrases, witness_phrases, answer_front, answer_end, answer_phrases, entry_phrases, phrases_text};
 ghost use Rattle.report_text.specs.Form.{IsCount, IsOperation, IsWithinLimit};
 ghost use Rattle.report_printer.specs.Numbers.{HasNumbersWithin, HasValuesWithin, HasWeightsWithin, HasWitnessesWithin, IsCoreWithin, IsProofWithin, IsStopWithin};
-ghost use Rattle.report_printer.specs.Printing.{CanPrintLaw, PartsLaw, ended, head_lines, foot_lines, IsKnownMember, IsKnownSource, IsKnownNode, IsKnownProof, IsKnownPoint, IsKnownCore, IsKnownStop, IsKnownAnswer, Keeps, missing_text};
+ghost use Rattle.report_printer.specs.Printing.{CanPrintLaw, PartsLaw, ended, head_phrases, IsKnownMember, IsKnownSource, IsKnownNode, IsKnownProof, IsKnownPoint, IsKnownCore, IsKnownStop, IsKnownAnswer, Keeps, missing_text};
 
 use certs::{Node, Point, Proof, Share, Site, SiteKind, Source, Stop};
 use frac128::{Exact, Frac, Op, Wide};
 use itoa::Buffer;
-use lp_model::{Member, MemberSet, Model, Note, Side};
-use report_text::{Answer, Command, Core, Method};
+use lp_model::{Member, MemberSet, Model, Note};
+use report_text::{Answer, Command, Core, Method, Phrase, StopPhrase};
 use std::alloc::AllocError;
 
 // Appends a word and a blank.
@@ -81,7 +81,8 @@ fn kind_name(member: Member) -> &'static str
     ensures { result.now ≡ kind_word member }
 {
     match member {
-        Member::Row(_) => "row",
+        Member::RowLo(_) => "rowlo",
+        Member::RowUp(_) => "rowup",
         Member::Lower(_) => "lower",
         Member::Upper(_) => "upper",
         Member::Whole(_) => "whole",
@@ -94,20 +95,26 @@ fn member_name(model: &Model, member: Member) -> &[u8]
     ensures { result.now ≡ name_of model.now member }
 {
     match member {
-        Member::Row(index) => model.row_name(index),
+        Member::RowLo(index) => model.row_name(index),
+        Member::RowUp(index) => model.row_name(index),
         Member::Lower(index) => model.column_name(index),
         Member::Upper(index) => model.column_name(index),
         Member::Whole(index) => model.column_name(index),
     }
 }
 
-// Appends the line of a member.
-fn print_member(model: &Model, member: Member, into: &mut Vec<u8>) -> Result<(), AllocError>
+// Appends the line of a word and a member.
+fn print_member(
+    word: &[u8],
+    model: &Model,
+    member: Member,
+    into: &mut Vec<u8>,
+) -> Result<(), AllocError>
     requires { IsKnownMember model.now member }
-    ensures text { OnOk result (into.new.items ≡ into.old.items ++ ended (member_line model.now member)) }
+    ensures text { OnOk result (into.new.items ≡ into.old.items ++ ended (spelled word.now (kind_word member ∷ name_of model.now member ∷ []))) }
     ensures front { Keeps into.old.items into.new.items }
 {
-    push_word(b"member", into)?;
+    push_word(word, into)?;
     push_word(kind_name(member).as_bytes(), into)?;
     push_line(member_name(model, member), into)
 }
@@ -120,7 +127,7 @@ fn print_value(
     into: &mut Vec<u8>,
 ) -> Result<(), AllocError>
     requires { column < length model.now.columns }
-    ensures text { OnOk result (into.new.items ≡ into.old.items ++ ended (value_line model.now column value)) }
+    ensures text { OnOk result (into.new.items ≡ into.old.items ++ ended (phrase_line model.now (Phrase.Value column value))) }
     ensures front { Keeps into.old.items into.new.items }
 {
     push_word(b"value", into)?;
@@ -136,7 +143,7 @@ fn print_nonzero(
     into: &mut Vec<u8>,
 ) -> Result<(), AllocError>
     requires { column < length model.now.columns }
-    ensures text { OnOk result (into.new.items ≡ into.old.items ++ text_of (value_lines model.now column (value ∷ []))) }
+    ensures text { OnOk result (into.new.items ≡ into.old.items ++ phrases_text model.now (value_phrases column (value ∷ []))) }
     ensures front { Keeps into.old.items into.new.items }
     ensures within { IsWithinLimit value }
 {
@@ -151,7 +158,7 @@ fn print_nonzero(
 // Appends the lines of a point.
 fn print_point(model: &Model, point: &Point, into: &mut Vec<u8>) -> Result<(), AllocError>
     requires { IsKnownPoint model.now point.now }
-    ensures text { OnOk result (into.new.items ≡ into.old.items ++ text_of (point_lines model.now point.now)) }
+    ensures text { OnOk result (into.new.items ≡ into.old.items ++ phrases_text model.now (point_phrases point.now)) }
     ensures front { Keeps into.old.items into.new.items }
     ensures within { OnOk result (HasValuesWithin point.now) }
 {
@@ -163,73 +170,49 @@ fn print_point(model: &Model, point: &Point, into: &mut Vec<u8>) -> Result<(), A
     Ok(())
 }
 
-fn side_name(side: Side) -> &'static str
-    ensures { result.now ≡ side_word side }
+// The word for where a share comes from.
+fn source_kind(source: Source) -> &'static str
+    ensures { result.now ≡ source_word source }
 {
-    match side {
-        Side::Lo => "lo",
-        Side::Up => "up",
+    match source {
+        Source::Member(member) => kind_name(member),
+        Source::Below(_) => "below",
+        Source::Above(_) => "above",
     }
 }
 
-// Appends a member with its side, and a blank.
-fn push_side(
-    model: &Model,
-    member: Member,
-    side: Side,
-    into: &mut Vec<u8>,
-) -> Result<(), AllocError>
-    requires { IsKnownMember model.now member }
-    ensures text { OnOk result (into.new.items ≡ into.old.items ++ (source_text model.now (Source.Member member) side ++ 32 ∷ [])) }
-    ensures front { Keeps into.old.items into.new.items }
-{
-    push_word(kind_name(member).as_bytes(), into)?;
-    push_word(member_name(model, member), into)?;
-    push_word(side_name(side).as_bytes(), into)
-}
-
-// Appends where a share comes from, and a blank.
-fn push_source(
-    model: &Model,
-    source: Source,
-    side: Side,
-    into: &mut Vec<u8>,
-) -> Result<(), AllocError>
+// The name that it goes by.
+fn named_source(model: &Model, source: Source) -> &[u8]
     requires { IsKnownSource model.now source }
-    ensures text { OnOk result (into.new.items ≡ into.old.items ++ (source_text model.now source side ++ 32 ∷ [])) }
-    ensures front { Keeps into.old.items into.new.items }
+    ensures { result.now ≡ source_name model.now source }
 {
     match source {
-        Source::Member(member) => push_side(model, member, side, into),
-        Source::Below(column) => {
-            push_word(b"below", into)?;
-            push_word(model.column_name(column), into)
-        }
-        Source::Above(column) => {
-            push_word(b"above", into)?;
-            push_word(model.column_name(column), into)
-        }
+        Source::Member(member) => member_name(model, member),
+        Source::Below(column) => model.column_name(column),
+        Source::Above(column) => model.column_name(column),
     }
 }
 
 // Appends the line of a share.
 fn print_use(model: &Model, share: &Share, into: &mut Vec<u8>) -> Result<(), AllocError>
     requires { IsKnownSource model.now share.now.source }
-    ensures text { OnOk result (into.new.items ≡ into.old.items ++ ended (use_line model.now share.now)) }
+    ensures text { OnOk result (into.new.items ≡ into.old.items ++ ended (phrase_line model.now (Phrase.Use share.now))) }
     ensures front { Keeps into.old.items into.new.items }
     ensures within { IsWithinLimit share.now.weight }
 {
     // That the weight is within the limit is told with its widening.
     let _weight = share.weight.widen();
     push_word(b"use", into)?;
-    push_source(model, share.source, share.side, into)?;
-    push_fraction(share.weight, into)
+    push_word(source_kind(share.source).as_bytes(), into)?;
+    push_word(named_source(model, share.source), into)?;
+    push_fraction(share.weight, into)?;
+    Ok(())
 }
 
 // Appends the lines of a leaf.
 fn print_leaf(model: &Model, shares: &[Share], into: &mut Vec<u8>) -> Result<(), AllocError>
     requires { All (λ s. IsKnownSource model.now s.source) shares.now }
-    ensures text { OnOk result (into.new.items ≡ into.old.items ++ text_of (codes "leaf" ∷ map (use_line model.now) shares.now)) }
+    ensures text { OnOk result (into.new.items ≡ into.old.items ++ phrases_text model.now (Phrase.Leaf ∷ map Phrase.Use shares.now)) }
     ensures front { Keeps into.old.items into.new.items }
     ensures within { OnOk result (All (λ s. IsWithinLimit s.weight) shares.now) }
 {
@@ -243,7 +226,7 @@ fn print_leaf(model: &Model, shares: &[Share], into: &mut Vec<u8>) -> Result<(),
 // Appends the line of a split.
 fn print_split(model: &Model, column: u32, at: i128, into: &mut Vec<u8>) -> Result<(), AllocError>
     requires { column < length model.now.columns }
-    ensures text { OnOk result (into.new.items ≡ into.old.items ++ text_of (node_lines model.now (Node.Split column at))) }
+    ensures text { OnOk result (into.new.items ≡ into.old.items ++ phrases_text model.now (node_phrases (Node.Split column at))) }
     ensures front { Keeps into.old.items into.new.items }
 {
     push_word(b"split", into)?;
@@ -254,7 +237,7 @@ fn print_split(model: &Model, column: u32, at: i128, into: &mut Vec<u8>) -> Resu
 // Appends the lines of a node.
 fn print_node(model: &Model, node: &Node, into: &mut Vec<u8>) -> Result<(), AllocError>
     requires { IsKnownNode model.now node.now }
-    ensures text { OnOk result (into.new.items ≡ into.old.items ++ text_of (node_lines model.now node.now)) }
+    ensures text { OnOk result (into.new.items ≡ into.old.items ++ phrases_text model.now (node_phrases node.now)) }
     ensures front { Keeps into.old.items into.new.items }
     ensures within { OnOk result (HasWeightsWithin node.now) }
 {
@@ -267,7 +250,7 @@ fn print_node(model: &Model, node: &Node, into: &mut Vec<u8>) -> Result<(), Allo
 // Appends the lines of a proof.
 fn print_proof(model: &Model, proof: &Proof, into: &mut Vec<u8>) -> Result<(), AllocError>
     requires { IsKnownProof model.now proof.now }
-    ensures text { OnOk result (into.new.items ≡ into.old.items ++ text_of (proof_lines model.now proof.now)) }
+    ensures text { OnOk result (into.new.items ≡ into.old.items ++ phrases_text model.now (proof_phrases proof.now)) }
     ensures front { Keeps into.old.items into.new.items }
     ensures within { OnOk result (IsProofWithin proof.now) }
 {
@@ -310,17 +293,6 @@ fn is_left_out(model: &Model, set: &MemberSet, member: Member) -> bool
     model.is_active(member) && !set.contains(member)
 }
 
-// Appends the line of a member that is not in a set.
-fn print_without(model: &Model, member: Member, into: &mut Vec<u8>) -> Result<(), AllocError>
-    requires { IsKnownMember model.now member }
-    ensures text { OnOk result (into.new.items ≡ into.old.items ++ ended (without_line model.now member)) }
-    ensures front { Keeps into.old.items into.new.items }
-{
-    push_word(b"without", into)?;
-    push_word(kind_name(member).as_bytes(), into)?;
-    push_line(member_name(model, member), into)
-}
-
 // Appends the line of a member, where it is active and not in the set.
 fn print_missing(
     model: &Model,
@@ -336,26 +308,17 @@ fn print_missing(
     if !is_left_out(model, set, member) {
         return Ok(());
     }
-    print_without(model, member, into)
+    print_member(b"without", model, member, into)
 }
 
 // Appends the lines of the active members that are not in the set.
 fn print_left_out(model: &Model, set: &MemberSet, into: &mut Vec<u8>) -> Result<(), AllocError>
     requires { IsSetOf model.now set.now }
-    ensures text { OnOk result (into.new.items ≡ into.old.items ++ text_of (map (without_line model.now) (left_out model.now set.now.members))) }
+    ensures text { OnOk result (into.new.items ≡ into.old.items ++ phrases_text model.now (map without_phrase (left_out model.now set.now.members))) }
     ensures front { Keeps into.old.items into.new.items }
 {
-    'rows: for row in 0..model.row_count() {
-        print_missing(model, set, Member::Row(row), into)?;
-    }
-    'lowers: for column in 0..model.column_count() {
-        print_missing(model, set, Member::Lower(column), into)?;
-    }
-    'uppers: for column in 0..model.column_count() {
-        print_missing(model, set, Member::Upper(column), into)?;
-    }
-    'wholes: for column in 0..model.column_count() {
-        print_missing(model, set, Member::Whole(column), into)?;
+    for member in model.possible_members() {
+        print_missing(model, set, member, into)?;
     }
     Ok(())
 }
@@ -363,7 +326,7 @@ fn print_left_out(model: &Model, set: &MemberSet, into: &mut Vec<u8>) -> Result<
 // Appends the lines of a site: its kind, and the active members that are not in its set.
 fn print_site(model: &Model, site: &Site, into: &mut Vec<u8>) -> Result<(), AllocError>
     requires { IsSetOf model.now site.now.set }
-    ensures text { OnOk result (into.new.items ≡ into.old.items ++ text_of (site_lines model.now site.now)) }
+    ensures text { OnOk result (into.new.items ≡ into.old.items ++ phrases_text model.now (site_phrases model.now site.now)) }
     ensures front { Keeps into.old.items into.new.items }
 {
     push_word(b"site", into)?;
@@ -373,7 +336,7 @@ fn print_site(model: &Model, site: &Site, into: &mut Vec<u8>) -> Result<(), Allo
 
 // Appends the line of a turn's number.
 fn print_step(step: u64, into: &mut Vec<u8>) -> Result<(), AllocError>
-    ensures text { OnOk result (into.new.items ≡ into.old.items ++ ended (step_line step)) }
+    ensures text { (model : Program) → OnOk result (into.new.items ≡ into.old.items ++ ended (phrase_line model (Phrase.Stop (StopPhrase.Step step)))) }
     ensures front { Keeps into.old.items into.new.items }
 {
     push_word(b"step", into)?;
@@ -382,7 +345,7 @@ fn print_step(step: u64, into: &mut Vec<u8>) -> Result<(), AllocError>
 
 // Appends the line of an operation.
 fn print_operation(operation: &Wide, into: &mut Vec<u8>) -> Result<(), AllocError>
-    ensures text { OnOk result (into.new.items ≡ into.old.items ++ ended (operation_line operation.now)) }
+    ensures text { (model : Program) → OnOk result (into.new.items ≡ into.old.items ++ ended (phrase_line model (Phrase.Stop (StopPhrase.Operation operation.now)))) }
     ensures front { Keeps into.old.items into.new.items }
     ensures within { IsOperation operation.now }
 {
@@ -396,7 +359,7 @@ fn print_operation(operation: &Wide, into: &mut Vec<u8>) -> Result<(), AllocErro
     push_fraction(operation.right, into)
 }
 
-// Appends the lines of a stop at an operation.
+// Appends the lines of a stop at an operation, but for its end.
 fn print_wide(
     model: &Model,
     site: &Site,
@@ -405,7 +368,7 @@ fn print_wide(
     into: &mut Vec<u8>,
 ) -> Result<(), AllocError>
     requires { IsSetOf model.now site.now.set }
-    ensures text { OnOk result (into.new.items ≡ into.old.items ++ text_of (stop_lines model.now (Stop.Wide site.now step operation.now))) }
+    ensures text { OnOk result (into.new.items ≡ into.old.items ++ phrases_text model.now (stop_phrases model.now (Stop.Wide site.now step operation.now))) }
     ensures front { Keeps into.old.items into.new.items }
     ensures within { OnOk result (IsStopWithin (Stop.Wide site.now step operation.now)) }
 {
@@ -413,11 +376,10 @@ fn print_wide(
     print_site(model, site, into)?;
     print_step(step, into)?;
     print_operation(operation, into)?;
-    push_line(b"end", into)?;
     Ok(())
 }
 
-// Appends a line, those of a site, and the end.
+// Appends a line, and those of a site.
 fn print_spent(
     model: &Model,
     what: &[u8],
@@ -425,29 +387,27 @@ fn print_spent(
     into: &mut Vec<u8>,
 ) -> Result<(), AllocError>
     requires { IsSetOf model.now site.now.set }
-    ensures text { OnOk result (into.new.items ≡ into.old.items ++ text_of (what.now ∷ (site_lines model.now site.now ++ codes "end" ∷ []))) }
+    ensures text { OnOk result (into.new.items ≡ into.old.items ++ (ended what.now ++ phrases_text model.now (site_phrases model.now site.now))) }
     ensures front { Keeps into.old.items into.new.items }
 {
     push_line(what, into)?;
-    print_site(model, site, into)?;
-    push_line(b"end", into)
+    print_site(model, site, into)
 }
 
-// Appends the lines of a stop at a size.
+// Appends the line of a stop at a size.
 fn print_large(size: u64, into: &mut Vec<u8>) -> Result<(), AllocError>
-    ensures text { OnOk result (into.new.items ≡ into.old.items ++ text_of ((codes "too large" then decimal size) ∷ codes "end" ∷ [])) }
+    ensures text { (model : Program) → OnOk result (into.new.items ≡ into.old.items ++ ended (phrase_line model (Phrase.Stop (StopPhrase.Large size)))) }
     ensures front { Keeps into.old.items into.new.items }
     ensures within { IsCount size }
 {
     push_word(b"too large", into)?;
-    push_count(size, into)?;
-    push_line(b"end", into)
+    push_count(size, into)
 }
 
-// Appends the lines of a stop.
+// Appends the lines of a stop, but for its end.
 fn print_stop(model: &Model, stop: &Stop, into: &mut Vec<u8>) -> Result<(), AllocError>
     requires { IsKnownStop model.now stop.now }
-    ensures text { OnOk result (into.new.items ≡ into.old.items ++ text_of (stop_lines model.now stop.now)) }
+    ensures text { OnOk result (into.new.items ≡ into.old.items ++ phrases_text model.now (stop_phrases model.now stop.now)) }
     ensures front { Keeps into.old.items into.new.items }
     ensures within { OnOk result (IsStopWithin stop.now) }
 {
@@ -455,7 +415,10 @@ fn print_stop(model: &Model, stop: &Stop, into: &mut Vec<u8>) -> Result<(), Allo
         Stop::Wide(site, step, operation) => print_wide(model, site, *step, operation, into),
         Stop::Pivots(site) => print_spent(model, b"pivots spent", site, into),
         Stop::Nodes(site) => print_spent(model, b"nodes spent", site, into),
-        Stop::Large(size) => print_large(*size, into),
+        Stop::Large(size) => {
+            print_large(*size, into)?;
+            Ok(())
+        }
         Stop::Memory => Ok(()),
     }
 }
@@ -463,14 +426,12 @@ fn print_stop(model: &Model, stop: &Stop, into: &mut Vec<u8>) -> Result<(), Allo
 // Appends the lines of members.
 fn print_members(model: &Model, set: &MemberSet, into: &mut Vec<u8>) -> Result<(), AllocError>
     requires { IsSetOf model.now set.now }
-    ensures text { OnOk result (into.new.items ≡ into.old.items ++ text_of (map (member_line model.now) set.now.members)) }
+    ensures text { OnOk result (into.new.items ≡ into.old.items ++ phrases_text model.now (map Phrase.Member set.now.members)) }
     ensures front { Keeps into.old.items into.new.items }
 {
     set.stands_in_order();
-    let mut after = None;
-    while let Some(member) = set.next(after) {
-        print_member(model, member, into)?;
-        after = Some(member);
+    for member in set.iter() {
+        print_member(b"member", model, member, into)?;
     }
     Ok(())
 }
@@ -484,11 +445,11 @@ fn print_witness(
 ) -> Result<(), AllocError>
     requires member { IsKnownMember model.now member }
     requires witness { IsKnownPoint model.now witness.now }
-    ensures text { OnOk result (into.new.items ≡ into.old.items ++ text_of (witness_lines model.now (member, witness.now))) }
+    ensures text { OnOk result (into.new.items ≡ into.old.items ++ phrases_text model.now (witness_phrases (member, witness.now))) }
     ensures front { Keeps into.old.items into.new.items }
     ensures within { OnOk result (HasValuesWithin witness.now) }
 {
-    print_member(model, member, into)?;
+    print_member(b"member", model, member, into)?;
     print_point(model, witness, into)
 }
 
@@ -501,35 +462,33 @@ fn print_witnesses(
 ) -> Result<(), AllocError>
     requires set { IsSetOf model.now set.now }
     requires points { All (IsKnownPoint model.now) witnesses.now }
-    ensures text { OnOk result (into.new.items ≡ into.old.items ++ text_of (flat_map (witness_lines model.now) (zip set.now.members witnesses.now))) }
+    ensures text { OnOk result (into.new.items ≡ into.old.items ++ phrases_text model.now (flat_map witness_phrases (zip set.now.members witnesses.now))) }
     ensures front { Keeps into.old.items into.new.items }
     ensures within { OnOk result (HasWitnessesWithin set.now.members witnesses.now) }
 {
     set.stands_in_order();
-    let mut after = None;
+    let mut members = set.iter();
     for witness in witnesses {
-        let Some(member) = set.next(after) else {
+        let Some(member) = members.next() else {
             return Ok(());
         };
         print_witness(model, member, witness, into)?;
-        after = Some(member);
     }
     Ok(())
 }
 
-// Appends the lines of an answer that a point is.
+// Appends the lines of a point that is an answer, but for its end.
 fn print_feasible(model: &Model, point: &Point, into: &mut Vec<u8>) -> Result<(), AllocError>
     requires { IsKnownPoint model.now point.now }
-    ensures text { OnOk result (into.new.items ≡ into.old.items ++ text_of (answer_lines model.now (Answer.Feasible point.now))) }
+    ensures text { OnOk result (into.new.items ≡ into.old.items ++ phrases_text model.now (answer_front model.now (Answer.Feasible point.now))) }
     ensures front { Keeps into.old.items into.new.items }
     ensures within { OnOk result (HasValuesWithin point.now) }
 {
     push_line(b"feasible", into)?;
-    print_point(model, point, into)?;
-    push_line(b"end", into)
+    print_point(model, point, into)
 }
 
-// Appends the lines of an answer that members and a proof are.
+// Appends the lines of members and a proof that are an answer, but for its end.
 fn print_infeasible(
     model: &Model,
     set: &MemberSet,
@@ -538,35 +497,33 @@ fn print_infeasible(
 ) -> Result<(), AllocError>
     requires set { IsSetOf model.now set.now }
     requires proof { IsKnownProof model.now proof.now }
-    ensures text { OnOk result (into.new.items ≡ into.old.items ++ text_of (answer_lines model.now (Answer.Infeasible set.now proof.now))) }
+    ensures text { OnOk result (into.new.items ≡ into.old.items ++ phrases_text model.now (answer_front model.now (Answer.Infeasible set.now proof.now))) }
     ensures front { Keeps into.old.items into.new.items }
     ensures within { OnOk result (IsProofWithin proof.now) }
 {
     push_line(b"infeasible", into)?;
     print_members(model, set, into)?;
     print_proof(model, proof, into)?;
-    push_line(b"end", into)?;
     Ok(())
 }
 
-// Appends the lines of an answer that an irreducible set is.
+// Appends the lines of an irreducible set that is an answer, but for its end.
 fn print_irreducible(model: &Model, core: &Core, into: &mut Vec<u8>) -> Result<(), AllocError>
     requires { IsKnownCore model.now core.now }
-    ensures text { OnOk result (into.new.items ≡ into.old.items ++ text_of (answer_lines model.now (Answer.Irreducible core.now))) }
+    ensures text { OnOk result (into.new.items ≡ into.old.items ++ phrases_text model.now (answer_front model.now (Answer.Irreducible core.now))) }
     ensures front { Keeps into.old.items into.new.items }
     ensures within { OnOk result (IsCoreWithin core.now) }
 {
     push_line(b"irreducible", into)?;
     print_witnesses(model, &core.members, core.witnesses.as_slice(), into)?;
     print_proof(model, &core.proof, into)?;
-    push_line(b"end", into)?;
     Ok(())
 }
 
-// Appends the lines of an answer.
-fn put_answer(model: &Model, answer: &Answer, into: &mut Vec<u8>) -> Result<(), AllocError>
+// Appends the lines of an answer, but for the last.
+fn print_front(model: &Model, answer: &Answer, into: &mut Vec<u8>) -> Result<(), AllocError>
     requires { IsKnownAnswer model.now answer.now }
-    ensures text { OnOk result (into.new.items ≡ into.old.items ++ text_of (answer_lines model.now answer.now)) }
+    ensures text { OnOk result (into.new.items ≡ into.old.items ++ phrases_text model.now (answer_front model.now answer.now)) }
     ensures front { Keeps into.old.items into.new.items }
     ensures within { OnOk result (HasNumbersWithin answer.now) }
 {
@@ -574,9 +531,31 @@ fn put_answer(model: &Model, answer: &Answer, into: &mut Vec<u8>) -> Result<(), 
         Answer::Feasible(point) => print_feasible(model, point, into),
         Answer::Infeasible(set, proof) => print_infeasible(model, set, proof, into),
         Answer::Irreducible(core) => print_irreducible(model, core, into),
-        Answer::Done => push_line(b"done", into),
+        Answer::Done => Ok(()),
         Answer::Stopped(stop) => print_stop(model, stop, into),
     }
+}
+
+// The last line of an answer.
+fn last_word(answer: &Answer) -> &'static str
+    ensures { (model : Program) → result.now ≡ phrase_line model (answer_end answer.now) }
+{
+    match answer {
+        Answer::Done => "done",
+        _ => "end",
+    }
+}
+
+// Appends the lines of an answer.
+fn put_answer(model: &Model, answer: &Answer, into: &mut Vec<u8>) -> Result<(), AllocError>
+    requires { IsKnownAnswer model.now answer.now }
+    ensures text { OnOk result (into.new.items ≡ into.old.items ++ phrases_text model.now (answer_phrases model.now answer.now)) }
+    ensures front { Keeps into.old.items into.new.items }
+    ensures within { OnOk result (HasNumbersWithin answer.now) }
+{
+    print_front(model, answer, into)?;
+    push_line(last_word(answer).as_bytes(), into)?;
+    Ok(())
 }
 
 fn method_name(method: Method) -> &'static str
@@ -628,7 +607,7 @@ fn put_entry(
     into: &mut Vec<u8>,
 ) -> Result<(), AllocError>
     requires { IsKnownAnswer model.now answer.now }
-    ensures text { (line : ℕ) → OnOk result (into.new.items ≡ into.old.items ++ text_of (entry_lines model.now (record { command = command.now; answer = answer.now; line = line }))) }
+    ensures text { (line : ℕ) → OnOk result (into.new.items ≡ into.old.items ++ phrases_text model.now (entry_phrases model.now (record { command = command.now; answer = answer.now; line = line }))) }
     ensures front { Keeps into.old.items into.new.items }
     ensures within { OnOk result (HasNumbersWithin answer.now) }
 {
@@ -657,7 +636,7 @@ fn print_noted(
 // Appends the line of a note.
 fn print_note(model: &Model, note: Note, into: &mut Vec<u8>) -> Result<(), AllocError>
     requires { noted_column note < length model.now.columns }
-    ensures text { OnOk result (into.new.items ≡ into.old.items ++ ended (note_line model.now note)) }
+    ensures text { OnOk result (into.new.items ≡ into.old.items ++ ended (phrase_line model.now (Phrase.Note note))) }
     ensures front { Keeps into.old.items into.new.items }
 {
     match note {
@@ -668,12 +647,12 @@ fn print_note(model: &Model, note: Note, into: &mut Vec<u8>) -> Result<(), Alloc
 
 // Appends the lines of a report that stand before its entries.
 fn put_head(model: &Model, into: &mut Vec<u8>) -> Result<(), AllocError>
-    ensures text { OnOk result (into.new.items ≡ into.old.items ++ text_of (head_lines model.now model.now.notes)) }
+    ensures text { OnOk result (into.new.items ≡ into.old.items ++ phrases_text model.now (head_phrases model.now.notes)) }
     ensures front { Keeps into.old.items into.new.items }
 {
     // That the notes name columns that there are is told with the count.
     let _rows = model.row_count();
-    push_line(b"iisan report 1", into)?;
+    push_line(b"iisan report 2", into)?;
     for note in model.notes() {
         print_note(model, *note, into)?;
     }
@@ -716,7 +695,7 @@ pub fn print_answer(
     into: &mut Vec<u8>,
 ) -> Result<(), AllocError>
     requires { IsKnownAnswer model.now answer.now }
-    ensures text { OnOk result (into.new.items ≡ into.old.items ++ text_of (answer_lines model.now answer.now)) }
+    ensures text { OnOk result (into.new.items ≡ into.old.items ++ phrases_text model.now (answer_phrases model.now answer.now)) }
     ensures kept { OnErr result (into.new.items ≡ into.old.items) }
     ensures within { OnOk result (HasNumbersWithin answer.now) }
 {
@@ -734,7 +713,7 @@ pub fn print_entry(
     into: &mut Vec<u8>,
 ) -> Result<(), AllocError>
     requires { IsKnownAnswer model.now answer.now }
-    ensures text { (line : ℕ) → OnOk result (into.new.items ≡ into.old.items ++ text_of (entry_lines model.now (record { command = command.now; answer = answer.now; line = line }))) }
+    ensures text { (line : ℕ) → OnOk result (into.new.items ≡ into.old.items ++ phrases_text model.now (entry_phrases model.now (record { command = command.now; answer = answer.now; line = line }))) }
     ensures kept { OnErr result (into.new.items ≡ into.old.items) }
     ensures within { OnOk result (HasNumbersWithin answer.now) }
 {
@@ -746,7 +725,7 @@ pub fn print_entry(
 /// Appends the lines of a report that stand before its entries: the notes are those of the program's reader. Where memory
 /// is refused, the bytes are those that were there.
 pub fn print_head(model: &Model, into: &mut Vec<u8>) -> Result<(), AllocError>
-    ensures text { OnOk result (into.new.items ≡ into.old.items ++ text_of (head_lines model.now model.now.notes)) }
+    ensures text { OnOk result (into.new.items ≡ into.old.items ++ phrases_text model.now (head_phrases model.now.notes)) }
     ensures kept { OnErr result (into.new.items ≡ into.old.items) }
 {
     let start = into.len();
@@ -756,7 +735,7 @@ pub fn print_head(model: &Model, into: &mut Vec<u8>) -> Result<(), AllocError>
 
 /// Appends the last line of a report. Where memory is refused, the bytes are those that were there.
 pub fn print_foot(into: &mut Vec<u8>) -> Result<(), AllocError>
-    ensures text { OnOk result (into.new.items ≡ into.old.items ++ text_of foot_lines) }
+    ensures text { (model : Program) → OnOk result (into.new.items ≡ into.old.items ++ phrases_text model (Phrase.Foot ∷ [])) }
     ensures kept { OnErr result (into.new.items ≡ into.old.items) }
 {
     let start = into.len();

@@ -12,11 +12,9 @@ use Rattle.rational.specs.Rational.{ℚ, frac, whole, zero_ℚ, one_ℚ, eq_ℚ,
 use Rattle.rational.proofs.Order.{lt_q-true}
 use Rattle.rational.specs.Linear.{Term}
 use Rattle.lp_model.specs.declared.parts.Note.TheVariants.{LowerRemoved, LowerKept}
-use Rattle.lp_model.specs.declared.parts.Weight.TheVariants.{Soft}
 use Rattle.lp_model.specs.declared.members.Member.{Member}
-use Rattle.lp_model.specs.declared.members.Member.TheVariants.{Row, Whole}
-use Rattle.lp_model.specs.declared.members.Side.{Side}
-use Rattle.lp_model.specs.declared.members.Side.TheVariants.{Lo, Up}
+use Rattle.lp_model.specs.declared.members.Member.TheVariants.{RowLo, RowUp, Whole}
+use Rattle.lp_model.specs.Shown.{new_row, named_row, new_column, named_column}
 use Rattle.lp_model.specs.Program.{Program, NamedRow, NamedColumn, noted_column}
 use Rattle.lp_model.specs.Members.{comes_before}
 use Rattle.lp_model.specs.MemberSets.{SetValue}
@@ -32,7 +30,7 @@ use Rattle.report_text.specs.declared.report.Answer.TheVariants.{Feasible, Infea
 use Rattle.report_text.specs.declared.report.Report.{Report}
 use Rattle.report_text.specs.Grammar.{Line, report_lines, text_of}
 use Rattle.report_reader.proofs.Endings.{pair_in_order, nothing_is_front, foot, NotFoot, body, body_is, needs_foot, needs_head, whole_ends}
-use Rattle.certs.specs.Order.{share_before}
+use Rattle.certs.specs.Order.{source_before}
 use Rattle.report_text.specs.Form.{IsNamedColumn, IsNamedMember, IsListed, IsUse, AreUses, IsReportFor}
 use Rattle.report_reader.specs.Reading.{Reads, IsFront, IsWhole, IsBadLine, IsTruncated}
 
@@ -40,26 +38,26 @@ abbrev term : ℕ → ℤ → Term
 term j n = record { column = j; factor = whole n }
 
 abbrev row : List ℕ → ℤ → Option ℚ → Option ℚ → NamedRow
-row name n lo up = record { name = name; terms = term 0 n ∷ term 1 n ∷ []; lower = lo; upper = up; active = true; weight = Soft one_ℚ }
+row name n lo up = named_row name (new_row (term 0 n ∷ term 1 n ∷ []) lo up)
 
 abbrev column : List ℕ → NamedColumn
-column name = record { name = name; lower = Some zero_ℚ; upper = None; whole = false; lower_active = true; upper_active = true; whole_active = true; lower_weight = Soft one_ℚ; upper_weight = Soft one_ℚ }
+column name = named_column name (new_column (Some zero_ℚ) None false)
 
 -- c1: 3 x + 3 y ≤ 1, and c2: 2 x + 2 y ≥ 1
 abbrev two_rows : Program
 two_rows = record { rows = row (codes "c1") (pos 3) None (Some one_ℚ) ∷ row (codes "c2") (pos 2) (Some one_ℚ) None ∷ []; columns = column (codes "x") ∷ column (codes "y") ∷ []; objective = []; maximise = false; notes = [] }
 
 abbrev rows_set : SetValue
-rows_set = record { rows = 2; columns = 2; members = Row 0 ∷ Row 1 ∷ [] }
+rows_set = record { rows = 2; columns = 2; members = RowUp 0 ∷ RowLo 1 ∷ [] }
 
-abbrev use_of : Member → Side → ℚ → Share
-use_of m side w = record { source = Of m; side = side; weight = w }
+abbrev use_of : Member → ℚ → Share
+use_of m w = record { source = Of m; weight = w }
 
 abbrev leaf : List Share → Proof
 leaf shares = record { nodes = Leaf (record { shares = shares }) ∷ [] }
 
 abbrev proof : Proof
-proof = leaf (use_of (Row 0) Up one_ℚ ∷ use_of (Row 1) Lo (frac (pos 3) 2) ∷ [])
+proof = leaf (use_of (RowUp 0) one_ℚ ∷ use_of (RowLo 1) (frac (pos 3) 2) ∷ [])
 
 abbrev point : List ℚ → Point
 point values = record { values = values }
@@ -69,8 +67,8 @@ abbrev contradiction : Report
 contradiction = record { notes = []; entries = record { command = Check; answer = Infeasible rows_set proof; line = 2 } ∷ [] }
 
 abbrev contradiction_lines : List Line
-contradiction_lines = codes "iisan report 1" ∷ codes "command check" ∷ codes "infeasible" ∷ codes "member row c1" ∷ codes "member row c2"
-    ∷ codes "proof" ∷ codes "leaf" ∷ codes "use row c1 up 1" ∷ codes "use row c2 lo 3/2" ∷ codes "end" ∷ codes "report end" ∷ []
+contradiction_lines = codes "iisan report 2" ∷ codes "command check" ∷ codes "infeasible" ∷ codes "member rowup c1" ∷ codes "member rowlo c2"
+    ∷ codes "proof" ∷ codes "leaf" ∷ codes "use rowup c1 1" ∷ codes "use rowlo c2 3/2" ∷ codes "end" ∷ codes "report end" ∷ []
 
 contradiction_has_lines : report_lines two_rows contradiction ≡ contradiction_lines
 unfolding frac gcd gcd_within digits
@@ -87,47 +85,47 @@ two_entries = record {
 }
 
 two_entries_have_lines : report_lines two_rows two_entries
-    ≡ codes "iisan report 1" ∷ codes "note x lower removed" ∷ codes "note y lower kept"
+    ≡ codes "iisan report 2" ∷ codes "note x lower removed" ∷ codes "note y lower kept"
     ∷ codes "command iis deletion" ∷ codes "irreducible"
-    ∷ codes "member row c1" ∷ codes "point" ∷ codes "value y 1/2"
-    ∷ codes "member row c2" ∷ codes "point"
-    ∷ codes "proof" ∷ codes "leaf" ∷ codes "use row c1 up 1" ∷ codes "use row c2 lo 3/2" ∷ codes "end"
+    ∷ codes "member rowup c1" ∷ codes "point" ∷ codes "value y 1/2"
+    ∷ codes "member rowlo c2" ∷ codes "point"
+    ∷ codes "proof" ∷ codes "leaf" ∷ codes "use rowup c1 1" ∷ codes "use rowlo c2 3/2" ∷ codes "end"
     ∷ codes "command check" ∷ codes "feasible" ∷ codes "point" ∷ codes "value x -1/3" ∷ codes "value y 12" ∷ codes "end"
     ∷ codes "report end" ∷ []
 unfolding frac gcd gcd_within digits eq_ℚ
 two_entries_have_lines = refl
 
 -- ---- a report without entries
-no_entries_have_lines : report_lines two_rows (record { notes = []; entries = [] }) ≡ codes "iisan report 1" ∷ codes "report end" ∷ []
+no_entries_have_lines : report_lines two_rows (record { notes = []; entries = [] }) ≡ codes "iisan report 2" ∷ codes "report end" ∷ []
 no_entries_have_lines = refl
 
 -- ---- that report stands in the grammar, and its bytes are read as it
-rows_named : All (IsNamedMember two_rows) (Row 0 ∷ Row 1 ∷ [])
-rows_named = All-cons (IsNamedMember two_rows) (Row 0) (Row 1 ∷ []) (record { known = omega arith; word = refl })
-    (All-cons (IsNamedMember two_rows) (Row 1) [] (record { known = omega arith; word = refl }) (All-nil (IsNamedMember two_rows)))
+rows_named : All (IsNamedMember two_rows) (RowUp 0 ∷ RowLo 1 ∷ [])
+rows_named = All-cons (IsNamedMember two_rows) (RowUp 0) (RowLo 1 ∷ []) (record { known = omega arith; word = refl })
+    (All-cons (IsNamedMember two_rows) (RowLo 1) [] (record { known = omega arith; word = refl }) (All-nil (IsNamedMember two_rows)))
 
 rows_listed : IsListed two_rows rows_set
-rows_listed = record { of_model = record { rows = refl; columns = refl }; named = rows_named; in_order = pair_in_order (λ m n. IsTrue (comes_before m n)) (Row 0) (Row 1) refl }
+rows_listed = record { of_model = record { rows = refl; columns = refl }; named = rows_named; in_order = pair_in_order (λ m n. IsTrue (comes_before m n)) (RowUp 0) (RowLo 1) refl }
 
-first_use : IsUse two_rows (use_of (Row 0) Up one_ℚ)
+first_use : IsUse two_rows (use_of (RowUp 0) one_ℚ)
 unfolding frac gcd gcd_within lt_q
 first_use = record { named = record { known = omega arith; word = refl }; positive = lt_q-true zero_ℚ one_ℚ refl; fits = refl }
 
-second_use : IsUse two_rows (use_of (Row 1) Lo (frac (pos 3) 2))
+second_use : IsUse two_rows (use_of (RowLo 1) (frac (pos 3) 2))
 unfolding frac gcd gcd_within lt_q
 second_use = record { named = record { known = omega arith; word = refl }; positive = lt_q-true zero_ℚ (frac (pos 3) 2) refl; fits = refl }
 
-both_uses : AreUses two_rows (use_of (Row 0) Up one_ℚ ∷ use_of (Row 1) Lo (frac (pos 3) 2) ∷ [])
+both_uses : AreUses two_rows (use_of (RowUp 0) one_ℚ ∷ use_of (RowLo 1) (frac (pos 3) 2) ∷ [])
 both_uses = record {
-  each = All-cons (IsUse two_rows) (use_of (Row 0) Up one_ℚ) (use_of (Row 1) Lo (frac (pos 3) 2) ∷ []) first_use
-      (All-cons (IsUse two_rows) (use_of (Row 1) Lo (frac (pos 3) 2)) [] second_use (All-nil (IsUse two_rows)));
-  in_order = pair_in_order (λ s t. IsTrue (share_before s.source s.side t.source t.side)) (use_of (Row 0) Up one_ℚ) (use_of (Row 1) Lo (frac (pos 3) 2)) refl;
+  each = All-cons (IsUse two_rows) (use_of (RowUp 0) one_ℚ) (use_of (RowLo 1) (frac (pos 3) 2) ∷ []) first_use
+      (All-cons (IsUse two_rows) (use_of (RowLo 1) (frac (pos 3) 2)) [] second_use (All-nil (IsUse two_rows)));
+  in_order = pair_in_order (λ s t. IsTrue (source_before s.source t.source)) (use_of (RowUp 0) one_ℚ) (use_of (RowLo 1) (frac (pos 3) 2)) refl;
 }
 
 contradiction_in_form : IsReportFor two_rows contradiction
 contradiction_in_form = record {
   notes = All-nil (λ note. IsNamedColumn two_rows (noted_column note));
-  entries = (record { command = tt; kind = refl; answer = (rows_listed, record { combo = record { shares = use_of (Row 0) Up one_ℚ ∷ use_of (Row 1) Lo (frac (pos 3) 2) ∷ [] }; one = refl; uses = both_uses }) }, tt);
+  entries = (record { command = tt; kind = refl; answer = (rows_listed, record { combo = record { shares = use_of (RowUp 0) one_ℚ ∷ use_of (RowLo 1) (frac (pos 3) 2) ∷ [] }; one = refl; uses = both_uses }) }, tt);
   numbered = (refl, tt);
 }
 
@@ -135,25 +133,28 @@ contradiction_is_read : Reads two_rows (text_of contradiction_lines) contradicti
 contradiction_is_read = record { form = contradiction_in_form; text = ap text_of (sym contradiction_has_lines) }
 
 -- ---- the order of uses
-lo_before_up : share_before (Of (Row 1)) Lo (Of (Row 1)) Up ≡ true
+lo_before_up : source_before (Of (RowLo 1)) (Of (RowUp 1)) ≡ true
 lo_before_up = refl
 
-not_twice : share_before (Of (Row 1)) Lo (Of (Row 1)) Lo ≡ false
+up_before_next : source_before (Of (RowUp 1)) (Of (RowLo 2)) ≡ true
+up_before_next = refl
+
+not_twice : source_before (Of (RowLo 1)) (Of (RowLo 1)) ≡ false
 not_twice = refl
 
-members_before_branches : share_before (Of (Whole 5)) Lo (Below 0) Up ≡ true
+members_before_branches : source_before (Of (Whole 5)) (Below 0) ≡ true
 members_before_branches = refl
 
-below_before_above : share_before (Below 2) Up (Above 2) Lo ≡ true
+below_before_above : source_before (Below 2) (Above 2) ≡ true
 below_before_above = refl
 
-by_column : share_before (Above 2) Lo (Below 2) Up ≡ false
+by_column : source_before (Above 2) (Below 2) ≡ false
 by_column = refl
 
 -- ---- the last line is missing, or its end is: truncated
 abbrev unended_lines : List Line
-unended_lines = codes "iisan report 1" ∷ codes "command check" ∷ codes "infeasible" ∷ codes "member row c1" ∷ codes "member row c2"
-    ∷ codes "proof" ∷ codes "leaf" ∷ codes "use row c1 up 1" ∷ codes "use row c2 lo 3/2" ∷ codes "end" ∷ []
+unended_lines = codes "iisan report 2" ∷ codes "command check" ∷ codes "infeasible" ∷ codes "member rowup c1" ∷ codes "member rowlo c2"
+    ∷ codes "proof" ∷ codes "leaf" ∷ codes "use rowup c1 1" ∷ codes "use rowlo c2 3/2" ∷ codes "end" ∷ []
 
 unended_is_body : body two_rows contradiction ≡ unended_lines
 unfolding frac gcd gcd_within digits
@@ -163,7 +164,7 @@ unended_is_front : IsFront two_rows unended_lines
 unended_is_front = (foot ∷ [], record { report = contradiction; form = contradiction_in_form; lines = contradiction_has_lines })
 
 unended_is_unfinished : ¬ (IsWhole two_rows unended_lines)
-unended_is_unfinished = needs_foot two_rows unended_lines (subst (All NotFoot) unended_is_body (body_is two_rows contradiction))
+unended_is_unfinished = needs_foot two_rows unended_lines (subst (All NotFoot) unended_is_body (body_is two_rows contradiction contradiction_in_form))
 
 without_last_line : IsTruncated two_rows (text_of unended_lines)
 without_last_line = record { lines = unended_lines; last = []; cut = refl; right = unended_is_front; unfinished = unended_is_unfinished }
@@ -176,16 +177,16 @@ no_bytes : IsTruncated two_rows []
 no_bytes = record { lines = []; last = []; cut = refl; right = nothing_is_front two_rows; unfinished = needs_foot two_rows [] (All-nil NotFoot) }
 
 -- ---- another head: line 1 is bad
-other_head : IsBadLine two_rows (text_of (codes "iisan report 2" ∷ [])) 1
+other_head : IsBadLine two_rows (text_of (codes "iisan report 1" ∷ [])) 1
 other_head = record {
   front = [];
-  line = codes "iisan report 2";
+  line = codes "iisan report 1";
   back = [] ∷ [];
   cut = refl;
   number = refl;
   judged = inl (λ e. cc);
   right = nothing_is_front two_rows;
-  wrong = needs_head two_rows (codes "iisan report 2") [] (λ e. absurd (true≢false (ap (λ l. bytes_eq (codes "iisan report 2") l) e)));
+  wrong = needs_head two_rows (codes "iisan report 1") [] (λ e. absurd (true≢false (ap (λ l. bytes_eq (codes "iisan report 1") l) e)));
 }
 
 -- ---- a byte after the end: its line is bad

@@ -25,8 +25,8 @@ use Rattle.report_text.specs.declared.report.Command.{Command}
 use Rattle.report_text.specs.declared.report.Command.TheVariants.{Check, Iis, Pivots}
 use Rattle.report_text.specs.declared.report.Answer.{Answer}
 use Rattle.report_text.specs.declared.report.Entry.{Entry}
-use Rattle.report_reader.specs.declared.phrases.Phrase.{Phrase}
-use Rattle.report_reader.specs.declared.phrases.StopPhrase.{StopPhrase}
+use Rattle.report_text.specs.declared.phrases.Phrase.{Phrase}
+use Rattle.report_text.specs.declared.phrases.StopPhrase.{StopPhrase}
 use Rattle.report_reader.specs.declared.drafts.Found.{Found}
 use Rattle.report_reader.specs.declared.drafts.Question.{Question}
 use Rattle.report_reader.specs.declared.drafts.StopCause.{StopCause}
@@ -36,13 +36,12 @@ use Rattle.report_reader.specs.declared.drafts.Next.{Next}
 use Rattle.report_reader.specs.declared.drafts.Stage.{Stage}
 use Rattle.report_reader.specs.declared.drafts.Draft.{Draft}
 use Rattle.report_text.specs.Turns.{after}
-use Rattle.report_text.specs.Grammar.{column_name, entries_lines}
+use Rattle.report_text.specs.Grammar.{column_name, entries_phrases, value_phrases, point_phrases, proof_phrases, witness_phrases, without_phrase, site_phrases, answer_front, answer_end, entry_phrases, body_phrases}
 use Rattle.report_text.proofs.InTurn.{gathered-push, AllEntries-push, numbered-push}
-use Rattle.certs.specs.Order.{share_before}
-use Rattle.report_text.specs.Form.{is_word, IsNamedColumn, IsNamedMember, IsWithinLimit, IsUse, AreUses, IsListed, IsOneLeaf, IsPointFor, IsAnswerFor, IsEntryFor, AreEntriesFor, can_answer}
-use Rattle.report_reader.specs.Phrases.{IsPhraseFor, phrase_line}
+use Rattle.certs.specs.Order.{source_before}
+use Rattle.report_text.specs.Form.{is_word, IsNamedColumn, IsNamedMember, IsWithinLimit, IsUse, AreUses, IsListed, IsOneLeaf, IsPointFor, IsAnswerFor, IsEntryFor, can_answer}
+use Rattle.report_reader.specs.Phrases.{IsPhraseFor}
 use Rattle.report_reader.specs.Drafts.{filled, point_of, leaf_of, set_of, answer_of, only_if, witnessed_with, site_without, stop_begun, stop_with, extended, placed, between, advanced, AreValues, AreMembers, AreWitnesses, IsFound, IsOneMore, AreLeftOut, IsStopPart, Asks, IsPartFor, IsDraftFor}
-use Rattle.report_reader.proofs.Said.{value_phrases, point_phrases, proof_phrases, witness_phrases, without_phrase, site_phrases, answer_front, answer_end, entry_phrases, entries_phrases, body_phrases, entries_spelled}
 use Rattle.report_reader.proofs.Named.{told}
 use Rattle.report_reader.proofs.LeftOut.{none_left, left_twice, site_in_form}
 
@@ -208,10 +207,10 @@ module _ (model : Program) where
     points = All-push (IsPointFor model) witnesses p h.points k;
   }
 
-  share_taken : (shares : List Share) (s : Share) → AreUses model shares → IsUse model s → list_all (λ t. share_before t.source t.side s.source s.side) shares ≡ true → AreUses model (shares ++ s ∷ [])
+  share_taken : (shares : List Share) (s : Share) → AreUses model shares → IsUse model s → list_all (λ t. source_before t.source s.source) shares ≡ true → AreUses model (shares ++ s ∷ [])
   share_taken shares s h k after = record {
     each = All-push (IsUse model) shares s h.each k;
-    in_order = all_pairs_push (λ t u. IsTrue (share_before t.source t.side u.source u.side)) shares s h.in_order (AllPass-from_list_all (λ t. share_before t.source t.side s.source s.side) shares after);
+    in_order = all_pairs_push (λ t u. IsTrue (source_before t.source u.source)) shares s h.in_order (AllPass-from_list_all (λ t. source_before t.source s.source) shares after);
   }
 
   zip_push : (members : List Member) (witnesses : List Point) (m : Member) (p : Point) → length witnesses ≡ length members → zip (members ++ m ∷ []) (witnesses ++ p ∷ []) ≡ zip members witnesses ++ (m, p) ∷ []
@@ -344,7 +343,7 @@ module _ (model : Program) where
       subst (Took c (Part.Proof found) Phrase.Leaf) (more_is (Part.Leaf found []) next e) ((h, no_uses), sym (append_assoc (found_phrases found) (Phrase.Proof ∷ []) (Phrase.Leaf ∷ [])))
   more_taken c (Part.Leaf found shares) (Phrase.Use s) next h k e =
       let front = found_phrases found in
-      list_taken c (Part.Leaf found shares) (Phrase.Use s) (λ ss. Part.Leaf found ss) (list_all (λ u. share_before u.source u.side s.source s.side) shares) (shares ++ s ∷ []) next
+      list_taken c (Part.Leaf found shares) (Phrase.Use s) (λ ss. Part.Leaf found ss) (list_all (λ u. source_before u.source s.source) shares) (shares ++ s ∷ []) next
       (λ t. (
         (h.0, share_taken shares s h.1 k t),
         ap (λ l. front ++ Phrase.Proof ∷ Phrase.Leaf ∷ l) (map_push Phrase.Use shares s) ∙ sym (append_assoc front (Phrase.Proof ∷ Phrase.Leaf ∷ map Phrase.Use shares) (Phrase.Use s ∷ [])),
@@ -433,7 +432,7 @@ module _ (model : Program) where
   whole_taken c (Part.Leaf found shares) Phrase.End a h e = subst (Ends c (Part.Leaf found shares) Phrase.End) (whole_is (answer_of model found shares) a e) (leaf_ends c found shares h.0 h.1)
   whole_taken c (Part.Point values) (Phrase.Value j v) a h e = absurd (not_whole (λ vs. Next.More (Part.Point vs)) (nat_le (length values) j) (filled j values ++ v ∷ []) a (λ y s. cc) e)
   whole_taken c (Part.Leaf found shares) (Phrase.Use s) a h e =
-      absurd (not_whole (λ ss. Next.More (Part.Leaf found ss)) (list_all (λ u. share_before u.source u.side s.source s.side) shares) (shares ++ s ∷ []) a (λ y s. cc) e)
+      absurd (not_whole (λ ss. Next.More (Part.Leaf found ss)) (list_all (λ u. source_before u.source s.source) shares) (shares ++ s ∷ []) a (λ y s. cc) e)
   whole_taken c (Part.Listed (Found.Members members)) (Phrase.Member m) a h e =
       absurd (not_whole (λ ms. Next.More (Part.Listed (Found.Members ms))) (list_all (λ n. comes_before n m) members) (members ++ m ∷ []) a (λ y s. cc) e)
   whole_taken c (Part.Listed (Found.Witnessed members witnesses)) p a h e = absurd (no_answer members witnesses p a e)
@@ -452,12 +451,8 @@ module _ (model : Program) where
   whole_taken c part p a h e = absurd (cc)
 
   -- ---- drafts
-  entries_length : (entries : List Entry) → AreEntriesFor model [] entries → length (entries_lines model [] entries) ≡ length (entries_phrases model [] entries)
-  entries_length entries h = ap length (entries_spelled model [] entries h) ∙ length-map (entries_phrases model [] entries) (phrase_line model)
-
-  body_length : (notes : List Note) (entries : List Entry) → AreEntriesFor model [] entries → length (body_phrases model notes entries) ≡ suc (length notes + length (entries_lines model [] entries))
-  body_length notes entries h =
-      ap suc (length-append (map Phrase.Note notes) (entries_phrases model [] entries) ∙ ap (λ k. k + length (entries_phrases model [] entries)) (length-map notes Phrase.Note) ∙ ap (λ k. length notes + k) (sym (entries_length entries h)))
+  body_length : (notes : List Note) (entries : List Entry) → length (body_phrases model notes entries) ≡ suc (length notes + length (entries_phrases model [] entries))
+  body_length notes entries = ap suc (length-append (map Phrase.Note notes) (entries_phrases model [] entries) ∙ ap (λ k. k + length (entries_phrases model [] entries)) (length-map notes Phrase.Note))
 
   body_push : (notes : List Note) (entries : List Entry) (e : Entry) → body_phrases model notes (entries ++ e ∷ []) ≡ body_phrases model notes entries ++ entry_phrases model e
   body_push notes entries e =
@@ -486,7 +481,7 @@ module _ (model : Program) where
   between_taken n notes (f ∷ entries) (Phrase.Note note) next h k l e = absurd (cc)
   between_taken n notes entries (Phrase.Command c) next h k l e =
       drawn (record { notes = notes; entries = entries; stage = Stage.Between }) (Phrase.Command c) (record { notes = notes; entries = entries; stage = Stage.Answering (record { command = c; line = n }) Part.Nothing }) next e
-      (record { notes = h.notes; entries = h.entries; numbered = h.numbered; stage = (l ∙ ap suc (body_length notes entries h.entries) ∙ (omega arith), (k, tt)) }, refl)
+      (record { notes = h.notes; entries = h.entries; numbered = h.numbered; stage = (l ∙ ap suc (body_length notes entries) ∙ (omega arith), (k, tt)) }, refl)
   between_taken n notes entries Phrase.Foot next h k l e =
       drawn (record { notes = notes; entries = entries; stage = Stage.Between }) Phrase.Foot (record { notes = notes; entries = entries; stage = Stage.Done }) next e
       (record { notes = h.notes; entries = h.entries; numbered = h.numbered; stage = tt }, refl)

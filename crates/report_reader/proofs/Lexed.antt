@@ -4,10 +4,11 @@ use Rattle.std.specs.Prelude.{IfSome}
 use Rattle.report_reader.specs.Parts.{parts}
 use Rattle.rational.specs.Rational.{ℚ, zero_ℚ}
 use Rattle.lp_model.specs.Program.{Program}
-use Rattle.report_reader.specs.declared.phrases.Keyword.{Keyword}
-use Rattle.report_reader.specs.declared.phrases.Phrase.{Phrase}
-use Rattle.report_reader.specs.declared.phrases.StopPhrase.{StopPhrase}
-use Rattle.report_reader.specs.Phrases.{keyword_text, keyword_of, details, Says}
+use Rattle.report_text.specs.declared.phrases.Keyword.{Keyword}
+use Rattle.report_text.specs.declared.phrases.Phrase.{Phrase}
+use Rattle.report_text.specs.declared.phrases.StopPhrase.{StopPhrase}
+use Rattle.report_text.specs.Grammar.{keyword_text, keyword_of, details}
+use Rattle.report_reader.specs.Phrases.{Says}
 use Rattle.report_reader.specs.Words.{IsSpelled, IsColumnSaid, IsFractionSaid, Finds, leading_keywords, leading_said}
 use Rattle.report_reader.proofs.Named.{found_spelled}
 use Rattle.report_reader.proofs.Spelling.{some_parts, words_of_line, line_of_words}
@@ -34,6 +35,9 @@ leads model (Phrase.Note n) h = refl
 leads model (Phrase.Command c) h = refl
 leads model (Phrase.Stop StopPhrase.Wide) h = refl
 leads model (Phrase.Stop StopPhrase.Spent) h = refl
+leads model (Phrase.Stop StopPhrase.Nodes) h = refl
+leads model (Phrase.Stop (StopPhrase.Large size)) h = refl
+leads model (Phrase.Split j k) h = refl
 leads model (Phrase.Stop (StopPhrase.Site kind)) h = refl
 leads model (Phrase.Stop (StopPhrase.Without m)) h = refl
 leads model (Phrase.Stop (StopPhrase.Step k)) h = refl

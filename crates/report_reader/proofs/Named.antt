@@ -1,6 +1,6 @@
 -- Where a name stands among names that differ, and what single words say.
 use Rattle.std.proofs.Common.{◌≡◌, ◌≢◌, refl, sym, ap, subst, ◌∙◌, ℕ, zero, suc, ◌<◌, ◌≤◌, Bool, true, false, true≢false, cond, ltb, List, [], ◌∷◌, length, get_or, Option, Some, None, arith, position, ◌⊎◌, inl, inr}
-use Rattle.std.specs.Prelude.{map, find, option_map, AllPairs, Result, Ok, Err, codes}
+use Rattle.std.specs.Prelude.{map, find, option_map, AllPairs, Result, Ok, Err}
 use Rattle.std.specs.Option.{ok_or}
 use Rattle.std.specs.List.{position_or_len}
 use Rattle.std.specs.Str.{bytes_eq}
@@ -11,11 +11,10 @@ use Rattle.std.proofs.lemmas.List.Sums.{fails_before_first, passes_at_first}
 use Rattle.std.proofs.lemmas.Slice.Eq.{bytes_eq-Decides}
 use Rattle.lp_model.specs.declared.models.ModelStop.{ModelStop}
 use Rattle.lp_model.specs.declared.models.ModelStop.TheVariants.{UnknownName}
-use Rattle.lp_model.specs.declared.members.Member.TheVariants.{Row}
 use Rattle.lp_model.specs.Program.{Program, NamedRow, NamedColumn, empty_row, empty_column, IsWellFormed}
 use Rattle.lp_model.specs.Shown.{row_names, column_names}
 use Rattle.report_text.specs.Form.{is_word}
-use Rattle.report_reader.specs.Words.{IsColumnSaid, IsMemberSaid}
+use Rattle.report_reader.specs.Words.{IsColumnSaid, IsRowSaid}
 
 -- what a condition told
 pub told_if : {X : Type 0} (t : Bool) (o : Option X) (x : X) → cond t o None ≡ Some x → (t ≡ true) × (o ≡ Some x)
@@ -112,10 +111,10 @@ module _ (model : Program) (name : List ℕ) where
   pub column_all : IsWellFormed model → (r : Result ℕ ModelStop) → r ≡ ok_or (position (bytes_eq name) (column_names model)) UnknownName → (j : ℕ) → IsColumnSaid model name j → r ≡ Ok j
   column_all f r e j h = e ∙ ap (λ o. ok_or o UnknownName) (place_is (λ (c : NamedColumn). c.name) model.columns empty_column f.column_names name j h.0.known h.1)
 
-  pub row_found : (i : ℕ) → is_word name ≡ true → Ok i ≡ ok_or (position (bytes_eq name) (row_names model)) UnknownName → IsMemberSaid model (codes "row") name (Row i)
+  pub row_found : (i : ℕ) → is_word name ≡ true → Ok i ≡ ok_or (position (bytes_eq name) (row_names model)) UnknownName → IsRowSaid model name i
   row_found i w e =
       let t = place_told (λ (r : NamedRow). r.name) model.rows empty_row name i (ok_told (position (bytes_eq name) (row_names model)) i (sym e)) in
-      record { named = record { known = t.0; word = subst (λ n. is_word n ≡ true) t.1 w }; kind = refl; called = t.1 }
+      (record { known = t.0; word = subst (λ n. is_word n ≡ true) t.1 w }, t.1)
 
-  pub row_all : IsWellFormed model → (r : Result ℕ ModelStop) → r ≡ ok_or (position (bytes_eq name) (row_names model)) UnknownName → (i : ℕ) → IsMemberSaid model (codes "row") name (Row i) → r ≡ Ok i
-  row_all f r e i h = e ∙ ap (λ o. ok_or o UnknownName) (place_is (λ (r : NamedRow). r.name) model.rows empty_row f.row_names name i h.named.known h.called)
+  pub row_all : IsWellFormed model → (r : Result ℕ ModelStop) → r ≡ ok_or (position (bytes_eq name) (row_names model)) UnknownName → (i : ℕ) → IsRowSaid model name i → r ≡ Ok i
+  row_all f r e i h = e ∙ ap (λ o. ok_or o UnknownName) (place_is (λ (r : NamedRow). r.name) model.rows empty_row f.row_names name i h.0.known h.1)

@@ -1,5 +1,5 @@
 -- Bytes are those of one report: a line says one thing, and a list of phrases leads to one report.
-use Rattle.std.proofs.Common.{◌≡◌, refl, sym, ap, subst, ◌∙◌, ℕ, suc, ℤ, pos, negsuc, ◌≤◌, ◌<◌, ◌==◌, false, true≢false, List, [], ◌∷◌, decimal, unsigned_abs, Option, Some, arith, inl, inr}
+use Rattle.std.proofs.Common.{◌≡◌, refl, sym, ap, subst, ◌∙◌, ℕ, suc, ℤ, pos, negsuc, ◌≤◌, ◌<◌, ◌==◌, false, true≢false, List, [], ◌∷◌, decimal, unsigned_abs, Option, Some, arith, inl, inr, length}
 use Rattle.std.specs.Prelude.{map, All, nat_lt, codes}
 use Rattle.std.specs.Fmt.{signed_decimal}
 use Rattle.std.specs.List.{position_or_len}
@@ -20,13 +20,11 @@ use Rattle.std.proofs.lemmas.Slice.Eq.{bytes_eq-Decides}
 use Rattle.frac128.specs.Limit.{limit}
 use Rattle.frac128.specs.Printed.{printed}
 use Rattle.frac128.proofs.Texts.{slash_num, slash_whole, slash_part}
-use Rattle.lp_model.specs.Program.{Program, NamedRow, NamedColumn, empty_row, empty_column, IsWellFormed}
+use Rattle.lp_model.specs.Program.{Program, row_at, NamedRow, NamedColumn, empty_row, empty_column, IsWellFormed}
 use Rattle.lp_model.specs.declared.parts.Note.{Note}
 use Rattle.lp_model.specs.declared.parts.Note.TheVariants.{LowerRemoved, LowerKept}
 use Rattle.lp_model.specs.declared.members.Member.{Member}
-use Rattle.lp_model.specs.declared.members.Member.TheVariants.{Row, Lower, Upper, Whole}
-use Rattle.lp_model.specs.declared.members.Side.{Side}
-use Rattle.lp_model.specs.declared.members.Side.TheVariants.{Lo, Up}
+use Rattle.lp_model.specs.declared.members.Member.TheVariants.{RowLo, RowUp, Lower, Upper, Whole}
 use Rattle.certs.specs.declared.evidence.Source.{Source}
 use Rattle.certs.specs.declared.evidence.Source.TheVariants.{Member as Of, Below, Above}
 use Rattle.certs.specs.declared.evidence.Share.{Share}
@@ -36,18 +34,18 @@ use Rattle.frac128.specs.declared.Op.{Op}
 use Rattle.frac128.specs.declared.Op.TheVariants.{Plus, Minus, Times, Over}
 use Rattle.frac128.specs.declared.Wide.{Wide as Operation}
 use Rattle.report_text.specs.declared.report.Command.{Command}
-use Rattle.report_reader.specs.declared.phrases.Keyword.{Keyword}
-use Rattle.report_reader.specs.declared.phrases.Phrase.{Phrase}
-use Rattle.report_reader.specs.declared.phrases.StopPhrase.{StopPhrase}
+use Rattle.report_text.specs.declared.phrases.Keyword.{Keyword}
+use Rattle.report_text.specs.declared.phrases.Phrase.{Phrase}
+use Rattle.report_text.specs.declared.phrases.StopPhrase.{StopPhrase}
 use Rattle.report_text.specs.Form.{IsNamedColumn, IsNamedMember, IsNamedSource, IsWithinLimit, IsUse, IsCommand, IsOperation}
-use Rattle.report_text.specs.Grammar.{Line, column_name, name_of, kind_word, side_word, site_word, op_word, report_lines}
+use Rattle.report_text.specs.Grammar.{Line, column_name, name_of, kind_word, source_word, source_name, site_word, op_word, report_lines, keyword_text, keyword_of, stop_keyword, stop_details, details, phrase_line, report_phrases}
 use Rattle.report_reader.specs.Commands.{command_said}
 use Rattle.report_reader.specs.Reading.{OneReportLaw}
-use Rattle.report_reader.specs.Phrases.{keyword_text, keyword_of, source_words, stop_keyword, stop_details, details, phrase_line, IsStopPhrase, IsPhraseFor, Says}
+use Rattle.report_reader.specs.Phrases.{IsStopPhrase, IsPhraseFor, Says}
 use Rattle.report_reader.specs.Words.{leading_said, lone_said}
 use Rattle.report_reader.specs.Drafts.{nothing_read}
 use Rattle.report_reader.specs.declared.drafts.Draft.{Draft}
-use Rattle.report_reader.proofs.Said.{report_phrases, report_spelled, report_for}
+use Rattle.report_reader.proofs.Said.{report_for}
 use Rattle.report_reader.proofs.Spelling.{words_of_line, parts_of_read}
 use Rattle.report_reader.proofs.Named.{one_place}
 use Rattle.report_reader.proofs.Scripted.{own_words}
@@ -131,8 +129,12 @@ module _ (model : Program) (f : IsWellFormed model) where
   column_one : (i j : ℕ) → IsNamedColumn model i → IsNamedColumn model j → column_name model i ≡ column_name model j → i ≡ j
   column_one i j h k e = one_place (λ (c : NamedColumn). c.name) model.columns empty_column f.column_names i j h.known k.known e
 
+  row_one : (i j : ℕ) → i < length model.rows → j < length model.rows → (row_at model i).name ≡ (row_at model j).name → i ≡ j
+  row_one i j h k e = one_place (λ (r : NamedRow). r.name) model.rows empty_row f.row_names i j h k e
+
   member_one : (m n : Member) → IsNamedMember model m → IsNamedMember model n → kind_word m ≡ kind_word n → name_of model m ≡ name_of model n → m ≡ n
-  member_one (Row i) (Row j) h k w e = ap Row (one_place (λ (r : NamedRow). r.name) model.rows empty_row f.row_names i j h.known k.known e)
+  member_one (RowLo i) (RowLo j) h k w e = ap RowLo (row_one i j h.known k.known e)
+  member_one (RowUp i) (RowUp j) h k w e = ap RowUp (row_one i j h.known k.known e)
   member_one (Lower i) (Lower j) h k w e = ap Lower (one_place (λ (c : NamedColumn). c.name) model.columns empty_column f.column_names i j h.known k.known e)
   member_one (Upper i) (Upper j) h k w e = ap Upper (one_place (λ (c : NamedColumn). c.name) model.columns empty_column f.column_names i j h.known k.known e)
   member_one (Whole i) (Whole j) h k w e = ap Whole (one_place (λ (c : NamedColumn). c.name) model.columns empty_column f.column_names i j h.known k.known e)
@@ -146,34 +148,37 @@ module _ (model : Program) (f : IsWellFormed model) where
   stop_one (StopPhrase.Without m) (StopPhrase.Without n) h k e d = let kinds : kind_word m ≡ kind_word n = cc in let names : name_of model m ≡ name_of model n = cc in ap StopPhrase.Without (member_one m n h k kinds names)
   stop_one (StopPhrase.Step m) (StopPhrase.Step n) h k e d = let words : decimal m ≡ decimal n = cc in ap StopPhrase.Step (decimal_injective m n h k words)
   stop_one (StopPhrase.Operation a) (StopPhrase.Operation b) h k e d = ap StopPhrase.Operation (operation_one model a b h k d)
+  stop_one StopPhrase.Nodes b h k e d = absurd h
+  stop_one (StopPhrase.Large m) b h k e d = absurd h
+  stop_one a StopPhrase.Nodes h k e d = absurd k
+  stop_one a (StopPhrase.Large n) h k e d = absurd k
   stop_one a b h k e d = absurd (cc)
 
-  side_one : (s t : Side) → side_word s ≡ side_word t → s ≡ t
-  side_one Lo Lo e = refl
-  side_one Up Up e = refl
-  side_one s t e = absurd (apart (side_word s) (side_word t) refl e)
-
   -- ---- shares
-  share_is : (a b : Source) (s t : Side) (v w : ℚ) → a ≡ b → s ≡ t → v ≡ w → (let x : Share = record { source = a; side = s; weight = v } in x) ≡ record { source = b; side = t; weight = w }
-  share_is a b s t v w e g h = ap (λ c. record { source = c; side = s; weight = v }) e ∙ ap (λ c. record { source = b; side = c; weight = v }) g ∙ ap (λ c. record { source = b; side = t; weight = c }) h
+  share_is : (a b : Source) (v w : ℚ) → a ≡ b → v ≡ w → (let x : Share = record { source = a; weight = v } in x) ≡ record { source = b; weight = w }
+  share_is a b v w e h = ap (λ c. record { source = c; weight = v }) e ∙ ap (λ c. record { source = b; weight = c }) h
 
-  source_one : (a b : Source) (s t : Side) (v w : List ℕ) → IsNamedSource model a s → IsNamedSource model b t → source_words model a s (v ∷ []) ≡ source_words model b t (w ∷ []) → (a ≡ b) × ((s ≡ t) × (v ≡ w))
-  source_one (Of m) (Of n) s t v w h k e =
-      let kinds : kind_word m ≡ kind_word n = cc in
-      let names : name_of model m ≡ name_of model n = cc in
-      let sides : side_word s ≡ side_word t = cc in
-      (ap Of (member_one m n h k kinds names), (side_one s t sides, cc))
-  source_one (Below i) (Below j) s t v w h k e = let names : column_name model i ≡ column_name model j = cc in (ap Below (column_one i j h.0 k.0 names), (h.1 ∙ sym k.1, cc))
-  source_one (Above i) (Above j) s t v w h k e = let names : column_name model i ≡ column_name model j = cc in (ap Above (column_one i j h.0 k.0 names), (h.1 ∙ sym k.1, cc))
-  source_one (Below i) (Above j) s t v w h k e = let first : codes "below" ≡ codes "above" = cc in absurd (apart (codes "below") (codes "above") refl first)
-  source_one (Above i) (Below j) s t v w h k e = let first : codes "above" ≡ codes "below" = cc in absurd (apart (codes "above") (codes "below") refl first)
-  source_one a b s t v w h k e = absurd (cc)
+  no_branch : (m : Member) → (bytes_eq (kind_word m) (codes "below") ≡ false) × (bytes_eq (kind_word m) (codes "above") ≡ false)
+  no_branch (RowLo i) = (refl, refl)
+  no_branch m = (refl, refl)
+
+  source_one : (a b : Source) → IsNamedSource model a → IsNamedSource model b → source_word a ≡ source_word b → source_name model a ≡ source_name model b → a ≡ b
+  source_one (Of m) (Of n) h k w e = ap Of (member_one m n h k w e)
+  source_one (Below i) (Below j) h k w e = ap Below (column_one i j h k e)
+  source_one (Above i) (Above j) h k w e = ap Above (column_one i j h k e)
+  source_one (Of m) (Below j) h k w e = absurd (apart (kind_word m) (codes "below") (no_branch m).0 w)
+  source_one (Of m) (Above j) h k w e = absurd (apart (kind_word m) (codes "above") (no_branch m).1 w)
+  source_one (Below i) (Of n) h k w e = absurd (apart (kind_word n) (codes "below") (no_branch n).0 (sym w))
+  source_one (Above i) (Of n) h k w e = absurd (apart (kind_word n) (codes "above") (no_branch n).1 (sym w))
+  source_one a b h k w e = absurd (apart (source_word a) (source_word b) refl w)
 
   -- ---- phrases
-  use_one : (a b : Share) → IsUse model a → IsUse model b → source_words model a.source a.side (printed a.weight ∷ []) ≡ source_words model b.source b.side (printed b.weight ∷ []) → a ≡ b
+  use_one : (a b : Share) → IsUse model a → IsUse model b → details model (Phrase.Use a) ≡ details model (Phrase.Use b) → a ≡ b
   use_one a b h k e =
-      let s = source_one a.source b.source a.side b.side (printed a.weight) (printed b.weight) h.named k.named e in
-      share_is a.source b.source a.side b.side a.weight b.weight s.0 s.1.0 (fraction_one a.weight b.weight h.fits k.fits s.1.1)
+      let words : source_word a.source ≡ source_word b.source = cc in
+      let names : source_name model a.source ≡ source_name model b.source = cc in
+      let weights : printed a.weight ≡ printed b.weight = cc in
+      share_is a.source b.source a.weight b.weight (source_one a.source b.source h.named k.named words names) (fraction_one a.weight b.weight h.fits k.fits weights)
 
   note_one : (a b : Note) → IsPhraseFor model (Phrase.Note a) → IsPhraseFor model (Phrase.Note b) → details model (Phrase.Note a) ≡ details model (Phrase.Note b) → a ≡ b
   note_one (LowerRemoved i) (LowerRemoved j) h k e = let names : column_name model i ≡ column_name model j = cc in ap LowerRemoved (column_one i j h k names)
@@ -202,6 +207,8 @@ module _ (model : Program) (f : IsWellFormed model) where
   behind_one (Phrase.Value i v) (Phrase.Value j w) h k e d = let names : column_name model i ≡ column_name model j = cc in let numbers : printed v ≡ printed w = cc in ap (λ n. Phrase.Value n v) (column_one i j h.0 k.0 names) ∙ ap (λ x. Phrase.Value j x) (fraction_one v w h.1.0 k.1.0 numbers)
   behind_one (Phrase.Member m) (Phrase.Member n) h k e d = let kinds : kind_word m ≡ kind_word n = cc in let names : name_of model m ≡ name_of model n = cc in ap Phrase.Member (member_one m n h k kinds names)
   behind_one (Phrase.Use a) (Phrase.Use b) h k e d = ap Phrase.Use (use_one a b h k d)
+  behind_one (Phrase.Split i n) q h k e d = absurd h
+  behind_one p (Phrase.Split j n) h k e d = absurd k
   behind_one p (Phrase.Stop StopPhrase.Wide) h k e d = absurd (cc)
   behind_one (Phrase.Stop StopPhrase.Wide) q h k e d = absurd (cc)
   behind_one p q h k e d = absurd (cc)
@@ -236,7 +243,7 @@ pub one_report : OneReportLaw
 unfolding done
 one_report model bytes r s f a b =
     let lines : report_lines model r ≡ report_lines model s = append_cancel_right (report_lines model r) (report_lines model s) ([] ∷ []) (sym (parts_of_read model bytes r a) ∙ parts_of_read model bytes s b) in
-    let phrases = phrases_one model f (report_phrases model r) (report_phrases model s) (report_for model r a.form) (report_for model s b.form) (sym (report_spelled model r a.form) ∙ lines ∙ report_spelled model s b.form) in
+    let phrases = phrases_one model f (report_phrases model r) (report_phrases model s) (report_for model r a.form) (report_for model s b.form) lines in
     let same : Some (done model r) ≡ Some (done model s) = sym (report_read model r a.form) ∙ ap (run model 1 nothing_read) phrases ∙ report_read model s b.form in
     let d : done model r ≡ done model s = cc in
     ap (λ (x : Draft). record { notes = x.notes; entries = x.entries }) d

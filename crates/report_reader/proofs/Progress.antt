@@ -20,8 +20,8 @@ use Rattle.report_text.specs.declared.report.Command.TheVariants.{Check, Iis, Pi
 use Rattle.report_text.specs.declared.report.Answer.{Answer}
 use Rattle.report_text.specs.declared.report.Entry.{Entry}
 use Rattle.report_text.specs.declared.report.Report.{Report}
-use Rattle.report_reader.specs.declared.phrases.Phrase.{Phrase}
-use Rattle.report_reader.specs.declared.phrases.StopPhrase.{StopPhrase}
+use Rattle.report_text.specs.declared.phrases.Phrase.{Phrase}
+use Rattle.report_text.specs.declared.phrases.StopPhrase.{StopPhrase}
 use Rattle.report_reader.specs.declared.drafts.Found.{Found}
 use Rattle.report_reader.specs.declared.drafts.Question.{Question}
 use Rattle.report_reader.specs.declared.drafts.StopCause.{StopCause}
@@ -30,22 +30,18 @@ use Rattle.report_reader.specs.declared.drafts.Part.{Part}
 use Rattle.report_reader.specs.declared.drafts.Next.{Next}
 use Rattle.report_reader.specs.declared.drafts.Stage.{Stage}
 use Rattle.report_reader.specs.declared.drafts.Draft.{Draft}
-use Rattle.report_text.specs.Grammar.{Line, text_of, report_lines}
+use Rattle.report_text.specs.Grammar.{Line, text_of, report_lines, phrase_line, report_phrases, lines_of}
 use Rattle.report_text.specs.Form.{IsReportFor, IsOperation}
 use Rattle.report_reader.specs.Reading.{Reads, IsFront, IsWhole, IsBadLine, IsTruncated, IsReportStop}
-use Rattle.report_reader.specs.Phrases.{IsPhraseFor, phrase_line, Says}
+use Rattle.report_reader.specs.Phrases.{IsPhraseFor, Says}
 use Rattle.report_reader.specs.Drafts.{point_of, answer_of, site_without, extended, placed, advanced, nothing_read, Takes, IsLineStop, ended, IsDraftFor}
-use Rattle.report_reader.proofs.Said.{report_phrases, report_spelled, report_for}
+use Rattle.report_reader.proofs.Said.{report_for}
 use Rattle.report_reader.proofs.Spelling.{some_parts, parts_of_read, text_of_parts}
 use Rattle.report_reader.proofs.Runs.{run, run_append, run_step, done, report_read}
 use Rattle.report_reader.proofs.Fronts.{draft_phrases, taken}
 use Rattle.report_reader.specs.declared.reader.ReportStop.{ReportStop}
 use Rattle.report_reader.specs.declared.reader.ReportStop.TheVariants.{BadLine, Truncated, Memory}
 use Rattle.report_reader.proofs.Endings.{shorter_front, whole_ends}
-
--- the lines of phrases
-abbrev lines_of : Program → List Phrase → List Line
-lines_of model ps = map (phrase_line model) ps
 
 -- a draft from its parts
 abbrev draft_of : List Note → List Entry → Stage → Draft
@@ -66,7 +62,7 @@ module _ (model : Program) where
   whole_form notes entries h = record { notes = h.notes; entries = h.entries; numbered = h.numbered }
 
   whole_lines : (notes : List Note) (entries : List Entry) → IsDraftFor model (draft_of notes entries Stage.Done) → report_lines model (record { notes = notes; entries = entries }) ≡ lines_of model (draft_phrases model (draft_of notes entries Stage.Done))
-  whole_lines notes entries h = report_spelled model (record { notes = notes; entries = entries }) (whole_form notes entries h)
+  whole_lines notes entries h = refl
 
   Front : Draft → Type 0
   Front d = IsFront model (lines_of model (draft_phrases model d))
@@ -263,7 +259,7 @@ module _ (model : Program) where
   line_is_wrong front line draft h none goes =
       let report = goes.1.report in
       let all = report_for model report goes.1.form in
-      let c = cut_at model (report_phrases model report) front line goes.0 (sym (report_spelled model report goes.1.form) ∙ goes.1.lines ∙ append_assoc front (line ∷ []) goes.0) in
+      let c = cut_at model (report_phrases model report) front line goes.0 (goes.1.lines ∙ append_assoc front (line ∷ []) goes.0) in
       let qs = c.before in let p = c.phrase in let more = c.behind in
       let same : All (IsPhraseFor model) (qs ++ p ∷ more) = subst (All (IsPhraseFor model)) c.whole all in
       let ends : run model 1 nothing_read (qs ++ p ∷ more) ≡ Some (done model report) = ap (run model 1 nothing_read) (sym c.whole) ∙ report_read model report goes.1.form in
@@ -274,7 +270,7 @@ module _ (model : Program) where
   -- the report that the lines are, if they are one
   led_to : (front : List Line) (draft : Draft) (report : Report) → HasRead model front draft → IsReportFor model report → report_lines model report ≡ front → draft ≡ done model report
   led_to front draft report h form e =
-      let r : Some (done model report) ≡ Some draft = sym (report_read model report form) ∙ h.only (report_phrases model report) (report_for model report form) (sym (report_spelled model report form) ∙ e) in
+      let r : Some (done model report) ≡ Some draft = sym (report_read model report form) ∙ h.only (report_phrases model report) (report_for model report form) e in
       cc
 
   -- lines that did not lead to the last one are no report

@@ -3,8 +3,6 @@ use Rattle.std.proofs.Common.{◌≡◌, ◌≤◌, refl, sym, ap, subst, ◌∙
 use Rattle.std.specs.Prelude.{map, flat_map, zip, replicate, option_and_then, option_map, All, AllPairs, nat_le}
 use Rattle.std.specs.List.{list_all}
 use Rattle.std.proofs.lemmas.List.{replicate_more, length-append, length-map}
-use Rattle.report_reader.specs.Phrases.{phrase_line}
-use Rattle.report_reader.proofs.Said.{value_phrases, point_phrases, node_phrases, proof_phrases, witness_phrases, without_phrase, site_phrases, answer_front, answer_end, entry_phrases, entries_phrases, report_phrases, entry_spelled}
 use Rattle.std.proofs.lemmas.List.Elements.{All-head, All-tail, All-contains, Contains-append_right}
 use Rattle.std.proofs.lemmas.Bool.{and_from, le-leb}
 use Rattle.rational.proofs.Compare.{eq-Decides}
@@ -28,8 +26,8 @@ use Rattle.report_text.specs.declared.report.Answer.{Answer}
 use Rattle.report_text.specs.declared.report.Answer.TheVariants.{Feasible, Infeasible, Irreducible, Done, Stopped}
 use Rattle.report_text.specs.declared.report.Entry.{Entry}
 use Rattle.report_text.specs.declared.report.Report.{Report}
-use Rattle.report_reader.specs.declared.phrases.Phrase.{Phrase}
-use Rattle.report_reader.specs.declared.phrases.StopPhrase.{StopPhrase}
+use Rattle.report_text.specs.declared.phrases.Phrase.{Phrase}
+use Rattle.report_text.specs.declared.phrases.StopPhrase.{StopPhrase}
 use Rattle.report_reader.specs.declared.drafts.Found.{Found}
 use Rattle.report_reader.specs.declared.drafts.Question.{Question}
 use Rattle.report_reader.specs.declared.drafts.StopCause.{StopCause}
@@ -39,8 +37,8 @@ use Rattle.report_reader.specs.declared.drafts.Next.{Next}
 use Rattle.report_reader.specs.declared.drafts.Stage.{Stage}
 use Rattle.report_reader.specs.declared.drafts.Draft.{Draft}
 use Rattle.lp_model.specs.MemberSets.{SetValue, empty_set}
-use Rattle.report_text.specs.Grammar.{left_out}
-use Rattle.certs.specs.Order.{share_before}
+use Rattle.report_text.specs.Grammar.{left_out, value_phrases, point_phrases, node_phrases, proof_phrases, witness_phrases, without_phrase, site_phrases, answer_front, answer_end, entry_phrases, entries_phrases, report_phrases}
+use Rattle.certs.specs.Order.{source_before}
 use Rattle.report_text.specs.Form.{IsListed, IsOneLeaf, IsPointFor, IsSettleSite, IsStopFor, IsAnswerFor, IsEntryFor, AreEntriesFor, AreNumbered, IsReportFor, can_answer}
 use Rattle.report_reader.specs.Drafts.{filled, point_of, leaf_of, set_of, only_if, with_value, with_next, witnessed_with, site_without, stop_begun, stop_with, extended, placed, advanced, nothing_read}
 use Rattle.report_reader.proofs.LeftOut.{left_in_order, left_active, set_twice}
@@ -248,7 +246,7 @@ leaf_read model c part found proof h e =
     ∙ grown_step model c part (Part.Proof found) Phrase.Proof (Phrase.Leaf ∷ (map Phrase.Use shares ++ [])) e
     ∙ grown_step model c (Part.Proof found) (Part.Leaf found []) Phrase.Leaf (map Phrase.Use shares ++ []) refl
     ∙ ap (grown model c (Part.Leaf found [])) (append-nil (map Phrase.Use shares))
-    ∙ list_read model c (λ s. true) (λ s t. share_before s.source s.side t.source t.side) (λ ss. Part.Leaf found ss) Phrase.Use (λ ss s. refl) [] shares h.uses.in_order (λ k d l. refl)
+    ∙ list_read model c (λ s. true) (λ s t. source_before s.source t.source) (λ ss. Part.Leaf found ss) Phrase.Use (λ ss s. refl) [] shares h.uses.in_order (λ k d l. refl)
 
 -- the proof that stands there
 same_proof : (model : Program) (proof : Proof) (h : IsOneLeaf model proof) → leaf_of h.combo.shares ≡ proof
@@ -392,7 +390,7 @@ module _ (model : Program) where
       let next = n + length (entry_phrases model e) in
       run_append model n (between notes entries) (between notes (entries ++ e ∷ [])) (entry_phrases model e) (entries_phrases model behind more)
       (subst (λ l. run model l (between notes entries) (entry_phrases model e) ≡ Some (between notes (entries ++ e ∷ []))) numbered.0 (entry_read notes entries e first))
-      ∙ entries_read behind next notes (entries ++ e ∷ []) more h.1 (subst (λ k. AreNumbered model behind (n + k) more) (ap length (entry_spelled model e first) ∙ length-map (entry_phrases model e) (phrase_line model)) numbered.1)
+      ∙ entries_read behind next notes (entries ++ e ∷ []) more h.1 numbered.1
       ∙ ap (λ l. Some (between notes l)) (append_assoc entries (e ∷ []) more)
 
   notes_read : (n : ℕ) (notes more : List Note) → run model n (between notes []) (map Phrase.Note more) ≡ Some (between (notes ++ more) [])

@@ -26,12 +26,12 @@ use Rattle.report_text.specs.declared.report.Command.TheVariants.{Check, Iis, Pi
 use Rattle.report_text.specs.declared.report.Method.{Method}
 use Rattle.report_text.specs.declared.report.Method.TheVariants.{Deletion, Additive, Sensitivity}
 use Rattle.report_text.specs.Form.{most_pivots, IsCommand}
-use Rattle.report_text.specs.Grammar.{method_word, command_text}
+use Rattle.report_text.specs.Grammar.{method_word, command_words, command_text}
 use Rattle.lp_model.specs.Program.{Program}
-use Rattle.report_reader.specs.declared.phrases.Keyword.{Keyword}
-use Rattle.report_reader.specs.declared.phrases.Phrase.{Phrase}
-use Rattle.report_reader.specs.declared.phrases.StopPhrase.{StopPhrase}
-use Rattle.report_reader.specs.Commands.{command_words, is_numeral, pivots_of, lone_command, method_of, iis_command, budget_command, command_said, unless_fault, command_of}
+use Rattle.report_text.specs.declared.phrases.Keyword.{Keyword}
+use Rattle.report_text.specs.declared.phrases.Phrase.{Phrase}
+use Rattle.report_text.specs.declared.phrases.StopPhrase.{StopPhrase}
+use Rattle.report_reader.specs.Commands.{is_numeral, pivots_of, lone_command, method_of, iis_command, budget_command, command_said, unless_fault, command_of}
 use Rattle.report_reader.specs.Words.{Finds, IsSpelled, IsPlain}
 use Rattle.report_reader.proofs.Named.{told, told_if, found_spelled}
 

@@ -1,5 +1,5 @@
 -- The words of a line: each has shown bytes alone, so the parts of a line are its words, and those of a text its lines.
-use Rattle.std.proofs.Common.{◌≡◌, ◌≢◌, refl, sym, ap, subst, ◌∙◌, ℕ, suc, ◌+◌, ◌^◌, ◌<◌, ◌≤◌, ◌==◌, true, false, true≢false, List, [], ◌∷◌, ◌++◌, append_assoc, append-nil, arith, eqb-true, ltb-false, length}
+use Rattle.std.proofs.Common.{◌≡◌, ◌≢◌, refl, sym, ap, ◌∙◌, ℕ, suc, ◌+◌, ◌^◌, ◌<◌, ◌≤◌, ◌==◌, true, false, true≢false, List, [], ◌∷◌, ◌++◌, append_assoc, append-nil, arith, eqb-true, ltb-false, length}
 use Rattle.std.specs.Prelude.{All, map, count_by, codes, decimal, nat_lt, unsigned_abs}
 use Rattle.std.specs.List.{list_all, join_with_byte}
 use Rattle.std.proofs.lemmas.Bool.{and_parts, or_parts, cond_both, false_from_ne_true}
@@ -20,9 +20,7 @@ use Rattle.report_reader.specs.Parts.{parts}
 use Rattle.lp_model.specs.Program.{Program}
 use Rattle.lp_model.specs.declared.parts.Note.TheVariants.{LowerRemoved, LowerKept}
 use Rattle.lp_model.specs.declared.members.Member.{Member}
-use Rattle.lp_model.specs.declared.members.Member.TheVariants.{Row}
-use Rattle.lp_model.specs.declared.members.Side.{Side}
-use Rattle.lp_model.specs.declared.members.Side.TheVariants.{Lo, Up}
+use Rattle.lp_model.specs.declared.members.Member.TheVariants.{RowLo}
 use Rattle.certs.specs.declared.evidence.Source.{Source}
 use Rattle.certs.specs.declared.evidence.Source.TheVariants.{Member as Of, Below, Above}
 use Rattle.certs.specs.declared.solving.SiteKind.{SiteKind}
@@ -32,14 +30,14 @@ use Rattle.frac128.specs.declared.Op.TheVariants.{Plus}
 use Rattle.report_text.specs.declared.report.Command.TheVariants.{Check, Iis, Pivots}
 use Rattle.report_text.specs.declared.report.Method.TheVariants.{Deletion}
 use Rattle.report_text.specs.declared.report.Report.{Report}
-use Rattle.report_reader.specs.declared.phrases.Keyword.{Keyword}
-use Rattle.report_reader.specs.declared.phrases.Phrase.{Phrase}
-use Rattle.report_reader.specs.declared.phrases.StopPhrase.{StopPhrase}
+use Rattle.report_text.specs.declared.phrases.Keyword.{Keyword}
+use Rattle.report_text.specs.declared.phrases.Phrase.{Phrase}
+use Rattle.report_text.specs.declared.phrases.StopPhrase.{StopPhrase}
 use Rattle.report_text.specs.Form.{is_word, IsNamedSource}
-use Rattle.report_text.specs.Grammar.{Line, ◌then◌, text_of, column_name, name_of, kind_word, side_word, method_word, site_word, op_word, report_lines}
+use Rattle.report_text.specs.Grammar.{Line, ◌then◌, text_of, column_name, name_of, kind_word, source_word, source_name, method_word, site_word, op_word, report_lines, keyword_text, keyword_of, stop_details, details, spelled, phrase_line, report_phrases}
 use Rattle.report_reader.specs.Reading.{Reads}
-use Rattle.report_reader.specs.Phrases.{keyword_text, keyword_of, source_words, stop_details, details, spelled, phrase_line, IsStopPhrase, IsPhraseFor, Says}
-use Rattle.report_reader.proofs.Said.{report_phrases, report_spelled, report_for}
+use Rattle.report_reader.specs.Phrases.{IsStopPhrase, IsPhraseFor, Says}
+use Rattle.report_reader.proofs.Said.{report_for}
 
 -- a text has a part
 pub some_parts : (mark : ℕ) (text : List ℕ) → parts mark text ≢ []
@@ -114,12 +112,14 @@ op_shown op = plain (op_word op) refl
 
 module _ (model : Program) where
   kind_shown : (m : Member) → Shown (kind_word m)
-  kind_shown (Row i) = plain (codes "row") refl
+  kind_shown (RowLo i) = plain (codes "rowlo") refl
   kind_shown m = plain (kind_word m) refl
 
   stop_shown : (s : StopPhrase) → IsStopPhrase model s → All Shown (stop_details model s)
   stop_shown StopPhrase.Wide h = and_shown (codes "wide") [] (plain (codes "wide") refl) none_shown
   stop_shown StopPhrase.Spent h = and_shown (codes "spent") [] (plain (codes "spent") refl) none_shown
+  stop_shown StopPhrase.Nodes h = absurd h
+  stop_shown (StopPhrase.Large size) h = absurd h
   stop_shown (StopPhrase.Site kind) h = and_shown (site_word kind) [] (site_shown kind) none_shown
   stop_shown (StopPhrase.Without m) h = and_shown (kind_word m) (name_of model m ∷ []) (kind_shown m) (and_shown (name_of model m) [] (word_shown (name_of model m) h.word) none_shown)
   stop_shown (StopPhrase.Step k) h = and_shown (decimal k) [] (count_shown k h) none_shown
@@ -127,22 +127,17 @@ module _ (model : Program) where
       and_shown (op_word o.op) (printed o.left ∷ printed o.right ∷ []) (op_shown o.op)
       (and_shown (printed o.left) (printed o.right ∷ []) (printed_shown o.left h.left) (and_shown (printed o.right) [] (printed_shown o.right h.right) none_shown))
 
-  side_shown : (side : Side) → Shown (side_word side)
-  side_shown Lo = plain (codes "lo") refl
-  side_shown Up = plain (codes "up") refl
-
-  source_shown : (source : Source) (side : Side) (w : List ℕ) → IsNamedSource model source side → Shown w → All Shown (source_words model source side (w ∷ []))
-  source_shown (Of m) side w h s =
-      and_shown (kind_word m) (name_of model m ∷ side_word side ∷ w ∷ []) (kind_shown m) (and_shown (name_of model m) (side_word side ∷ w ∷ []) (word_shown (name_of model m) h.word) (and_shown (side_word side) (w ∷ []) (side_shown side) (and_shown w [] s none_shown)))
-  source_shown (Below j) side w h s = and_shown (codes "below") (column_name model j ∷ w ∷ []) (plain (codes "below") refl) (and_shown (column_name model j) (w ∷ []) (word_shown (column_name model j) h.0.word) (and_shown w [] s none_shown))
-  source_shown (Above j) side w h s = and_shown (codes "above") (column_name model j ∷ w ∷ []) (plain (codes "above") refl) (and_shown (column_name model j) (w ∷ []) (word_shown (column_name model j) h.0.word) (and_shown w [] s none_shown))
+  source_shown : (source : Source) → IsNamedSource model source → Shown (source_word source) × Shown (source_name model source)
+  source_shown (Of m) h = (kind_shown m, word_shown (name_of model m) h.word)
+  source_shown (Below j) h = (plain (codes "below") refl, word_shown (column_name model j) h.word)
+  source_shown (Above j) h = (plain (codes "above") refl, word_shown (column_name model j) h.word)
 
   two_shown : (a b : List ℕ) → Shown a → Shown b → All Shown (a ∷ b ∷ [])
   two_shown a b h k = and_shown a (b ∷ []) h (and_shown b [] k none_shown)
 
   -- the words of a phrase that names words of the program and numbers that fit
   details_shown : (p : Phrase) → IsPhraseFor model p → All Shown (details model p)
-  details_shown Phrase.Head h = two_shown (codes "report") (codes "1") (plain (codes "report") refl) (plain (codes "1") refl)
+  details_shown Phrase.Head h = two_shown (codes "report") (codes "2") (plain (codes "report") refl) (plain (codes "2") refl)
   details_shown (Phrase.Note (LowerRemoved j)) h = and_shown (column_name model j) (codes "lower" ∷ codes "removed" ∷ []) (word_shown (column_name model j) h.word) (two_shown (codes "lower") (codes "removed") (plain (codes "lower") refl) (plain (codes "removed") refl))
   details_shown (Phrase.Note (LowerKept j)) h = and_shown (column_name model j) (codes "lower" ∷ codes "kept" ∷ []) (word_shown (column_name model j) h.word) (two_shown (codes "lower") (codes "kept") (plain (codes "lower") refl) (plain (codes "kept") refl))
   details_shown (Phrase.Command Check) h = and_shown (codes "check") [] (plain (codes "check") refl) none_shown
@@ -152,7 +147,10 @@ module _ (model : Program) where
   details_shown (Phrase.Stop s) h = stop_shown s h
   details_shown (Phrase.Value j v) h = two_shown (column_name model j) (printed v) (word_shown (column_name model j) h.0.word) (printed_shown v h.1.0)
   details_shown (Phrase.Member m) h = two_shown (kind_word m) (name_of model m) (kind_shown m) (word_shown (name_of model m) h.word)
-  details_shown (Phrase.Use s) h = source_shown s.source s.side (printed s.weight) h.named (printed_shown s.weight h.fits)
+  details_shown (Phrase.Use s) h =
+      let source = source_shown s.source h.named in
+      and_shown (source_word s.source) (source_name model s.source ∷ printed s.weight ∷ []) source.0 (two_shown (source_name model s.source) (printed s.weight) source.1 (printed_shown s.weight h.fits))
+  details_shown (Phrase.Split j k) h = absurd h
   details_shown Phrase.Foot h = and_shown (codes "end") [] (plain (codes "end") refl) none_shown
   details_shown p h = none_shown
 
@@ -208,4 +206,4 @@ text_of_parts bytes lines e = sym (join_with_byte-slice_split 10 bytes) ∙ ap (
 pub parts_of_read : (model : Program) (bytes : List ℕ) (report : Report) → Reads model bytes report → parts 10 bytes ≡ report_lines model report ++ [] ∷ []
 parts_of_read model bytes report h =
     ap (parts 10) h.text
-    ∙ parts_of_text (report_lines model report) (subst (All (Without 10)) (sym (report_spelled model report h.form)) (lines_no_mark model (report_phrases model report) (report_for model report h.form)))
+    ∙ parts_of_text (report_lines model report) (lines_no_mark model (report_phrases model report) (report_for model report h.form))

@@ -1,5 +1,5 @@
 -- What a line of a script says.
-use Rattle.std.specs.Prelude.{◌≡◌, ℕ, ◌<◌, ◌&&◌, nat_lt, nat_le, Bool, true, cond, List, [], ◌∷◌, length, codes, decimal, Option, Some, None, option_map, find}
+use Rattle.std.specs.Prelude.{◌≡◌, ℕ, ◌<◌, ◌&&◌, nat_lt, nat_le, Bool, true, cond, List, [], ◌∷◌, length, codes, Option, Some, None, option_map, find}
 use Rattle.std.specs.List.{list_all, list_any}
 use Rattle.std.specs.Str.{bytes_eq}
 use Rattle.lane_scan.specs.Bytes.{is_foreign}
@@ -16,12 +16,6 @@ use Rattle.report_reader.specs.declared.commands.CommandStop.{CommandStop}
 use Rattle.report_reader.specs.declared.commands.CommandStop.TheVariants.{Bad, Memory}
 use Rattle.report_text.specs.Grammar.{method_word, command_text}
 use Rattle.report_text.specs.Form.{most_pivots, IsCommand}
-
--- the words of a command
-abbrev pub command_words : Command → List (List ℕ)
-command_words Check = codes "check" ∷ []
-command_words (Iis method) = codes "iis" ∷ method_word method ∷ []
-command_words (Pivots n) = codes "budget" ∷ codes "pivots" ∷ decimal n ∷ []
 
 -- ---- the words that are a command
 -- one digit or more

@@ -19,8 +19,8 @@ use Rattle.report_text.specs.declared.report.Command.{Command}
 use Rattle.report_text.specs.declared.report.Command.TheVariants.{Check, Iis, Pivots}
 use Rattle.report_text.specs.declared.report.Answer.{Answer}
 use Rattle.report_text.specs.declared.report.Entry.{Entry}
-use Rattle.report_reader.specs.declared.phrases.Phrase.{Phrase}
-use Rattle.report_reader.specs.declared.phrases.StopPhrase.{StopPhrase}
+use Rattle.report_text.specs.declared.phrases.Phrase.{Phrase}
+use Rattle.report_text.specs.declared.phrases.StopPhrase.{StopPhrase}
 use Rattle.report_reader.specs.declared.drafts.Found.{Found}
 use Rattle.report_reader.specs.declared.drafts.Question.{Question}
 use Rattle.report_reader.specs.declared.drafts.StopCause.{StopCause}
@@ -34,8 +34,8 @@ use Rattle.report_reader.specs.declared.reader.ReportStop.{ReportStop}
 use Rattle.report_reader.specs.declared.reader.ReportStop.TheVariants.{BadLine, Truncated, Memory}
 use Rattle.report_reader.specs.Phrases.{Says}
 use Rattle.report_text.specs.Turns.{after, entry_commands}
-use Rattle.report_text.specs.Grammar.{Line, column_name, left_out, entries_lines}
-use Rattle.certs.specs.Order.{share_before}
+use Rattle.report_text.specs.Grammar.{Line, column_name, left_out, entries_phrases}
+use Rattle.certs.specs.Order.{source_before}
 use Rattle.report_text.specs.Form.{is_word, IsNamedColumn, IsNamedMember, IsWithinLimit, IsPointFor, AreEntriesFor, IsCommand, IsCount, IsOperation, AreUses, AreNumbered}
 
 -- values with zeros behind them, up to so many
@@ -85,7 +85,7 @@ with_member members m = with_next (λ n. true) comes_before members m
 
 -- shares
 abbrev pub with_share : List Share → Share → Option (List Share)
-with_share shares s = with_next (λ t. true) (λ t u. share_before t.source t.side u.source u.side) shares s
+with_share shares s = with_next (λ t. true) (λ t u. source_before t.source u.source) shares s
 
 -- active members that are left out
 abbrev pub with_left_out : Program → List Member → Member → Option (List Member)
@@ -264,7 +264,7 @@ IsStageFor model notes entries Stage.Start = (notes ≡ []) × (entries ≡ [])
 IsStageFor model notes entries Stage.Between = ⊤
 IsStageFor model notes entries Stage.Done = ⊤
 IsStageFor model notes entries (Stage.Answering question part) =
-    (question.line ≡ 2 + (length notes + length (entries_lines model [] entries))) × (IsCommand question.command × IsPartFor (after model (entry_commands entries)) question.command part)
+    (question.line ≡ 2 + (length notes + length (entries_phrases model [] entries))) × (IsCommand question.command × IsPartFor (after model (entry_commands entries)) question.command part)
 
 -- notes and entries as a report has them, and a part of one more
 pub record IsDraftFor (model : Program) (draft : Draft) : Type 0 where

@@ -2,7 +2,7 @@
 use Rattle.std.specs.Prelude.{◌≡◌, ℕ, ◌==◌, ◌<◌, List, [], ◌∷◌, length}
 use Rattle.std.specs.List.{slice_split}
 use Rattle.report_reader.specs.declared.parts.Words.{Words}
-use Rattle.report_reader.specs.declared.parts.Words.TheVariants.{One, Two, Three, Four, More}
+use Rattle.report_reader.specs.declared.parts.Words.TheVariants.{One, Two, Three, More}
 
 -- what stands between the marks: one part more than there are marks
 abbrev pub parts : ℕ → List ℕ → List (List ℕ)
@@ -12,10 +12,9 @@ parts mark bytes = slice_split (λ b. b == mark) bytes
 abbrev pub words : List ℕ → List (List ℕ)
 words line = parts 32 line
 
--- at most four words, or that there are more
+-- at most three words, or that there are more
 abbrev pub AreWords : Words → List (List ℕ) → Type 0
 AreWords (One a) ws = ws ≡ a.now ∷ []
 AreWords (Two a b) ws = ws ≡ a.now ∷ b.now ∷ []
 AreWords (Three a b c) ws = ws ≡ a.now ∷ b.now ∷ c.now ∷ []
-AreWords (Four a b c d) ws = ws ≡ a.now ∷ b.now ∷ c.now ∷ d.now ∷ []
-AreWords More ws = 4 < length ws
+AreWords More ws = 3 < length ws

@@ -1,16 +1,16 @@
 -- What a word says, if it says something: the first of a list that is spelled so.
 use Rattle.std.specs.Prelude.{◌≡◌, ⊤, ℕ, List, [], ◌∷◌, Option, Some, find, IfSome, decimal}
 use Rattle.std.specs.Str.{bytes_eq}
-use Rattle.report_reader.specs.declared.phrases.Keyword.{Keyword}
-use Rattle.report_reader.specs.declared.phrases.Phrase.{Phrase}
+use Rattle.report_text.specs.declared.phrases.Keyword.{Keyword}
+use Rattle.report_text.specs.declared.phrases.Phrase.{Phrase}
 use Rattle.rational.specs.Rational.{ℚ}
 use Rattle.frac128.specs.Printed.{printed}
-use Rattle.lp_model.specs.Program.{Program}
+use Rattle.lp_model.specs.Program.{Program, row_at}
 use Rattle.lp_model.specs.declared.members.Member.{Member}
-use Rattle.lp_model.specs.declared.members.Side.{Side}
-use Rattle.report_text.specs.Grammar.{column_name, name_of, kind_word, side_word}
-use Rattle.report_text.specs.Form.{IsNamedColumn, IsNamedMember, IsWithinLimit, IsCount}
-use Rattle.report_reader.specs.Phrases.{keyword_text, keyword_of, details, IsPhraseFor}
+use Rattle.certs.specs.declared.evidence.Source.{Source}
+use Rattle.report_text.specs.Grammar.{column_name, name_of, kind_word, source_word, source_name, keyword_text, keyword_of, details}
+use Rattle.report_text.specs.Form.{IsNamedRow, IsNamedColumn, IsNamedMember, IsNamedSource, IsWithinLimit, IsCount}
+use Rattle.report_reader.specs.Phrases.{IsPhraseFor}
 
 -- the phrases of one word
 abbrev pub lone_phrases : List Phrase
@@ -22,7 +22,7 @@ lone_said word = find (λ p. bytes_eq word (keyword_text (keyword_of p))) lone_p
 
 -- the keywords with words behind them
 abbrev pub leading_keywords : List Keyword
-leading_keywords = Keyword.Value ∷ Keyword.Use ∷ Keyword.Member ∷ Keyword.Command ∷ Keyword.Too ∷ Keyword.Pivots ∷ Keyword.Site ∷ Keyword.Without ∷ Keyword.Step ∷ Keyword.Operation ∷ Keyword.Note ∷ Keyword.Iisan ∷ Keyword.Report ∷ []
+leading_keywords = Keyword.Value ∷ Keyword.Use ∷ Keyword.Member ∷ Keyword.Command ∷ Keyword.Too ∷ Keyword.Pivots ∷ Keyword.Site ∷ Keyword.Without ∷ Keyword.Step ∷ Keyword.Operation ∷ Keyword.Note ∷ Keyword.Split ∷ Keyword.Nodes ∷ Keyword.Iisan ∷ Keyword.Report ∷ []
 
 -- the keyword among these that a word is
 abbrev pub leading_said : List ℕ → Option Keyword
@@ -46,6 +46,16 @@ pub record IsMemberSaid (model : Program) (word name : List ℕ) (m : Member) : 
   pub kind : word ≡ kind_word m
   pub called : name ≡ name_of model m
 
+-- the row has this name
+abbrev pub IsRowSaid : Program → List ℕ → ℕ → Type 0
+IsRowSaid model name i = IsNamedRow model i × (name ≡ (row_at model i).name)
+
+-- a share comes from what has this word and this name
+pub record IsSourceSaid (model : Program) (word name : List ℕ) (source : Source) : Type 0 where
+  pub named : IsNamedSource model source
+  pub kind : word ≡ source_word source
+  pub called : name ≡ source_name model source
+
 -- the column has this name
 abbrev pub IsColumnSaid : Program → List ℕ → ℕ → Type 0
 IsColumnSaid model name j = IsNamedColumn model j × (name ≡ column_name model j)
@@ -62,7 +72,3 @@ IsCountSaid text n = IsCount n × (text ≡ decimal n)
 abbrev pub IsPlain : List (List ℕ) → Type 0
 IsPlain (first ∷ second ∷ number ∷ []) = (n : ℕ) × IsCountSaid number n
 IsPlain words = ⊤
-
--- the side is spelled so
-abbrev pub IsSideSaid : List ℕ → Side → Type 0
-IsSideSaid word side = word ≡ side_word side

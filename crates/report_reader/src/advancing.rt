@@ -6,9 +6,8 @@ ghost use Rattle.report_reader.specs.Drafts.{between as between_drafts, placed, 
 
 use crate::drafts::{Draft, Next, Part, Question, Stage};
 use crate::following::follow;
-use crate::phrases::Phrase;
 use lp_model::{Model, Note};
-use report_text::{Answer, Entries, Entry, Notes};
+use report_text::{Answer, Entries, Entry, Notes, Phrase};
 use std::alloc::{AllocError, Global};
 
 /// Nothing read.

@@ -8,7 +8,7 @@ ghost use Rattle.report_text.specs.Form.{IsNamedMember};
 ghost use Rattle.report_reader.specs.Drafts.{filled, point_of, leaf_of, set_of, answer_of, with_value, with_member, with_share, with_left_out, site_without, IsFound, AreLeftOut};
 
 use crate::drafts::{Found, Members};
-use crate::ordering::{member_follows, share_follows};
+use crate::ordering::{member_follows, source_follows};
 use certs::{Combo, Node, Nodes, Path, Point, Proof, Share, Shares, Site, SiteKind, Values};
 use frac128::Frac;
 use lp_model::{Member, MemberSet, Model};
@@ -88,7 +88,7 @@ pub(crate) fn add_share(shares: Shares, share: Share) -> Result<Option<Shares>, 
     requires { AreSharesInOrder shares }
     ensures { IfOk result (λ s. s ≡ with_share shares share) }
 {
-    if !share_follows(shares.as_slice(), share.source, share.side) {
+    if !source_follows(shares.as_slice(), share.source) {
         return Ok(None);
     }
     let mut items = shares.into_vec();

@@ -115,7 +115,6 @@ pub(crate) fn command_in(words: Words<'_>) -> Option<Command>
         Words::One(word) => read_lone(word),
         Words::Two(first, second) => read_search(first, second),
         Words::Three(first, second, third) => read_budget(first, second, third),
-        Words::Four(_, _, _, _) => None,
         Words::More => None,
     }
 }

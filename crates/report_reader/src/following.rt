@@ -11,11 +11,10 @@ ghost use Rattle.report_text.specs.declared.report.Command.TheVariants.{Check, I
 use crate::building::{add_member, add_share, add_value, make_answer, make_point};
 use crate::drafts::{Found, Members, Next, Part};
 use crate::ordering::member_follows;
-use crate::phrases::Phrase;
 use crate::stopping::{begin_stop, follow_stop};
 use certs::{Shares, Values};
 use lp_model::{Member, Model};
-use report_text::{Answer, Command, Witnesses};
+use report_text::{Answer, Command, Phrase, Witnesses};
 use std::alloc::{AllocError, Global};
 
 // What may follow `command check`.

@@ -2,7 +2,7 @@
 ghost use Rattle.std.specs.Prelude.{◌≡◌};
 ghost use Rattle.report_reader.specs.Words.{lone_said, leading_said};
 
-use crate::phrases::{Keyword, Phrase};
+use report_text::{Keyword, Phrase};
 
 /// What a line of one word says.
 pub(crate) fn lone_phrase(word: &[u8]) -> Option<Phrase>
@@ -37,6 +37,8 @@ pub(crate) fn leading_keyword(word: &[u8]) -> Option<Keyword>
         _ if word == b"step".as_slice() => Some(Keyword::Step),
         _ if word == b"operation".as_slice() => Some(Keyword::Operation),
         _ if word == b"note".as_slice() => Some(Keyword::Note),
+        _ if word == b"split".as_slice() => Some(Keyword::Split),
+        _ if word == b"nodes".as_slice() => Some(Keyword::Nodes),
         _ if word == b"iisan".as_slice() => Some(Keyword::Iisan),
         _ if word == b"report".as_slice() => Some(Keyword::Report),
         _ => None,

@@ -8,15 +8,15 @@ ghost use Rattle.report_reader.specs.Words.{Finds, IsSpelled, IsFractionSaid, Is
 
 use crate::commands::command_in;
 use crate::keywords::{leading_keyword, lone_phrase};
-use crate::naming::{column_of, count_of, fraction_of, member_of, side_of};
+use crate::naming::{column_of, count_of, fraction_of, member_of, source_of};
 use crate::parts::{Words, cut, split_words};
-use crate::phrases::{Keyword, Phrase};
 use crate::stop_words::{
     read_operation, read_pivots, read_site, read_step, read_too, read_without,
 };
-use certs::{Share, Source};
+use certs::Share;
 use frac128::Frac;
-use lp_model::{Model, Note, Side};
+use lp_model::{Model, Note};
+use report_text::{Keyword, Phrase};
 
 // `report end`.
 fn read_foot(word: &[u8]) -> Option<Phrase>
@@ -53,11 +53,11 @@ fn read_one(keyword: Keyword, word: &[u8]) -> Option<Phrase>
     }
 }
 
-// `iisan report 1`.
+// `iisan report 2`.
 fn read_head(first: &[u8], second: &[u8]) -> Option<Phrase>
     ensures { (model : Program) → Finds (IsSpelled model Keyword.Iisan (first.now ∷ second.now ∷ [])) result }
 {
-    if first == b"report".as_slice() && second == b"1".as_slice() {
+    if first == b"report".as_slice() && second == b"2".as_slice() {
         return Some(Phrase::Head);
     }
     None
@@ -124,27 +124,13 @@ fn weight_of(text: &[u8]) -> Option<Frac>
     None
 }
 
-// A share of the branches on a column.
-fn read_branch(model: &Model, which: &[u8], name: &[u8], number: &[u8]) -> Option<Phrase>
-    ensures { Finds (IsSpelled model.now Keyword.Use (which.now ∷ name.now ∷ number.now ∷ [])) result }
+// A share: where it comes from, and its weight.
+fn read_use(model: &Model, word: &[u8], name: &[u8], number: &[u8]) -> Option<Phrase>
+    ensures { Finds (IsSpelled model.now Keyword.Use (word.now ∷ name.now ∷ number.now ∷ [])) result }
 {
-    let column = column_of(model, name)?;
+    let source = source_of(model, word, name)?;
     let weight = weight_of(number)?;
-    if which == b"below".as_slice() {
-        return Some(Phrase::Use(Share {
-            source: Source::Below(column),
-            side: Side::Up,
-            weight,
-        }));
-    }
-    if which == b"above".as_slice() {
-        return Some(Phrase::Use(Share {
-            source: Source::Above(column),
-            side: Side::Lo,
-            weight,
-        }));
-    }
-    None
+    Some(Phrase::Use(Share { source, weight }))
 }
 
 // A command with a number, which is written as it is printed.
@@ -171,33 +157,9 @@ fn read_three(
         Keyword::Command => read_budget(first, second, third),
         Keyword::Note => read_note(model, first, second, third),
         Keyword::Operation => read_operation(first, second, third),
-        Keyword::Use => read_branch(model, first, second, third),
+        Keyword::Use => read_use(model, first, second, third),
         _ => None,
     }
-}
-
-// A share of a member: what four words say.
-fn read_share(
-    model: &Model,
-    keyword: Keyword,
-    kind: &[u8],
-    name: &[u8],
-    side: &[u8],
-    number: &[u8],
-) -> Option<Phrase>
-    ensures { Finds (IsSpelled model.now keyword (kind.now ∷ name.now ∷ side.now ∷ number.now ∷ [])) result }
-{
-    if keyword != Keyword::Use {
-        return None;
-    }
-    let member = member_of(model, kind, name)?;
-    let side = side_of(side)?;
-    let weight = weight_of(number)?;
-    Some(Phrase::Use(Share {
-        source: Source::Member(member),
-        side,
-        weight,
-    }))
 }
 
 // What words say behind a keyword.
@@ -208,9 +170,6 @@ fn read_details(model: &Model, keyword: Keyword, words: Words<'_>) -> Option<Phr
         Words::One(word) => read_one(keyword, word),
         Words::Two(first, second) => read_two(model, keyword, first, second),
         Words::Three(first, second, third) => read_three(model, keyword, first, second, third),
-        Words::Four(kind, name, side, number) => {
-            read_share(model, keyword, kind, name, side, number)
-        }
         Words::More => None,
     }
 }

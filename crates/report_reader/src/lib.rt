@@ -12,7 +12,6 @@ mod lexing;
 mod naming;
 mod ordering;
 mod parts;
-mod phrases;
 mod reader;
 mod stop_words;
 mod stopping;

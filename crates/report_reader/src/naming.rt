@@ -1,13 +1,14 @@
-//! Names, sides, fractions and counts of single words.
-ghost use Rattle.std.specs.Prelude.{◌≡◌, ◌<◌, ◌^◌, ℕ, Some, codes, decimal};
+//! Names, fractions and counts of single words.
+ghost use Rattle.std.specs.Prelude.{◌≡◌, ◌<◌, ◌^◌, ℕ, Some, decimal};
 ghost use Rattle.std.specs.List.{list_all};
 ghost use Rattle.report_text.specs.Names.{is_shown};
 ghost use Rattle.report_text.specs.Form.{is_word};
-ghost use Rattle.report_reader.specs.Words.{Finds, IsColumnSaid, IsCountSaid, IsMemberSaid, IsFractionSaid, IsSideSaid};
+ghost use Rattle.report_reader.specs.Words.{Finds, IsColumnSaid, IsCountSaid, IsMemberSaid, IsFractionSaid, IsRowSaid, IsSourceSaid};
 
+use certs::Source;
 use frac128::{Exact, Frac, read_fraction};
 use itoa::Buffer;
-use lp_model::{Member, Model, Side};
+use lp_model::{Member, Model};
 
 // Whether each byte may stand in a name.
 fn all_shown(word: &[u8]) -> bool
@@ -40,7 +41,7 @@ pub(crate) fn column_of(model: &Model, name: &[u8]) -> Option<u32>
 
 // The row with the name, where the name is a word.
 fn row_of(model: &Model, name: &[u8]) -> Option<u32>
-    ensures { Finds (λ i. IsMemberSaid model.now (codes "row") name.now (Member.Row i)) result }
+    ensures { Finds (IsRowSaid model.now name.now) result }
 {
     let _rows = model.row_count();
     if !is_plain(name) {
@@ -56,9 +57,11 @@ fn row_of(model: &Model, name: &[u8]) -> Option<u32>
 pub(crate) fn member_of(model: &Model, kind: &[u8], name: &[u8]) -> Option<Member>
     ensures { Finds (IsMemberSaid model.now kind.now name.now) result }
 {
-    if kind == b"row".as_slice() {
-        let row = row_of(model, name)?;
-        return Some(Member::Row(row));
+    if kind == b"rowlo".as_slice() {
+        return Some(Member::RowLo(row_of(model, name)?));
+    }
+    if kind == b"rowup".as_slice() {
+        return Some(Member::RowUp(row_of(model, name)?));
     }
     let column = column_of(model, name)?;
     if kind == b"lower".as_slice() {
@@ -73,15 +76,17 @@ pub(crate) fn member_of(model: &Model, kind: &[u8], name: &[u8]) -> Option<Membe
     None
 }
 
-/// The side that a word is.
-pub(crate) fn side_of(word: &[u8]) -> Option<Side>
-    ensures { Finds (IsSideSaid word.now) result }
+/// Where a share comes from: the branches on the column, or the member, with the name, where the name is a word.
+pub(crate) fn source_of(model: &Model, word: &[u8], name: &[u8]) -> Option<Source>
+    ensures { Finds (IsSourceSaid model.now word.now name.now) result }
 {
-    match word {
-        _ if word == b"lo".as_slice() => Some(Side::Lo),
-        _ if word == b"up".as_slice() => Some(Side::Up),
-        _ => None,
+    if word == b"below".as_slice() {
+        return Some(Source::Below(column_of(model, name)?));
     }
+    if word == b"above".as_slice() {
+        return Some(Source::Above(column_of(model, name)?));
+    }
+    Some(Source::Member(member_of(model, word, name)?))
 }
 
 /// The fraction that is printed so.

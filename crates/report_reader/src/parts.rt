@@ -2,13 +2,12 @@
 ghost use Rattle.std.specs.Prelude.{◌≡◌, ◌<◌, ◌==◌, List, [], ◌∷◌, MatchOption, IfSome, length, position};
 ghost use Rattle.report_reader.specs.Parts.{parts, AreWords};
 
-/// At most four words, or that there are more.
+/// At most three words, or that there are more.
 #[derive(Clone, Copy)]
 pub(crate) enum Words<'a> {
     One(&'a [u8]),
     Two(&'a [u8], &'a [u8]),
     Three(&'a [u8], &'a [u8], &'a [u8]),
-    Four(&'a [u8], &'a [u8], &'a [u8], &'a [u8]),
     More,
 }
 
@@ -41,11 +40,8 @@ pub(crate) fn split_words(line: &[u8]) -> Words<'_>
     let Some((second, rest)) = cut(rest, b' ') else {
         return Words::Two(first, rest);
     };
-    let Some((third, rest)) = cut(rest, b' ') else {
-        return Words::Three(first, second, rest);
-    };
     let Some((_, _)) = cut(rest, b' ') else {
-        return Words::Four(first, second, third, rest);
+        return Words::Three(first, second, rest);
     };
     Words::More
 }

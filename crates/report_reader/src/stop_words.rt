@@ -5,10 +5,10 @@ ghost use Rattle.report_text.specs.Grammar.{op_word, site_word};
 ghost use Rattle.report_reader.specs.Words.{Finds, IsSpelled};
 
 use crate::naming::{count_of, fraction_of, member_of};
-use crate::phrases::{Keyword, Phrase, StopPhrase};
 use certs::SiteKind;
 use frac128::{Op, Wide};
 use lp_model::Model;
+use report_text::{Keyword, Phrase, StopPhrase};
 
 // The kind of a site.
 fn kind_of(word: &[u8]) -> Option<SiteKind>

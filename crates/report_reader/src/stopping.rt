@@ -6,11 +6,10 @@ ghost use Rattle.report_reader.specs.Drafts.{stop_begun, stop_with, AreLeftOut, 
 
 use crate::building::{add_left_out, make_site};
 use crate::drafts::{Members, Next, Part, StopCause, StopPart};
-use crate::phrases::{Phrase, StopPhrase};
 use certs::{SiteKind, Stop};
 use frac128::Wide;
 use lp_model::Model;
-use report_text::Answer;
+use report_text::{Answer, Phrase, StopPhrase};
 use std::alloc::{AllocError, Global};
 
 /// The part that the first line of a stop is.

@@ -1,9 +1,10 @@
 //! The program that reports are read for.
 //!
-//! It has the columns x, y and z from 0 to 3, and the rows c1, x at most 1; c2, x at least 2; and c3, which is dropped.
+//! It has the columns x, y and z from 0 to 3, and the rows c1, x at most 1; c2, x at least 2; and c3, x at most 5, whose
+//! side is dropped.
 ghost use Rattle.std.specs.Prelude.{◌≡◌, ◌<◌, ℕ, List, IfOk};
-ghost use Rattle.lp_model.specs.Program.{IsForm, IsWellFormedColumn};
-ghost use Rattle.lp_model.specs.Shown.{named_column};
+ghost use Rattle.lp_model.specs.Program.{IsForm, IsWellFormedColumn, IsWellFormedRow};
+ghost use Rattle.lp_model.specs.Shown.{named_column, named_row};
 
 use frac128::Frac;
 use lp_model::{Column, Model, ModelStop, Note, Row, Term, Terms, Weight};
@@ -13,16 +14,7 @@ use std::alloc::{AllocError, Global};
 fn box_column() -> Column
     ensures { (name : List ℕ) → IsWellFormedColumn (named_column name result) }
 {
-    Column {
-        lo: Some(Frac::whole(0)),
-        up: Some(Frac::whole(3)),
-        whole: false,
-        lower_active: true,
-        upper_active: true,
-        whole_active: true,
-        lower_weight: Weight::Rigid,
-        upper_weight: Weight::Rigid,
-    }
+    Column::new(Some(Frac::whole(0)), Some(Frac::whole(3)), false)
 }
 
 // Puts a column last.
@@ -42,36 +34,49 @@ fn form(alloc: Global) -> Result<Terms, AllocError>
     Ok(Terms::new(items))
 }
 
-// A row of these terms.
-fn row(terms: Terms, lo: Option<Frac>, up: Option<Frac>, active: bool) -> Row
-    ensures terms { result.terms ≡ terms }
-    ensures weight { result.weight ≡ Weight.Rigid }
+// The side of a row, which is kept or dropped.
+#[derive(Clone, Copy)]
+enum Limit {
+    AtLeast(Frac),
+    AtMost(Frac),
+    Dropped(Frac),
+}
+
+// A row of which the upper side is dropped.
+fn dropped_row(terms: Terms, up: Frac) -> Row
+    ensures { (n : ℕ) (name : List ℕ) → IsForm n terms → IsWellFormedRow n (named_row name result) }
 {
     Row {
         terms,
-        lo,
-        up,
-        active,
-        weight: Weight::Rigid,
+        lo: None,
+        up: Some(up),
+        lo_active: true,
+        up_active: false,
+        lo_weight: Weight::Soft(Frac::whole(1)),
+        up_weight: Weight::Rigid,
+    }
+}
+
+// A row of these terms with a side.
+fn row(terms: Terms, limit: Limit) -> Row
+    ensures { (n : ℕ) (name : List ℕ) → IsForm n terms → IsWellFormedRow n (named_row name result) }
+{
+    match limit {
+        Limit::AtLeast(lo) => Row::new(terms, Some(lo), None),
+        Limit::AtMost(up) => Row::new(terms, None, Some(up)),
+        Limit::Dropped(up) => dropped_row(terms, up),
     }
 }
 
 // Puts a row of x last.
-fn add_row(
-    model: &mut Model,
-    alloc: Global,
-    name: &[u8],
-    lo: Option<Frac>,
-    up: Option<Frac>,
-) -> Result<u32, ModelStop> {
+fn add_row(model: &mut Model, alloc: Global, name: &[u8], limit: Limit) -> Result<u32, ModelStop> {
     if model.column_count() == 0 {
         return Err(ModelStop::Limit);
     }
     let Ok(terms) = form(alloc) else {
         return Err(ModelStop::Memory);
     };
-    let active = lo.is_some() || up.is_some();
-    model.add_row(alloc, name, row(terms, lo, up, active))
+    model.add_row(alloc, name, row(terms, limit))
 }
 
 // The program without notes.
@@ -80,9 +85,9 @@ fn plain_model(alloc: Global) -> Result<Model, ModelStop> {
     add_box(&mut model, alloc, b"x")?;
     add_box(&mut model, alloc, b"y")?;
     add_box(&mut model, alloc, b"z")?;
-    add_row(&mut model, alloc, b"c1", None, Some(Frac::whole(1)))?;
-    add_row(&mut model, alloc, b"c2", Some(Frac::whole(2)), None)?;
-    add_row(&mut model, alloc, b"c3", None, None)?;
+    add_row(&mut model, alloc, b"c1", Limit::AtMost(Frac::whole(1)))?;
+    add_row(&mut model, alloc, b"c2", Limit::AtLeast(Frac::whole(2)))?;
+    add_row(&mut model, alloc, b"c3", Limit::Dropped(Frac::whole(5)))?;
     Ok(model)
 }
 

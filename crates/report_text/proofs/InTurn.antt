@@ -5,7 +5,7 @@ use Rattle.lp_model.specs.Program.{Program}
 use Rattle.report_text.specs.declared.report.Command.{Command}
 use Rattle.report_text.specs.declared.report.Entry.{Entry}
 use Rattle.report_text.specs.Turns.{after, entry_commands, gathered, AllEntries}
-use Rattle.report_text.specs.Grammar.{entry_lines, entries_lines}
+use Rattle.report_text.specs.Grammar.{entry_phrases, entries_phrases}
 use Rattle.report_text.specs.Form.{AreNumbered}
 
 -- the commands before what stands behind one entry more
@@ -29,14 +29,14 @@ AllEntries-push Holds before [] e h k = (subst (λ (b : List Command). Holds b e
 AllEntries-push Holds before (x ∷ entries) e h k = (h.0, AllEntries-push Holds (before ++ x.command ∷ []) entries e h.1 (subst (λ (b : List Command). Holds b e) (sym (commands_on before x entries)) k))
 
 -- one entry more on the line after those before it
-pub numbered-push : (model : Program) (before : List Command) (n : ℕ) (entries : List Entry) (e : Entry) → AreNumbered model before n entries → e.line ≡ n + length (entries_lines model before entries) → AreNumbered model before n (entries ++ e ∷ [])
+pub numbered-push : (model : Program) (before : List Command) (n : ℕ) (entries : List Entry) (e : Entry) → AreNumbered model before n entries → e.line ≡ n + length (entries_phrases model before entries) → AreNumbered model before n (entries ++ e ∷ [])
 numbered-push model before n [] e h k = (k ∙ (omega arith), tt)
 numbered-push model before n (x ∷ entries) e h k =
     let next = before ++ x.command ∷ [] in
-    let lines = entry_lines (after model before) x in (
+    let lines = entry_phrases (after model before) x in (
       h.0,
       numbered-push model next (n + length lines) entries e h.1
-          (k ∙ ap (λ z. n + z) (length-append lines (entries_lines model next entries)) ∙ (let a = length lines in let b = length (entries_lines model next entries) in let z : n + (a + b) ≡ n + a + b = omega arith in z)),
+          (k ∙ ap (λ z. n + z) (length-append lines (entries_phrases model next entries)) ∙ (let a = length lines in let b = length (entries_phrases model next entries) in let z : n + (a + b) ≡ n + a + b = omega arith in z)),
     )
 
 -- ---- the entries from number i on

@@ -5,10 +5,8 @@ use Rattle.report_text.specs.Names.{is_shown}
 use Rattle.rational.specs.Rational.{ℚ, zero_ℚ, ◌<ℚ◌}
 use Rattle.frac128.specs.Limit.{limit}
 use Rattle.frac128.specs.Width.{is_too_wide}
-use Rattle.lp_model.specs.Program.{Program, noted_column}
+use Rattle.lp_model.specs.Program.{Program, row_at, noted_column}
 use Rattle.lp_model.specs.declared.members.Member.{Member}
-use Rattle.lp_model.specs.declared.members.Side.{Side}
-use Rattle.lp_model.specs.declared.members.Side.TheVariants.{Lo, Up}
 use Rattle.lp_model.specs.Members.{has, active_members, IsInOrder}
 use Rattle.lp_model.specs.MemberSets.{SetValue, IsMemberFor, empty_set}
 use Rattle.lp_model.specs.Satisfaction.{values_at}
@@ -34,7 +32,7 @@ use Rattle.report_text.specs.declared.report.Answer.TheVariants.{Feasible, Infea
 use Rattle.report_text.specs.declared.report.Entry.{Entry}
 use Rattle.report_text.specs.declared.report.Report.{Report}
 use Rattle.report_text.specs.Turns.{after, AllEntries}
-use Rattle.report_text.specs.Grammar.{column_name, name_of, left_out, entry_lines}
+use Rattle.report_text.specs.Grammar.{column_name, name_of, left_out, entry_phrases}
 
 -- ---- names
 -- a word: at least one byte, and each one that may stand in a name
@@ -45,6 +43,11 @@ is_word name = nat_lt 0 (length name) && list_all is_shown name
 pub record IsNamedColumn (model : Program) (j : ℕ) : Type 0 where
   pub known : j < length model.columns
   pub word : is_word (column_name model j) ≡ true
+
+-- a row that there is, whose name is a word
+pub record IsNamedRow (model : Program) (i : ℕ) : Type 0 where
+  pub known : i < length model.rows
+  pub word : is_word (row_at model i).name ≡ true
 
 -- a row or column that there is, whose name is a word; the member itself need not exist
 pub record IsNamedMember (model : Program) (m : Member) : Type 0 where
@@ -69,15 +72,15 @@ pub record IsPointFor (model : Program) (p : Point) : Type 0 where
   pub named : (j : ℕ) → values_at p.values j ≢ zero_ℚ → is_word (column_name model j) ≡ true
 
 -- ---- proofs
--- where a share comes from, on a side that the line tells: what is below bounds a column above, and what is above, below
-abbrev pub IsNamedSource : Program → Source → Side → Type 0
-IsNamedSource model (Of m) side = IsNamedMember model m
-IsNamedSource model (Below j) side = IsNamedColumn model j × (side ≡ Up)
-IsNamedSource model (Above j) side = IsNamedColumn model j × (side ≡ Lo)
+-- where a share comes from
+abbrev pub IsNamedSource : Program → Source → Type 0
+IsNamedSource model (Of m) = IsNamedMember model m
+IsNamedSource model (Below j) = IsNamedColumn model j
+IsNamedSource model (Above j) = IsNamedColumn model j
 
 -- a share with a weight above 0
 pub record IsUse (model : Program) (s : Share) : Type 0 where
-  pub named : IsNamedSource model s.source s.side
+  pub named : IsNamedSource model s.source
   pub positive : zero_ℚ <ℚ s.weight
   pub fits : IsWithinLimit s.weight
 
@@ -176,7 +179,7 @@ AreEntriesFor model before entries = AllEntries (λ front e. IsEntryFor (after m
 -- each entry has the number of its first line, where line number n is that of the first entry
 abbrev pub AreNumbered : Program → List Command → ℕ → List Entry → Type 0
 AreNumbered model before n [] = Unit {0}
-AreNumbered model before n (e ∷ entries) = (e.line ≡ n) × AreNumbered model (before ++ e.command ∷ []) (n + length (entry_lines (after model before) e)) entries
+AreNumbered model before n (e ∷ entries) = (e.line ≡ n) × AreNumbered model (before ++ e.command ∷ []) (n + length (entry_phrases (after model before) e)) entries
 
 -- a report in the grammar: before the first entry stand the head and the notes
 pub record IsReportFor (model : Program) (report : Report) : Type 0 where

@@ -1,4 +1,4 @@
--- The lines of a report, piece by piece. A line stands here without the byte 10 that ends it.
+-- What a report says, phrase by phrase. A phrase is one line, which stands here without the byte 10 that ends it.
 use Rattle.std.specs.Prelude.{ℕ, suc, ◌++◌, cond, not, List, [], ◌∷◌, map, flat_map, filter, zip, codes, decimal}
 use Rattle.std.specs.Fmt.{signed_decimal}
 use Rattle.frac128.specs.declared.Op.{Op}
@@ -15,10 +15,8 @@ use Rattle.lp_model.specs.declared.parts.Note.{Note}
 use Rattle.lp_model.specs.declared.parts.Note.TheVariants.{LowerRemoved, LowerKept}
 use Rattle.lp_model.specs.Program.{Program, row_at, column_at}
 use Rattle.lp_model.specs.declared.members.Member.{Member}
-use Rattle.lp_model.specs.declared.members.Member.TheVariants.{Row, Lower, Upper, Whole}
+use Rattle.lp_model.specs.declared.members.Member.TheVariants.{RowLo, RowUp, Lower, Upper, Whole}
 use Rattle.lp_model.specs.Members.{has, active_members}
-use Rattle.lp_model.specs.declared.members.Side.{Side}
-use Rattle.lp_model.specs.declared.members.Side.TheVariants.{Lo, Up}
 use Rattle.certs.specs.declared.evidence.Source.{Source}
 use Rattle.certs.specs.declared.evidence.Source.TheVariants.{Member as Of, Below, Above}
 use Rattle.certs.specs.declared.evidence.Share.{Share}
@@ -35,6 +33,9 @@ use Rattle.report_text.specs.declared.report.Answer.TheVariants.{Feasible, Infea
 use Rattle.report_text.specs.declared.report.Entry.{Entry}
 use Rattle.report_text.specs.declared.report.Report.{Report}
 use Rattle.report_text.specs.Turns.{after, gathered}
+use Rattle.report_text.specs.declared.phrases.Keyword.{Keyword}
+use Rattle.report_text.specs.declared.phrases.Phrase.{Phrase}
+use Rattle.report_text.specs.declared.phrases.StopPhrase.{StopPhrase}
 
 -- a line, as its bytes
 abbrev pub Line : Type 0
@@ -52,66 +53,33 @@ column_name model j = (column_at model j).name
 
 -- the name that a member goes by: its row's, or its column's
 abbrev pub name_of : Program → Member → List ℕ
-name_of model (Row i) = (row_at model i).name
+name_of model (RowLo i) = (row_at model i).name
+name_of model (RowUp i) = (row_at model i).name
 name_of model (Lower j) = column_name model j
 name_of model (Upper j) = column_name model j
 name_of model (Whole j) = column_name model j
 
 -- the word for a kind of member
 abbrev pub kind_word : Member → List ℕ
-kind_word (Row i) = codes "row"
+kind_word (RowLo i) = codes "rowlo"
+kind_word (RowUp i) = codes "rowup"
 kind_word (Lower j) = codes "lower"
 kind_word (Upper j) = codes "upper"
 kind_word (Whole j) = codes "whole"
 
--- a member: its kind and its name
-abbrev pub member_text : Program → Member → List ℕ
-member_text model m = kind_word m then name_of model m
+-- ---- words
+-- the word for where a share comes from: the kind of a member, or the branches below or above
+abbrev pub source_word : Source → List ℕ
+source_word (Of m) = kind_word m
+source_word (Below j) = codes "below"
+source_word (Above j) = codes "above"
 
--- the line of a member
-abbrev pub member_line : Program → Member → Line
-member_line model m = codes "member" then member_text model m
+-- the name that it goes by: its member's, or its column's
+abbrev pub source_name : Program → Source → List ℕ
+source_name model (Of m) = name_of model m
+source_name model (Below j) = column_name model j
+source_name model (Above j) = column_name model j
 
--- ---- points
--- the line of a column's value
-abbrev pub value_line : Program → ℕ → ℚ → Line
-value_line model j v = codes "value" then column_name model j then printed v
-
--- the lines of values, of which the first is that of column j: one for each that is not 0
-abbrev pub value_lines : Program → ℕ → List ℚ → List Line
-value_lines model j [] = []
-value_lines model j (v ∷ vs) = cond (eq_ℚ v zero_ℚ) (value_lines model (suc j) vs) (value_line model j v ∷ value_lines model (suc j) vs)
-
--- the lines of a point
-abbrev pub point_lines : Program → Point → List Line
-point_lines model p = codes "point" ∷ value_lines model 0 p.values
-
--- ---- proofs
--- the word for a side
-abbrev pub side_word : Side → List ℕ
-side_word Lo = codes "lo"
-side_word Up = codes "up"
-
--- where a share comes from: a member and its side, or the branches on a column, which have one side
-abbrev pub source_text : Program → Source → Side → List ℕ
-source_text model (Of m) side = member_text model m then side_word side
-source_text model (Below j) side = codes "below" then column_name model j
-source_text model (Above j) side = codes "above" then column_name model j
-
--- the line of a share
-abbrev pub use_line : Program → Share → Line
-use_line model s = codes "use" then source_text model s.source s.side then printed s.weight
-
--- the lines of a node: a column and where it is split, or the shares of a leaf
-abbrev pub node_lines : Program → Node → List Line
-node_lines model (Split j k) = (codes "split" then column_name model j then signed_decimal k) ∷ []
-node_lines model (Leaf combo) = codes "leaf" ∷ map (use_line model) combo.shares
-
--- the lines of a proof
-abbrev pub proof_lines : Program → Proof → List Line
-proof_lines model proof = codes "proof" ∷ flat_map (node_lines model) proof.nodes
-
--- ---- stops
 -- the word for a kind of operation
 abbrev pub op_word : Op → List ℕ
 op_word Plus = codes "plus"
@@ -127,81 +95,214 @@ site_word Stretch = codes "stretch"
 site_word Relax = codes "relax"
 site_word Alternative = codes "alternative"
 
--- the line of a site
-abbrev pub site_line : Site → Line
-site_line site = codes "site" then site_word site.kind
-
--- the line of an active member that is not in the site's set
-abbrev pub without_line : Program → Member → Line
-without_line model m = codes "without" then member_text model m
-
--- the active members that are not in a set
-abbrev pub left_out : Program → List Member → List Member
-left_out model set = filter (λ m. not (has set m)) (active_members model)
-
--- the lines of a site: its kind, and the active members that are not in its set
-abbrev pub site_lines : Program → Site → List Line
-site_lines model site = site_line site ∷ map (without_line model) (left_out model site.set.members)
-
--- the line of a turn's number
-abbrev pub step_line : ℕ → Line
-step_line k = codes "step" then decimal k
-
--- the line of an operation with its operands
-abbrev pub operation_line : Operation → Line
-operation_line o = codes "operation" then op_word o.op then printed o.left then printed o.right
-
--- the lines of a stop, but for want of memory, which is never printed
-abbrev pub stop_lines : Program → Stop → List Line
-stop_lines model (TooWide site k o) = codes "too wide" ∷ (site_lines model site ++ step_line k ∷ operation_line o ∷ codes "end" ∷ [])
-stop_lines model (Spent site) = codes "pivots spent" ∷ (site_lines model site ++ codes "end" ∷ [])
-stop_lines model (Nodes site) = codes "nodes spent" ∷ (site_lines model site ++ codes "end" ∷ [])
-stop_lines model (Large size) = (codes "too large" then decimal size) ∷ codes "end" ∷ []
-stop_lines model Memory = []
-
--- ---- answers
--- a member of an irreducible set, and its witness
-abbrev pub witness_lines : Program → Member × Point → List Line
-witness_lines model w = member_line model w.0 ∷ point_lines model w.1
-
--- the lines of an answer: what it is, what belongs to it, and its end
-abbrev pub answer_lines : Program → Answer → List Line
-answer_lines model (Feasible p) = codes "feasible" ∷ (point_lines model p ++ codes "end" ∷ [])
-answer_lines model (Infeasible set proof) = codes "infeasible" ∷ (map (member_line model) set.members ++ (proof_lines model proof ++ codes "end" ∷ []))
-answer_lines model (Irreducible core) = codes "irreducible" ∷ (flat_map (witness_lines model) (zip core.members.members core.witnesses) ++ (proof_lines model core.proof ++ codes "end" ∷ []))
-answer_lines model Done = codes "done" ∷ []
-answer_lines model (Stopped stop) = stop_lines model stop
-
--- ---- reports
 -- the word for a method
 abbrev pub method_word : Method → List ℕ
 method_word Deletion = codes "deletion"
 method_word Additive = codes "additive"
 method_word Sensitivity = codes "sensitivity"
 
--- a command
+-- the words of a command
+abbrev pub command_words : Command → List (List ℕ)
+command_words Check = codes "check" ∷ []
+command_words (Iis method) = codes "iis" ∷ method_word method ∷ []
+command_words (Pivots n) = codes "budget" ∷ codes "pivots" ∷ decimal n ∷ []
+
+-- how a keyword is spelled
+abbrev pub keyword_text : Keyword → List ℕ
+keyword_text Keyword.Iisan = codes "iisan"
+keyword_text Keyword.Note = codes "note"
+keyword_text Keyword.Command = codes "command"
+keyword_text Keyword.Feasible = codes "feasible"
+keyword_text Keyword.Infeasible = codes "infeasible"
+keyword_text Keyword.Irreducible = codes "irreducible"
+keyword_text Keyword.Done = codes "done"
+keyword_text Keyword.Point = codes "point"
+keyword_text Keyword.Value = codes "value"
+keyword_text Keyword.Member = codes "member"
+keyword_text Keyword.Proof = codes "proof"
+keyword_text Keyword.Split = codes "split"
+keyword_text Keyword.Leaf = codes "leaf"
+keyword_text Keyword.Use = codes "use"
+keyword_text Keyword.Too = codes "too"
+keyword_text Keyword.Pivots = codes "pivots"
+keyword_text Keyword.Nodes = codes "nodes"
+keyword_text Keyword.Site = codes "site"
+keyword_text Keyword.Without = codes "without"
+keyword_text Keyword.Step = codes "step"
+keyword_text Keyword.Operation = codes "operation"
+keyword_text Keyword.End = codes "end"
+keyword_text Keyword.Report = codes "report"
+
+-- the keyword of what is said of a stop
+abbrev pub stop_keyword : StopPhrase → Keyword
+stop_keyword StopPhrase.Wide = Keyword.Too
+stop_keyword StopPhrase.Spent = Keyword.Pivots
+stop_keyword StopPhrase.Nodes = Keyword.Nodes
+stop_keyword (StopPhrase.Large size) = Keyword.Too
+stop_keyword (StopPhrase.Site kind) = Keyword.Site
+stop_keyword (StopPhrase.Without m) = Keyword.Without
+stop_keyword (StopPhrase.Step k) = Keyword.Step
+stop_keyword (StopPhrase.Operation o) = Keyword.Operation
+
+-- the keyword of what is said
+abbrev pub keyword_of : Phrase → Keyword
+keyword_of Phrase.Head = Keyword.Iisan
+keyword_of (Phrase.Note note) = Keyword.Note
+keyword_of (Phrase.Command command) = Keyword.Command
+keyword_of Phrase.Feasible = Keyword.Feasible
+keyword_of Phrase.Infeasible = Keyword.Infeasible
+keyword_of Phrase.Irreducible = Keyword.Irreducible
+keyword_of Phrase.Done = Keyword.Done
+keyword_of (Phrase.Stop s) = stop_keyword s
+keyword_of Phrase.Point = Keyword.Point
+keyword_of (Phrase.Value j v) = Keyword.Value
+keyword_of (Phrase.Member m) = Keyword.Member
+keyword_of Phrase.Proof = Keyword.Proof
+keyword_of (Phrase.Split j k) = Keyword.Split
+keyword_of Phrase.Leaf = Keyword.Leaf
+keyword_of (Phrase.Use s) = Keyword.Use
+keyword_of Phrase.End = Keyword.End
+keyword_of Phrase.Foot = Keyword.Report
+
+-- the words after the keyword of what is said of a stop
+abbrev pub stop_details : Program → StopPhrase → List (List ℕ)
+stop_details model StopPhrase.Wide = codes "wide" ∷ []
+stop_details model StopPhrase.Spent = codes "spent" ∷ []
+stop_details model StopPhrase.Nodes = codes "spent" ∷ []
+stop_details model (StopPhrase.Large size) = codes "large" ∷ decimal size ∷ []
+stop_details model (StopPhrase.Site kind) = site_word kind ∷ []
+stop_details model (StopPhrase.Without m) = kind_word m ∷ name_of model m ∷ []
+stop_details model (StopPhrase.Step k) = decimal k ∷ []
+stop_details model (StopPhrase.Operation o) = op_word o.op ∷ printed o.left ∷ printed o.right ∷ []
+
+-- the words after the keyword
+abbrev pub details : Program → Phrase → List (List ℕ)
+details model Phrase.Head = codes "report" ∷ codes "2" ∷ []
+details model (Phrase.Note (LowerRemoved j)) = column_name model j ∷ codes "lower" ∷ codes "removed" ∷ []
+details model (Phrase.Note (LowerKept j)) = column_name model j ∷ codes "lower" ∷ codes "kept" ∷ []
+details model (Phrase.Command command) = command_words command
+details model Phrase.Feasible = []
+details model Phrase.Infeasible = []
+details model Phrase.Irreducible = []
+details model Phrase.Done = []
+details model (Phrase.Stop s) = stop_details model s
+details model Phrase.Point = []
+details model (Phrase.Value j v) = column_name model j ∷ printed v ∷ []
+details model (Phrase.Member m) = kind_word m ∷ name_of model m ∷ []
+details model Phrase.Proof = []
+details model (Phrase.Split j k) = column_name model j ∷ signed_decimal k ∷ []
+details model Phrase.Leaf = []
+details model (Phrase.Use s) = source_word s.source ∷ source_name model s.source ∷ printed s.weight ∷ []
+details model Phrase.End = []
+details model Phrase.Foot = codes "end" ∷ []
+
+-- a word, and words after it, with one blank before each of these
+abbrev pub spelled : List ℕ → List (List ℕ) → Line
+spelled word [] = word
+spelled word (next ∷ rest) = word then spelled next rest
+
+-- the line that says it
+abbrev pub phrase_line : Program → Phrase → Line
+phrase_line model p = spelled (keyword_text (keyword_of p)) (details model p)
+
+-- words with a blank between two of them
+abbrev pub joined : List (List ℕ) → Line
+joined [] = []
+joined (word ∷ words) = spelled word words
+
+-- the text of a command
 abbrev pub command_text : Command → List ℕ
-command_text Check = codes "check"
-command_text (Iis method) = codes "iis" then method_word method
-command_text (Pivots n) = codes "budget" then codes "pivots" then decimal n
+command_text c = joined (command_words c)
 
--- the lines of an entry: the command, and its answer
-abbrev pub entry_lines : Program → Entry → List Line
-entry_lines model e = (codes "command" then command_text e.command) ∷ answer_lines model e.answer
+-- ---- the phrases of a report
+-- those of values, of which the first is that of column j: one for each that is not 0
+abbrev pub value_phrases : ℕ → List ℚ → List Phrase
+value_phrases j [] = []
+value_phrases j (v ∷ vs) = cond (eq_ℚ v zero_ℚ) (value_phrases (suc j) vs) (Phrase.Value j v ∷ value_phrases (suc j) vs)
 
--- the lines of entries, each by the program after the commands before it
-abbrev pub entries_lines : Program → List Command → List Entry → List Line
-entries_lines model before entries = gathered (λ front e. entry_lines (after model front) e) before entries
+-- of a point
+abbrev pub point_phrases : Point → List Phrase
+point_phrases p = Phrase.Point ∷ value_phrases 0 p.values
 
--- the line of a note
-abbrev pub note_line : Program → Note → Line
-note_line model (LowerRemoved j) = codes "note" then column_name model j then codes "lower removed"
-note_line model (LowerKept j) = codes "note" then column_name model j then codes "lower kept"
+-- of a node: a column and where it is split, or the shares of a leaf
+abbrev pub node_phrases : Node → List Phrase
+node_phrases (Split j k) = Phrase.Split j k ∷ []
+node_phrases (Leaf combo) = Phrase.Leaf ∷ map Phrase.Use combo.shares
 
--- the lines of a report: the head, the notes, the entries, the foot
+-- of a proof
+abbrev pub proof_phrases : Proof → List Phrase
+proof_phrases proof = Phrase.Proof ∷ flat_map node_phrases proof.nodes
+
+-- of a member of an irreducible set, and its witness
+abbrev pub witness_phrases : Member × Point → List Phrase
+witness_phrases w = Phrase.Member w.0 ∷ point_phrases w.1
+
+-- the active members that are not in a set
+abbrev pub left_out : Program → List Member → List Member
+left_out model set = filter (λ m. not (has set m)) (active_members model)
+
+-- an active member that is not in the set of a site
+abbrev pub without_phrase : Member → Phrase
+without_phrase m = Phrase.Stop (StopPhrase.Without m)
+
+-- a site: its kind, and the active members that are not in its set
+abbrev pub site_phrases : Program → Site → List Phrase
+site_phrases model site = Phrase.Stop (StopPhrase.Site site.kind) ∷ map without_phrase (left_out model site.set.members)
+
+-- a stop without its end; want of memory is never printed
+abbrev pub stop_phrases : Program → Stop → List Phrase
+stop_phrases model (TooWide site k o) = Phrase.Stop StopPhrase.Wide ∷ (site_phrases model site ++ Phrase.Stop (StopPhrase.Step k) ∷ Phrase.Stop (StopPhrase.Operation o) ∷ [])
+stop_phrases model (Spent site) = Phrase.Stop StopPhrase.Spent ∷ site_phrases model site
+stop_phrases model (Nodes site) = Phrase.Stop StopPhrase.Nodes ∷ site_phrases model site
+stop_phrases model (Large size) = Phrase.Stop (StopPhrase.Large size) ∷ []
+stop_phrases model Memory = []
+
+-- an answer without its last line: what it is, and what belongs to it
+abbrev pub answer_front : Program → Answer → List Phrase
+answer_front model (Feasible p) = Phrase.Feasible ∷ point_phrases p
+answer_front model (Infeasible set proof) = Phrase.Infeasible ∷ (map Phrase.Member set.members ++ proof_phrases proof)
+answer_front model (Irreducible core) = Phrase.Irreducible ∷ (flat_map witness_phrases (zip core.members.members core.witnesses) ++ proof_phrases core.proof)
+answer_front model Done = []
+answer_front model (Stopped stop) = stop_phrases model stop
+
+-- the last line of an answer
+abbrev pub answer_end : Answer → Phrase
+answer_end Done = Phrase.Done
+answer_end _ = Phrase.End
+
+-- an answer
+abbrev pub answer_phrases : Program → Answer → List Phrase
+answer_phrases model a = answer_front model a ++ answer_end a ∷ []
+
+-- an entry: the command, and its answer
+abbrev pub entry_phrases : Program → Entry → List Phrase
+entry_phrases model e = Phrase.Command e.command ∷ answer_phrases model e.answer
+
+-- entries, each by the program after the commands before it
+abbrev pub entries_phrases : Program → List Command → List Entry → List Phrase
+entries_phrases model before entries = gathered (λ front e. entry_phrases (after model front) e) before entries
+
+-- all that stands before the foot: the head, the notes, the entries
+abbrev pub body_phrases : Program → List Note → List Entry → List Phrase
+body_phrases model notes entries = Phrase.Head ∷ (map Phrase.Note notes ++ entries_phrases model [] entries)
+
+-- a report
+abbrev pub report_phrases : Program → Report → List Phrase
+report_phrases model report = body_phrases model report.notes report.entries ++ Phrase.Foot ∷ []
+
+-- ---- its text
+-- the lines of phrases; an edit changes no name, so those of the program at first serve for all
+abbrev pub lines_of : Program → List Phrase → List Line
+lines_of model phrases = map (phrase_line model) phrases
+
+-- the lines of a report
 abbrev pub report_lines : Program → Report → List Line
-report_lines model report = codes "iisan report 1" ∷ (map (note_line model) report.notes ++ (entries_lines model [] report.entries ++ codes "report end" ∷ []))
+report_lines model report = lines_of model (report_phrases model report)
 
 -- the text of lines: byte 10 ends each
 abbrev pub text_of : List Line → List ℕ
 text_of lines = flat_map (λ line. line ++ 10 ∷ []) lines
+
+-- the text of phrases
+abbrev pub phrases_text : Program → List Phrase → List ℕ
+phrases_text model phrases = text_of (lines_of model phrases)

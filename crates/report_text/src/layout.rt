@@ -1,9 +1,8 @@
 //! How many lines the parts of a report have.
 ghost use Rattle.std.specs.Prelude.{◌≡◌, ◌≤◌, length, filter, not};
 ghost use Rattle.rational.specs.Rational.{zero_ℚ, eq_ℚ};
-ghost use Rattle.lp_model.specs.Program.{Program};
 ghost use Rattle.lp_model.specs.declared.members.Member.{Member as OneMember};
-ghost use Rattle.report_text.specs.Grammar.{witness_lines};
+ghost use Rattle.report_text.specs.Grammar.{witness_phrases};
 ghost use Rattle.report_text.specs.Places.{PlacesLaw};
 
 use certs::Point;
@@ -40,7 +39,7 @@ fn count_values(values: &[Frac]) -> u64
 /// How many lines a member with its witness has: one for the member, one for the point, and one for each value that is
 /// not 0.
 pub fn witness_length(witness: &Point) -> u64
-    ensures { (model : Program) (m : OneMember) → result ≡ length (witness_lines model (m, witness.now)) }
+    ensures { (m : OneMember) → result ≡ length (witness_phrases (m, witness.now)) }
 {
     2 + count_values(witness.values.as_slice())
 }

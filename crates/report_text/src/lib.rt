@@ -2,9 +2,11 @@
 #![tactic(auto)]
 
 mod layout;
+mod phrases;
 mod report;
 
 pub use layout::{
     HEAD_LINES, MEMBER_LINES, OPENING_LINES, PROOF_LINES, places_law, witness_length,
 };
+pub use phrases::{Keyword, Phrase, StopPhrase};
 pub use report::{Answer, Command, Core, Entries, Entry, Method, Notes, Report, Script, Witnesses};

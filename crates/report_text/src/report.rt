@@ -3,7 +3,7 @@ ghost use Rattle.std.specs.Prelude.{◌≡◌};
 
 use certs::{Point, Proof, Stop};
 use frac128::Frac;
-use lp_model::{MemberSet, Note};
+use lp_model::{Items, MemberSet, Note};
 use std::marker::Model;
 
 /// How an irreducible set of members is looked for.
@@ -39,42 +39,7 @@ impl Model for Script {
 }
 
 /// Points, as a list.
-#[derive(Drop)]
-pub struct Witnesses {
-    items: Vec<Point>,
-}
-
-impl Model for Witnesses {
-    ghost use Rattle.std.specs.Prelude.{List};
-    ghost use Rattle.certs.specs.declared.evidence.Point.{Point};
-
-    ghost Value = { List Point };
-
-    ghost view = { λ w. w.items.items };
-}
-
-impl Witnesses {
-    /// These points.
-    pub fn new(items: Vec<Point>) -> Witnesses
-        ensures { result ≡ items.items }
-    {
-        Witnesses { items }
-    }
-
-    /// The points.
-    pub fn as_slice(&self) -> &[Point]
-        ensures { result.now ≡ self.now }
-    {
-        self.items.as_slice()
-    }
-
-    /// The points, given back.
-    pub fn into_vec(self) -> Vec<Point>
-        ensures { result.items ≡ self }
-    {
-        self.items
-    }
-}
+pub type Witnesses = Items<Point>;
 
 /// An irreducible set: its members, for each of them in member order a point that is to satisfy all the others, and a
 /// proof that no point satisfies them all. How many rounds a method took, and a price with its point, are given by no
@@ -109,80 +74,10 @@ pub struct Entry {
 }
 
 /// Entries, as a list.
-#[derive(Drop)]
-pub struct Entries {
-    items: Vec<Entry>,
-}
-
-impl Model for Entries {
-    ghost use Rattle.std.specs.Prelude.{List};
-    ghost use Rattle.report_text.specs.declared.report.Entry.{Entry};
-
-    ghost Value = { List Entry };
-
-    ghost view = { λ e. e.items.items };
-}
-
-impl Entries {
-    /// These entries.
-    pub fn new(items: Vec<Entry>) -> Entries
-        ensures { result ≡ items.items }
-    {
-        Entries { items }
-    }
-
-    /// The entries.
-    pub fn as_slice(&self) -> &[Entry]
-        ensures { result.now ≡ self.now }
-    {
-        self.items.as_slice()
-    }
-
-    /// The entries, given back.
-    pub fn into_vec(self) -> Vec<Entry>
-        ensures { result.items ≡ self }
-    {
-        self.items
-    }
-}
+pub type Entries = Items<Entry>;
 
 /// Notes of a reader of programs, as a list.
-#[derive(Drop)]
-pub struct Notes {
-    items: Vec<Note>,
-}
-
-impl Model for Notes {
-    ghost use Rattle.std.specs.Prelude.{List};
-    ghost use Rattle.lp_model.specs.declared.parts.Note.{Note};
-
-    ghost Value = { List Note };
-
-    ghost view = { λ n. n.items.items };
-}
-
-impl Notes {
-    /// These notes.
-    pub fn new(items: Vec<Note>) -> Notes
-        ensures { result ≡ items.items }
-    {
-        Notes { items }
-    }
-
-    /// The notes.
-    pub fn as_slice(&self) -> &[Note]
-        ensures { result.now ≡ self.now }
-    {
-        self.items.as_slice()
-    }
-
-    /// The notes, given back.
-    pub fn into_vec(self) -> Vec<Note>
-        ensures { result.items ≡ self }
-    {
-        self.items
-    }
-}
+pub type Notes = Items<Note>;
 
 /// A report: the notes of the program's reader, and then the entries in the order of the commands.
 #[derive(Drop)]

@@ -1,8 +1,8 @@
 -- The first core, and what is asked for inside it.
-use Rattle.std.proofs.Common.{◌≡◌, refl, sym, ◌∙◌, ap, subst, List, Some, Ok, Err, length, inl, inr}
+use Rattle.std.proofs.Common.{◌≡◌, refl, sym, ◌∙◌, ap, subst, List, Some, Ok, Err}
 use Rattle.std.specs.Prelude.{Contains, Option, Result, IfErr, IfOk}
 use Rattle.std.specs.List.{list_any}
-use Rattle.std.proofs.lemmas.List.Elements.{All-weaker, All-contains, All-contains_itself, All-filter}
+use Rattle.std.proofs.lemmas.List.Elements.{All-contains_itself, All-filter}
 use Rattle.lp_model.specs.declared.members.Member.{Member}
 use Rattle.lp_model.specs.MemberSets.{SetValue}
 use Rattle.lp_model.specs.Program.{Program}

@@ -9,7 +9,7 @@ ghost use Rattle.dictionary.specs.Starts.{FitSystem};
 use certs::{Limits, System};
 use dictionary::{Dictionary, is_formed};
 use frac128::Frac;
-use lp_model::{Row, Term, Terms, Weight};
+use lp_model::{Row, Term, Terms};
 use simplex::{RunStop, Settled, settle};
 use std::alloc::{AllocError, Global};
 use std::{env, io};
@@ -78,17 +78,6 @@ fn terms(alloc: Global, network: Network, place: u32, source: bool) -> Result<Te
     Ok(Terms::new(items))
 }
 
-// A row with these sides.
-fn row(terms: Terms, lo: Option<Frac>, up: Option<Frac>) -> Row {
-    Row {
-        terms,
-        lo,
-        up,
-        active: true,
-        weight: Weight::Rigid,
-    }
-}
-
 // The rows: a source has from 5 to 14, and a sink asks for 8 to 16.
 fn rows(alloc: Global, network: Network) -> Result<Vec<Row>, AllocError>
     requires sources { 0 < network.sources }
@@ -97,11 +86,11 @@ fn rows(alloc: Global, network: Network) -> Result<Vec<Row>, AllocError>
     let mut rows = Vec::new(alloc);
     for source in 0..network.sources {
         let supply = Frac::whole(5 + i64::from(draw(source, 10)));
-        rows.push(row(terms(alloc, network, source, true)?, None, Some(supply)))?;
+        rows.push(Row::new(terms(alloc, network, source, true)?, None, Some(supply)))?;
     }
     for sink in 0..network.sinks {
         let demand = Frac::whole(8 + i64::from(draw(sink, 9)));
-        rows.push(row(terms(alloc, network, sink, false)?, Some(demand), None))?;
+        rows.push(Row::new(terms(alloc, network, sink, false)?, Some(demand), None))?;
     }
     Ok(rows)
 }

@@ -1,7 +1,7 @@
 -- Shares of one variable after another.
-use Rattle.std.proofs.Common.{◌≡◌, ◌+◌, ◌-◌, refl, sym, ◌∙◌, ap, subst, arith, ℕ, Bool, true, false, cond, not, List, [], ◌∷◌, ◌++◌, map, length, Option, Some, is_some, add-one}
+use Rattle.std.proofs.Common.{◌≡◌, ◌+◌, ◌-◌, refl, sym, ◌∙◌, ap, subst, arith, ℕ, Bool, true, false, cond, not, List, [], ◌∷◌, ◌++◌, map, length, Option, Some, is_some, add-one, ltb}
 use Rattle.std.specs.Prelude.{filter}
-use Rattle.std.proofs.lemmas.Bool.{cond-true, cond-false}
+use Rattle.std.proofs.lemmas.Bool.{cond_both, cond-true, cond-false}
 use Rattle.std.proofs.lemmas.List.{append-nil, map-append}
 use Rattle.std.proofs.lemmas.List.Elements.{filter-append}
 use Rattle.std.proofs.lemmas.Grind.{flat_map-append}
@@ -14,7 +14,9 @@ use Rattle.certs.specs.Tableau.{Tableau, IsTableauOf}
 use Rattle.certs.specs.Turns.{limited, settle_choice}
 use Rattle.certs.specs.Turns.Choice.{Blocked}
 use Rattle.certs.proofs.Choices.{blocked_parts}
-use Rattle.certs.specs.Named.{named}
+use Rattle.certs.specs.declared.evidence.Source.TheVariants.{Member as Of}
+use Rattle.certs.specs.Combination.{source_side}
+use Rattle.certs.specs.Named.{bound_of, named, row_side_of}
 use Rattle.simplex.specs.Combined.{column_shares, is_on, row_shares}
 
 -- ---- one share
@@ -35,16 +37,32 @@ pub rows_more : (columns n : ℕ) (c : ℕ → ℚ) → row_shares columns (n + 
 rows_more columns n c = ap (map (named columns)) (shares_more c columns n) ∙ map-append (named columns) (shares_for c (numbers_from columns n)) (share_for (columns + n) (c (columns + n)))
 
 -- ---- those on one side
-filter_named : (columns : ℕ) (upper : Bool) (xs : List VariableShare) → map (named columns) (filter (λ s. is_on upper s.side) xs) ≡ filter (λ s. is_on upper s.side) (map (named columns) xs)
-filter_named columns upper [] = refl
-filter_named columns upper (x ∷ xs) = by (filter_named columns upper xs) (is_on upper x.side)
+-- a share that is named has the side of its variable's limit
+named_side : (columns : ℕ) (s : VariableShare) → source_side (named columns s).source ≡ s.side
+named_side columns s =
+    cond_both (ltb s.variable columns) (bound_of s.variable s.side) (row_side_of (s.variable - columns) s.side) (λ m. source_side (Of m) ≡ s.side)
+    (λ e. bound_side s.side) (λ e. side_of_row s.side)
   where
-    by : map (named columns) (filter (λ s. is_on upper s.side) xs) ≡ filter (λ s. is_on upper s.side) (map (named columns) xs) → (b : Bool) → map (named columns) (cond b (x ∷ filter (λ s. is_on upper s.side) xs) (filter (λ s. is_on upper s.side) xs)) ≡ cond b (named columns x ∷ filter (λ s. is_on upper s.side) (map (named columns) xs)) (filter (λ s. is_on upper s.side) (map (named columns) xs))
+    bound_side : (side : Side) → source_side (Of (bound_of s.variable side)) ≡ side
+    bound_side Lo = refl
+    bound_side Up = refl
+
+    side_of_row : (side : Side) → source_side (Of (row_side_of (s.variable - columns) side)) ≡ side
+    side_of_row Lo = refl
+    side_of_row Up = refl
+
+filter_named : (columns : ℕ) (upper : Bool) (xs : List VariableShare) → map (named columns) (filter (λ s. is_on upper s.side) xs) ≡ filter (λ s. is_on upper (source_side s.source)) (map (named columns) xs)
+filter_named columns upper [] = refl
+filter_named columns upper (x ∷ xs) =
+    by (filter_named columns upper xs) (is_on upper x.side)
+    ∙ ap (λ z. cond (is_on upper z) (named columns x ∷ filter (λ s. is_on upper (source_side s.source)) (map (named columns) xs)) (filter (λ s. is_on upper (source_side s.source)) (map (named columns) xs))) (sym (named_side columns x))
+  where
+    by : map (named columns) (filter (λ s. is_on upper s.side) xs) ≡ filter (λ s. is_on upper (source_side s.source)) (map (named columns) xs) → (b : Bool) → map (named columns) (cond b (x ∷ filter (λ s. is_on upper s.side) xs) (filter (λ s. is_on upper s.side) xs)) ≡ cond b (named columns x ∷ filter (λ s. is_on upper (source_side s.source)) (map (named columns) xs)) (filter (λ s. is_on upper (source_side s.source)) (map (named columns) xs))
     by rest true = ap (λ z. named columns x ∷ z) rest
     by rest false = rest
 
 pub columns_more : (columns n : ℕ) (upper : Bool) (c : ℕ → ℚ)
-    → column_shares columns upper (n + 1) c ≡ column_shares columns upper n c ++ filter (λ s. is_on upper s.side) (map (named columns) (share_for n (c n)))
+    → column_shares columns upper (n + 1) c ≡ column_shares columns upper n c ++ filter (λ s. is_on upper (source_side s.source)) (map (named columns) (share_for n (c n)))
 columns_more columns n upper c =
     let z : 0 + n ≡ n = omega arith in
     ap (λ l. map (named columns) (filter (λ s. is_on upper s.side) l)) (shares_more c 0 n ∙ ap (λ k. shares_for c (numbers_from 0 n) ++ share_for k (c k)) z)

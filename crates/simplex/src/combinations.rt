@@ -4,6 +4,7 @@ ghost use Rattle.std.specs.Option.{option_to_list};
 ghost use Rattle.frac128.specs.Limit.{limit};
 ghost use Rattle.frac128.specs.Calculation.{first_wide};
 ghost use Rattle.lp_model.specs.declared.members.Side.{Side as OneSide};
+ghost use Rattle.certs.specs.Combination.{source_side};
 ghost use Rattle.certs.specs.Ended.{blocked_multiple, blocked_shares, share_for};
 ghost use Rattle.certs.specs.Named.{IsNamedCombination, member_of, named};
 ghost use Rattle.certs.specs.System.{LinearSystem, is_basic};
@@ -83,12 +84,11 @@ fn multiple(dictionary: &Dictionary<Frac>, missed: Missed, variable: u32) -> Fra
 fn member(columns: u32, variable: u32, side: Side) -> Member
     ensures { result ≡ member_of columns variable side }
 {
-    if variable >= columns {
-        return Member::Row(variable - columns);
-    }
-    match side {
-        Side::Lo => Member::Lower(variable),
-        Side::Up => Member::Upper(variable),
+    match (side, variable < columns) {
+        (Side::Lo, true) => Member::Lower(variable),
+        (Side::Up, true) => Member::Upper(variable),
+        (Side::Lo, false) => Member::RowLo(variable - columns),
+        (Side::Up, false) => Member::RowUp(variable - columns),
     }
 }
 
@@ -98,7 +98,6 @@ pub fn limit_share(columns: u32, variable: u32, side: Side, weight: Frac) -> Sha
 {
     Share {
         source: Source::Member(member(columns, variable, side)),
-        side,
         weight,
     }
 }
@@ -119,10 +118,10 @@ fn share(columns: u32, variable: u32, count: Frac) -> Option<Share>
 
 // The share where it is of an upper limit, or where it is of a lower one.
 fn on_side(share: Option<Share>, upper: bool) -> Option<Share>
-    ensures { option_to_list result ≡ filter (λ s. is_on upper s.side) (option_to_list share) }
+    ensures { option_to_list result ≡ filter (λ s. is_on upper (source_side s.source)) (option_to_list share) }
 {
     let share = share?;
-    if (share.side == Side::Up) != upper {
+    if (share.source.side() == Side::Up) != upper {
         return None;
     }
     Some(share)

@@ -3,7 +3,7 @@ use super::*;
 use certs::{Limits, Share, Shares, Source, System};
 use dictionary::{Dictionary, is_formed};
 use frac128::Frac;
-use lp_model::{Member, Row, Side, Term, Terms, Weight};
+use lp_model::{Member, Row, Term, Terms};
 use std::alloc::{AllocError, Global};
 use std::test::Fail;
 
@@ -25,13 +25,7 @@ fn system(alloc: Global, least: Frac) -> Result<System, AllocError> {
         up: Some(Frac::whole(4)),
     })?;
     let mut rows = Vec::new(alloc);
-    rows.push(Row {
-        terms: terms(alloc)?,
-        lo: Some(least),
-        up: None,
-        active: true,
-        weight: Weight::Rigid,
-    })?;
+    rows.push(Row::new(terms(alloc)?, Some(least), None))?;
     Ok(System {
         columns,
         rows,
@@ -77,17 +71,15 @@ enum Want {
     Spent,
 }
 
-// Whether a share is this side of this member, once.
-fn is_share(share: &Share, member: Member, side: Side) -> bool {
-    share.source == Source::Member(member) && share.side == side && share.weight == Frac::whole(1)
+// Whether a share is this member, once.
+fn is_share(share: &Share, member: Member) -> bool {
+    share.source == Source::Member(member) && share.weight == Frac::whole(1)
 }
 
 // Whether shares are the row's lower side, and the column's upper limit.
 fn contradict(shares: &[Share]) -> bool {
     match shares {
-        [row, limit] => {
-            is_share(row, Member::Row(0), Side::Lo) && is_share(limit, Member::Upper(0), Side::Up)
-        }
+        [row, limit] => is_share(row, Member::RowLo(0)) && is_share(limit, Member::Upper(0)),
         _ => false,
     }
 }

@@ -6,13 +6,13 @@ ghost use Rattle.certs.specs.Turns.{settle_choice, settle_values};
 ghost use Rattle.dictionary.specs.Value.{tableau_of};
 ghost use Rattle.simplex.specs.Ends.{IsEnd};
 
-use crate::plain::{Form, Plain, form, limited_variables, number, row, system};
+use crate::plain::{Form, Plain, form, limited_variables, number, system};
 use crate::runs::slow_run;
 use crate::stops::SlowStop;
 use certs::{Share, Shares, Source, System};
 use dictionary::{Dictionary, is_formed};
 use frac128::{Frac, FracStop, Op, Wide};
-use lp_model::{Member, Side, Term, Terms};
+use lp_model::{Member, Row, Term, Terms};
 use simplex::{RunStop, Settled, combo_of, settle};
 use std::alloc::{AllocError, Global};
 
@@ -41,12 +41,8 @@ fn add_wide_rows(
     huge: Frac,
 ) -> Result<(), AllocError> {
     let one = Frac::whole(1);
-    system
-        .rows
-        .push(row(pair(alloc, first, huge, one)?, Some(one), Some(one)))?;
-    system
-        .rows
-        .push(row(pair(alloc, first, one, huge)?, Some(one), Some(one)))?;
+    system.rows.push(Row::new(pair(alloc, first, huge, one)?, Some(one), Some(one)))?;
+    system.rows.push(Row::new(pair(alloc, first, one, huge)?, Some(one), Some(one)))?;
     Ok(())
 }
 
@@ -209,19 +205,17 @@ fn shares_of(
     }
 }
 
-// Whether a share is this side of a row, so many times.
-fn is_share(share: &Share, row: u32, side: Side, weight: Option<Frac>) -> bool {
-    share.source == Source::Member(Member::Row(row))
-        && share.side == side
-        && Some(share.weight) == weight
+// Whether a share is this member, so many times.
+fn is_share(share: &Share, member: Member, weight: Option<Frac>) -> bool {
+    share.source == Source::Member(member) && Some(share.weight) == weight
 }
 
 // Whether shares are the upper side of the first row once, and the lower side of the second 3/2 times.
 fn are_two_rows(shares: &[Share]) -> bool {
     match shares {
         [first, second] => {
-            is_share(first, 0, Side::Up, Some(Frac::whole(1)))
-                && is_share(second, 1, Side::Lo, Frac::new(3, 2).ok())
+            is_share(first, Member::RowUp(0), Some(Frac::whole(1)))
+                && is_share(second, Member::RowLo(1), Frac::new(3, 2).ok())
         }
         _ => false,
     }
@@ -334,7 +328,7 @@ fn one_row_formed(
     };
     let mut system = system(alloc, plain)?;
     let terms = form(alloc, terms)?;
-    system.rows.push(row(terms, number(lo), number(up)))?;
+    system.rows.push(Row::new(terms, number(lo), number(up)))?;
     Ok(is_formed(&system))
 }
 

@@ -6,7 +6,7 @@ ghost use Rattle.dictionary.specs.Value.{tableau_of};
 use certs::{Limits, System};
 use dictionary::Dictionary;
 use frac128::Frac;
-use lp_model::{Row, Term, Terms, Weight};
+use lp_model::{Row, Term, Terms};
 use std::alloc::{AllocError, Global};
 
 /// A least and a greatest number, each where it is there.
@@ -43,17 +43,6 @@ pub(crate) fn form(alloc: Global, plain: Form<'_>) -> Result<Terms, AllocError> 
     Ok(Terms::new(terms))
 }
 
-/// A row.
-pub(crate) fn row(terms: Terms, lo: Option<Frac>, up: Option<Frac>) -> Row {
-    Row {
-        terms,
-        lo,
-        up,
-        active: true,
-        weight: Weight::Rigid,
-    }
-}
-
 /// The system of plain numbers.
 pub(crate) fn system(alloc: Global, plain: Plain<'_>) -> Result<System, AllocError> {
     let mut columns = Vec::new(alloc);
@@ -65,7 +54,7 @@ pub(crate) fn system(alloc: Global, plain: Plain<'_>) -> Result<System, AllocErr
     }
     let mut rows = Vec::new(alloc);
     for (terms, lo, up) in plain.rows {
-        rows.push(row(form(alloc, terms)?, number(*lo), number(*up)))?;
+        rows.push(Row::new(form(alloc, terms)?, number(*lo), number(*up)))?;
     }
     let objective = match plain.objective {
         Some(terms) => Some(form(alloc, terms)?),

@@ -1,6 +1,6 @@
 -- What right answers show.
-use Rattle.std.proofs.Common.{◌≡◌, ◌<◌, refl, sym, subst, true, false, true≢false, ◌==◌, List, [], ◌∷◌, filter, length, Ok, Err, inl, inr}
-use Rattle.std.specs.Prelude.{Result, IfOk, ◌⊎◌}
+use Rattle.std.proofs.Common.{◌≡◌, ◌<◌, refl, sym, subst, true, true≢false, ◌==◌, List, [], ◌∷◌, filter, length, Ok, Err}
+use Rattle.std.specs.Prelude.{Result, IfOk}
 use Rattle.std.proofs.lemmas.Bool.{and_parts}
 use Rattle.std.proofs.lemmas.List.Elements.{All-cons, All-nil}
 use lib.Dec.{T, eqb→eq}
@@ -18,7 +18,6 @@ use Rattle.certs.specs.declared.evidence.Node.TheVariants.{Leaf as LeafNode}
 use Rattle.certs.specs.declared.evidence.Point.{Point}
 use Rattle.certs.specs.declared.evidence.Proof.{Proof}
 use Rattle.certs.specs.declared.solving.Stop.{Stop}
-use Rattle.certs.specs.declared.solving.Stop.TheVariants.{Pivots, Memory}
 use Rattle.certs.specs.declared.solving.Verdict.{Verdict}
 use Rattle.certs.specs.declared.solving.Verdict.TheVariants.{Feasible, Infeasible}
 use Rattle.certs.specs.Checks.{outcome, point_steps, combination_steps}
@@ -28,9 +27,8 @@ use Rattle.certs.specs.Tales.{IsKnownVerdict}
 use Rattle.certs.proofs.Passed.{point_check_law, combination_check_law}
 use Rattle.certs.proofs.PlainOrder.{in_order_by_test}
 use Rattle.certs.proofs.Possible.{known_verdict}
-use Rattle.table_oracle.specs.declared.answers.TableAnswer.{TableAnswer}
 use Rattle.table_oracle.specs.Judged.{IsJudged, judged_holds}
-use Rattle.table_oracle.specs.Value.{is_yes, is_point, is_leaf, is_right, own_site, IsNext}
+use Rattle.table_oracle.specs.Value.{is_yes, is_point, is_leaf}
 
 yes_of : (c : Checked) → is_yes c ≡ true → c ≡ Yes
 yes_of Yes e = refl

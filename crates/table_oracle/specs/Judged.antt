@@ -5,7 +5,6 @@ use Rattle.std.proofs.lemmas.List.Elements.{All-contains_itself}
 use Rattle.lp_model.specs.declared.members.Member.{Member}
 use Rattle.lp_model.specs.Program.{Program}
 use Rattle.lp_model.specs.Satisfaction.{IsPart}
-use Rattle.certs.specs.declared.evidence.Proof.{Proof}
 use Rattle.certs.specs.declared.solving.Stop.{Stop}
 use Rattle.certs.specs.declared.solving.Stop.TheVariants.{Wide, Pivots, Nodes, Large, Memory}
 use Rattle.certs.specs.declared.solving.Verdict.{Verdict}

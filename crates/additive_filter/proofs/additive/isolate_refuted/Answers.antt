@@ -1,4 +1,4 @@
-use Rattle.std.proofs.Common.{◌≡◌, refl, sym, ◌∙◌, ap, subst, List, [], ◌++◌, length, rules, inl, inr}
+use Rattle.std.proofs.Common.{◌≡◌, refl, sym, ◌∙◌, ap, subst, List, [], ◌++◌, length, rules, inl}
 use Rattle.std.specs.Option.{option_to_list}
 use Rattle.std.proofs.lemmas.Result.{err_from_is_err_and}
 use Rattle.lp_model.specs.declared.members.Member.{Member}

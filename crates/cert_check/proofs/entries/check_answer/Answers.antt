@@ -1,6 +1,6 @@
 use Rattle.std.proofs.Common.{◌<◌, ◌+◌, sym, subst, length, arith}
 use Rattle.report_text.specs.declared.report.Answer.{Answer}
-use Rattle.report_text.specs.Grammar.{answer_lines}
+use Rattle.report_text.specs.Grammar.{answer_phrases}
 use Rattle.cert_check.specs.Trials.{answer_trials}
 use Rattle.cert_check.specs.Stops.{first_stop, Says}
 use Rattle.cert_check.proofs.Numbers.{members_fit, witnesses_fit}
@@ -8,13 +8,13 @@ use Rattle.cert_check.proofs.entries.check_answer.Goals as goal
 
 pub check_infeasible-requires-clause-short : goal.check_infeasible-requires-clause-short
 check_infeasible-requires-clause-short c =
-    let short = subst (λ (a : Answer). c.args.line + length (answer_lines c.args.model.now a) < 4294967280) c.in-Infeasible.is c.requires.short in
+    let short = subst (λ (a : Answer). c.args.line + length (answer_phrases c.args.model.now a) < 4294967280) c.in-Infeasible.is c.requires.short in
     let fit = members_fit c.args.model.now c.in-Infeasible.members c.in-Infeasible.proof in
     omega (arith, short, fit)
 
 pub check_core-requires-clause-short : goal.check_core-requires-clause-short
 check_core-requires-clause-short c =
-    let short = subst (λ (a : Answer). c.args.line + length (answer_lines c.args.model.now a) < 4294967280) c.in-Irreducible.is c.requires.short in
+    let short = subst (λ (a : Answer). c.args.line + length (answer_phrases c.args.model.now a) < 4294967280) c.in-Irreducible.is c.requires.short in
     let fit = witnesses_fit c.args.model.now c.in-Irreducible.core in
     omega (arith, short, fit)
 

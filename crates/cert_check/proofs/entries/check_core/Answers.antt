@@ -3,7 +3,7 @@ use Rattle.std.proofs.lemmas.Result.{err_from_is_err_and}
 use Rattle.certs.specs.declared.evidence.Share.{Share}
 use Rattle.certs.specs.declared.evidence.Point.{Point}
 use Rattle.certs.specs.Checks.{outcome, combination_steps}
-use Rattle.report_text.specs.Grammar.{witness_lines}
+use Rattle.report_text.specs.Grammar.{witness_phrases}
 use Rattle.cert_check.specs.Trials.{witness_trials, witnesses_of}
 use Rattle.cert_check.specs.Stops.{first_stop, stop_or}
 use Rattle.cert_check.proofs.Firsts.{stop_first, stop_of, says_second, says_of}
@@ -26,11 +26,11 @@ returns c =
     let set = core.members.members in
     let both = c.in_ok-end.ensures in
     let passes = sym (ap (λ (l : List Point). first_stop (witness_trials model set (c.args.line + 2) (zip set l))) c.as_slice-witnesses.ensures) ∙ both.0 in
-    let end = both.1 ∙ ap (λ (l : List Point). c.args.line + 2 + length (flat_map (witness_lines model) (zip set l))) c.as_slice-witnesses.ensures in
-    let place : c.in_ok-end.end + 1 ≡ c.args.line + (3 + length (flat_map (witness_lines model) (witnesses_of core))) = omega (arith, end) in
+    let end = both.1 ∙ ap (λ (l : List Point). c.args.line + 2 + length (flat_map witness_phrases (zip set l))) c.as_slice-witnesses.ensures in
+    let place : c.in_ok-end.end + 1 ≡ c.args.line + (3 + length (flat_map witness_phrases (witnesses_of core))) = omega (arith, end) in
     let found = c.check_combo.ensures.said ∙ ap (λ (l : List Share). outcome (combination_steps model set [] l)) c.leaf_of-combo.ensures in
     says_second (witness_trials model set (c.args.line + 2) (witnesses_of core)) _ c.settle.result passes
     (says_of _ _ c.settle.result
     (ap (λ k. stop_or k c.check_combo.result None) place
-    ∙ ap (λ f. stop_or (c.args.line + (3 + length (flat_map (witness_lines model) (witnesses_of core)))) f None) found)
+    ∙ ap (λ f. stop_or (c.args.line + (3 + length (flat_map witness_phrases (witnesses_of core)))) f None) found)
     c.settle.ensures)

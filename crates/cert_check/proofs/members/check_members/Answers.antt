@@ -1,82 +1,65 @@
-use Rattle.std.proofs.Common.{◌≡◌, ◌+◌, sym, ◌∙◌, ap, true≢false, length, filter, suc, arith, Some, None}
-use Rattle.lp_model.specs.MemberSets.{follows}
-use Rattle.certs.proofs.Walk.{all_follow, next_step, none_follow, fewer_follow, next_possible}
+use Rattle.std.proofs.Common.{◌≡◌, ◌+◌, sym, ◌∙◌, ap, subst, true≢false, Option, List, length, suc, arith}
+use Rattle.std.specs.Iterator.{YieldsFirst}
+use Rattle.std.specs.Prelude.{All}
+use Rattle.std.proofs.lemmas.List.Elements.{All-head, All-tail, All-weaker}
+use Rattle.lp_model.specs.declared.members.Member.{Member}
+use Rattle.lp_model.specs.Evaluation.{IsInRange}
+use Rattle.lp_model.specs.MemberSets.{IsMemberFor}
+use Rattle.certs.proofs.Possible.{members_for_model}
 use Rattle.cert_check.specs.Trials.{paired_trials, is_active_use}
 use Rattle.cert_check.specs.Stops.{first_stop}
-use Rattle.cert_check.proofs.Pairs.{inactive, not_used, used_next, used_goes_on, both_ended, in_range, some_of, none_of}
+use Rattle.cert_check.proofs.Pairs.{inactive, not_used, used_next}
 use Rattle.cert_check.proofs.members.check_members.Goals as goal
 
 pub loop-member-init : goal.loop-member-init
 loop-member-init c =
-    let printed = c.args.printed.now.members in
-    let used = c.args.used.now.members in
-    let agree = is_active_use c.args.model.now in
+    let model = c.args.model.now in
+    let set = c.args.printed.now in
+    let given = c.into_iter-member-iterator.ensures.into_iter_gives ∙ c.iter-member-items.ensures in
+    let known = members_for_model model set c.requires.printed c.stands_in_order.ensures.possible in
     record {
-      possible = tt;
-      possible_use = tt;
-      line = ap (λ l. c.args.start + length l) (all_follow printed);
+      known = subst (All (IsInRange model)) (sym given) known;
+      line = ap (λ (l : List Member). c.args.start + length l) given;
       left =
-          ap (λ l. first_stop (paired_trials agree c.args.start l (filter (follows None) used))) (all_follow printed)
-          ∙ ap (λ l. first_stop (paired_trials agree c.args.start printed l)) (all_follow used);
+          ap (λ l. first_stop (paired_trials (is_active_use model) c.args.start l c.iter-uses.result)) given
+          ∙ ap (λ l. first_stop (paired_trials (is_active_use model) c.args.start set.members l)) c.iter-uses.ensures;
     }
 
 pub is_active-requires : goal.is_active-requires
-is_active-requires c =
-    in_range c.args.model.now c.args.printed.now c.in-Some.member c.requires.printed
-    (next_possible c.args.printed.now c.loop-member.after c.in-Some.member c.stands_in_order.ensures.possible (sym c.next.ensures ∙ c.in-Some.is))
+is_active-requires c = All-head (IsInRange c.args.model.now) c.in-Some.member c.next.new.self (subst (All (IsInRange c.args.model.now)) c.in-Some.ensures.steps c.loop-member.invariant.known)
 
 pub returns-then-not-is_active : goal.returns-then-not-is_active
 returns-then-not-is_active c =
     sym c.loop-member.invariant.left
-    ∙ inactive c.args.model.now c.loop-member.line c.args.printed.now.members c.args.used.now.members c.loop-member.after c.in-Some.member c.stands_in_order.ensures.in_order (sym c.next.ensures ∙ c.in-Some.is) (sym c.is_active.ensures ∙ c.if-not-is_active.true)
+    ∙ (ap (λ l. first_stop (paired_trials (is_active_use c.args.model.now) c.loop-member.line l c.loop-member.uses)) c.in-Some.ensures.steps
+    ∙ inactive c.args.model.now c.loop-member.line c.in-Some.member c.next.new.self c.loop-member.uses (sym c.is_active.ensures ∙ c.if-not-is_active.true))
 
 pub returns-then-not-is_next : goal.returns-then-not-is_next
 returns-then-not-is_next c =
     sym c.loop-member.invariant.left
-    ∙ not_used c.args.model.now c.loop-member.line c.args.printed.now.members c.args.used.now.members c.loop-member.after c.in-Some.member c.stands_in_order.ensures.in_order (sym c.next.ensures ∙ c.in-Some.is) c.stands_in_order-2.ensures.in_order
-    (λ e. true≢false (sym (c.is_next.ensures.1 e) ∙ c.if-not-is_next.true))
-
-pub loop-member-smaller : goal.loop-member-smaller
-loop-member-smaller c = fewer_follow c.args.printed.now.members c.loop-member.after c.in-Some.member c.stands_in_order.ensures.in_order (sym c.next.ensures ∙ c.in-Some.is)
+    ∙ (ap (λ l. first_stop (paired_trials (is_active_use c.args.model.now) c.loop-member.line l c.loop-member.uses)) c.in-Some.ensures.steps
+    ∙ not_used c.args.model.now c.loop-member.line c.in-Some.member c.next.new.self c.loop-member.uses c.next-in-loop-member.new.self c.next-in-loop-member.result c.next-in-loop-member.ensures.steps
+    (λ e. true≢false (sym (c.is_next.ensures.1 e) ∙ c.if-not-is_next.true)))
 
 pub overflow_add-line : goal.overflow_add-line
 overflow_add-line c =
-    let printed = c.args.printed.now.members in
-    let m = c.in-Some.member in
-    let steps : length (filter (follows c.loop-member.after) printed) ≡ suc (length (filter (follows (Some m)) printed)) = ap length (next_step c.loop-member.after printed m c.stands_in_order.ensures.in_order (sym c.next.ensures ∙ c.in-Some.is)) in
+    let steps : length c.loop-member.member-iterator ≡ suc (length c.next.new.self) = ap length c.in-Some.ensures.steps in
     omega (arith, steps, c.loop-member.invariant.line, c.requires.short)
 
 pub loop-member-preserved : goal.loop-member-preserved
 loop-member-preserved c =
-    let printed = c.args.printed.now.members in
-    let used = c.args.used.now.members in
-    let after = c.loop-member.after in
+    let model = c.args.model.now in
+    let line = c.loop-member.line in
     let m = c.in-Some.member in
-    let there = sym c.next.ensures ∙ c.in-Some.is in
-    let there_too = c.is_next.ensures.0 c.if-not-is_next.false in
-    let steps : length (filter (follows after) printed) ≡ suc (length (filter (follows (Some m)) printed)) = ap length (next_step after printed m c.stands_in_order.ensures.in_order there) in
+    let rest = c.next.new.self in
+    let uses = c.loop-member.uses in
+    let steps = c.in-Some.ensures.steps in
+    let fewer : length c.loop-member.member-iterator ≡ suc (length rest) = ap length steps in
     record {
-      possible = next_possible c.args.printed.now after m c.stands_in_order.ensures.possible there;
-      possible_use = next_possible c.args.used.now after m c.stands_in_order-2.ensures.possible there_too;
-      line = omega (arith, steps, c.loop-member.invariant.line);
+      known = All-tail (IsInRange model) m rest (subst (All (IsInRange model)) steps c.loop-member.invariant.known);
+      line = omega (arith, fewer, c.loop-member.invariant.line);
       left =
-          used_next c.args.model.now c.loop-member.line printed used after m c.stands_in_order.ensures.in_order there c.stands_in_order-2.ensures.in_order (sym c.is_active.ensures ∙ c.if-not-is_active.false) there_too
-          ∙ c.loop-member.invariant.left;
+          used_next model line m rest uses c.next-in-loop-member.new.self (sym c.is_active.ensures ∙ c.if-not-is_active.false)
+          (subst (λ (next : Option Member). YieldsFirst (λ (l : List Member). l) uses next c.next-in-loop-member.new.self) (c.is_next.ensures.0 c.if-not-is_next.false) c.next-in-loop-member.ensures.steps)
+          ∙ (sym (ap (λ l. first_stop (paired_trials (is_active_use model) line l uses)) steps) ∙ c.loop-member.invariant.left);
     }
-
-pub returns-then-is_some : goal.returns-then-is_some
-returns-then-is_some c =
-    let u = some_of c.next-2.result (sym c.is_some.ensures ∙ c.if-is_some.true) in
-    sym c.loop-member.invariant.left
-    ∙ used_goes_on c.args.model.now c.loop-member.line c.args.printed.now.members c.args.used.now.members c.loop-member.after u.0 (sym c.next.ensures ∙ c.in_default.is) c.stands_in_order-2.ensures.in_order (sym c.next-2.ensures ∙ u.1)
-
-pub returns : goal.returns
-returns c =
-    let none = none_of c.next-2.result (sym c.is_some.ensures ∙ c.if-is_some.false) in
-    let printed = c.args.printed.now.members in
-    let after = c.loop-member.after in
-    let ended = sym c.next.ensures ∙ c.in_default.is in
-    let nothing : length (filter (follows after) printed) ≡ 0 = ap length (none_follow after printed ended) in (
-      sym c.loop-member.invariant.left ∙ both_ended c.args.model.now c.loop-member.line printed c.args.used.now.members after ended (sym c.next-2.ensures ∙ none),
-      omega (arith, nothing, c.loop-member.invariant.line),
-    )

@@ -1,6 +1,6 @@
 use Rattle.std.proofs.Common.{◌∙◌, ap}
 use Rattle.lp_model.specs.MemberSets.{SetValue, set_with}
-use Rattle.cert_check.proofs.Named.{put_back}
+use Rattle.certs.proofs.HasLists.{put_back}
 use Rattle.cert_check.proofs.witnesses.check_witness.Goals as goal
 
 pub returns-clause-stays : goal.returns-clause-stays

@@ -1,42 +1,47 @@
-use Rattle.std.proofs.Common.{◌≡◌, ◌+◌, sym, ◌∙◌, ap, subst, true, length, flat_map, arith, None, [], ◌∷◌}
+use Rattle.std.proofs.Common.{◌≡◌, ◌+◌, sym, ◌∙◌, ap, subst, true, length, zip, flat_map, arith, None, List, [], ◌∷◌}
+use Rattle.std.specs.Prelude.{All}
+use Rattle.std.proofs.lemmas.List.Elements.{All-head, All-tail}
 use Rattle.std.proofs.lemmas.Result.{err_from_is_err_and}
+use Rattle.lp_model.specs.declared.members.Member.{Member}
 use Rattle.lp_model.specs.MemberSets.{SetValue, IsPossibleIn}
 use Rattle.lp_model.specs.Members.{has}
-use Rattle.certs.proofs.Walk.{all_follow, next_possible}
-use Rattle.report_text.specs.Grammar.{witness_lines}
+use Rattle.certs.proofs.Possible.{all_possible}
+use Rattle.report_text.specs.Grammar.{witness_phrases}
 use Rattle.cert_check.specs.Trials.{witness_trials}
 use Rattle.cert_check.specs.Stops.{first_stop}
 use Rattle.cert_check.proofs.Firsts.{stop_of}
-use Rattle.cert_check.proofs.Named.{found_has}
-use Rattle.cert_check.proofs.Witnessed.{all_left, member_left, lines_step, witness_stops, witness_passes, each_step}
+use Rattle.cert_check.proofs.Named.{all_there}
+use Rattle.cert_check.proofs.Witnessed.{member_left, lines_step, witness_stops, witness_passes, each_step}
 use Rattle.cert_check.proofs.witnesses.check_witnesses.Goals as goal
 
 pub loop-witness-init : goal.loop-witness-init
 loop-witness-init c =
     let model = c.args.model.now in
-    let set = c.args.members.now.members in
+    let set = c.args.members.now in
     let witnesses = c.args.witnesses.now in
+    let given = c.iter-left.ensures in
     record {
-      possible = tt;
+      possible = subst (All (IsPossibleIn set)) (sym given) (all_possible set c.stands_in_order.ensures.possible);
+      there = subst (All (λ m. has set.members m ≡ true)) (sym given) (all_there set c.stands_in_order.ensures.possible);
       others = c.requires.copy;
-      each = c.requires.each ∙ ap length (sym (all_follow set));
-      line = all_left (λ l. c.args.start + length (flat_map (witness_lines model) l)) set witnesses;
-      left = all_left (λ l. first_stop (witness_trials model set c.args.start l)) set witnesses;
+      each = c.requires.each ∙ ap length (sym given);
+      line = ap (λ (l : List Member). c.args.start + length (flat_map witness_phrases (zip l witnesses))) given;
+      left = ap (λ (l : List Member). first_stop (witness_trials model set.members c.args.start (zip l witnesses))) given;
     }
 
 pub unreachable-requires : goal.unreachable-requires
 unreachable-requires c =
-    member_left c.args.model.now c.args.members.now.members c.args.witnesses.now c.loop-witness.after c.loop-witness.witness-index c.witness-item.result c.loop-witness-test.true c.loop-witness.invariant.each (sym c.next.ensures ∙ c.in_default.is)
+    member_left c.loop-witness.left c.args.witnesses.now c.loop-witness.witness-index c.witness-item.result c.loop-witness-test.true c.loop-witness.invariant.each c.in_default.ensures.steps.0
 
 pub check_witness-requires-clause-there : goal.check_witness-requires-clause-there
 check_witness-requires-clause-there c =
     subst (λ (s : SetValue). has s.members c.in-Some.member ≡ true) (sym c.loop-witness.invariant.others)
-    (found_has c.args.members.now c.loop-witness.after c.in-Some.member c.stands_in_order.ensures.possible (sym c.next.ensures ∙ c.in-Some.is))
+    (All-head (λ m. has c.args.members.now.members m ≡ true) c.in-Some.member c.next.new.self (subst (All (λ m. has c.args.members.now.members m ≡ true)) c.in-Some.ensures.steps c.loop-witness.invariant.there))
 
 pub check_witness-requires-clause-possible : goal.check_witness-requires-clause-possible
 check_witness-requires-clause-possible c =
     subst (λ (s : SetValue). IsPossibleIn s c.in-Some.member) (sym c.loop-witness.invariant.others)
-    (next_possible c.args.members.now c.loop-witness.after c.in-Some.member c.stands_in_order.ensures.possible (sym c.next.ensures ∙ c.in-Some.is))
+    (All-head (IsPossibleIn c.args.members.now) c.in-Some.member c.next.new.self (subst (All (IsPossibleIn c.args.members.now)) c.in-Some.ensures.steps c.loop-witness.invariant.possible))
 
 pub returns-in_err-check_witness : goal.returns-in_err-check_witness
 returns-in_err-check_witness c =
@@ -49,27 +54,27 @@ returns-in_err-check_witness c =
     let p = err_from_is_err_and c.from_residual.result c.from_residual.ensures.1 in
     rw (p.1, p.2)
     (stop_of _ _ s i.invariant.left
-    (witness_stops model set c.args.witnesses.now i.after i.witness-index m w c.stands_in_order.ensures.in_order (sym c.next.ensures ∙ c.in-Some.is) c.loop-witness-test.true c.witness-item.is set i.line s
+    (witness_stops model c.args.witnesses.now i.witness-index i.left c.next.new.self m w c.in-Some.ensures.steps c.loop-witness-test.true c.witness-item.is set i.line s
     (stop_of _ _ s (ap (λ (v : SetValue). first_stop (witness_trials model v.members i.line ((m, w) ∷ []))) i.invariant.others) c.in_err-check_witness.ensures.says)))
 
 pub check_witness-requires-clause-short : goal.check_witness-requires-clause-short
 check_witness-requires-clause-short c =
     let i = c.loop-witness in
-    let step = lines_step c.args.model.now c.args.members.now.members c.args.witnesses.now i.after i.witness-index c.in-Some.member c.witness-item.result c.stands_in_order.ensures.in_order (sym c.next.ensures ∙ c.in-Some.is) c.loop-witness-test.true c.witness-item.is in
+    let step = lines_step c.args.model.now c.args.witnesses.now i.witness-index i.left c.next.new.self c.in-Some.member c.witness-item.result c.in-Some.ensures.steps c.loop-witness-test.true c.witness-item.is in
     omega (arith, step, i.invariant.line, c.requires.short)
 
 pub overflow_cast-line : goal.overflow_cast-line
 overflow_cast-line c =
     let i = c.loop-witness in
-    let step = lines_step c.args.model.now c.args.members.now.members c.args.witnesses.now i.after i.witness-index c.in-Some.member c.witness-item.result c.stands_in_order.ensures.in_order (sym c.next.ensures ∙ c.in-Some.is) c.loop-witness-test.true c.witness-item.is in
-    let count = c.witness_length.ensures c.args.model.now c.in-Some.member in
+    let step = lines_step c.args.model.now c.args.witnesses.now i.witness-index i.left c.next.new.self c.in-Some.member c.witness-item.result c.in-Some.ensures.steps c.loop-witness-test.true c.witness-item.is in
+    let count = c.witness_length.ensures c.in-Some.member in
     omega (arith, step, count, i.invariant.line, c.requires.short)
 
 pub overflow_add-line : goal.overflow_add-line
 overflow_add-line c =
     let i = c.loop-witness in
-    let step = lines_step c.args.model.now c.args.members.now.members c.args.witnesses.now i.after i.witness-index c.in-Some.member c.witness-item.result c.stands_in_order.ensures.in_order (sym c.next.ensures ∙ c.in-Some.is) c.loop-witness-test.true c.witness-item.is in
-    let count = c.witness_length.ensures c.args.model.now c.in-Some.member in
+    let step = lines_step c.args.model.now c.args.witnesses.now i.witness-index i.left c.next.new.self c.in-Some.member c.witness-item.result c.in-Some.ensures.steps c.loop-witness-test.true c.witness-item.is in
+    let count = c.witness_length.ensures c.in-Some.member in
     omega (arith, step, count, i.invariant.line, c.requires.short)
 
 pub loop-witness-preserved : goal.loop-witness-preserved
@@ -80,17 +85,16 @@ loop-witness-preserved c =
     let i = c.loop-witness in
     let m = c.in-Some.member in
     let w = c.witness-item.result in
-    let order = c.stands_in_order.ensures.in_order in
-    let there = sym c.next.ensures ∙ c.in-Some.is in
-    let step = lines_step model set witnesses i.after i.witness-index m w order there c.loop-witness-test.true c.witness-item.is in
-    let count = c.witness_length.ensures c.args.model.now c.in-Some.member in
+    let others = c.next.new.self in
+    let first = c.in-Some.ensures.steps in
+    let step = lines_step model witnesses i.witness-index i.left others m w first c.loop-witness-test.true c.witness-item.is in
+    let count = c.witness_length.ensures c.in-Some.member in
     let says : first_stop (witness_trials model set i.line ((m, w) ∷ [])) ≡ None = sym (ap (λ (v : SetValue). first_stop (witness_trials model v.members i.line ((m, w) ∷ []))) i.invariant.others) ∙ c.in_ok-check_witness.ensures.says in
     record {
-      possible = next_possible c.args.members.now i.after m c.stands_in_order.ensures.possible there;
+      possible = All-tail (IsPossibleIn c.args.members.now) m others (subst (All (IsPossibleIn c.args.members.now)) first i.invariant.possible);
+      there = All-tail (λ n. has set n ≡ true) m others (subst (All (λ n. has set n ≡ true)) first i.invariant.there);
       others = c.in_ok-check_witness.ensures.stays ∙ i.invariant.others;
-      each = each_step model set witnesses i.after i.witness-index m w order there c.loop-witness-test.true c.witness-item.is i.invariant.each;
+      each = each_step model witnesses i.witness-index i.left others m w first c.loop-witness-test.true c.witness-item.is i.invariant.each;
       line = omega (arith, step, count, i.invariant.line);
-      left =
-          witness_passes model set witnesses i.after i.witness-index m w order there c.loop-witness-test.true c.witness-item.is set i.line c.witness_length.result says count
-          ∙ i.invariant.left;
+      left = witness_passes model witnesses i.witness-index i.left others m w first c.loop-witness-test.true c.witness-item.is set i.line c.witness_length.result says count ∙ i.invariant.left;
     }

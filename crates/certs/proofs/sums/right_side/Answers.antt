@@ -1,11 +1,11 @@
-use Rattle.std.proofs.Common.{ap, sym, ◌∙◌}
+use Rattle.std.proofs.Common.{◌≡◌, ap, sym, ◌∙◌, None}
 use Rattle.std.proofs.lemmas.Result.{err_from_is_err_and}
-use Rattle.rational.specs.Rational.{ℚ, ◌+ℚ◌}
+use Rattle.rational.specs.Rational.{ℚ, ◌+ℚ◌, ◌*ℚ◌}
 use Rattle.rational.proofs.Sums.{nothing_first}
 use Rattle.frac128.specs.Limit.{limit}
 use Rattle.frac128.specs.Calculation.{first_wide}
-use Rattle.certs.specs.Combination.{right_side}
-use Rattle.certs.specs.Checks.{right_operations}
+use Rattle.certs.specs.Combination.{right_side, signed, source_side}
+use Rattle.certs.specs.Checks.{right_operations, share_operations}
 use Rattle.certs.proofs.ColumnSums.{right_wide, right_next, right_sum, right_end, right_done}
 use Rattle.certs.proofs.PathNumbers.{number_read}
 use Rattle.certs.proofs.sums.right_side.Goals as goal
@@ -27,17 +27,22 @@ returns-in_err-sum c =
     let n = number_read c.args.model.now c.args.path.now s c.source_number.result c.whole-zero.result c.unwrap_or-number.result c.source_number.ensures c.whole-zero.ensures c.unwrap_or-number.ensures in
     rw (p.1, p.2)
     (sym c.loop-share.invariant.width
-    ∙ right_wide c.args.model.now c.args.shares.now c.loop-share.share-index s c.loop-share-test.true c.share-item.is c.args.path.now c.loop-share.sum c.unwrap_or-number.result n _ c.in_err-sum.ensures)
+    ∙ right_wide c.args.model.now c.args.shares.now c.loop-share.share-index s c.loop-share-test.true c.share-item.is c.args.path.now c.loop-share.sum c.unwrap_or-number.result n _
+    (ap (λ z. first_wide limit (share_operations c.loop-share.sum z c.unwrap_or-number.result s.weight)) (sym c.side.ensures) ∙ c.in_err-sum.ensures))
 
 pub loop-share-preserved : goal.loop-share-preserved
 loop-share-preserved c =
     let s = c.share-item.result in
     let i = c.loop-share.invariant in
     let e = c.in_ok-sum.ensures in
+    let value : c.in_ok-sum.sum ≡ c.loop-share.sum +ℚ signed (source_side s.source) (c.unwrap_or-number.result *ℚ s.weight) =
+    e.0 ∙ ap (λ z. c.loop-share.sum +ℚ signed z (c.unwrap_or-number.result *ℚ s.weight)) c.side.ensures in
+    let width : first_wide limit (share_operations c.loop-share.sum (source_side s.source) c.unwrap_or-number.result s.weight) ≡ None =
+    ap (λ z. first_wide limit (share_operations c.loop-share.sum z c.unwrap_or-number.result s.weight)) (sym c.side.ensures) ∙ e.1 in
     let n = number_read c.args.model.now c.args.path.now s c.source_number.result c.whole-zero.result c.unwrap_or-number.result c.source_number.ensures c.whole-zero.ensures c.unwrap_or-number.ensures in
     record {
-      width = right_next c.args.model.now c.args.shares.now c.loop-share.share-index s c.loop-share-test.true c.share-item.is c.args.path.now c.loop-share.sum c.unwrap_or-number.result n c.in_ok-sum.sum e.0 e.1 ∙ i.width;
-      sum = right_sum c.args.model.now c.args.shares.now c.loop-share.share-index s c.loop-share-test.true c.share-item.is c.args.path.now c.loop-share.sum c.unwrap_or-number.result n c.in_ok-sum.sum e.0 ∙ i.sum;
+      width = right_next c.args.model.now c.args.shares.now c.loop-share.share-index s c.loop-share-test.true c.share-item.is c.args.path.now c.loop-share.sum c.unwrap_or-number.result n c.in_ok-sum.sum value width ∙ i.width;
+      sum = right_sum c.args.model.now c.args.shares.now c.loop-share.share-index s c.loop-share-test.true c.share-item.is c.args.path.now c.loop-share.sum c.unwrap_or-number.result n c.in_ok-sum.sum value ∙ i.sum;
     }
 
 pub returns : goal.returns

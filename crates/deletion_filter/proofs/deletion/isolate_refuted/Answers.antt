@@ -1,11 +1,9 @@
-use Rattle.std.proofs.Common.{◌≡◌, refl, sym, ◌∙◌, ap, subst, List, [], filter, length, None, Some, inl, inr}
-use Rattle.std.specs.Prelude.{◌⊎◌}
+use Rattle.std.proofs.Common.{refl, sym, ◌∙◌, ap, subst, List, length, inl}
 use Rattle.std.proofs.lemmas.Result.{err_from_is_err_and}
 use Rattle.lp_model.specs.declared.members.Member.{Member}
 use Rattle.lp_model.specs.MemberSets.{SetValue, set_without}
 use Rattle.lp_model.specs.Program.{Program}
 use Rattle.certs.specs.declared.evidence.Proof.{Proof}
-use Rattle.certs.specs.declared.evidence.Point.{Point}
 use Rattle.certs.specs.Filter.{IsLateTest}
 use Rattle.certs.specs.Named.{used_set}
 use Rattle.certs.proofs.Possible.{known_nodes}

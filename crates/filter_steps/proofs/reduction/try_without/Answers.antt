@@ -2,9 +2,11 @@ use Rattle.std.proofs.Common.{◌≡◌, refl, sym, ◌∙◌, ap, subst, filter
 use Rattle.lp_model.specs.Members.{has}
 use Rattle.lp_model.specs.MemberSets.{SetValue, IsPossibleIn, possible_in, set_with}
 use Rattle.certs.specs.declared.evidence.Proof.{Proof}
-use Rattle.certs.specs.Tales.{IsPointOf, IsVerdict}
+use Rattle.certs.specs.Tales.{IsPointOf}
 use Rattle.filter_steps.specs.Reductions.{IsReduction}
-use Rattle.filter_steps.proofs.Sets.{is_possible, put_back, rest_is_possible}
+use Rattle.lp_model.proofs.Sets.{has_of_contains}
+use Rattle.certs.proofs.HasLists.{put_back}
+use Rattle.filter_steps.proofs.Sets.{is_possible, rest_is_possible}
 use Rattle.certs.proofs.Possible.{known_nodes}
 use Rattle.filter_steps.proofs.Reducing.{unused_goes, refuted, point_of_verdict, proof_of_verdict, on_ok, on_ok_both, on_ok_then, tried_stays, tried_goes, same_reduction, possible_in_used}
 use Rattle.filter_steps.proofs.reduction.try_without.Goals as goal
@@ -41,7 +43,7 @@ pub returns-in-Feasible-clause-reduced : goal.returns-in-Feasible-clause-reduced
 returns-in-Feasible-clause-reduced g c =
     let r = c.args.reduction.now in
     let model = (g.O.Oracle.state c.args.oracle.now).model in
-    let whole = c.keep.ensures.left ∙ (ap (λ (s : SetValue). set_with s c.args.member) c.remove.ensures ∙ put_back r.left c.args.member c.requires.reduced.possible c.requires.there) in
+    let whole = c.keep.ensures.left ∙ (ap (λ (s : SetValue). set_with s c.args.member) c.remove.ensures ∙ put_back r.left c.args.member c.requires.reduced.possible (has_of_contains r.left.members c.args.member c.requires.there)) in
     on_ok c.keep.result (IsReduction model c.keep.new.self.left c.keep.new.self.used c.keep.new.self.proof.nodes)
     (same_reduction model r.left c.keep.new.self.left r.used c.keep.new.self.used r.proof.nodes c.keep.new.self.proof.nodes whole c.keep.ensures.used (ap (λ (p : Proof). p.nodes) c.keep.ensures.proof) c.requires.reduced)
 
@@ -49,7 +51,7 @@ pub returns-in-Feasible-clause-tried : goal.returns-in-Feasible-clause-tried
 returns-in-Feasible-clause-tried g c =
     let r = c.args.reduction.now in
     let model = (g.O.Oracle.state c.args.oracle.now).model in
-    let whole = c.keep.ensures.left ∙ (ap (λ (s : SetValue). set_with s c.args.member) c.remove.ensures ∙ put_back r.left c.args.member c.requires.reduced.possible c.requires.there) in
+    let whole = c.keep.ensures.left ∙ (ap (λ (s : SetValue). set_with s c.args.member) c.remove.ensures ∙ put_back r.left c.args.member c.requires.reduced.possible (has_of_contains r.left.members c.args.member c.requires.there)) in
     let point = subst (λ (s : SetValue). IsPointOf model s.members c.in-Feasible.point) c.remove.ensures (point_of_verdict model c.remove.new.self.members c.in_ok-verdict.verdict c.in-Feasible.point c.in-Feasible.is (g.met.O.Oracle.holds (g.O.Oracle.state c.args.oracle.now).model (g.O.Oracle.state c.args.oracle.now).budgets c.remove.new.self.members c.in_ok-verdict.verdict c.in_ok-verdict.ensures.answered)) in
     on_ok_then c.keep.result _ _ (λ w. tried_stays model r.left c.keep.new.self.left r.witnesses.items c.keep.new.self.witnesses.items c.args.member c.in-Feasible.point point whole w) c.keep.ensures.witnesses
 

@@ -1,7 +1,8 @@
 use Rattle.std.proofs.Common.{◌≡◌, ℕ, length, sym, ap, ◌∙◌, subst, arith}
 use Rattle.std.specs.Prelude.{slice_index_or}
 use Rattle.name_map.specs.Names.{names_of}
-use Rattle.lp_model.specs.Program.{Program, IsForm}
+use Rattle.lp_model.specs.Program.{Program, IsForm, IsWellFormedRow}
+use Rattle.lp_model.specs.Shown.{named_row}
 use Rattle.lp_reader.specs.Building.{no_row, columns_listed, rows_listed, notes_listed}
 use Rattle.lp_reader.proofs.Built.{even, rows_even, row_formed, objective_formed, built, columns_counted, bounds_few, bounds_named}
 use Rattle.lp_reader.proofs.building.make_model.Goals as goal
@@ -12,13 +13,10 @@ put_columns-requires-clause-even c = even c.args.reader c.requires.0 c.requires.
 pub put_rows-requires-clause-even : goal.put_rows-requires-clause-even
 put_rows-requires-clause-even c = rows_even c.args.reader c.requires.0 c.requires.1
 
-pub put_rows-requires-clause-forms : goal.put_rows-requires-clause-forms
-put_rows-requires-clause-forms c = λ i h.
+pub put_rows-requires-clause-formed : goal.put_rows-requires-clause-formed
+put_rows-requires-clause-formed c = λ i h name.
     let count : length c.put_columns.new.model.columns ≡ length (names_of c.args.reader.columns.names) = ap (λ (m : Program). length m.columns) c.in_ok-put_columns.ensures ∙ columns_counted c.args.reader c.requires.0 c.requires.1 in
-    subst (λ (n : ℕ). IsForm n (slice_index_or c.args.reader.rows.items.items i no_row).terms) (sym count) (row_formed c.args.reader c.requires.0 c.requires.1 i h).0
-
-pub put_rows-requires-clause-weights : goal.put_rows-requires-clause-weights
-put_rows-requires-clause-weights c = λ i h. (row_formed c.args.reader c.requires.0 c.requires.1 i h).1
+    subst (λ (n : ℕ). IsWellFormedRow n (named_row name (slice_index_or c.args.reader.rows.items.items i no_row))) (sym count) (row_formed c.args.reader c.requires.0 c.requires.1 i h name)
 
 pub set_objective-requires : goal.set_objective-requires
 set_objective-requires c =

@@ -2,26 +2,20 @@ use Rattle.std.proofs.Common.{◌≡◌, ℕ, suc, ◌+◌, ◌<◌, ◌∷◌, 
 use Rattle.name_map.specs.Names.{names_of}
 use Rattle.name_map.proofs.NameLists.{length_map}
 use Rattle.lp_model.specs.declared.parts.Row.{Row}
-use Rattle.lp_model.specs.Program.{Program, IsForm, IsPositiveWeight}
+use Rattle.lp_model.specs.Program.{Program, IsWellFormedRow}
 use Rattle.lp_model.specs.Shown.{named_row, with_more_row, most_rows, row_names, CanAdd}
 use Rattle.lp_reader.specs.Building.{no_row, rows_listed}
 use Rattle.lp_reader.proofs.Columned.{name_is}
 use Rattle.lp_reader.proofs.Fits.{row_fits, left_first, left_rest}
 use Rattle.lp_reader.proofs.building.put_rows.Goals as goal
 
-pub put_row-requires-clause-form : goal.put_row-requires-clause-form
-put_row-requires-clause-form c =
+pub put_row-requires-clause-formed : goal.put_row-requires-clause-formed
+put_row-requires-clause-formed c =
     let items = c.args.rows.items in let is = c.len-index-end.ensures.len in let on = c.loop-index-test.true in let even = c.requires.even in
     let within : c.loop-index.index < length items = omega arith in
     let row_is : c.in-Some.row ≡ get_or items c.loop-index.index no_row = left_first items c.loop-index.index no_row c.in-Some.row c.next.new.self.rest.items (sym c.loop-index.invariant.left ∙ c.in-Some.ensures.cases.0) within in
-    subst (λ (m : Program). IsForm (length m.columns) c.in-Some.row.terms) (sym c.loop-index.invariant.model) (subst (λ (r : Row). IsForm (length c.args.model.now.columns) r.terms) (sym row_is) (c.requires.forms c.loop-index.index within))
-
-pub put_row-requires-clause-weight : goal.put_row-requires-clause-weight
-put_row-requires-clause-weight c =
-    let items = c.args.rows.items in let is = c.len-index-end.ensures.len in let on = c.loop-index-test.true in let even = c.requires.even in
-    let within : c.loop-index.index < length items = omega arith in
-    let row_is : c.in-Some.row ≡ get_or items c.loop-index.index no_row = left_first items c.loop-index.index no_row c.in-Some.row c.next.new.self.rest.items (sym c.loop-index.invariant.left ∙ c.in-Some.ensures.cases.0) within in
-    subst (λ (r : Row). IsPositiveWeight r.weight) (sym row_is) (c.requires.weights c.loop-index.index within)
+    subst (λ (m : Program). IsWellFormedRow (length m.columns) (named_row c.name.result.now c.in-Some.row)) (sym c.loop-index.invariant.model)
+    (subst (λ (r : Row). IsWellFormedRow (length c.args.model.now.columns) (named_row c.name.result.now r)) (sym row_is) (c.requires.formed c.loop-index.index within c.name.result.now))
 
 pub put_row-requires-clause-fits : goal.put_row-requires-clause-fits
 put_row-requires-clause-fits c =

@@ -1,20 +1,17 @@
-use Rattle.std.proofs.Common.{sym, ap, not, true, subst, ◌∙◌}
-use Rattle.rational.specs.Rational.{ℚ, zero_ℚ, ◌<ℚ◌}
-use Rattle.lp_model.specs.declared.parts.Weight.TheVariants.{Soft}
-use Rattle.lp_model.specs.Program.{NamedRow}
+use Rattle.std.proofs.Common.{sym, ap, not, length, subst, ◌∙◌}
 use Rattle.mps_reader.specs.Tables.{is_free}
 use Rattle.mps_reader.specs.Held.{row_names_held}
-use Rattle.lp_model.specs.Shown.{row_names, most_rows}
+use Rattle.lp_model.specs.Shown.{row_names, most_rows, named_row, new_row}
+use Rattle.lp_model.proofs.New.{as_new_row_formed}
 use Rattle.lp_model.proofs.Refused.{memory_alone}
 use Rattle.mps_reader.proofs.Fits.{row_fits}
-use Rattle.mps_reader.proofs.Made.{row_form, row_more, positive_weight, name_is}
+use Rattle.mps_reader.proofs.Made.{row_form, row_more, name_is}
 use Rattle.mps_reader.proofs.program.put_row.Goals as goal
 
-pub add_row-requires-clause-form : goal.add_row-requires-clause-form
-add_row-requires-clause-form c = row_form c.args.reader.now c.args.index c.args.model.now c.new.result c.requires.before (c.new.ensures ∙ c.requires.terms)
-
-pub add_row-requires-clause-weight : goal.add_row-requires-clause-weight
-add_row-requires-clause-weight c = subst (λ (q : ℚ). zero_ℚ <ℚ q) (sym c.whole.ensures) positive_weight
+pub add_row-requires : goal.add_row-requires
+add_row-requires c =
+    as_new_row_formed (length c.args.model.now.columns) c.name.result.now _ _ _ _ c.new-row.ensures
+    (row_form c.args.reader.now c.args.index c.args.model.now c.new.result c.requires.before (c.new.ensures ∙ c.requires.terms))
 
 pub returns-in-Ok : goal.returns-in-Ok
 returns-in-Ok c =
@@ -22,7 +19,7 @@ returns-in-Ok c =
     let named = name_is (row_names_held reader) c.args.index c.name.result.now c.name.ensures in
     let terms = c.new.ensures ∙ c.requires.terms in
     row_more reader c.args.index c.args.model.now c.add_row.new.self _ c.requires.before (ap not (ap is_free (sym c.kind_at.ensures) ∙ sym c.is_free_kind.ensures ∙ c.if-is_free_kind.false))
-    (λ k. let r : NamedRow = record { name = named k; terms = terms k; lower = (c.sides_at-sides.ensures k).0; upper = (c.sides_at-sides.ensures k).1; active = true; weight = Soft (c.whole.ensures k) } in r)
+    (λ k. named_row (named k) ((c.new-row.ensures ∙ (λ j. new_row (terms j) (c.sides_at-sides.ensures j).0 (c.sides_at-sides.ensures j).1)) k))
     c.in-Ok.ensures.answer.2
 
 pub want-requires : goal.want-requires

@@ -1,7 +1,8 @@
 use Rattle.std.proofs.Common.{◌≡◌, ◌<◌, ◌++◌, ℕ, map, drop, get_or}
 use Rattle.certs.specs.declared.evidence.Share.{Share}
 use Rattle.report_text.specs.Form.{IsWithinLimit}
-use Rattle.report_text.specs.Grammar.{use_line, text_of}
+use Rattle.report_text.specs.declared.phrases.Phrase.{Phrase}
+use Rattle.report_text.specs.Grammar.{phrases_text}
 use Rattle.report_printer.specs.Printing.{Keeps}
 use Rattle.report_printer.proofs.writing.print_leaf.Given as goal
 
@@ -9,6 +10,6 @@ use Rattle.report_printer.proofs.writing.print_leaf.Given as goal
 abbrev pub invariant-loop-share : goal.invariant-loop-share
 invariant-loop-share l = record {
   kept : Keeps l.fn.into.items l.into.items;
-  left : l.into.items ++ text_of (map (use_line l.model) (drop l.share-index l.shares)) ≡ l.initial.into.items ++ text_of (map (use_line l.model) l.shares);
+  left : l.into.items ++ phrases_text l.model (map Phrase.Use (drop l.share-index l.shares)) ≡ l.initial.into.items ++ phrases_text l.model (map Phrase.Use l.shares);
   within : (k : ℕ) (d : Share) → k < l.share-index → IsWithinLimit (get_or l.shares k d).weight;
 }

@@ -1,33 +1,35 @@
-use Rattle.std.proofs.Common.{◌++◌, refl, sym, ◌∙◌, ap, map}
-use Rattle.certs.proofs.Walk.{all_follow, fewer_follow, next_possible}
-use Rattle.report_text.specs.Grammar.{member_line, text_of}
+use Rattle.std.proofs.Common.{◌++◌, refl, sym, subst, ◌∙◌, ap, map, List}
+use Rattle.std.specs.Prelude.{All}
+use Rattle.std.proofs.lemmas.List.Elements.{All-head, All-tail}
+use Rattle.lp_model.specs.declared.members.Member.{Member}
+use Rattle.certs.proofs.Possible.{members_for_model}
+use Rattle.report_text.specs.declared.phrases.Phrase.{Phrase}
+use Rattle.report_text.specs.Grammar.{phrases_text}
+use Rattle.report_printer.specs.Printing.{IsKnownMember}
 use Rattle.report_printer.proofs.Kept.{keeps_same, keeps_on}
-use Rattle.report_printer.proofs.Printed.{goes_on, members_left, members_ended, known_member}
+use Rattle.report_printer.proofs.Printed.{goes_on, nothing_left}
 use Rattle.report_printer.proofs.writing.print_members.Goals as goal
 
 pub loop-member-init : goal.loop-member-init
-loop-member-init c = record {
-  possible = tt;
-  kept = keeps_same _ _ refl;
-  left = ap (λ l. c.args.into.now.items ++ text_of (map (member_line c.args.model.now) l)) (all_follow c.args.set.now.members);
-}
+loop-member-init c =
+    let given = c.into_iter-member-iterator.ensures.into_iter_gives ∙ c.iter-member-items.ensures in
+    record {
+      known = subst (All (IsKnownMember c.args.model.now)) (sym given) (members_for_model c.args.model.now c.args.set.now c.requires c.stands_in_order.ensures.possible);
+      kept = keeps_same _ _ refl;
+      left = ap (λ (l : List Member). c.args.into.now.items ++ phrases_text c.args.model.now (map Phrase.Member l)) given;
+    }
 
 pub print_member-requires : goal.print_member-requires
-print_member-requires c =
-    known_member c.args.model.now c.args.set.now c.in-Some.member c.requires
-    (next_possible c.args.set.now c.loop-member.after c.in-Some.member c.stands_in_order.ensures.possible (sym c.next.ensures ∙ c.in-Some.is))
-
-pub loop-member-smaller : goal.loop-member-smaller
-loop-member-smaller c = fewer_follow c.args.set.now.members c.loop-member.after c.in-Some.member c.stands_in_order.ensures.in_order (sym c.next.ensures ∙ c.in-Some.is)
+print_member-requires c = All-head (IsKnownMember c.args.model.now) c.in-Some.member c.next.new.self (subst (All (IsKnownMember c.args.model.now)) c.in-Some.ensures.steps c.loop-member.invariant.known)
 
 pub loop-member-preserved : goal.loop-member-preserved
 loop-member-preserved c =
-    let there = sym c.next.ensures ∙ c.in-Some.is in
+    let steps = c.in-Some.ensures.steps in
     record {
-      possible = next_possible c.args.set.now c.loop-member.after c.in-Some.member c.stands_in_order.ensures.possible there;
+      known = All-tail (IsKnownMember c.args.model.now) c.in-Some.member c.next.new.self (subst (All (IsKnownMember c.args.model.now)) steps c.loop-member.invariant.known);
       kept = keeps_on _ _ _ c.loop-member.invariant.kept c.in_ok-print_member.ensures.front;
-      left = goes_on _ _ _ _ _ _ c.in_ok-print_member.ensures.text (members_left c.args.model.now c.args.set.now.members c.loop-member.after c.in-Some.member c.stands_in_order.ensures.in_order there) c.loop-member.invariant.left;
+      left = goes_on _ _ _ _ _ _ c.in_ok-print_member.ensures.text (ap (λ (l : List Member). phrases_text c.args.model.now (map Phrase.Member l)) steps) c.loop-member.invariant.left;
     }
 
 pub returns-clause-text : goal.returns-clause-text
-returns-clause-text c = members_ended c.args.model.now c.args.set.now.members c.loop-member.after _ _ (sym c.next.ensures ∙ c.in_default.is) c.loop-member.invariant.left
+returns-clause-text c = nothing_left _ _ _ (ap (λ (l : List Member). phrases_text c.args.model.now (map Phrase.Member l)) c.in-None.ensures.steps.0) c.loop-member.invariant.left

@@ -1,17 +1,14 @@
-use Rattle.std.proofs.Common.{◌≡◌, ◌++◌, MatchOption, map, filter, length}
-use Rattle.std.specs.Prelude.{⊤}
-use Rattle.lp_model.specs.MemberSets.{IsPossibleIn, follows}
-use Rattle.report_text.specs.Grammar.{member_line, text_of}
-use Rattle.report_printer.specs.Printing.{Keeps}
+use Rattle.std.proofs.Common.{◌≡◌, ◌++◌, map}
+use Rattle.std.specs.Prelude.{All}
+use Rattle.report_text.specs.declared.phrases.Phrase.{Phrase}
+use Rattle.report_text.specs.Grammar.{phrases_text}
+use Rattle.report_printer.specs.Printing.{IsKnownMember, Keeps}
 use Rattle.report_printer.proofs.writing.print_members.Given as goal
 
--- the lines of the members that follow complete the text
+-- the lines of the members that are still to come complete the text
 abbrev pub invariant-loop-member : goal.invariant-loop-member
 invariant-loop-member l = record {
-  possible : MatchOption l.after ⊤ (IsPossibleIn l.set);
+  known : All (IsKnownMember l.model) l.member-iterator;
   kept : Keeps l.fn.into.items l.into.items;
-  left : l.into.items ++ text_of (map (member_line l.model) (filter (follows l.after) l.set.members)) ≡ l.initial.into.items ++ text_of (map (member_line l.model) l.set.members);
+  left : l.into.items ++ phrases_text l.model (map Phrase.Member l.member-iterator) ≡ l.initial.into.items ++ phrases_text l.model (map Phrase.Member l.set.members);
 }
-
-abbrev pub decreases-loop-member : goal.decreases-loop-member
-decreases-loop-member l = length (filter (follows l.after) l.set.members)

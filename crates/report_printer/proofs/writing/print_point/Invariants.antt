@@ -1,7 +1,7 @@
 use Rattle.std.proofs.Common.{◌≡◌, ◌<◌, ◌++◌, ℕ, drop, get_or}
 use Rattle.rational.specs.Rational.{ℚ}
 use Rattle.report_text.specs.Form.{IsWithinLimit}
-use Rattle.report_text.specs.Grammar.{value_lines, text_of}
+use Rattle.report_text.specs.Grammar.{value_phrases, phrases_text}
 use Rattle.report_printer.specs.Printing.{Keeps}
 use Rattle.report_printer.proofs.writing.print_point.Given as goal
 
@@ -9,6 +9,6 @@ use Rattle.report_printer.proofs.writing.print_point.Given as goal
 abbrev pub invariant-loop-column : goal.invariant-loop-column
 invariant-loop-column l = record {
   kept : Keeps l.fn.into.items l.into.items;
-  left : l.into.items ++ text_of (value_lines l.model l.column (drop l.column l.values)) ≡ l.initial.into.items ++ text_of (value_lines l.model 0 l.values);
+  left : l.into.items ++ phrases_text l.model (value_phrases l.column (drop l.column l.values)) ≡ l.initial.into.items ++ phrases_text l.model (value_phrases 0 l.values);
   within : (k : ℕ) (d : ℚ) → k < l.column → IsWithinLimit (get_or l.values k d);
 }

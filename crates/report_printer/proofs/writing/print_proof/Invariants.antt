@@ -1,6 +1,6 @@
 use Rattle.std.proofs.Common.{◌≡◌, ◌<◌, ◌++◌, ℕ, flat_map, drop, get_or}
 use Rattle.certs.specs.declared.evidence.Node.{Node}
-use Rattle.report_text.specs.Grammar.{node_lines, text_of}
+use Rattle.report_text.specs.Grammar.{node_phrases, phrases_text}
 use Rattle.report_printer.specs.Numbers.{HasWeightsWithin}
 use Rattle.report_printer.specs.Printing.{Keeps}
 use Rattle.report_printer.proofs.writing.print_proof.Given as goal
@@ -9,6 +9,6 @@ use Rattle.report_printer.proofs.writing.print_proof.Given as goal
 abbrev pub invariant-loop-node : goal.invariant-loop-node
 invariant-loop-node l = record {
   kept : Keeps l.fn.into.items l.into.items;
-  left : l.into.items ++ text_of (flat_map (node_lines l.model) (drop l.node-index l.node-items)) ≡ l.initial.into.items ++ text_of (flat_map (node_lines l.model) l.node-items);
+  left : l.into.items ++ phrases_text l.model (flat_map node_phrases (drop l.node-index l.node-items)) ≡ l.initial.into.items ++ phrases_text l.model (flat_map node_phrases l.node-items);
   within : (k : ℕ) (d : Node) → k < l.node-index → HasWeightsWithin (get_or l.node-items k d);
 }

@@ -1,5 +1,6 @@
 use Rattle.std.proofs.Common.{◌≡◌, ◌++◌, map, drop}
-use Rattle.report_text.specs.Grammar.{note_line, text_of}
+use Rattle.report_text.specs.declared.phrases.Phrase.{Phrase}
+use Rattle.report_text.specs.Grammar.{phrases_text}
 use Rattle.report_printer.specs.Printing.{Keeps}
 use Rattle.report_printer.proofs.writing.put_head.Given as goal
 
@@ -7,5 +8,5 @@ use Rattle.report_printer.proofs.writing.put_head.Given as goal
 abbrev pub invariant-loop-note : goal.invariant-loop-note
 invariant-loop-note l = record {
   kept : Keeps l.fn.into.items l.into.items;
-  left : l.into.items ++ text_of (map (note_line l.model) (drop l.note-index l.note-items)) ≡ l.initial.into.items ++ text_of (map (note_line l.model) l.note-items);
+  left : l.into.items ++ phrases_text l.model (map Phrase.Note (drop l.note-index l.note-items)) ≡ l.initial.into.items ++ phrases_text l.model (map Phrase.Note l.note-items);
 }

@@ -1,6 +1,6 @@
 use Rattle.std.proofs.Common.{◌≡◌, sym, subst}
 use Rattle.std.specs.Prelude.{IfOk}
-use Rattle.report_reader.specs.declared.phrases.Phrase.{Phrase}
+use Rattle.report_text.specs.declared.phrases.Phrase.{Phrase}
 use Rattle.report_reader.specs.declared.drafts.Stage.{Stage}
 use Rattle.report_reader.specs.Drafts.{between}
 use Rattle.report_reader.proofs.advancing.advance_between.Goals as goal

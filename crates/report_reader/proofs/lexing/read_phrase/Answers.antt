@@ -1,6 +1,6 @@
 use Rattle.std.proofs.Common.{sym, ◌∙◌}
 use Rattle.report_reader.specs.Parts.{parts}
-use Rattle.report_reader.specs.Phrases.{keyword_of}
+use Rattle.report_text.specs.Grammar.{keyword_of}
 use Rattle.report_reader.proofs.Lexed.{keyword_is, found_so}
 use Rattle.report_reader.proofs.lexing.read_phrase.Goals as goal
 

@@ -2,7 +2,7 @@ use Rattle.std.proofs.Common.{◌≡◌, refl, sym, ap, ◌∙◌, Some, ℕ, []
 use Rattle.std.proofs.lemmas.Option.{same_Some}
 use Rattle.rational.specs.Rational.{ℚ, zero_ℚ}
 use Rattle.rational.proofs.Compare.{eq-Decides, apart_from_test}
-use Rattle.report_reader.specs.declared.phrases.Phrase.{Phrase}
+use Rattle.report_text.specs.declared.phrases.Phrase.{Phrase}
 use Rattle.report_text.specs.Grammar.{column_name}
 use Rattle.report_reader.proofs.Lexed.{value_said}
 use Rattle.report_reader.proofs.lexing.read_value.Goals as goal

@@ -1,7 +1,7 @@
 use Rattle.std.proofs.Common.{sym, ap, ◌∙◌}
 use Rattle.report_reader.specs.declared.drafts.StopPart.{StopPart}
-use Rattle.report_reader.specs.declared.phrases.Phrase.{Phrase}
-use Rattle.report_reader.specs.declared.phrases.StopPhrase.{StopPhrase}
+use Rattle.report_text.specs.declared.phrases.Phrase.{Phrase}
+use Rattle.report_text.specs.declared.phrases.StopPhrase.{StopPhrase}
 use Rattle.report_reader.specs.Drafts.{stop_with}
 use Rattle.report_reader.proofs.stopping.extend_site.Goals as goal
 

@@ -1,4 +1,4 @@
-use Rattle.std.proofs.Common.{sym, ap, subst, ◌∙◌}
+use Rattle.std.proofs.Common.{sym, subst}
 use Rattle.lp_model.specs.MemberSets.{SetValue}
 use Rattle.certs.specs.declared.solving.Verdict.TheVariants.{Infeasible}
 use Rattle.certs.specs.Answers.{AnswersAt}

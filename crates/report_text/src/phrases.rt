@@ -1,13 +1,13 @@
 //! What single lines of a report say.
 
+use crate::report::Command;
 use certs::{Share, SiteKind};
 use frac128::{Frac, Wide};
 use lp_model::{Member, Note};
-use report_text::Command;
 
 /// The word that a line begins with.
 #[derive(Clone, Copy, PartialEq, Eq, Debug)]
-pub(crate) enum Keyword {
+pub enum Keyword {
     Iisan,
     Note,
     Command,
@@ -19,10 +19,12 @@ pub(crate) enum Keyword {
     Value,
     Member,
     Proof,
+    Split,
     Leaf,
     Use,
     Too,
     Pivots,
+    Nodes,
     Site,
     Without,
     Step,
@@ -33,9 +35,11 @@ pub(crate) enum Keyword {
 
 /// What a line of a stop says: why a solve stopped, and where.
 #[derive(Clone, Copy, PartialEq, Eq, Debug)]
-pub(crate) enum StopPhrase {
+pub enum StopPhrase {
     Wide,
     Spent,
+    Nodes,
+    Large(u64),
     Site(SiteKind),
     Without(Member),
     Step(u64),
@@ -44,7 +48,7 @@ pub(crate) enum StopPhrase {
 
 /// What a line of a report says.
 #[derive(Drop)]
-pub(crate) enum Phrase {
+pub enum Phrase {
     Head,
     Note(Note),
     Command(Command),
@@ -57,6 +61,7 @@ pub(crate) enum Phrase {
     Value(u32, Frac),
     Member(Member),
     Proof,
+    Split(u32, i128),
     Leaf,
     Use(Share),
     End,
