@@ -15,7 +15,7 @@ use Rattle.name_map.proofs.NameLists.{length_map}
 use Rattle.lp_model.specs.declared.parts.Row.{Row}
 use Rattle.lp_model.specs.declared.parts.Note.TheVariants.{LowerKept}
 use Rattle.lp_model.specs.Program.{Program, IsForm, IsWellFormedRow, empty_row}
-use Rattle.lp_model.proofs.New.{new_row_formed}
+use Rattle.lp_model.proofs.New.{as_new_row_formed}
 use Rattle.lp_model.specs.Shown.{named_row}
 use Rattle.lp_statements.specs.declared.parts.Relation.TheVariants.{AtMost}
 use Rattle.lp_statements.specs.Statements.{Term, Statement}
@@ -160,8 +160,8 @@ module _ (reader : Reader) (statements : List Statement) (holds : Holds reader s
       let long : length reader.rows.items.items ≡ length (rows_of statements) = ap length holds.rows ∙ length_map (row_of (columns_of statements)) (rows_of statements) in
       let part : RowPart = get_or (rows_of statements) i (record { label = None; left = None; terms = []; relation = AtMost; right = record { negative = false; infinite = false; text = record { text = []; line = 0 } } }) in
       let is : slice_index_or reader.rows.items.items i no_row ≡ row_of (columns_of statements) part = ap (λ rs. slice_index_or rs i no_row) holds.rows ∙ get_or-map (row_of (columns_of statements)) (rows_of statements) i (record { label = None; left = None; terms = []; relation = AtMost; right = record { negative = false; infinite = false; text = record { text = []; line = 0 } } }) no_row (omega arith) in
-      subst (λ (r : Row). IsWellFormedRow (length (names_of reader.columns.names)) (named_row name r)) (sym is)
-      (new_row_formed (length (names_of reader.columns.names)) name _ _ _ (subst (λ ns. IsForm (length ns) (form_of (columns_of statements) part.terms)) (sym holds.columns) (form_formed (columns_of statements) part.terms)))
+      as_new_row_formed (length (names_of reader.columns.names)) name _ _ _ _ is
+      (subst (λ ns. IsForm (length ns) (form_of (columns_of statements) part.terms)) (sym holds.columns) (form_formed (columns_of statements) part.terms))
 
   pub objective_formed : IsForm (length (names_of reader.columns.names)) reader.objective
   objective_formed = subst (λ ts. IsForm (length (names_of reader.columns.names)) ts) (sym holds.objective) (subst (λ ns. IsForm (length ns) (form_of (columns_of statements) (last_or [] (filter_map objective_in statements)))) (sym holds.columns) (form_formed (columns_of statements) (last_or [] (filter_map objective_in statements))))

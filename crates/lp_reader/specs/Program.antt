@@ -1,5 +1,5 @@
 -- The program that statements declare.
-use Rattle.std.specs.Prelude.{ℕ, ◌+◌, ◌&&◌, not, Bool, true, false, cond, List, [], ◌∷◌, map, Option, Some, None}
+use Rattle.std.specs.Prelude.{ℕ, ◌+◌, ◌&&◌, not, Bool, false, cond, List, [], ◌∷◌, map, Option, Some, None}
 use Rattle.std.specs.List.{filter_map}
 use Rattle.rational.specs.Rational.{ℚ, zero_ℚ, lt_q, eq_ℚ}
 use Rattle.rational.specs.Linear.{Term as LinearTerm}

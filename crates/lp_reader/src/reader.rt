@@ -14,7 +14,7 @@ use crate::rows::{Rows, check_label, check_objective_label, end_row, said_if};
 use frac128::Frac;
 use lp_model::Terms;
 use lp_statements::{
-    Constant, Keyword, Relation, Section, Statement, Term, Text, next_statement, start,
+    Constant, Cursor, Keyword, Relation, Section, Statement, Term, Text, next_statement,
 };
 use name_map::NameMap;
 use std::alloc::Global;
@@ -231,18 +231,18 @@ fn heading_section(section: Section, keyword: Keyword) -> Option<Section>
 }
 
 /// Reads the statements of a text.
+#[tactic(auto, using(crate::proofs::Scripted::fewer_left))]
 pub(crate) fn read_statements(alloc: Global, bytes: &[u8]) -> Result<Reader, ReadFault>
     requires { length bytes.now < 2 ^ 31 }
     ensures { MatchResult result (HasRead bytes.now) (IsLpStop bytes.now) }
 {
     let mut reader = new_reader(alloc);
-    let mut place = start(bytes);
+    let mut cursor = Cursor::new(bytes);
     let mut section = Some(Section::Begin);
     while let Some(here) = section {
-        let (statement, next) = next_statement(alloc, bytes, here, place, MOST_TERMS)?;
+        let statement = next_statement(alloc, &mut cursor, here, MOST_TERMS)?;
         take_statement(alloc, &mut reader, &statement)?;
         section = section_after(here, &statement);
-        place = next;
     }
     Ok(reader)
 }

@@ -105,7 +105,11 @@ fn upper_side(relation: Relation, left: &Said, right: &Option<Frac>) -> Option<F
 fn make_row(form: Terms, relation: Relation, left: &Said, right: &Option<Frac>) -> Row
     ensures { result ≡ ended_row form relation left.now right.now }
 {
-    Row::new(form, lower_side(relation, left, right), upper_side(relation, left, right))
+    Row::new(
+        form,
+        lower_side(relation, left, right),
+        upper_side(relation, left, right),
+    )
 }
 
 // Puts a new row last.

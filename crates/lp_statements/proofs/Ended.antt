@@ -1,5 +1,5 @@
 -- A script has no fault exactly where its last statement is `end`.
-use Rattle.std.proofs.Common.{◌≡◌, ℕ, zero, suc, ◌≤◌, Bool, true, false, List, [], ◌∷◌, ◌++◌, length, Option, Some, None, is_some, refl, sym, ap, ◌∙◌, subst, arith, length-append, true≢false}
+use Rattle.std.proofs.Common.{◌≡◌, ℕ, zero, suc, ◌<◌, ◌≤◌, Bool, true, false, List, [], ◌∷◌, ◌++◌, length, Option, Some, None, is_some, refl, sym, ap, ◌∙◌, subst, arith, true≢false}
 use Rattle.text_fields.specs.declared.faults.TextFault.{TextFault}
 use Rattle.text_fields.specs.Tokens.{Lexeme, scan_of}
 use Rattle.lp_statements.specs.declared.parts.Keyword.{Keyword}
@@ -9,13 +9,13 @@ use Rattle.lp_statements.specs.Statements.{Statement, Objective, Heading, Row, F
 use Rattle.lp_statements.specs.Grammar.{Parsed, Whole, Fails, statement_of}
 use Rattle.lp_statements.specs.Script.{section_after, goes_on, script_by, script, script_of}
 use Rattle.lp_statements.specs.Spelling.{AllSeen, last}
-use Rattle.lp_statements.proofs.Spelled.{statement_read}
+use Rattle.lp_statements.proofs.Spelled.{statement_read, statement_fewer}
 
 none_some : {A : Type 0} (x : A) → None ≡ Some x → ⊥
 none_some x e = true≢false (sym (ap is_some e))
 
 -- ---- pieces end with one that stops
-abbrev Ends : List Piece → Type 0
+abbrev pub Ends : List Piece → Type 0
 Ends [] = ⊥
 Ends (Stops stop ∷ rest) = Unit {0}
 Ends (Seen item text ∷ rest) = Ends rest
@@ -40,9 +40,18 @@ ending_ends : (bytes : List ℕ) (fault : Option TextFault) → Ends (ending_of 
 ending_ends bytes (Some fault) = tt
 ending_ends bytes None = tt
 
-text_ends : (bytes : List ℕ) → Ends (pieces_of bytes)
+pub text_ends : (bytes : List ℕ) → Ends (pieces_of bytes)
 unfolding pieces_in
 text_ends bytes = pieces_end (ending_of bytes (scan_of bytes).fault) false (scan_of bytes).found (ending_ends bytes (scan_of bytes).fault)
+
+-- so there is one
+pub ends_there : (ps : List Piece) → Ends ps → 0 < length ps
+ends_there [] ends = absurd ends
+ends_there (p ∷ ps) ends = omega arith
+
+-- and after a statement too
+pub statement_ends : (section : Section) (ps : List Piece) (s : Statement) (rest : List Piece) → statement_of section ps ≡ Whole s rest → Ends ps → Ends rest
+statement_ends section ps s rest is ends = let r = statement_read section ps s rest is in ends_left r.spelled rest r.seen (subst Ends r.same ends)
 
 -- ---- the last statement
 abbrev end : Statement
@@ -81,9 +90,7 @@ script_ended (suc n) section ps few ends e = by (statement_of section ps) refl e
         → ((after : Section) (rest : List Piece) → length rest ≤ n → Ends rest → (script n after rest).fault ≡ None → last (script n after rest).found ≡ Some end) → last (script_by section parsed (script n)).found ≡ Some end
     by (Fails stop) is e before = absurd (none_some stop (sym e))
     by (Whole s rest) is e before =
-        let r = statement_read section ps s rest is in
-        let long = ap length r.same in let more = r.some in
-        goes s rest (section_after section s) refl e (omega (arith, length-append r.spelled rest)) (ends_left r.spelled rest r.seen (subst Ends r.same ends)) before
+        let fewer = statement_fewer section ps s rest is in goes s rest (section_after section s) refl e (omega arith) (statement_ends section ps s rest is ends) before
 
 -- and the other way
 script_ends : (n : ℕ) (section : Section) (ps : List Piece) → last (script n section ps).found ≡ Some end → (script n section ps).fault ≡ None

@@ -155,6 +155,10 @@ pub record Read {A : Type 0} (SpellsIt : A → List Piece → Type 0) (pieces : 
   pub some : 0 < length spelled
   pub is : SpellsIt value spelled
 
+-- fewer pieces are left
+pub read_fewer : {A : Type 0} (SpellsIt : A → List Piece → Type 0) (pieces : List Piece) (value : A) (rest : List Piece) → Read SpellsIt pieces value rest → length rest < length pieces
+read_fewer SpellsIt pieces value rest r = let l = ap length r.same in let s = r.some in omega (arith, length-append r.spelled rest)
+
 seen_both : (xs ys : List Piece) → AllSeen xs → AllSeen ys → AllSeen (xs ++ ys)
 seen_both [] ys p q = q
 seen_both (Seen item text ∷ xs) ys p q = seen_both xs ys p q
@@ -332,7 +336,7 @@ element_read pieces e rest h =
       is = a.is s.spelled (signs_are pieces s);
     }
 
-term_read : (pieces : List Piece) (t : Term) (rest : List Piece) → term pieces ≡ Whole t rest → Read SpellsTerm pieces t rest
+pub term_read : (pieces : List Piece) (t : Term) (rest : List Piece) → term pieces ≡ Whole t rest → Read SpellsTerm pieces t rest
 unfolding term
 term_read pieces t rest h =
     let s = then_inv (element pieces) term_in t rest h in
@@ -352,7 +356,7 @@ term_read pieces t rest h =
     }
     by (OfConstant c) mid r h = absurd (no_term c.infinite _ mid h)
 
-part_read : (pieces : List Piece) (p : Option Term) (rest : List Piece) → part pieces ≡ Whole p rest → Read SpellsPart pieces p rest
+pub part_read : (pieces : List Piece) (p : Option Term) (rest : List Piece) → part pieces ≡ Whole p rest → Read SpellsPart pieces p rest
 unfolding part
 part_read pieces p rest h =
     let s = then_inv (element pieces) part_in p rest h in
@@ -827,6 +831,10 @@ statement_read Section.Rows pieces s rest e = later Section.Rows pieces s rest e
 statement_read Section.Bounds pieces s rest e = later Section.Bounds pieces s rest e
 statement_read Section.General pieces s rest e = later Section.General pieces s rest e
 statement_read Section.Binary pieces s rest e = later Section.Binary pieces s rest e
+
+-- a statement takes a piece at least
+pub statement_fewer : (section : Section) (pieces : List Piece) (s : Statement) (rest : List Piece) → statement_of section pieces ≡ Whole s rest → length rest < length pieces
+statement_fewer section pieces s rest e = read_fewer IsSpelled pieces s rest (statement_read section pieces s rest e)
 
 pub spelled : (section : Section) (pieces : List Piece) (statement : Statement) (rest : List Piece) → statement_of section pieces ≡ Whole statement rest → Spells IsSpelled pieces statement rest
 spelled section pieces statement rest e = let r = statement_read section pieces statement rest e in record { spelled = r.spelled; same = r.same; seen = r.seen; is = r.is }

@@ -151,10 +151,6 @@ element_of negative pieces =
 unfoldable pub element : List Piece → Parsed Element
 element pieces = element_of (signs false pieces).0 (signs false pieces).1
 
--- the same after a sign, where this made it negative or not
-abbrev pub element_from : Bool → List Piece → Parsed Element
-element_from negative pieces = element_of (signs negative pieces).0 (signs negative pieces).1
-
 -- only a term goes on: after a number a name is missing
 abbrev pub term_in : Element → List Piece → Parsed Term
 term_in (OfTerm term) rest = Whole term rest
@@ -163,10 +159,6 @@ term_in (OfConstant constant) rest = cond constant.infinite (Fails (stop_at cons
 -- a term: signs, then a number and a name, or a name
 unfoldable pub term : List Piece → Parsed Term
 term pieces = then (element pieces) term_in
-
--- the same after a sign
-abbrev pub term_from : Bool → List Piece → Parsed Term
-term_from negative pieces = then (element_from negative pieces) term_in
 
 -- a sign
 abbrev pub is_sign : Item → Bool
@@ -195,10 +187,6 @@ part_in (OfConstant constant) rest = cond constant.infinite (Fails (stop_at cons
 -- a term or a finite constant
 unfoldable pub part : List Piece → Parsed (Option Term)
 part pieces = then (element pieces) part_in
-
--- the same after a sign
-abbrev pub part_from : Bool → List Piece → Parsed (Option Term)
-part_from negative pieces = then (element_from negative pieces) part_in
 
 -- the term of a part, if there is one
 abbrev pub terms_in : Option Term → List Term

@@ -1,17 +1,17 @@
 -- The tokens of a text as statements see them: pieces, the last of which tells how the text ends.
-use Rattle.std.specs.Prelude.{◌≡◌, ℕ, ◌+◌, ◌<◌, ◌≤◌, ◌==◌, ◌&&◌, Bool, true, false, cond, not, List, [], ◌∷◌, length, max, is_some, Option, Some, None}
+use Rattle.std.specs.Prelude.{◌≡◌, ℕ, ◌+◌, ◌^◌, ◌<◌, ◌≤◌, ◌==◌, ◌&&◌, Bool, true, false, cond, not, List, [], ◌∷◌, length, max, is_some, Option, Some, None, Result, Ok, Err, MatchResult}
 use Rattle.std.specs.List.{list_any}
 use Rattle.text_fields.specs.declared.pieces.TokenKind.{TokenKind}
 use Rattle.text_fields.specs.declared.tokens.Place.{Place}
+use Rattle.text_fields.specs.declared.tokens.Token.{Token}
 use Rattle.text_fields.specs.declared.faults.TextFault.{TextFault}
 use Rattle.text_fields.specs.declared.faults.TextKind.TheVariants.{BadNumber}
 use Rattle.text_fields.specs.declared.faults.ReadKind.{ReadKind}
 use Rattle.text_fields.specs.declared.faults.ReadKind.TheVariants.{Text, Unsupported, Truncated}
 use Rattle.text_fields.specs.declared.faults.ReadStop.{ReadStop}
-use Rattle.text_fields.specs.declared.faults.ReadFault.{ReadFault}
-use Rattle.text_fields.specs.declared.faults.ReadFault.TheVariants.{Stop, Memory}
 use Rattle.text_fields.specs.Lines.{lines_of}
-use Rattle.text_fields.specs.Tokens.{Lexeme, Scan, before, scan_of, scan_at}
+use Rattle.text_fields.specs.Tokens.{Lexeme, Scan, before, scan_of, scan_at, IsNext, IsFaultOf}
+use Rattle.lp_statements.specs.declared.items.Look.{Look}
 use Rattle.lp_statements.specs.declared.parts.Relation.{Relation}
 use Rattle.lp_statements.specs.declared.parts.Heading.{Heading}
 use Rattle.lp_statements.specs.declared.parts.Item.{Item}
@@ -50,6 +50,16 @@ is_colon_kind _ = false
 abbrev pub is_colon_first : List Lexeme → Bool
 is_colon_first [] = false
 is_colon_first (token ∷ tokens) = is_colon_kind token.kind
+
+-- the token that is found
+abbrev pub token_in : Result (Option (Token × Place)) TextFault → Option (Token × Place)
+token_in (Ok found) = found
+token_in (Err fault) = None
+
+-- it is a colon
+abbrev pub is_colon_found : Option (Token × Place) → Bool
+is_colon_found (Some found) = is_colon_kind found.0.kind
+is_colon_found None = false
 
 -- what two tokens say together: both are words on one line, and no colon comes after them
 unfoldable pub pair_heading : Lexeme → List Lexeme → Option Heading
@@ -145,22 +155,21 @@ pub record IsPlace (bytes : List ℕ) (place : Place) : Type 0 where
   pub within : place.at ≤ length bytes
   pub few : place.line ≤ place.at + 1
 
--- the first piece from a place on is this, and the others are those from the next place on
-pub record IsSeen (bytes : List ℕ) (place : Place) (item : Item) (text : Written) (next : Place) : Type 0 where
-  pub first : pieces_at bytes place ≡ Seen item text ∷ pieces_at bytes next
-  pub at : IsPlace bytes next
-  pub further : place.at < next.at
+-- what stands at a place of a text that is short enough: a token and the place after it, nothing more, or a fault
+pub record IsLook (bytes : List ℕ) (look : Look) : Type 0 where
+  pub short : length bytes < 2 ^ 31
+  pub at : IsPlace bytes look.place
+  pub found : MatchResult look.found (IsNext bytes (scan_at bytes look.place.at look.place.line) look.place) (IsFaultOf (scan_at bytes look.place.at look.place.line))
 
--- the first piece from a place on is this fault
-abbrev pub StopsAt : List ℕ → Place → ReadStop → Type 0
-StopsAt bytes place stop = (rest : List Piece) × (pieces_at bytes place ≡ Stops stop ∷ rest)
+-- a fault stands first
+pub record IsStopFirst (pieces : List Piece) (stop : ReadStop) : Type 0 where
+  pub rest : List Piece
+  pub is : pieces ≡ Stops stop ∷ rest
 
 -- the first token from a place on is this, and the others are those from the next place on
 pub record IsPast (bytes : List ℕ) (place next : Place) : Type 0 where
   pub token : Lexeme
   pub first : scan_at bytes place.at place.line ≡ before (token ∷ []) (scan_at bytes next.at next.line)
-  pub at : IsPlace bytes next
-  pub further : place.at < next.at
 
 -- what the token is, where these tokens come after it
 abbrev pub item_before : Lexeme → List Lexeme → Item
@@ -174,14 +183,11 @@ pieces_after bytes token scan = pieces (ending_of bytes scan.fault) (is_some (pa
 abbrev pub tokens_at : List ℕ → Place → List Lexeme
 tokens_at bytes place = (scan_at bytes place.at place.line).found
 
+-- the pieces from a token on
+abbrev pub pieces_from : List ℕ → Lexeme → Place → List Piece
+pieces_from bytes token place = piece_of (item_before token (tokens_at bytes place)) (written token) ∷ pieces_after bytes token (scan_at bytes place.at place.line)
+
 -- what the token before a place is, and the place from which on the other pieces stand
 pub record IsItem (bytes : List ℕ) (token : Lexeme) (place : Place) (item : Item) (next : Place) : Type 0 where
   pub item_is : item ≡ item_before token (tokens_at bytes place)
   pub rest : pieces_after bytes token (scan_at bytes place.at place.line) ≡ pieces_at bytes next
-  pub at : IsPlace bytes next
-  pub further : place.at ≤ next.at
-
--- the first piece from a place on is this fault
-abbrev pub IsStopAt : List ℕ → Place → ReadFault → Type 0
-IsStopAt bytes place (Stop stop) = StopsAt bytes place stop
-IsStopAt bytes place Memory = ⊥

@@ -5,3 +5,4 @@ pub mod Grammar
 pub mod Script
 pub mod Shapes
 pub mod Spelling
+pub mod Cursor

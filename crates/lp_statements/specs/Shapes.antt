@@ -1,15 +1,12 @@
 -- Terms, constants and begins of rows in the code's types.
-use Rattle.std.specs.Prelude.{◌≡◌, ℕ, List, ◌++◌, Some, map, take}
+use Rattle.std.specs.Prelude.{◌≡◌, ℕ, List, ◌++◌, map, take}
 use Rattle.std.specs.Option.{option_map}
-use Rattle.text_fields.specs.declared.tokens.Place.{Place}
 use Rattle.lp_statements.specs.declared.parts.Term.{Term as CodeTerm}
 use Rattle.lp_statements.specs.declared.grammar.Element.{Element as CodeElement}
 use Rattle.lp_statements.specs.declared.grammar.Opening.{Opening as CodeOpening}
 use Rattle.lp_statements.specs.Statements.{Term, shown_constant, shown_term}
-use Rattle.lp_statements.specs.Grammar.{Parsed, Element, OfTerm, OfConstant, Opening, free_in, text_first, is_name, keyword_first}
-use Rattle.lp_statements.specs.Items.{Written, pieces_at}
-use Rattle.lp_statements.specs.declared.parts.Keyword.{Keyword}
-use Rattle.lp_statements.specs.Script.{IsAfter, Takes, Passes}
+use Rattle.lp_statements.specs.Grammar.{Parsed, Whole, Element, OfTerm, OfConstant, Opening}
+use Rattle.lp_statements.specs.Items.{Piece}
 
 -- a term or a constant
 abbrev pub shown_element : CodeElement → Element
@@ -20,24 +17,8 @@ shown_element (CodeElement.OfConstant constant) = OfConstant (shown_constant con
 abbrev pub shown_opening : CodeOpening → Opening
 shown_opening o = record { left = option_map shown_constant o.left; before = o.before; first = shown_term o.first }
 
--- terms are put after those that were there, which are the terms of a part that may be empty; no more than n are kept
-pub record AddsTerms (bytes : List ℕ) (place : Place) (n : ℕ) (parsed : Parsed (List Term)) (old new : List CodeTerm) (next : Place) : Type 0 where
+-- the terms of a part are put after those that were there; no more than n are kept
+pub record AddsTerms (n : ℕ) (parsed : Parsed (List Term)) (new : List Piece) (old_terms new_terms : List CodeTerm) : Type 0 where
   pub terms : List Term
-  pub passes : Passes bytes place parsed terms next
-  pub items : map shown_term new ≡ take n (map shown_term old ++ terms)
-
--- the same of a part that is not empty
-pub record TakesTerms (bytes : List ℕ) (place : Place) (n : ℕ) (parsed : Parsed (List Term)) (old new : List CodeTerm) (next : Place) : Type 0 where
-  pub terms : List Term
-  pub takes : Takes bytes place parsed terms next
-  pub items : map shown_term new ≡ take n (map shown_term old ++ terms)
-
--- the word `free` stands first
-pub record IsFreeAt (bytes : List ℕ) (place next : Place) : Type 0 where
-  pub first : free_in (text_first is_name (pieces_at bytes place)) ≡ Some (pieces_at bytes next)
-  pub after : IsAfter bytes place next
-
--- a keyword stands first
-pub record IsKeywordAt (bytes : List ℕ) (place : Place) (keyword : Keyword) (text : Written) (next : Place) : Type 0 where
-  pub first : keyword_first (pieces_at bytes place) ≡ Some (keyword, text, pieces_at bytes next)
-  pub after : IsAfter bytes place next
+  pub whole : parsed ≡ Whole terms new
+  pub items : map shown_term new_terms ≡ take n (map shown_term old_terms ++ terms)

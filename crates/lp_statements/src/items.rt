@@ -1,13 +1,15 @@
 //! The tokens of a text as statements see them.
-ghost use Rattle.std.specs.Prelude.{◌≡◌, ◌≤◌, ◌<◌, ◌^◌, [], length, Some, None, MatchOption, MatchResult};
+ghost use Rattle.std.specs.Prelude.{◌≡◌, ◌<◌, ◌^◌, ◌∷◌, length, Some, None, MatchOption, MatchResult};
 ghost use Rattle.text_fields.specs.Fields.{IsInside};
-ghost use Rattle.text_fields.specs.Tokens.{scan_at, lexeme_of, IsTokenAt};
-ghost use Rattle.lp_statements.specs.Items.{IsPlace, IsSeen, IsStopAt, IsPast, IsItem, tokens_at, is_word_kind, is_colon_first, may_head as may_head_by, pair_heading as pair_by, word_heading as word_by, relation_of as relation_by, sign_of as sign_by, name_or_infinity as name_by, item_of as item_by, heading_item as heading_by, last_line as last_line_of};
+ghost use Rattle.text_fields.specs.Tokens.{lexeme_of};
+ghost use Rattle.lp_statements.specs.Items.{Seen, IsStopFirst, IsPlace, IsLook, IsPast, IsItem, tokens_at, pieces_at, pieces_from, is_word_kind, is_colon_kind as is_colon_kind_by, is_colon_found, token_in, may_head as may_head_by, pair_heading as pair_by, word_heading as word_by, relation_of as relation_by, sign_of as sign_by, name_or_infinity as name_by, item_of as item_by, heading_item as heading_by, last_line as last_line_of};
+ghost use Rattle.lp_statements.specs.Statements.{shown_text};
 
 use crate::parts::{Heading, Item, Relation, Text};
 use crate::words::{heading_of, is_infinity, pair_of};
 use text_fields::{
-    Place, ReadFault, ReadKind, TextKind, Token, TokenKind, after_line, next_line, next_token,
+    Place, ReadKind, ReadStop, TextFault, TextKind, Token, TokenKind, after_line, next_line,
+    next_token,
 };
 
 #[tactic(auto, unfolding(crate::specs::Items::relation_of))]
@@ -67,8 +69,8 @@ fn heading_item(heading: Heading) -> Item
     }
 }
 
-// The number of the last line, or 1 where there is none.
-fn last_line(bytes: &[u8]) -> u32
+/// The number of the last line, or 1 where there is none.
+pub(crate) fn last_line(bytes: &[u8]) -> u32
     requires { length bytes.now < 2 ^ 31 }
     ensures { result ≡ last_line_of bytes.now }
 {
@@ -84,28 +86,48 @@ fn last_line(bytes: &[u8]) -> u32
     number
 }
 
-// The next token, where one comes before any fault.
-fn token_at(bytes: &[u8], place: Place) -> Option<(Token, Place)>
+/// What stands at a place: a token and the place after it, nothing more, or a fault.
+#[derive(Clone, Copy)]
+pub(crate) struct Look {
+    pub place: Place,
+    pub found: Result<Option<(Token, Place)>, TextFault>,
+}
+
+/// Looks at a place.
+pub(crate) fn look_at(bytes: &[u8], place: Place) -> Look
     requires place { IsPlace bytes.now place }
     requires short { length bytes.now < 2 ^ 31 }
-    ensures { MatchOption result (tokens_at bytes.now place ≡ []) (λ found. IsTokenAt bytes.now (scan_at bytes.now place.at place.line) place found.0 found.1) }
+    ensures place { result.place ≡ place }
+    ensures look { IsLook bytes.now result }
 {
-    match next_token(bytes, place) {
+    let found = next_token(bytes, place);
+    Look { place, found }
+}
+
+// The token that a look finds.
+fn token_of(look: Look) -> Option<(Token, Place)>
+    ensures { result ≡ token_in look.found }
+{
+    match look.found {
         Ok(found) => found,
         Err(_) => None,
     }
 }
 
-// Whether the next token is a colon.
-fn is_colon_at(bytes: &[u8], place: Place) -> bool
-    requires place { IsPlace bytes.now place }
-    requires short { length bytes.now < 2 ^ 31 }
-    ensures { result ≡ is_colon_first (tokens_at bytes.now place) }
+/// Whether a colon stands there.
+pub(crate) fn is_colon(look: Look) -> bool
+    ensures { result ≡ is_colon_found (token_in look.found) }
 {
-    let Some((token, _)) = token_at(bytes, place) else {
+    let Some((token, _)) = token_of(look) else {
         return false;
     };
-    match token.kind {
+    is_colon_kind(token.kind)
+}
+
+fn is_colon_kind(kind: TokenKind) -> bool
+    ensures { result ≡ is_colon_kind_by kind }
+{
+    match kind {
         TokenKind::Colon => true,
         _ => false,
     }
@@ -120,16 +142,16 @@ fn is_word(kind: TokenKind) -> bool
     }
 }
 
-// The heading that the token before a place and the one after it are, and the place after both.
-fn pair_heading(bytes: &[u8], token: Token, place: Place) -> Option<(Heading, Place)>
+// The heading that a token and the one after it are, and what stands after both.
+fn pair_heading(bytes: &[u8], token: Token, after: Look) -> Option<(Heading, Look)>
     requires span { IsInside bytes.now token.span }
-    requires place { IsPlace bytes.now place }
-    requires short { length bytes.now < 2 ^ 31 }
+    requires after { IsLook bytes.now after }
     ensures { MatchOption result
-        (pair_by (lexeme_of bytes.now token) (tokens_at bytes.now place) ≡ None)
-        (λ found. (pair_by (lexeme_of bytes.now token) (tokens_at bytes.now place) ≡ Some found.0) × IsPast bytes.now place found.1) }
+        (pair_by (lexeme_of bytes.now token) (tokens_at bytes.now after.place) ≡ None)
+        (λ found. (pair_by (lexeme_of bytes.now token) (tokens_at bytes.now after.place) ≡ Some found.0)
+        × IsPast bytes.now after.place found.1.place × IsLook bytes.now found.1) }
 {
-    let Some((next, past)) = token_at(bytes, place) else {
+    let Some((next, past)) = token_of(after) else {
         return None;
     };
     if !is_word(next.kind) {
@@ -138,23 +160,23 @@ fn pair_heading(bytes: &[u8], token: Token, place: Place) -> Option<(Heading, Pl
     if next.line != token.line {
         return None;
     }
-    if is_colon_at(bytes, past) {
-        return None;
-    }
     let Some(heading) = pair_of(token.span.text(bytes), next.span.text(bytes)) else {
         return None;
     };
-    Some((heading, past))
+    let last = look_at(bytes, past);
+    if is_colon(last) {
+        return None;
+    }
+    Some((heading, last))
 }
 
-// The heading that the token before a place is by itself.
-fn word_heading(bytes: &[u8], token: Token, place: Place) -> Option<Heading>
+// The heading that a token is by itself.
+fn word_heading(bytes: &[u8], token: Token, after: Look) -> Option<Heading>
     requires span { IsInside bytes.now token.span }
-    requires place { IsPlace bytes.now place }
-    requires short { length bytes.now < 2 ^ 31 }
-    ensures { result ≡ word_by (lexeme_of bytes.now token) (tokens_at bytes.now place) }
+    requires after { IsLook bytes.now after }
+    ensures { result ≡ word_by (lexeme_of bytes.now token) (tokens_at bytes.now after.place) }
 {
-    if is_colon_at(bytes, place) {
+    if is_colon(after) {
         return None;
     }
     heading_of(token.span.text(bytes))
@@ -168,43 +190,45 @@ fn may_head(token: Token) -> bool
     token.first && is_word(token.kind)
 }
 
-// What the token before a place is, and the place from which on the other pieces stand.
-fn item_in(bytes: &[u8], token: Token, place: Place) -> (Item, Place)
+// What a token is, and what stands where the other pieces begin.
+fn item_in(bytes: &[u8], token: Token, after: Look) -> (Item, Look)
     requires span { IsInside bytes.now token.span }
-    requires place { IsPlace bytes.now place }
-    requires short { length bytes.now < 2 ^ 31 }
-    ensures { IsItem bytes.now (lexeme_of bytes.now token) place result.0 result.1 }
+    requires after { IsLook bytes.now after }
+    ensures item { IsItem bytes.now (lexeme_of bytes.now token) after.place
+        result.0 result.1.place }
+    ensures look { IsLook bytes.now result.1 }
 {
     if !may_head(token) {
-        return (item_of(token.kind, token.span.text(bytes)), place);
+        return (item_of(token.kind, token.span.text(bytes)), after);
     }
-    if let Some((heading, past)) = pair_heading(bytes, token, place) {
-        return (heading_item(heading), past);
+    if let Some((heading, last)) = pair_heading(bytes, token, after) {
+        return (heading_item(heading), last);
     }
-    if let Some(heading) = word_heading(bytes, token, place) {
-        return (heading_item(heading), place);
+    if let Some(heading) = word_heading(bytes, token, after) {
+        return (heading_item(heading), after);
     }
-    (item_of(token.kind, token.span.text(bytes)), place)
+    (item_of(token.kind, token.span.text(bytes)), after)
 }
 
-/// The next item from a place on, with its bytes, and the place after it. What is refused, and the end of the text, are faults.
-pub(crate) fn next_seen(bytes: &[u8], place: Place) -> Result<(Item, Text<'_>, Place), ReadFault>
-    requires place { IsPlace bytes.now place }
-    requires short { length bytes.now < 2 ^ 31 }
+/// The item that a token is, with its text, and what stands after it; or the fault that the token is.
+pub(crate) fn seen_in<'a>(
+    bytes: &'a [u8],
+    token: Token,
+    after: Look,
+) -> Result<(Item, Text<'a>, Look), ReadStop>
+    requires span { IsInside bytes.now token.span }
+    requires after { IsLook bytes.now after }
     ensures { MatchResult result
-        (λ seen. IsSeen bytes.now place seen.0 (record { text = seen.1.bytes.now; line = seen.1.line }) seen.2)
-        (IsStopAt bytes.now place) }
+        (λ seen. (pieces_from bytes.now (lexeme_of bytes.now token) after.place
+        ≡ Seen seen.0 (shown_text seen.1) ∷ pieces_at bytes.now seen.2.place) × IsLook bytes.now seen.2)
+        (IsStopFirst (pieces_from bytes.now (lexeme_of bytes.now token) after.place)) }
 {
-    let found = match next_token(bytes, place) {
-        Ok(found) => found,
-        Err(fault) => return Err(ReadFault::stop_at(fault.line, ReadKind::Text(fault.kind))),
-    };
-    let Some((token, past)) = found else {
-        return Err(ReadFault::stop_at(last_line(bytes), ReadKind::Truncated));
-    };
-    let (item, next) = item_in(bytes, token, past);
+    let (item, next) = item_in(bytes, token, after);
     if let Item::Refused(kind) = item {
-        return Err(ReadFault::stop_at(token.line, kind));
+        return Err(ReadStop {
+            line: token.line,
+            kind,
+        });
     }
     let text = Text {
         bytes: token.span.text(bytes),

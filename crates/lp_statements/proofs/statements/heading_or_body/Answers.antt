@@ -1,5 +1,5 @@
-use Rattle.lp_statements.specs.Items.{pieces_at}
+use Rattle.lp_statements.proofs.Steps.{entire}
 use Rattle.lp_statements.proofs.statements.heading_or_body.Goals as goal
 
-pub returns-in-Err : goal.returns-in-Err
-returns-in-Err c = rw c.in-Some.ensures.first (c.in-Err.ensures (pieces_at c.args.bytes.now c.in-Some.next))
+pub returns-in-Some : goal.returns-in-Some
+returns-in-Some c = rw c.in-Some.ensures (entire c.args.most _ c.take_keyword.new.cursor c.later_heading.result (c.later_heading.ensures c.take_keyword.new.cursor))
