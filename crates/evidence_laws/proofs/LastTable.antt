@@ -160,7 +160,7 @@ unsigned : (side : Side) (a b : ℚ) → signed side a ≡ signed side b → a �
 unsigned Lo a b e = ring_by_ℚ (a ∷ b ∷ []) x0 x1 (minus unit_of) (minus x0) (minus x1) e tt
 unsigned Up a b e = e
 
-met_number : (o : Option ℚ) (v : ℚ) → IsSome o → v ≡ number_or_zero o → o ≡ Some v
+pub met_number : (o : Option ℚ) (v : ℚ) → IsSome o → v ≡ number_or_zero o → o ≡ Some v
 met_number None v h e = absurd (true≢false (sym h))
 met_number (Some b) v h e = ap Some (sym e)
 

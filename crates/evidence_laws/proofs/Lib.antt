@@ -13,3 +13,5 @@ mod PlainPaths
 mod Examples
 mod Meaning
 mod Tables
+mod CoresWitness
+mod CoresIrreducible

@@ -36,7 +36,7 @@ at_most_met o v e = subst (λ z. IsAtMost z v) (sym e) (le_refl_ℚ v)
 none_is_not : {v : ℚ} → None ≡ Some v → ⊥
 none_is_not e = cc
 
-holds_met : (model : Program) (x : Assignment) (m : Member) → number model m ≡ Some (value model m x) → Holds model x m
+pub holds_met : (model : Program) (x : Assignment) (m : Member) → number model m ≡ Some (value model m x) → Holds model x m
 holds_met model x (RowLo i) e = at_least_met (number model (RowLo i)) (value model (RowLo i) x) e
 holds_met model x (RowUp i) e = at_most_met (number model (RowUp i)) (value model (RowUp i) x) e
 holds_met model x (Lower j) e = at_least_met (number model (Lower j)) (x j) e

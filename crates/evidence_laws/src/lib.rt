@@ -17,6 +17,7 @@ pub use laws::{
 };
 pub use run_laws::{
     blocked_is_combination, combination_is_translated, flip_keeps_system, one_end, one_table,
-    pivot_keeps_system, plain_cut_refutes, plain_is_formed, plain_point_keeps_path,
-    plain_point_satisfies, settled_is_solution, start_is_of_system, tableau_is_table,
+    pivot_keeps_system, plain_core_is_irreducible, plain_cut_refutes, plain_is_formed,
+    plain_point_keeps_path, plain_point_satisfies, row_has_witnesses, settled_is_solution,
+    start_is_of_system, tableau_is_table,
 };

@@ -5,6 +5,7 @@ ghost use Rattle.certs.specs.Runs.{OneEndLaw};
 ghost use Rattle.certs.specs.PlainLaws.{PlainCutLaw, PlainFormedLaw, PlainPathLaw, PlainPointLaw};
 ghost use Rattle.certs.specs.Tableau.{StartLaw, TableLaw};
 ghost use Rattle.certs.specs.Turns.{FlipLaw, PivotLaw};
+ghost use Rattle.evidence_laws.specs.Cores.{CoreLaw, WitnessLaw};
 ghost use Rattle.evidence_laws.specs.Tables.{TermsLaw};
 
 /// The tableau at the start is one of the system.
@@ -70,4 +71,14 @@ pub fn plain_point_keeps_path()
 /// Where limits of a set's plain system cross, or its run ends infeasible, what comes is a combination of the set.
 pub fn plain_cut_refutes()
     ensures { PlainCutLaw }
+{}
+
+/// Where nothing helps a variable outside its limits, values meet all limits of its row but one, whichever one it is.
+pub fn row_has_witnesses()
+    ensures { WitnessLaw }
+{}
+
+/// Where no limits cross, the members of a set that its plain cut names are irreducible.
+pub fn plain_core_is_irreducible()
+    ensures { CoreLaw }
 {}
