@@ -1,0 +1,4 @@
+pub mod Turns
+pub mod Nodes
+pub mod Forests
+pub mod Judgements

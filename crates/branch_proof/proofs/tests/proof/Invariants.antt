@@ -1,0 +1,6 @@
+use Rattle.std.specs.Prelude.{All}
+use Rattle.branch_proof.specs.Walk.{IsFittingNode}
+use Rattle.branch_proof.proofs.tests.proof.Given as goal
+
+abbrev pub invariant-loop : goal.invariant-loop
+invariant-loop l = All IsFittingNode l.nodes.items

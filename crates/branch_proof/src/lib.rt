@@ -1,0 +1,10 @@
+//! Whether the nodes of a proof by branches are those of one tree that proves that no point satisfies a set.
+#![tactic(auto)]
+
+mod checks;
+mod paths;
+
+pub use checks::{Judged, check_proof};
+
+#[cfg(test)]
+mod tests;
