@@ -44,12 +44,11 @@ use Rattle.report_text.specs.Grammar.{column_name}
 use Rattle.report_text.specs.Form.{is_word, IsNamedColumn, IsNamedMember, IsListed, IsWithinLimit, IsPointFor, IsNamedSource, IsUse, IsOneLeaf, IsSettleSite, IsSiteFor, IsStopFor, IsCoreFor, IsAnswerFor, IsCommand, IsEntryFor, IsReportFor, AreEntriesFor, AreNumbered, can_answer}
 use Rattle.report_printer.specs.Numbers.{HasNumbersWithin, HasValuesWithin, HasWeightsWithin, HasWitnessesWithin, IsCoreWithin, IsProofWithin, IsStopWithin}
 use Rattle.analysis.specs.NamesAreWords.{HasWords}
-use Rattle.analysis.specs.Answers.{IsLeafProof}
 use Rattle.analysis.specs.Right.{AreRight, IsChecked, IsIsolated, IsRefutation, IsRightAfter, IsRightCore, IsRightStop, IsWhole, Right, budgets_in_force}
 use Rattle.analysis.specs.Pieces.{Answers}
 use Rattle.analysis.specs.Written.{report_of}
 use Rattle.analysis.proofs.Found.{leaf_of_tree, possible_members_are}
-use Rattle.analysis.proofs.Refuting.{no_above, no_below}
+use Rattle.analysis.proofs.Refuting.{IsLeafProof, no_above, no_below}
 
 -- ---- lists
 front_of : {A : Type 0} (P : A → Type 0) (xs ys : List A) → All P (xs ++ ys) → All P xs

@@ -2,7 +2,9 @@ pub mod Putting
 pub mod Entries
 pub mod Refuting
 pub mod Stopping
+pub mod Asked
 pub mod Found
+pub mod Searched
 pub mod Sofar
 pub mod Report
 pub mod InGrammar

@@ -1,11 +1,11 @@
 -- Stops of oracles as answers.
 use Rattle.std.proofs.Common.{◌≡◌, refl, sym, ◌∙◌, ap, subst, ℕ, Bool, true, false, ◌&&◌, List, [], filter, length, Result, Ok, Err, inl, inr}
 use Rattle.std.specs.Prelude.{Contains, IfOk}
-use Rattle.std.proofs.lemmas.List.Elements.{All-contains, All-contains_itself, filter_passes}
+use Rattle.std.proofs.lemmas.List.Elements.{All-contains, filter_passes}
 use Rattle.lp_model.specs.declared.members.Member.{Member}
 use Rattle.lp_model.specs.Program.{Program}
 use Rattle.lp_model.specs.Members.{active_members, has, is_active, possible_members}
-use Rattle.lp_model.specs.MemberSets.{SetValue, active_set, empty_set, members_for, possible_in}
+use Rattle.lp_model.specs.MemberSets.{SetValue, empty_set, members_for, possible_in}
 use Rattle.lp_model.specs.Satisfaction.{IsPart}
 use Rattle.lp_model.proofs.Sets.{contains_of_has}
 use Rattle.certs.specs.declared.evidence.Branch.{Branch}
@@ -24,11 +24,9 @@ use Rattle.certs.specs.Sites.{Budgets, StopsBy, site_system}
 use Rattle.certs.specs.Solves.{RunEnds}
 use Rattle.certs.specs.declared.solving.Verdict.{Verdict}
 use Rattle.certs.specs.Answers.{IsAnsweredStop, IsPlainAnswer}
-use Rattle.certs.specs.Tales.{IsNodeSite, OracleState, no_tale}
+use Rattle.certs.specs.Tales.{IsNodeSite}
 use Rattle.certs.proofs.HasLists.{agree_on}
 use Rattle.certs.proofs.Parted.{filter_both}
-use Rattle.filter_steps.specs.Isolated.{IsStoppedAt}
-use Rattle.linear_oracle.specs.Value.{OracleValue, state_of}
 use Rattle.report_text.specs.declared.report.Answer.{Answer}
 use Rattle.report_text.specs.declared.report.Answer.TheVariants.{Feasible, Infeasible, Irreducible, Done, Stopped}
 use Rattle.report_printer.specs.Printing.{IsKnownAnswer, IsKnownStop}
@@ -122,7 +120,7 @@ passes IsTest model budgets asked test Done h = absurd h
 passes IsTest model budgets asked test (Stopped stop) h = stop_passes IsTest model budgets asked test stop h
 
 -- what is answered to an ask for a set of active members that passes the test
-pub stop_answer : (IsTest : List Member → Type 0) (model : Program) (budgets : Budgets) (asked : List Member) (stop : Stop) (answer : Answer) → IsAnsweredStop (IsPlainAnswer model budgets.pivots) asked stop
+stop_answer : (IsTest : List Member → Type 0) (model : Program) (budgets : Budgets) (asked : List Member) (stop : Stop) (answer : Answer) → IsAnsweredStop (IsPlainAnswer model budgets.pivots) asked stop
     → IsPart asked (active_members model) → IsTest asked → IsToldStop stop answer → IsStopAnswer IsTest model budgets answer
 stop_answer IsTest model budgets asked stop answer (inl memory) part test told = absurd (subst (λ (s : Stop). IsToldStop s answer) memory told)
 stop_answer IsTest model budgets asked stop answer (inr h) part test told = passes IsTest model budgets asked test answer (right_stop model budgets asked stop answer h part told)
@@ -169,32 +167,19 @@ pub known_stopped : (IsTest : List Member → Type 0) (model : Program) (budgets
 known_stopped IsTest model budgets (Ok answer) h = known_answer IsTest model budgets answer h
 known_stopped IsTest model budgets (Err error) h = tt
 
--- ---- a fresh oracle
--- it was asked nothing yet
-abbrev pub fresh_oracle : Program → ℕ → OracleValue
-fresh_oracle model pivots = record { model = model; pivots = pivots; made = 0; tale = no_tale }
-
--- what it answers
+-- ---- what is asked
+-- what an oracle answers that makes the runs of plain systems
 abbrev pub PlainAnswers : Program → Budgets → List Member → Result Verdict Stop → Type 0
 PlainAnswers model budgets set result = IsPlainAnswer model budgets.pivots set result
 
--- the stop of a filter
-pub filter_stop : (IsTest : OracleState → Program → List Member → List Member → Type 0) (IsRight : List Member → Type 0) (model : Program) (set : SetValue) (budgets : Budgets) (old : OracleValue) (after : OracleState) (stop : Stop) (answer : Answer)
-    → old ≡ fresh_oracle model budgets.pivots → set ≡ active_set model → IsStoppedAt (IsTest (state_of old)) PlainAnswers set.members (state_of old) after stop
-    → ((s : OracleState) (t : List Member) → IsTest s model (active_members model) t → IsPart t (active_members model)) → ((t : List Member) → IsTest (state_of (fresh_oracle model budgets.pivots)) model (active_members model) t → IsRight t)
-    → IsToldStop stop answer → IsStopAnswer IsRight model budgets answer
-filter_stop IsTest IsRight model set budgets old after stop answer fresh whole h part right told =
-    let first : OracleState = state_of (fresh_oracle model budgets.pivots) in
-    let k : IsStoppedAt (IsTest first) PlainAnswers (active_members model) first after stop =
-    subst (λ (s : SetValue). IsStoppedAt (IsTest first) PlainAnswers s.members first after stop) whole
-    (subst (λ (o : OracleValue). IsStoppedAt (IsTest (state_of o)) PlainAnswers set.members (state_of o) after stop) fresh h) in
-    stop_answer IsRight model budgets k.asked stop answer k.answered (part first k.asked k.test) (right k.asked k.test) told
+-- The stop of a run of so many pivots, of a set of active members that passes a test; or want of memory.
+pub record IsRunOf (IsTest : List Member → Type 0) (model : Program) (pivots : ℕ) (stop : Stop) : Type 0 where
+  pub asked : List Member
+  pub answered : IsAnsweredStop (IsPlainAnswer model pivots) asked stop
+  pub part : IsPart asked (active_members model)
+  pub test : IsTest asked
 
--- the stop of an ask for all active members
-pub stop_of_ask : (model : Program) (set : SetValue) (budgets : Budgets) (old : OracleValue) (stop : Stop) {E : Type 0} (result : Result Answer E) → old ≡ fresh_oracle model budgets.pivots → set ≡ active_set model
-    → IsPlainAnswer old.model old.pivots set.members (Err stop) → IfOk result (IsToldStop stop) → IfOk result (IsStopAnswer (IsWhole model) model budgets)
-stop_of_ask model set budgets old stop (Ok answer) fresh whole h told =
-    let k : IsPlainAnswer model budgets.pivots (active_members model) (Err stop) =
-    subst (λ (s : SetValue). IsPlainAnswer model budgets.pivots s.members (Err stop)) whole (subst (λ (o : OracleValue). IsPlainAnswer o.model o.pivots set.members (Err stop)) fresh h) in
-    stop_answer (IsWhole model) model budgets (active_members model) stop answer (inr k) (All-contains_itself (active_members model)) refl told
-stop_of_ask model set budgets old stop (Err error) fresh whole h told = tt
+-- as an answer it is a stop of such a set
+pub run_answer : (IsTest : List Member → Type 0) (model : Program) (budgets : Budgets) (stop : Stop) {E : Type 0} (result : Result Answer E) → IsRunOf IsTest model budgets.pivots stop → IfOk result (IsToldStop stop) → IfOk result (IsStopAnswer IsTest model budgets)
+run_answer IsTest model budgets stop (Ok answer) h told = stop_answer IsTest model budgets h.asked stop answer h.answered h.part h.test told
+run_answer IsTest model budgets stop (Err error) h told = tt

@@ -1,19 +1,17 @@
--- The budgets in code, what is asked of the proof of an answer, and answers from what filters and oracles tell.
-use Rattle.std.specs.Prelude.{◌≡◌, ⊤, List, [], ◌∷◌, None, filter, Result, Ok, Err}
+-- The budgets in code, the oracle that makes runs, and answers from what filters and oracles tell.
+use Rattle.std.specs.Prelude.{◌≡◌, ⊤, ℕ, List, None, filter, Result, Ok, Err}
 use Rattle.lp_model.specs.declared.members.Member.{Member}
 use Rattle.lp_model.specs.Program.{Program}
-use Rattle.lp_model.specs.Members.{active_members, has, IsInOrder}
+use Rattle.lp_model.specs.Members.{has, IsInOrder}
 use Rattle.lp_model.specs.MemberSets.{possible_in}
-use Rattle.certs.specs.declared.evidence.Combo.{Combo}
-use Rattle.certs.specs.declared.evidence.Node.TheVariants.{Leaf}
-use Rattle.certs.specs.declared.evidence.Proof.{Proof}
 use Rattle.certs.specs.declared.solving.Irreducible.{Irreducible}
 use Rattle.certs.specs.declared.solving.Irreducible.TheVariants.{Set, Feasible as AtPoint}
 use Rattle.certs.specs.declared.solving.Site.{Site}
 use Rattle.certs.specs.declared.solving.Stop.{Stop}
 use Rattle.certs.specs.declared.solving.Stop.TheVariants.{Wide, Pivots as Spent, Nodes, Large, Memory}
-use Rattle.certs.specs.Combination.{IsCombination}
 use Rattle.certs.specs.Sites.{Budgets}
+use Rattle.certs.specs.Tales.{no_tale}
+use Rattle.linear_oracle.specs.Value.{OracleValue}
 use Rattle.report_text.specs.declared.report.Answer.{Answer}
 use Rattle.report_text.specs.declared.report.Answer.TheVariants.{Feasible, Irreducible as Isolated, Stopped}
 use Rattle.analysis.specs.declared.answering.Budgets.{Budgets as Code}
@@ -23,11 +21,9 @@ use Rattle.analysis.specs.Right.{IsRightStop}
 abbrev pub budgets_of : Code → Budgets
 budgets_of b = record { pivots = b.pivots; nodes = b.nodes }
 
--- the proof is one leaf, with a combination of the active members
-pub record IsLeafProof (model : Program) (proof : Proof) : Type 0 where
-  pub combo : Combo
-  pub leaf : proof.nodes ≡ Leaf combo ∷ []
-  pub combination : IsCombination model (active_members model) [] combo.shares
+-- an oracle that makes the runs of a program, each with so many pivots, and was asked nothing yet
+abbrev pub fresh_oracle : Program → ℕ → OracleValue
+fresh_oracle model pivots = record { model = model; pivots = pivots; made = 0; tale = no_tale }
 
 -- what a filter gives, as an answer
 abbrev pub answer_of : Irreducible → Answer

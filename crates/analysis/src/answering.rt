@@ -3,16 +3,19 @@ ghost use Rattle.std.specs.Prelude.{◌≡◌, ◌<◌, ◌^◌, IfOk, All, fals
 ghost use Rattle.lp_model.specs.Members.{active_members, is_mark};
 ghost use Rattle.lp_model.specs.MemberSets.{active_set};
 ghost use Rattle.certs.specs.Order.{AreLeavesInOrder};
+ghost use Rattle.certs.specs.Proof.{IsProof};
 ghost use Rattle.certs.specs.Sites.{Budgets as Allowed};
 ghost use Rattle.report_text.specs.Form.{IsCommand};
 ghost use Rattle.report_printer.specs.Printing.{IsKnownAnswer};
-ghost use Rattle.analysis.specs.Answers.{IsLeafProof, budgets_of};
+ghost use Rattle.analysis.specs.Answers.{budgets_of};
 ghost use Rattle.analysis.specs.Right.{IsChecked, Right, budgets_after, first_budgets as budgets_at_first};
 
+use crate::asking::quick_oracle;
 use crate::searching::{search, stopped};
 use certs::{MemberSet, Oracle, Proof, Verdict, members_used};
 use linear_oracle::LinearOracle;
 use lp_model::Model;
+use quick_oracle::{Kept, QuickOracle};
 use report_text::{Answer, Command};
 use std::alloc::{AllocError, Global};
 
@@ -46,12 +49,13 @@ pub(crate) fn after(budgets: Budgets, command: &Command) -> Budgets
     }
 }
 
-/// The right answer to a command, where memory allows.
+/// The right answer to a command, where memory allows. What is kept of the program serves the next command too.
 pub(crate) fn answer(
     alloc: Global,
     model: &Model,
     budgets: Budgets,
     command: &Command,
+    kept: &mut Kept,
 ) -> Result<Answer, AllocError>
     requires linear { All (λ m. is_mark m ≡ false) (active_members model.now) }
     requires built { IsCommand command.now }
@@ -60,26 +64,48 @@ pub(crate) fn answer(
     ensures known { IfOk result (IsKnownAnswer model.now) }
 {
     match command {
-        Command::Check => check(alloc, model, budgets),
-        Command::Iis(method) => search(alloc, model, budgets, *method),
+        Command::Check => check(alloc, model, budgets, kept),
+        Command::Iis(method) => search(alloc, model, budgets, *method, kept),
         Command::Pivots(_) => Ok(Answer::Done),
     }
 }
 
 // Whether some point satisfies the active members.
-fn check(alloc: Global, model: &Model, budgets: Budgets) -> Result<Answer, AllocError>
+fn check(
+    alloc: Global,
+    model: &Model,
+    budgets: Budgets,
+    kept: &mut Kept,
+) -> Result<Answer, AllocError>
     requires linear { All (λ m. is_mark m ≡ false) (active_members model.now) }
     requires few { budgets.pivots < 2 ^ 63 }
     ensures right { IfOk result (IsChecked model.now (budgets_of budgets)) }
     ensures known { IfOk result (IsKnownAnswer model.now) }
 {
-    // That the program is well formed is told with the count.
-    let _rows = model.row_count();
     let set = model.members(alloc)?;
-    let mut oracle = LinearOracle::new(alloc, model, budgets.pivots);
-    match oracle.ask(alloc, &set) {
+    let mut oracle = quick_oracle(alloc, model, budgets, kept);
+    let answer = check_by(alloc, model, &mut oracle, &set);
+    *kept = oracle.into_kept();
+    answer
+}
+
+// Whether some point satisfies the active members, by a quick oracle.
+fn check_by(
+    alloc: Global,
+    model: &Model,
+    oracle: &mut QuickOracle<'_, LinearOracle<'_>>,
+    set: &MemberSet,
+) -> Result<Answer, AllocError>
+    requires linear { All (λ m. is_mark m ≡ false) (active_members model.now) }
+    requires whole { set.now ≡ active_set model.now }
+    requires program { oracle.old.inner.model ≡ model.now }
+    ensures right { (budgets : Allowed) → oracle.old.inner.pivots ≡ budgets.pivots
+        → IfOk result (IsChecked model.now budgets) }
+    ensures known { IfOk result (IsKnownAnswer model.now) }
+{
+    match oracle.ask(alloc, set) {
         Ok(Verdict::Feasible(point)) => Ok(Answer::Feasible(point)),
-        Ok(Verdict::Infeasible(proof)) => refuted(alloc, model, &set, proof),
+        Ok(Verdict::Infeasible(proof)) => refuted(alloc, model, set, proof),
         Err(stop) => stopped(stop),
     }
 }
@@ -92,7 +118,8 @@ fn refuted(
     proof: Proof,
 ) -> Result<Answer, AllocError>
     requires whole { set.now ≡ active_set model.now }
-    requires leaf { IsLeafProof model.now proof }
+    requires linear { All (λ m. is_mark m ≡ false) (active_members model.now) }
+    requires proof { IsProof model.now (active_members model.now) proof.nodes }
     requires ordered { AreLeavesInOrder proof.nodes }
     ensures right { (budgets : Allowed) → IfOk result (IsChecked model.now budgets) }
     ensures known { IfOk result (IsKnownAnswer model.now) }

@@ -10,6 +10,7 @@ ghost use Rattle.analysis.specs.Written.{IsAnalysis, head_text, foot_text, is_st
 use crate::answering::{Budgets, after, answer, first_budgets};
 use iis_edge::{PutFault, Sink};
 use lp_model::Model;
+use quick_oracle::Kept;
 use report_printer::{print_entry, print_foot, print_head};
 use report_text::{Answer, Command, Script};
 use std::alloc::{AllocError, Global};
@@ -116,9 +117,10 @@ fn put_entries<W: Sink>(
     ensures { EntriesPut W.faults W.taken out.old out.new model.now commands.now result }
 {
     let mut budgets = first_budgets();
+    let mut kept = Kept::new();
     let mut stopped = false;
     for command in commands {
-        let stops = put_entry(alloc, model, budgets, command, out)?;
+        let stops = put_entry(alloc, model, budgets, command, &mut kept, out)?;
         stopped = is_either(stopped, stops);
         budgets = after(budgets, command);
     }
@@ -138,6 +140,7 @@ fn put_entry<W: Sink>(
     model: &Model,
     budgets: Budgets,
     command: &Command,
+    kept: &mut Kept,
     out: &mut W,
 ) -> Result<bool, Want>
     requires linear { All (λ m. is_mark m ≡ false) (active_members model.now) }
@@ -145,7 +148,7 @@ fn put_entry<W: Sink>(
     requires few { budgets.pivots < 2 ^ 63 }
     ensures { EntryPut W.faults W.taken out.old out.new model.now (budgets_of budgets) command.now result }
 {
-    let answer = answer(alloc, model, budgets, command)?;
+    let answer = answer(alloc, model, budgets, command, kept)?;
     let mut text = Vec::new(alloc);
     print_entry(model, command, &answer, &mut text)?;
     put(out, text.as_slice())?;

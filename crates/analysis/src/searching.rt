@@ -1,23 +1,29 @@
 //! Searches for irreducible sets of the active members, and stops of solves as answers.
 ghost use Rattle.std.specs.Prelude.{◌≡◌, ◌<◌, ◌^◌, All, IfErr, IfOk, false};
 ghost use Rattle.lp_model.specs.Members.{active_members, is_mark};
+ghost use Rattle.lp_model.specs.MemberSets.{active_set};
+ghost use Rattle.certs.specs.Tales.{no_tale};
 ghost use Rattle.report_printer.specs.Printing.{IsKnownAnswer};
-ghost use Rattle.analysis.specs.Answers.{IsAnswerOf, IsFoundInOrder, IsRunStop, IsToldStop, answer_of, budgets_of};
+ghost use Rattle.analysis.specs.Answers.{IsAnswerOf, IsFoundInOrder, IsRunStop, IsToldStop, answer_of, budgets_of, fresh_oracle};
 ghost use Rattle.analysis.specs.Right.{IsFound};
 
 use crate::answering::Budgets;
-use certs::{Irreducible, Stop};
+use crate::asking::quick_oracle;
+use certs::{Irreducible, MemberSet, Stop};
 use linear_oracle::LinearOracle;
 use lp_model::Model;
+use quick_oracle::{Kept, QuickOracle};
 use report_text::{Answer, Core, Method, Witnesses};
 use std::alloc::{AllocError, Global};
 
-/// What a method leaves of the active members, where no point satisfies them; or a point, or a stop.
+/// What a method leaves of the active members, where no point satisfies them; or a point, or a stop. What is kept of the
+/// program serves the next command too.
 pub(crate) fn search(
     alloc: Global,
     model: &Model,
     budgets: Budgets,
     method: Method,
+    kept: &mut Kept,
 ) -> Result<Answer, AllocError>
     requires linear { All (λ m. is_mark m ≡ false) (active_members model.now) }
     requires few { budgets.pivots < 2 ^ 63 }
@@ -25,11 +31,37 @@ pub(crate) fn search(
     ensures known { IfOk result (IsKnownAnswer model.now) }
 {
     let set = model.members(alloc)?;
-    let mut oracle = LinearOracle::new(alloc, model, budgets.pivots);
+    let mut oracle = quick_oracle(alloc, model, budgets, kept);
+    let answer = search_by(alloc, model, budgets, method, &mut oracle, &set);
+    *kept = oracle.into_kept();
+    answer
+}
+
+// What a method leaves of the active members, by a quick oracle. The sensitivity filter asks for all of them by a run of
+// the budget, since the first core is the one of that run.
+fn search_by(
+    alloc: Global,
+    model: &Model,
+    budgets: Budgets,
+    method: Method,
+    oracle: &mut QuickOracle<'_, LinearOracle<'_>>,
+    set: &MemberSet,
+) -> Result<Answer, AllocError>
+    requires linear { All (λ m. is_mark m ≡ false) (active_members model.now) }
+    requires few { budgets.pivots < 2 ^ 63 }
+    requires whole { set.now ≡ active_set model.now }
+    requires inner { oracle.old.inner ≡ fresh_oracle model.now budgets.pivots }
+    requires tale { oracle.old.tale ≡ no_tale }
+    ensures right { IfOk result (IsFound method model.now (budgets_of budgets)) }
+    ensures known { IfOk result (IsKnownAnswer model.now) }
+{
     match method {
-        Method::Deletion => concluded(deletion_filter::isolate(alloc, &mut oracle, &set)),
-        Method::Additive => concluded(additive_filter::isolate(alloc, &mut oracle, &set)),
-        Method::Sensitivity => concluded(sensitivity_filter::isolate(alloc, &mut oracle, &set)),
+        Method::Deletion => concluded(deletion_filter::isolate(alloc, oracle, set)),
+        Method::Additive => concluded(additive_filter::isolate(alloc, oracle, set)),
+        Method::Sensitivity => {
+            let mut first = LinearOracle::new(alloc, model, budgets.pivots);
+            concluded(sensitivity_filter::isolate_with(alloc, &mut first, oracle, set))
+        }
     }
 }
 

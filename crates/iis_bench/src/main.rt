@@ -1,4 +1,5 @@
-//! Looks for an irreducible set of a model by a filter: what `bench/iis.sh` measures.
+//! Looks for an irreducible set of a model by a filter, with quick runs or by the reference runs alone: what
+//! `bench/iis.sh` measures.
 #![tactic(auto)]
 
 ghost use Rattle.std.specs.Prelude.{◌≡◌, true, None, IfOk};
@@ -12,6 +13,7 @@ use iis_edge::{HostShelf, Shelf};
 use linear_oracle::LinearOracle;
 use lp_model::{Member, Model};
 use model_files::read_model;
+use quick_oracle::{Kept, QuickOracle};
 use std::alloc::{AllocError, Global};
 use std::{env, io};
 
@@ -39,12 +41,15 @@ struct Request {
     name: String,
     bytes: Vec<u8>,
     filter: Filter,
+    is_quick: bool,
 }
 
-// What a search came to, and what it took.
+// What a search came to, and what it took: the asks, those of them that the reference run was asked for, and the pivots
+// of all runs.
 #[derive(Clone, Copy)]
 struct Told {
     asks: u64,
+    reference: u64,
     pivots: u64,
     end: &'static str,
     size: u64,
@@ -69,6 +74,7 @@ fn are_unmarked(members: &[Member]) -> bool
     true
 }
 
+// What a filter finds by one oracle.
 fn isolated<O: Oracle>(
     alloc: Global,
     filter: Filter,
@@ -120,7 +126,7 @@ fn active(alloc: Global, model: &Model) -> Result<MemberSet, AllocError>
     model.members(alloc)
 }
 
-// A search over the active members.
+// A search over the active members, by reference runs alone.
 fn search(alloc: Global, model: &Model, filter: Filter) -> Result<Told, AllocError> {
     let set = active(alloc, model)?;
     if !are_unmarked(listed(alloc, &set)?.as_slice()) {
@@ -130,7 +136,36 @@ fn search(alloc: Global, model: &Model, filter: Filter) -> Result<Told, AllocErr
     let given = isolated(alloc, filter, &mut oracle, &set);
     Ok(Told {
         asks: oracle.tale().asks(),
+        reference: oracle.tale().asks(),
         pivots: oracle.pivots_made(),
+        end: word(&given),
+        size: size(&given),
+    })
+}
+
+// A search over the active members, with quick runs.
+fn quick_search(alloc: Global, model: &Model, filter: Filter) -> Result<Told, AllocError> {
+    let set = active(alloc, model)?;
+    if !are_unmarked(listed(alloc, &set)?.as_slice()) {
+        return Err(AllocError);
+    }
+    let inner = LinearOracle::new(alloc, model, PIVOTS);
+    let mut quick = QuickOracle::new(alloc, model, Kept::new(), inner, PIVOTS);
+    let mut first = LinearOracle::new(alloc, model, PIVOTS);
+    let given = match filter {
+        Filter::Sensitivity => {
+            sensitivity_filter::isolate_with(alloc, &mut first, &mut quick, &set)
+        }
+        _ => isolated(alloc, filter, &mut quick, &set),
+    };
+    let reference = quick.inner();
+    Ok(Told {
+        asks: first.tale().asks().saturating_add(quick.tale().asks()),
+        reference: first.tale().asks().saturating_add(reference.tale().asks()),
+        pivots: first
+            .pivots_made()
+            .saturating_add(reference.pivots_made())
+            .saturating_add(quick.pivots_made()),
         end: word(&given),
         size: size(&given),
     })
@@ -153,13 +188,14 @@ fn read_file(rt: &HostRuntime, name: &str, bytes: &mut Vec<u8>) {
     }
 }
 
-// The model's file and the filter, in this order.
+// The model's file, the filter, and `reference` where no quick runs are to be made, in this order.
 fn read_words(rt: &HostRuntime) -> Result<Request, AllocError> {
     let alloc = rt.alloc();
     let mut request = Request {
         name: String::new(alloc),
         bytes: SAMPLE.to_vec(alloc)?,
         filter: Filter::Deletion,
+        is_quick: true,
     };
     let Ok(args) = env::args(rt) else {
         return Ok(request);
@@ -172,6 +208,9 @@ fn read_words(rt: &HostRuntime) -> Result<Request, AllocError> {
     if let Some(filter) = words.next() {
         request.filter = named(filter.as_str());
     }
+    if let Some(runs) = words.next() {
+        request.is_quick = runs.as_str() != "reference";
+    }
     Ok(request)
 }
 
@@ -183,7 +222,11 @@ fn answer(alloc: Global, request: &Request) -> Option<Told> {
     let Ok(model) = read_model(alloc, request.name.as_bytes(), request.bytes.as_slice()) else {
         return None;
     };
-    search(alloc, &model, request.filter).ok()
+    if request.is_quick {
+        quick_search(alloc, &model, request.filter).ok()
+    } else {
+        search(alloc, &model, request.filter).ok()
+    }
 }
 
 fn main(rt: HostRuntime) -> io::Result<()> {
@@ -194,7 +237,7 @@ fn main(rt: HostRuntime) -> io::Result<()> {
         return println!(rt; "the model is not read");
     };
     println!(rt;
-        "asks {} pivots {} end {} size {}",
-        told.asks, told.pivots, told.end, told.size
+        "asks {} reference {} pivots {} end {} size {}",
+        told.asks, told.reference, told.pivots, told.end, told.size
     )
 }

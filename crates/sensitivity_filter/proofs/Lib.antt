@@ -1,1 +1,2 @@
 pub mod FirstCores
+pub mod Pairs

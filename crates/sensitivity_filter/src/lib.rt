@@ -3,4 +3,4 @@
 
 mod sensitivity;
 
-pub use sensitivity::isolate;
+pub use sensitivity::{isolate, isolate_with};

@@ -1,11 +1,10 @@
-use Rattle.std.proofs.Common.{subst}
-use Rattle.std.specs.Prelude.{IfOk}
 use Rattle.std.proofs.lemmas.Result.{err_from_is_err_and}
 use Rattle.certs.specs.Answers.{AnswersAt}
-use Rattle.certs.specs.Tales.{OracleState}
-use Rattle.filter_steps.specs.Isolated.{IsReduced}
-use Rattle.filter_steps.proofs.Answering.{found_asked, stopped_by_ask, which_is_point, which_is_set}
+use Rattle.certs.specs.Filter.{Late}
+use Rattle.certs.specs.Named.{used_members}
+use Rattle.filter_steps.proofs.Answering.{found_after_ask, stopped_by_ask, which_is_point, which_is_set}
 use Rattle.sensitivity_filter.specs.Cores.{IsCoreTest, IsLateOfCore, whole}
+use Rattle.sensitivity_filter.proofs.FirstCores.{core_of, core_told, found_in_core, stopped_in_core, told_core}
 use Rattle.sensitivity_filter.proofs.sensitivity.isolate.Goals as goal
 
 pub returns-in_err-verdict-clause-stop : goal.returns-in_err-verdict-clause-stop
@@ -30,19 +29,38 @@ pub returns-in-Infeasible-clause-found : goal.returns-in-Infeasible-clause-found
 returns-in-Infeasible-clause-found g c =
     let oracle = g.O.Oracle in
     let before = oracle.state c.args.oracle.now in
+    let now = oracle.state c.ask.new.self in
     let first = (oracle.state c.isolate_core.new.oracle).tale.first_core in
     let set = c.args.set.now.members in
-    let nodes = c.in-Infeasible.proof.nodes in
-    found_asked oracle.answers (IsLateOfCore (AnswersAt oracle.answers before) first) set before c.in_ok-verdict.verdict c.in-Infeasible.proof c.in-Infeasible.is c.in_ok-verdict.ensures.answered c.isolate_core.result
-    (subst (λ (s : OracleState). IfOk c.isolate_core.result (IsReduced (IsLateOfCore (AnswersAt oracle.answers s) first) oracle.answers s set nodes)) c.in_ok-verdict.ensures.told c.isolate_core.ensures.found)
+    let verdict = c.in_ok-verdict.verdict in
+    let proof = c.in-Infeasible.proof in
+    let asked = c.in_ok-verdict.ensures.told in
+    let answered = c.in_ok-verdict.ensures.answered in
+    let told = c.isolate_core.ensures.left.first_core (core_of set proof.nodes) (core_told oracle.answers before now set verdict proof asked c.in-Infeasible.is c.requires.fresh) in
+    let core = told_core oracle.answers before now set verdict proof asked c.in-Infeasible.is first answered told in
+    found_after_ask oracle.answers (IsLateOfCore (AnswersAt oracle.answers before) first) set before now verdict proof c.in-Infeasible.is answered asked c.isolate_core.result
+    (found_in_core oracle.answers (AnswersAt oracle.answers before) now first set (used_members set proof.nodes) proof.nodes core c.isolate_core.result c.isolate_core.ensures.found)
 
 pub returns-in-Infeasible-clause-which : goal.returns-in-Infeasible-clause-which
 returns-in-Infeasible-clause-which g c =
     let oracle = g.O.Oracle in
     let before = oracle.state c.args.oracle.now in
-    let now = oracle.state c.ask.new.self in
-    let first = (oracle.state c.isolate_core.new.oracle).tale.first_core in
     let set = c.args.set.now.members in
-    which_is_set oracle.answers (IsLateOfCore (AnswersAt oracle.answers now) first) before.model set c.in_ok-verdict.verdict c.in-Infeasible.proof c.in-Infeasible.is
-    (g.met.O.Oracle.holds before.model before.budgets set c.in_ok-verdict.verdict c.in_ok-verdict.ensures.answered)
-    now c.in-Infeasible.proof.nodes c.isolate_core.result c.isolate_core.ensures.found
+    let proof = c.in-Infeasible.proof in
+    which_is_set oracle.answers (λ model s. Late model (used_members set proof.nodes)) before.model set c.in_ok-verdict.verdict proof c.in-Infeasible.is
+    (g.met.O.Oracle.holds before.model before.budgets set c.in_ok-verdict.verdict c.in_ok-verdict.ensures.answered) (oracle.state c.ask.new.self) proof.nodes c.isolate_core.result c.isolate_core.ensures.found
+
+pub returns-in-Infeasible-clause-stop : goal.returns-in-Infeasible-clause-stop
+returns-in-Infeasible-clause-stop g c =
+    let oracle = g.O.Oracle in
+    let before = oracle.state c.args.oracle.now in
+    let now = oracle.state c.ask.new.self in
+    let after = oracle.state c.isolate_core.new.oracle in
+    let first = after.tale.first_core in
+    let set = c.args.set.now.members in
+    let verdict = c.in_ok-verdict.verdict in
+    let proof = c.in-Infeasible.proof in
+    let asked = c.in_ok-verdict.ensures.told in
+    let told = c.isolate_core.ensures.left.first_core (core_of set proof.nodes) (core_told oracle.answers before now set verdict proof asked c.in-Infeasible.is c.requires.fresh) in
+    let core = told_core oracle.answers before now set verdict proof asked c.in-Infeasible.is first c.in_ok-verdict.ensures.answered told in
+    stopped_in_core oracle.answers before now after first set (used_members set proof.nodes) verdict asked core c.isolate_core.result c.isolate_core.ensures.stop

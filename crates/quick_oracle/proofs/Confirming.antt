@@ -1,0 +1,37 @@
+-- What a check that says yes confirms.
+use Rattle.std.proofs.Common.{◌≡◌, ◌<◌, sym, subst, List, [], ◌∷◌, length}
+use Rattle.std.proofs.lemmas.List.Elements.{All-cons, All-nil}
+use Rattle.frac128.specs.Limit.{limit}
+use Rattle.lp_model.specs.declared.members.Member.{Member}
+use Rattle.lp_model.specs.Program.{Program, IsWellFormed}
+use Rattle.lp_model.specs.Satisfaction.{values_at}
+use Rattle.certs.specs.declared.evidence.Branch.{Branch}
+use Rattle.certs.specs.declared.evidence.Checked.TheVariants.{Yes}
+use Rattle.certs.specs.declared.evidence.Combo.{Combo}
+use Rattle.certs.specs.declared.evidence.Node.TheVariants.{Leaf}
+use Rattle.certs.specs.declared.evidence.Point.{Point}
+use Rattle.certs.specs.declared.evidence.Proof.{Proof}
+use Rattle.certs.specs.declared.evidence.Share.{Share}
+use Rattle.certs.specs.declared.solving.Verdict.TheVariants.{Infeasible}
+use Rattle.certs.specs.Checks.{outcome, point_steps, combination_steps}
+use Rattle.certs.specs.Combination.{IsCombination}
+use Rattle.certs.specs.Order.{AreLeavesInOrder, AreSharesInOrder, IsNodeInOrder}
+use Rattle.certs.specs.Proof.{Tip}
+use Rattle.certs.specs.Tales.{IsPointOf}
+use Rattle.certs.proofs.Passed.{point_check_law, combination_check_law}
+use Rattle.quick_oracle.specs.Answers.{IsConfirmed}
+
+-- a point
+pub point_confirmed : (model : Program) (set : List Member) (point : Point) → length point.values ≡ length model.columns → Yes ≡ outcome (point_steps model set (values_at point.values)) → IsPointOf model set point
+point_confirmed model set point each said = record { each_column = each; satisfies = point_check_law limit model set (values_at point.values) (sym said) }
+
+-- a combination
+pub combo_confirmed : (model : Program) (set : List Member) (shares : List Share) → IsWellFormed model → Yes ≡ outcome (combination_steps model set [] shares) → IsCombination model set [] shares
+combo_confirmed model set shares formed said = combination_check_law limit model set [] shares formed (All-nil (λ (b : Branch). b.column < length model.columns)) (sym said)
+
+-- and the proof of one leaf that it is
+pub leaf_confirmed : (model : Program) (set : List Member) (combo : Combo) (proof : Proof) → IsCombination model set [] combo.shares → AreSharesInOrder combo.shares → proof.nodes ≡ Leaf combo ∷ [] → IsConfirmed model set (Infeasible proof)
+leaf_confirmed model set combo proof combination ordered is = (
+  record { tree = Tip combo.shares; listed = sym is; proves = combination },
+  subst AreLeavesInOrder (sym is) (All-cons IsNodeInOrder (Leaf combo) [] ordered (All-nil IsNodeInOrder)),
+)

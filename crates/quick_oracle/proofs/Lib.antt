@@ -1,0 +1,4 @@
+pub mod Confirming
+pub mod Numbers
+pub mod Marks
+pub mod Answering

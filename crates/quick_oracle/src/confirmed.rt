@@ -1,0 +1,85 @@
+//! Points and combinations that are confirmed by their checks, and copies of them.
+ghost use Rattle.std.specs.Prelude.{◌≡◌, ◌∷◌, [], IfOk, IfSome, List, length, true};
+ghost use Rattle.lp_model.specs.declared.members.Member.{Member as OneMember};
+ghost use Rattle.lp_model.specs.Program.{Program};
+ghost use Rattle.certs.specs.Checks.{IsSetOf};
+ghost use Rattle.certs.specs.Combination.{IsCombination};
+ghost use Rattle.certs.specs.Order.{AreSharesInOrder};
+ghost use Rattle.certs.specs.Tales.{IsPointOf};
+ghost use Rattle.quick_oracle.specs.Answers.{IsConfirmed};
+
+use certs::{
+    Checked, Combo, MemberSet, Node, Nodes, Point, Proof, Shares, Values, Verdict, check_combo,
+    check_point,
+};
+use frac128::Frac;
+use lp_model::Model;
+use std::alloc::{AllocError, Global};
+
+/// Whether the check of a point says that it satisfies the set.
+pub(crate) fn is_point(model: &Model, set: &MemberSet, point: &Point) -> bool
+    requires { length point.now.values ≡ length model.now.columns }
+    ensures { result ≡ true → IsPointOf model.now set.now.members point.now }
+{
+    is_yes(check_point(model, set, point))
+}
+
+/// Whether the check of a combination says that no point satisfies the set. Where memory is refused, it does not.
+pub(crate) fn is_combo(alloc: Global, model: &Model, set: &MemberSet, combo: &Combo) -> bool
+    requires { IsSetOf model.now set.now }
+    ensures { result ≡ true → IsCombination model.now set.now.members [] combo.now.shares }
+{
+    // That the program is well formed is told with its count of rows.
+    let _rows = model.row_count();
+    let Ok(mut sums) = vec![in alloc; Frac::whole(0); model.column_count() as usize] else {
+        return false;
+    };
+    is_yes(check_combo(model, set, &[], combo, sums.as_mut_slice()))
+}
+
+// Whether a check says yes.
+fn is_yes(checked: Checked) -> bool
+    ensures { result ≡ true → checked ≡ Checked.Yes }
+{
+    matches!(checked, Checked::Yes)
+}
+
+/// The verdict of the proof whose one node is a leaf with this combination, where memory allows.
+pub(crate) fn leaf_verdict(alloc: Global, combo: Combo) -> Option<Verdict>
+    ensures { (model : Program) (set : List OneMember) → IsCombination model set [] combo.shares
+        → AreSharesInOrder combo.shares → IfSome result (IsConfirmed model set) }
+{
+    let Ok(proof) = leaf_proof(alloc, combo) else {
+        return None;
+    };
+    Some(Verdict::Infeasible(proof))
+}
+
+// The proof whose one node is a leaf.
+fn leaf_proof(alloc: Global, combo: Combo) -> Result<Proof, AllocError>
+    ensures { IfOk result (λ proof. proof.nodes ≡ Node.Leaf combo ∷ []) }
+{
+    let mut nodes = Vec::new(alloc);
+    nodes.push(Node::Leaf(combo))?;
+    Ok(Proof {
+        nodes: Nodes::new(nodes),
+    })
+}
+
+/// The same point once more.
+pub(crate) fn copied_point(alloc: Global, point: &Point) -> Result<Point, AllocError>
+    ensures { IfOk result (λ copy. copy ≡ point.now) }
+{
+    Ok(Point {
+        values: Values::new(Vec::from_slice(alloc, point.values.as_slice())?),
+    })
+}
+
+/// The same combination once more.
+pub(crate) fn copied_combo(alloc: Global, combo: &Combo) -> Result<Combo, AllocError>
+    ensures { IfOk result (λ copy. copy ≡ combo.now) }
+{
+    Ok(Combo {
+        shares: Shares::new(Vec::from_slice(alloc, combo.shares.as_slice())?),
+    })
+}

@@ -1,0 +1,156 @@
+//! The oracle.
+ghost use Rattle.std.specs.Prelude.{◌≡◌, ◌+◌, ◌≤◌, true, IfOk};
+ghost use Rattle.certs.specs.Checks.{IsSetOf};
+ghost use Rattle.certs.specs.Tales.{asked_after, no_tale};
+ghost use Rattle.quick_oracle.specs.Alone.{stands_alone};
+ghost use Rattle.quick_oracle.specs.Answers.{Came, IsAsked, IsQuickAnswer, quick_holds, quick_ordered, quick_within};
+ghost use Rattle.quick_oracle.specs.Value.{QuickValue, state_with};
+
+use crate::kept::Kept;
+use certs::{MemberSet, Oracle, Stop, Tale, Verdict};
+use lp_model::Model;
+use std::alloc::Global;
+
+/// An oracle that answers by quick runs where their answers are confirmed, and else by the inner oracle.
+#[derive(Drop)]
+pub struct QuickOracle<'a, O: Oracle> {
+    model: &'a Model,
+    kept: Kept,
+    inner: O,
+    pivots: u64,
+    tale: Tale,
+}
+
+impl<'a, O: Oracle> std::marker::Model for QuickOracle<'a, O> {
+    ghost use Rattle.std.specs.Prelude.{◌≡◌};
+    ghost use Rattle.quick_oracle.specs.Value.{QuickValue};
+
+    ghost Value = { QuickValue O };
+
+    ghost view = { λ o. record { inner = o.inner; pivots = o.pivots; made = o.kept; tale = o.tale } };
+
+    ghost invariant = { λ o. (O.state o.inner).model ≡ o.model.now };
+}
+
+impl<'a, O: Oracle> QuickOracle<'a, O> {
+    /// An oracle for a program, with what was kept of it, that makes quick runs of so many pivots an ask. It was asked
+    /// nothing yet.
+    pub fn new(
+        alloc: Global,
+        model: &'a Model,
+        kept: Kept,
+        inner: O,
+        pivots: u64,
+    ) -> QuickOracle<'a, O>
+        requires { (O.state inner).model ≡ model.now }
+        ensures { result ≡ record { inner = inner; pivots = pivots; made = kept; tale = no_tale } }
+    {
+        QuickOracle {
+            model,
+            kept,
+            inner,
+            pivots,
+            tale: Tale::new(alloc),
+        }
+    }
+
+    /// The inner oracle.
+    pub fn inner(&self) -> &O
+        ensures { result.now ≡ self.now.inner }
+    {
+        &self.inner
+    }
+
+    /// What it tells of its calls.
+    pub fn tale(&self) -> &Tale
+        ensures { result.now ≡ self.now.tale }
+    {
+        &self.tale
+    }
+
+    /// How many pivots the quick runs made so far, for measurements; it stays at its greatest value once there.
+    pub fn pivots_made(&self) -> u64
+        ensures { result ≡ self.now.made }
+    {
+        self.kept.pivots_made()
+    }
+}
+
+impl<'a, O: Oracle + Drop> QuickOracle<'a, O> {
+    /// What is kept of the program, for the next oracle.
+    pub fn into_kept(self) -> Kept
+        ensures { result ≡ self.entry.made }
+    {
+        self.kept
+    }
+}
+
+impl<O: Oracle> Oracle for QuickOracle<'_, O> {
+    ghost state = { λ o. state_with (O.state o.inner) o.tale };
+
+    ghost answers = { λ model budgets set result. IsQuickAnswer O.answers model budgets set result };
+
+    ghost holds = { λ model budgets set verdict h. quick_holds O.answers model budgets set verdict (λ k. O.holds model budgets set verdict k) h };
+
+    ghost ordered = { λ model budgets set proof h. quick_ordered O.answers model budgets set proof (λ k. O.ordered model budgets set proof k) h };
+
+    ghost within = { λ model budgets set stop h. quick_within O.answers model budgets set stop (λ k. O.within model budgets set stop k) h };
+
+    ghost parts = { λ oracle set part of h. O.parts oracle.inner set part of h };
+
+    fn ask(&mut self, alloc: Global, set: &MemberSet) -> Result<Verdict, Stop>
+        requires same { IsSetOf (O.state self.old.inner).model set.now }
+        requires served { (O.state self.old.inner).serves set.now.members ≡ true }
+        ensures answered { IsQuickAnswer O.answers (O.state self.old.inner).model
+            (O.state self.old.inner).budgets set.now.members result }
+        ensures told { state_with (O.state self.new.inner) self.new.tale
+            ≡ asked_after (state_with (O.state self.old.inner) self.old.tale) set.now.members result }
+        // A confirmed verdict comes without an ask of the inner oracle; all else is what it answers to this one.
+        ensures came { Came O.answers (O.state self.old.inner) (O.state self.new.inner)
+            set.now.members result }
+        // Where the set is small, where limits cross, and where it has a mark, the inner oracle is asked.
+        ensures alone { stands_alone (O.state self.old.inner).model set.now.members ≡ true
+            → IsAsked O.answers (O.state self.old.inner) (O.state self.new.inner)
+            set.now.members result }
+        // So many pivots are left to the quick runs of one ask.
+        ensures spent { self.new.made ≤ self.old.made + self.old.pivots }
+        ensures budget { self.new.pivots ≡ self.old.pivots }
+    {
+        set.stands_in_order();
+        let is_first = self.tale.asks() == 0;
+        let answer = answered(
+            alloc,
+            self.model,
+            &mut self.kept,
+            &mut self.inner,
+            set,
+            self.pivots,
+            is_first,
+        );
+        self.tale.tell(alloc, set, answer)
+    }
+}
+
+// A confirmed verdict by a quick run, or else what the inner oracle answers.
+fn answered<O: Oracle>(
+    alloc: Global,
+    model: &Model,
+    kept: &mut Kept,
+    inner: &mut O,
+    set: &MemberSet,
+    pivots: u64,
+    is_first: bool,
+) -> Result<Verdict, Stop>
+    requires same { IsSetOf model.now set.now }
+    requires program { (O.state inner.old).model ≡ model.now }
+    requires served { (O.state inner.old).serves set.now.members ≡ true }
+    ensures came { Came O.answers (O.state inner.old) (O.state inner.new) set.now.members result }
+    ensures alone { stands_alone model.now set.now.members ≡ true
+        → IsAsked O.answers (O.state inner.old) (O.state inner.new) set.now.members result }
+    ensures spent { kept.new ≤ kept.old + pivots }
+{
+    if let Some(verdict) = kept.verdict(alloc, model, set, pivots, is_first) {
+        return Ok(verdict);
+    }
+    inner.ask(alloc, set)
+}

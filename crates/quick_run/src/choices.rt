@@ -1,0 +1,143 @@
+//! Which variable leaves the basis, and which one enters.
+use crate::limits::{limit_on, opposite};
+use crate::rows::{Entry, TableRow};
+use crate::tables::{Table, step_to};
+use certs::Side;
+use frac128::Frac;
+use std::alloc::Global;
+
+// How many entering variables are looked at.
+const CANDIDATES: usize = 8;
+
+/// The rule of a turn.
+#[derive(Clone, Copy, PartialEq, Eq)]
+pub(crate) enum Rule {
+    /// The shortest row leaves.
+    Shortest,
+    /// The least variable leaves.
+    Least,
+    /// The least variable leaves, and the least one that helps enters.
+    Bland,
+}
+
+/// A pivot: the row that leaves, the variable that enters, and the step that it makes.
+#[derive(Clone, Copy)]
+pub(crate) struct Pivot {
+    pub place: usize,
+    pub variable: u32,
+    pub step: Frac,
+}
+
+/// The place of the row whose variable leaves: one that misses a limit, by the rule; none where no variable does.
+pub(crate) fn leaving(table: &Table, rule: Rule) -> Option<usize> {
+    let mut best: Option<(usize, u32, usize)> = None;
+    for (place, row) in table.rows.iter().enumerate() {
+        if !misses(table, row) {
+            continue;
+        }
+        let length = match rule {
+            Rule::Shortest => row.entries.len(),
+            Rule::Least | Rule::Bland => 0,
+        };
+        let key = (length, row.base, place);
+        if best.is_none_or(|least| key < least) {
+            best = Some(key);
+        }
+    }
+    best.map(|least| least.2)
+}
+
+// Whether the basic variable of a row misses a limit.
+fn misses(table: &Table, row: &TableRow) -> bool {
+    table
+        .variable(row.base)
+        .is_some_and(|known| known.missed.is_some())
+}
+
+/// The side of its limit in whose direction a variable counts for the basic variable of a row that misses a side.
+pub(crate) fn side_of(entry: Entry, missed: Side) -> Side {
+    if entry.factor > 0 {
+        opposite(missed)
+    } else {
+        missed
+    }
+}
+
+/// The variables that can move so that the basic variable of a row comes nearer to a limit on the side that it misses: at
+/// most so many, those that count in the fewest rows first. By Bland's rule the least one alone.
+pub(crate) fn helping(
+    alloc: Global,
+    table: &Table,
+    row: &TableRow,
+    side: Side,
+    rule: Rule,
+) -> Option<Vec<(u32, u32)>> {
+    let mut best = Vec::new(alloc);
+    for entry in row.entries.iter() {
+        let known = table.variable(entry.variable)?;
+        let limit = limit_on(known.limits, side_of(*entry, side));
+        if limit.is_some_and(|limit| limit == known.value) {
+            continue;
+        }
+        keep(&mut best, (known.count, entry.variable))?;
+        if rule == Rule::Bland {
+            break;
+        }
+    }
+    Some(best)
+}
+
+// Keeps a candidate among the first ones.
+fn keep(best: &mut Vec<(u32, u32)>, candidate: (u32, u32)) -> Option<()> {
+    if best.len() >= CANDIDATES && best.last().is_some_and(|last| *last < candidate) {
+        return Some(());
+    }
+    best.push(candidate).ok()?;
+    best.sort().ok()?;
+    best.truncate(CANDIDATES);
+    Some(())
+}
+
+/// The pivot of a row with one of these variables: the one after whose step the fewest variables miss a limit, the first of
+/// these. None where each step is too wide.
+pub(crate) fn entering(
+    table: &Table,
+    place: usize,
+    side: Side,
+    candidates: &[(u32, u32)],
+) -> Option<Pivot> {
+    let row = table.rows.get(place)?;
+    let mut best = None;
+    let mut least = u32::MAX;
+    for candidate in candidates {
+        let variable = candidate.1;
+        let Some((step, missed)) = after(table, row, side, variable, least) else {
+            continue;
+        };
+        if missed < least {
+            least = missed;
+            best = Some(Pivot {
+                place,
+                variable,
+                step,
+            });
+        }
+        if least == 0 {
+            break;
+        }
+    }
+    best
+}
+
+// The step of a variable that brings the basic one of a row to its limit, and how many then miss a limit.
+fn after(
+    table: &Table,
+    row: &TableRow,
+    side: Side,
+    variable: u32,
+    most: u32,
+) -> Option<(Frac, u32)> {
+    let factor = row.factor_of(variable)?;
+    let step = step_to(table, row, Entry { variable, factor }, side)?;
+    Some((step, table.missed_after(variable, step, most)?))
+}

@@ -1,0 +1,17 @@
+//! Suggestions of points and of combinations, by runs on a table that is kept from ask to ask.
+#![tactic(auto)]
+
+mod arithmetic;
+mod choices;
+mod combinations;
+mod limits;
+mod pivots;
+mod points;
+mod rows;
+mod runs;
+mod starts;
+mod suggestions;
+mod tables;
+
+pub use runs::QuickRun;
+pub use suggestions::Suggestion;

@@ -1,0 +1,63 @@
+//! The limits of the variables, as a set of members gives them.
+ghost use Rattle.std.specs.Prelude.{◌≡◌};
+ghost use Rattle.certs.specs.Checks.{IsSetOf};
+ghost use Rattle.lp_model.specs.MemberSets.{IsPossibleIn};
+
+use certs::Limits;
+use frac128::Frac;
+use lp_model::{Member, MemberSet, Model, Side};
+use std::alloc::Global;
+
+/// The limits of the columns and then of the rows: the bounds and sides that the set has.
+pub(crate) fn limits_of(alloc: Global, model: &Model, set: &MemberSet) -> Option<Vec<Limits>>
+    requires same { IsSetOf model.now set.now }
+{
+    let mut limits = Vec::new(alloc);
+    for index in 0..model.column_count() {
+        let column = model.column(index);
+        let lo = kept(set, Member::Lower(index), column.lo);
+        let up = kept(set, Member::Upper(index), column.up);
+        limits.push(Limits { lo, up }).ok()?;
+    }
+    for index in 0..model.row_count() {
+        let row = model.row(index);
+        let lo = kept(set, Member::RowLo(index), row.lo);
+        let up = kept(set, Member::RowUp(index), row.up);
+        limits.push(Limits { lo, up }).ok()?;
+    }
+    Some(limits)
+}
+
+// The number of a member, where the set has the member.
+fn kept(set: &MemberSet, member: Member, number: Option<Frac>) -> Option<Frac>
+    requires { IsPossibleIn set.now member }
+{
+    if set.contains(member) { number } else { None }
+}
+
+/// The limit on a side.
+pub(crate) fn limit_on(limits: Limits, side: Side) -> Option<Frac> {
+    match side {
+        Side::Lo => limits.lo,
+        Side::Up => limits.up,
+    }
+}
+
+/// The other side.
+pub(crate) fn opposite(side: Side) -> Side {
+    match side {
+        Side::Lo => Side::Up,
+        Side::Up => Side::Lo,
+    }
+}
+
+/// The side whose limit a value misses, where it misses one.
+pub(crate) fn missed(limits: Limits, value: Frac) -> Option<Side> {
+    if limits.lo.is_some_and(|lo| value < lo) {
+        return Some(Side::Lo);
+    }
+    if limits.up.is_some_and(|up| value > up) {
+        return Some(Side::Up);
+    }
+    None
+}

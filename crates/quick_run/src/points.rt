@@ -1,0 +1,87 @@
+//! Points that the table shows.
+ghost use Rattle.std.specs.Prelude.{◌≡◌, IfSome, length};
+
+use crate::arithmetic::moved;
+use crate::choices::side_of;
+use crate::limits::limit_on;
+use crate::rows::{Entry, TableRow};
+use crate::tables::{Blocked, Table, step_to};
+use certs::{Point, Values};
+use frac128::Frac;
+use lp_model::Model;
+use std::alloc::Global;
+
+/// A nonbasic variable that moves by a step.
+#[derive(Clone, Copy)]
+pub(crate) struct Step {
+    pub variable: u32,
+    pub step: Frac,
+}
+
+/// The values of the columns, after a step where there is one.
+pub(crate) fn point(
+    alloc: Global,
+    model: &Model,
+    table: &Table,
+    step: Option<Step>,
+) -> Option<Point>
+    ensures { IfSome result (λ point. length point.values ≡ length model.now.columns) }
+{
+    let mut values = Vec::new(alloc);
+    for column in 0..model.column_count() {
+        values.push(value_after(table, column, step)?).ok()?;
+    }
+    Some(Point {
+        values: Values::new(values),
+    })
+}
+
+// The value of a variable, after a step where there is one.
+fn value_after(table: &Table, variable: u32, step: Option<Step>) -> Option<Frac> {
+    let known = table.variable(variable)?;
+    let Some(step) = step else {
+        return Some(known.value);
+    };
+    if variable == step.variable {
+        return known.value.plus(step.step).ok();
+    }
+    let Some(place) = known.row else {
+        return Some(known.value);
+    };
+    let row = table.rows.get(place)?;
+    match row.factor_of(step.variable) {
+        Some(factor) => moved(known.value, factor, row.scale, step.step),
+        None => Some(known.value),
+    }
+}
+
+/// The step after which no variable misses a limit, where just one of the limits is gone with which the blocked row was one:
+/// its variable then moves until the basic one of that row stands at its limit. The table stays as it is.
+pub(crate) fn read_off(table: &Table) -> Option<Step> {
+    let blocked = table.blocked?;
+    let row = table.rows.get(blocked.place)?;
+    let entry = freed(table, row, blocked)?;
+    let step = step_to(table, row, entry, blocked.side)?;
+    if table.missed_after(entry.variable, step, 0)? > 0 {
+        return None;
+    }
+    Some(Step {
+        variable: entry.variable,
+        step,
+    })
+}
+
+// The one entry of a blocked row whose limit is gone; none where it is not just one.
+fn freed(table: &Table, row: &TableRow, blocked: Blocked) -> Option<Entry> {
+    let mut freed = None;
+    for entry in row.entries.iter() {
+        let known = table.variable(entry.variable)?;
+        if limit_on(known.limits, side_of(*entry, blocked.side)).is_none() {
+            if freed.is_some() {
+                return None;
+            }
+            freed = Some(*entry);
+        }
+    }
+    freed
+}

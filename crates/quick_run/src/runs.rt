@@ -1,0 +1,151 @@
+//! Runs on a table that is kept.
+ghost use Rattle.std.specs.Prelude.{◌≡◌, ◌+◌, ◌≤◌, IfSome};
+ghost use Rattle.certs.specs.Checks.{IsSetOf};
+ghost use Rattle.quick_run.specs.Shape.{IsSuggestion};
+
+use crate::combinations::combo;
+use crate::limits::limits_of;
+use crate::pivots::{Turn, choose, make_pivot, most_pivots};
+use crate::points::{point, read_off};
+use crate::starts::start;
+use crate::suggestions::Suggestion;
+use crate::tables::Table;
+use certs::MemberSet;
+use lp_model::Model;
+use std::alloc::Global;
+
+/// Runs on one program, with the table that is kept from one to the next. Contracts see how many pivots were made so far.
+#[derive(Drop)]
+pub struct QuickRun {
+    table: Option<Table>,
+    was_kept: bool,
+    made: u64,
+}
+
+impl std::marker::Model for QuickRun {
+    ghost use Rattle.std.specs.Prelude.{ℕ};
+
+    ghost Value = { ℕ };
+
+    ghost view = { λ r. r.made };
+}
+
+// The end of a run: no variable misses a limit, or a row is blocked.
+#[derive(Clone, Copy)]
+enum End {
+    Settled,
+    Blocked,
+}
+
+impl QuickRun {
+    /// Nothing was run yet.
+    pub fn new() -> QuickRun
+        ensures { result ≡ 0 }
+    {
+        QuickRun {
+            table: None,
+            was_kept: false,
+            made: 0,
+        }
+    }
+
+    /// How many pivots were made so far; it stays at its greatest value once there.
+    pub fn pivots_made(&self) -> u64
+        ensures { result ≡ self.now }
+    {
+        self.made
+    }
+
+    /// A point or a combination that may show whether the set's members, marks left out, can be satisfied, found with at
+    /// most so many pivots; none where a number does not fit, too many pivots or entries are wanted, or memory is refused.
+    /// Nothing is promised of it but its shape, so what it shows is to be checked: a point with a value for each column, or
+    /// shares of members of the set in order, with weights above 0.
+    ///
+    /// The run is the general simplex (Dutertre and de Moura, *A fast linear-arithmetic solver for DPLL(T)*, 2006) in whole
+    /// numbers, over all rows of the program. It begins at the table at which the last run on the same program ended, with
+    /// the limits of this set; where the last ask ended infeasible and one of its limits is gone, the point is first looked
+    /// for by moving that variable alone. Of the variables that miss a limit the one with the shortest row leaves, after as
+    /// many pivots as there are rows the least one, and after twenty times as many the least one also enters (Bland, *New
+    /// finite pivoting rules for the simplex method*, 1977). Where none is returned the table is thrown away.
+    pub fn suggest(
+        &mut self,
+        alloc: Global,
+        model: &Model,
+        set: &MemberSet,
+        pivots: u64,
+    ) -> Option<Suggestion>
+        requires same { IsSetOf model.now set.now }
+        ensures shape { IfSome result (IsSuggestion model.now set.now.members) }
+        ensures spent { self.new ≤ self.old + pivots }
+    {
+        let kept = self.table.take();
+        self.was_kept = kept.is_some();
+        let limits = limits_of(alloc, model, set)?;
+        let mut table = match kept {
+            Some(table) => table,
+            None => start(alloc, model, limits.as_slice())?,
+        };
+        table.limit(limits.as_slice())?;
+        let suggestion = found(alloc, model, set, &mut table, pivots, &mut self.made)?;
+        self.table = Some(table);
+        Some(suggestion)
+    }
+
+    /// Throws the table away. True where the last suggestion was made on a table that had been kept: then one on a table
+    /// built anew may be another.
+    pub fn restart(&mut self) -> bool
+        ensures { self.new ≡ self.old }
+    {
+        self.table = None;
+        std::mem::replace(&mut self.was_kept, false)
+    }
+}
+
+// What the table shows under its limits: without a pivot where that can be read off, and else at the end of a run.
+fn found(
+    alloc: Global,
+    model: &Model,
+    set: &MemberSet,
+    table: &mut Table,
+    pivots: u64,
+    made: &mut u64,
+) -> Option<Suggestion>
+    ensures shape { IfSome result (IsSuggestion model.now set.now.members) }
+    ensures spent { made.new ≤ made.old + pivots }
+{
+    if let Some(step) = read_off(table) {
+        return Some(Suggestion::Point(point(alloc, model, table, Some(step))?));
+    }
+    match settle(alloc, table, pivots.min(most_pivots(table)), made)? {
+        End::Settled => Some(Suggestion::Point(point(alloc, model, table, None)?)),
+        End::Blocked => {
+            let blocked = table.blocked?;
+            Some(Suggestion::Combo(combo(alloc, table, model.column_count(), set, blocked)?))
+        }
+    }
+}
+
+// Makes turns until an end, with at most so many pivots; none where they are spent, or one is too wide.
+fn settle(alloc: Global, table: &mut Table, most: u64, made: &mut u64) -> Option<End>
+    ensures { made.new ≤ made.old + most }
+{
+    for turn in 0..most {
+        match choose(alloc, table, turn)? {
+            Turn::Pivot(chosen) => make_pivot(alloc, table, chosen)?,
+            Turn::Settled => return Some(End::Settled),
+            Turn::Blocked(blocked) => {
+                table.blocked = Some(blocked);
+                return Some(End::Blocked);
+            }
+        }
+        *made = made.saturating_add(1);
+    }
+    match choose(alloc, table, most)? {
+        Turn::Pivot(_) => None,
+        Turn::Settled => Some(End::Settled),
+        Turn::Blocked(blocked) => {
+            table.blocked = Some(blocked);
+            Some(End::Blocked)
+        }
+    }
+}
