@@ -1,0 +1,1000 @@
+// The asks of the deletion filter by quick runs alone, in plain Rust by the algorithm of the crates quick_run, quick_oracle, certs
+// and deletion_filter, part by part: what `bench/quick.sh` holds beside the proved program. It reads a model in plain lines
+// (`bench/forms.sh`), and ends with status 1 where the reference run would be asked.
+use std::mem;
+use std::{env, fs, process};
+
+mod frac;
+use frac::Frac;
+
+// ---- the program and its members
+
+#[derive(Clone, Copy, PartialEq, Eq)]
+enum Side {
+    Lo,
+    Up,
+}
+
+#[derive(Clone, Copy)]
+struct Limits {
+    lo: Option<Frac>,
+    up: Option<Frac>,
+}
+
+struct Term {
+    column: u32,
+    factor: Frac,
+}
+
+struct Row {
+    terms: Vec<Term>,
+    limits: Limits,
+}
+
+struct Model {
+    columns: Vec<Limits>,
+    rows: Vec<Row>,
+}
+
+#[derive(Clone, Copy)]
+enum Member {
+    RowLo(u32),
+    RowUp(u32),
+    Lower(u32),
+    Upper(u32),
+}
+
+impl Member {
+    fn side(self) -> Side {
+        match self {
+            Member::RowLo(_) | Member::Lower(_) => Side::Lo,
+            Member::RowUp(_) | Member::Upper(_) => Side::Up,
+        }
+    }
+}
+
+impl Model {
+    fn number(&self, member: Member) -> Option<Frac> {
+        match member {
+            Member::RowLo(row) => self.rows[row as usize].limits.lo,
+            Member::RowUp(row) => self.rows[row as usize].limits.up,
+            Member::Lower(column) => self.columns[column as usize].lo,
+            Member::Upper(column) => self.columns[column as usize].up,
+        }
+    }
+}
+
+// Members by their places: the sides of rows, row by row, then lower and then upper bounds.
+struct MemberSet {
+    rows: usize,
+    columns: usize,
+    marks: Vec<bool>,
+}
+
+impl MemberSet {
+    fn all(model: &Model) -> MemberSet {
+        let (rows, columns) = (model.rows.len(), model.columns.len());
+        let mut set = MemberSet { rows, columns, marks: vec![false; 2 * rows + 2 * columns] };
+        for place in 0..set.marks.len() {
+            set.marks[place] = model.number(set.member(place)).is_some();
+        }
+        set
+    }
+
+    fn emptied(&self) -> MemberSet {
+        MemberSet { marks: vec![false; self.marks.len()], ..*self }
+    }
+
+    fn place(&self, member: Member) -> usize {
+        match member {
+            Member::RowLo(row) => 2 * row as usize,
+            Member::RowUp(row) => 2 * row as usize + 1,
+            Member::Lower(column) => 2 * self.rows + column as usize,
+            Member::Upper(column) => 2 * self.rows + self.columns + column as usize,
+        }
+    }
+
+    fn member(&self, place: usize) -> Member {
+        let lowers = 2 * self.rows;
+        if place < lowers && place % 2 == 0 {
+            Member::RowLo((place / 2) as u32)
+        } else if place < lowers {
+            Member::RowUp((place / 2) as u32)
+        } else if place < lowers + self.columns {
+            Member::Lower((place - lowers) as u32)
+        } else {
+            Member::Upper((place - lowers - self.columns) as u32)
+        }
+    }
+
+    fn contains(&self, member: Member) -> bool {
+        self.marks[self.place(member)]
+    }
+
+    fn put(&mut self, member: Member, is_in: bool) {
+        let place = self.place(member);
+        self.marks[place] = is_in;
+    }
+
+    fn iter(&self) -> impl Iterator<Item = Member> + '_ {
+        (0..self.marks.len()).filter(|place| self.marks[*place]).map(|place| self.member(place))
+    }
+
+    fn count(&self) -> usize {
+        self.marks.iter().filter(|mark| **mark).count()
+    }
+}
+
+// ---- checks
+
+#[derive(Clone)]
+struct Share {
+    member: Member,
+    weight: Frac,
+}
+
+enum Suggestion {
+    Point(Vec<Frac>),
+    Combo(Vec<Share>),
+}
+
+fn row_sum(row: &Row, values: &[Frac]) -> Option<Frac> {
+    let mut sum = Frac::whole(0);
+    for term in &row.terms {
+        sum = sum.plus(term.factor.times(values[term.column as usize])?)?;
+    }
+    Some(sum)
+}
+
+fn holds(model: &Model, member: Member, values: &[Frac]) -> Option<bool> {
+    let value = match member {
+        Member::RowLo(row) | Member::RowUp(row) => row_sum(&model.rows[row as usize], values)?,
+        Member::Lower(column) | Member::Upper(column) => values[column as usize],
+    };
+    Some(match (model.number(member), member.side()) {
+        (None, _) => true,
+        (Some(least), Side::Lo) => least <= value,
+        (Some(greatest), Side::Up) => value <= greatest,
+    })
+}
+
+fn is_point(model: &Model, set: &MemberSet, values: &[Frac]) -> bool {
+    set.iter().all(|member| holds(model, member, values) == Some(true))
+}
+
+fn is_combo(model: &Model, set: &MemberSet, shares: &[Share]) -> bool {
+    combines(model, set, shares) == Some(true)
+}
+
+fn combines(model: &Model, set: &MemberSet, shares: &[Share]) -> Option<bool> {
+    let zero = Frac::whole(0);
+    let mut sums = vec![zero; model.columns.len()];
+    for share in shares {
+        if share.weight <= zero || !set.contains(share.member) || model.number(share.member).is_none() {
+            return Some(false);
+        }
+    }
+    for share in shares {
+        match share.member {
+            Member::RowLo(row) | Member::RowUp(row) => {
+                for term in &model.rows[row as usize].terms {
+                    add(&mut sums[term.column as usize], share, term.factor)?;
+                }
+            }
+            Member::Lower(column) | Member::Upper(column) => add(&mut sums[column as usize], share, Frac::whole(1))?,
+        }
+    }
+    if sums.iter().any(|sum| *sum != zero) {
+        return Some(false);
+    }
+    let mut right = zero;
+    for share in shares {
+        add(&mut right, share, model.number(share.member).unwrap_or(zero))?;
+    }
+    Some(right < zero)
+}
+
+fn add(sum: &mut Frac, share: &Share, number: Frac) -> Option<()> {
+    let product = number.times(share.weight)?;
+    *sum = match share.member.side() {
+        Side::Lo => sum.minus(product)?,
+        Side::Up => sum.plus(product)?,
+    };
+    Some(())
+}
+
+// ---- arithmetic
+
+fn product(first: i128, second: i128) -> Option<i128> {
+    match (i64::try_from(first), i64::try_from(second)) {
+        (Ok(left), Ok(right)) => Some(i128::from(left) * i128::from(right)),
+        _ => first.checked_mul(second),
+    }
+}
+
+fn common_divisor(divisor: i128, number: i128) -> Option<i128> {
+    divisor.checked_div(Frac::new(number, divisor)?.den as i128)
+}
+
+fn moved(value: Frac, factor: i128, scale: i128, step: Frac) -> Option<Frac> {
+    value.plus(Frac::new(factor, scale)?.times(step)?)
+}
+
+// ---- rows of the table
+
+#[derive(Clone, Copy)]
+struct Entry {
+    variable: u32,
+    factor: i128,
+}
+
+struct TableRow {
+    base: u32,
+    scale: i128,
+    entries: Vec<Entry>,
+}
+
+impl TableRow {
+    fn factor_of(&self, variable: u32) -> Option<i128> {
+        let found = self.entries.binary_search_by_key(&variable, |entry| entry.variable);
+        Some(self.entries[found.ok()?].factor)
+    }
+
+    fn solved_for(&self, variable: u32) -> Option<TableRow> {
+        let pivot = self.factor_of(variable)?;
+        let rises = pivot > 0;
+        let mut entries = Vec::with_capacity(self.entries.len());
+        let mut left = Some(Entry { variable: self.base, factor: signed(self.scale, rises)? });
+        for entry in &self.entries {
+            if entry.variable == variable {
+                continue;
+            }
+            left = push_before(&mut entries, left, entry.variable);
+            entries.push(Entry { variable: entry.variable, factor: signed(entry.factor, !rises)? });
+        }
+        push_before(&mut entries, left, u32::MAX);
+        Some(TableRow { base: variable, scale: pivot.checked_abs()?, entries })
+    }
+
+    fn with_row(&self, other: &TableRow, factor: i128) -> Option<TableRow> {
+        let shared = common_divisor(other.scale, factor)?;
+        let times = other.scale.checked_div(shared)?;
+        let other_times = factor.checked_div(shared)?;
+        divided(TableRow {
+            base: self.base,
+            scale: product(times, self.scale)?,
+            entries: self.summed(times, other, other_times)?,
+        })
+    }
+
+    fn summed(&self, times: i128, other: &TableRow, other_times: i128) -> Option<Vec<Entry>> {
+        let mut entries = Vec::with_capacity(self.entries.len() + other.entries.len());
+        let mut rest = other.entries.as_slice();
+        for entry in &self.entries {
+            if entry.variable == other.base {
+                continue;
+            }
+            rest = push_scaled(&mut entries, rest, other_times, entry.variable)?;
+            let mut factor = product(times, entry.factor)?;
+            if let [first, after @ ..] = rest {
+                if first.variable == entry.variable {
+                    factor = factor.checked_add(product(other_times, first.factor)?)?;
+                    rest = after;
+                }
+            }
+            push_entry(&mut entries, entry.variable, factor);
+        }
+        push_scaled(&mut entries, rest, other_times, u32::MAX)?;
+        Some(entries)
+    }
+}
+
+fn signed(number: i128, same: bool) -> Option<i128> {
+    if same { Some(number) } else { number.checked_neg() }
+}
+
+fn push_before(entries: &mut Vec<Entry>, entry: Option<Entry>, variable: u32) -> Option<Entry> {
+    match entry {
+        Some(entry) if entry.variable < variable => {
+            entries.push(entry);
+            None
+        }
+        _ => entry,
+    }
+}
+
+fn push_entry(entries: &mut Vec<Entry>, variable: u32, factor: i128) {
+    if factor != 0 {
+        entries.push(Entry { variable, factor });
+    }
+}
+
+fn push_scaled<'a>(entries: &mut Vec<Entry>, others: &'a [Entry], times: i128, variable: u32) -> Option<&'a [Entry]> {
+    let mut rest = others;
+    while let [first, after @ ..] = rest {
+        if first.variable >= variable {
+            return Some(rest);
+        }
+        push_entry(entries, first.variable, product(times, first.factor)?);
+        rest = after;
+    }
+    Some(rest)
+}
+
+fn divided(mut row: TableRow) -> Option<TableRow> {
+    let mut divisor = row.scale;
+    for entry in &row.entries {
+        if divisor == 1 {
+            return Some(row);
+        }
+        divisor = common_divisor(divisor, entry.factor)?;
+    }
+    row.scale = row.scale.checked_div(divisor)?;
+    for entry in &mut row.entries {
+        entry.factor = entry.factor.checked_div(divisor)?;
+    }
+    Some(row)
+}
+
+// ---- limits
+
+fn limits_of(model: &Model, set: &MemberSet) -> Vec<Limits> {
+    let mut limits = Vec::new();
+    let kept = |member: Member| if set.contains(member) { model.number(member) } else { None };
+    for column in 0..model.columns.len() as u32 {
+        limits.push(Limits { lo: kept(Member::Lower(column)), up: kept(Member::Upper(column)) });
+    }
+    for row in 0..model.rows.len() as u32 {
+        limits.push(Limits { lo: kept(Member::RowLo(row)), up: kept(Member::RowUp(row)) });
+    }
+    limits
+}
+
+fn limit_on(limits: Limits, side: Side) -> Option<Frac> {
+    match side {
+        Side::Lo => limits.lo,
+        Side::Up => limits.up,
+    }
+}
+
+fn opposite(side: Side) -> Side {
+    match side {
+        Side::Lo => Side::Up,
+        Side::Up => Side::Lo,
+    }
+}
+
+fn missed(limits: Limits, value: Frac) -> Option<Side> {
+    if limits.lo.is_some_and(|lo| value < lo) {
+        return Some(Side::Lo);
+    }
+    if limits.up.is_some_and(|up| value > up) {
+        return Some(Side::Up);
+    }
+    None
+}
+
+// ---- the table
+
+#[derive(Clone, Copy)]
+struct Variable {
+    value: Frac,
+    limits: Limits,
+    missed: Option<Side>,
+    row: Option<usize>,
+    count: u32,
+}
+
+#[derive(Clone, Copy)]
+struct Blocked {
+    place: usize,
+    side: Side,
+}
+
+struct Table {
+    variables: Vec<Variable>,
+    rows: Vec<TableRow>,
+    stored: usize,
+    blocked: Option<Blocked>,
+}
+
+impl Table {
+    fn limit(&mut self, limits: &[Limits]) -> Option<()> {
+        for (known, limits) in self.variables.iter_mut().zip(limits) {
+            known.limits = *limits;
+            known.missed = missed(known.limits, known.value);
+        }
+        for variable in 0..self.variables.len() as u32 {
+            self.bring_inside(variable)?;
+        }
+        Some(())
+    }
+
+    fn bring_inside(&mut self, variable: u32) -> Option<()> {
+        let known = self.variables[variable as usize];
+        if known.row.is_some() {
+            return Some(());
+        }
+        let Some(side) = known.missed else {
+            return Some(());
+        };
+        let step = limit_on(known.limits, side)?.minus(known.value)?;
+        self.shift(variable, step)
+    }
+
+    fn shift(&mut self, variable: u32, step: Frac) -> Option<()> {
+        for row in &self.rows {
+            if let Some(factor) = row.factor_of(variable) {
+                let basic = &mut self.variables[row.base as usize];
+                basic.value = moved(basic.value, factor, row.scale, step)?;
+                basic.missed = missed(basic.limits, basic.value);
+            }
+        }
+        let known = &mut self.variables[variable as usize];
+        known.value = known.value.plus(step)?;
+        known.missed = missed(known.limits, known.value);
+        Some(())
+    }
+
+    fn missed_after(&self, variable: u32, step: Frac, most: u32) -> Option<u32> {
+        let known = self.variables[variable as usize];
+        let value = known.value.plus(step)?;
+        let mut count = u32::from(missed(known.limits, value).is_some());
+        for row in &self.rows {
+            if count > most {
+                return Some(count);
+            }
+            if self.is_missed_after(row, variable, step)? {
+                count = count.saturating_add(1);
+            }
+        }
+        Some(count)
+    }
+
+    fn is_missed_after(&self, row: &TableRow, variable: u32, step: Frac) -> Option<bool> {
+        let basic = self.variables[row.base as usize];
+        let Some(factor) = row.factor_of(variable) else {
+            return Some(basic.missed.is_some());
+        };
+        let value = moved(basic.value, factor, row.scale, step)?;
+        Some(missed(basic.limits, value).is_some())
+    }
+
+    fn replace(&mut self, place: usize, row: TableRow) {
+        let old = &mut self.rows[place];
+        for entry in &old.entries {
+            self.variables[entry.variable as usize].count -= 1;
+        }
+        self.stored -= old.entries.len();
+        *old = row;
+        self.count(place);
+    }
+
+    fn count(&mut self, place: usize) {
+        let row = &self.rows[place];
+        for entry in &row.entries {
+            self.variables[entry.variable as usize].count += 1;
+        }
+        self.stored += row.entries.len();
+    }
+}
+
+fn step_to(table: &Table, row: &TableRow, entry: Entry, side: Side) -> Option<Frac> {
+    let basic = table.variables[row.base as usize];
+    let way = limit_on(basic.limits, side)?.minus(basic.value)?;
+    way.times(Frac::new(row.scale, entry.factor)?)
+}
+
+// ---- the start
+
+fn start(model: &Model, limits: &[Limits]) -> Option<Table> {
+    let mut table = Table { variables: Vec::new(), rows: Vec::new(), stored: 0, blocked: None };
+    for limits in limits {
+        table.variables.push(at_start(*limits));
+    }
+    for (index, row) in model.rows.iter().enumerate() {
+        put_row(&mut table, (model.columns.len() + index) as u32, &row.terms)?;
+    }
+    Some(table)
+}
+
+fn at_start(limits: Limits) -> Variable {
+    let value = limits.lo.or(limits.up).unwrap_or(Frac::whole(0));
+    Variable { value, limits, missed: missed(limits, value), row: None, count: 0 }
+}
+
+fn put_row(table: &mut Table, base: u32, terms: &[Term]) -> Option<()> {
+    let value = sum(table, terms)?;
+    let place = table.rows.len();
+    let known = &mut table.variables[base as usize];
+    known.value = value;
+    known.missed = missed(known.limits, value);
+    known.row = Some(place);
+    table.rows.push(whole_row(base, terms)?);
+    table.count(place);
+    Some(())
+}
+
+fn sum(table: &Table, terms: &[Term]) -> Option<Frac> {
+    let mut sum = Frac::whole(0);
+    for term in terms {
+        sum = sum.plus(term.factor.times(table.variables[term.column as usize].value)?)?;
+    }
+    Some(sum)
+}
+
+fn whole_row(base: u32, terms: &[Term]) -> Option<TableRow> {
+    let scale = common_denominator(terms)?;
+    let mut entries = Vec::with_capacity(terms.len());
+    for term in terms {
+        let times = scale.checked_div(term.factor.den as i128)?;
+        entries.push(Entry { variable: term.column, factor: product(term.factor.num, times)? });
+    }
+    divided(TableRow { base, scale, entries })
+}
+
+fn common_denominator(terms: &[Term]) -> Option<i128> {
+    let mut common: i128 = 1;
+    for term in terms {
+        let denominator = term.factor.den as i128;
+        let shared = common_divisor(common, denominator)?;
+        common = product(common.checked_div(shared)?, denominator)?;
+    }
+    Some(common)
+}
+
+// ---- choices
+
+const CANDIDATES: usize = 8;
+
+#[derive(Clone, Copy, PartialEq, Eq)]
+enum Rule {
+    Shortest,
+    Least,
+    Bland,
+}
+
+#[derive(Clone, Copy)]
+struct Pivot {
+    place: usize,
+    variable: u32,
+    step: Frac,
+}
+
+fn leaving(table: &Table, rule: Rule) -> Option<usize> {
+    let mut best: Option<(usize, u32, usize)> = None;
+    for (place, row) in table.rows.iter().enumerate() {
+        if table.variables[row.base as usize].missed.is_none() {
+            continue;
+        }
+        let length = if rule == Rule::Shortest { row.entries.len() } else { 0 };
+        let key = (length, row.base, place);
+        if best.is_none_or(|least| key < least) {
+            best = Some(key);
+        }
+    }
+    best.map(|least| least.2)
+}
+
+fn side_of(entry: Entry, missed: Side) -> Side {
+    if entry.factor > 0 { opposite(missed) } else { missed }
+}
+
+fn helping(table: &Table, row: &TableRow, side: Side, rule: Rule) -> Vec<(u32, u32)> {
+    let mut best = Vec::new();
+    for entry in &row.entries {
+        let known = table.variables[entry.variable as usize];
+        let limit = limit_on(known.limits, side_of(*entry, side));
+        if limit.is_some_and(|limit| limit == known.value) {
+            continue;
+        }
+        keep(&mut best, (known.count, entry.variable));
+        if rule == Rule::Bland {
+            break;
+        }
+    }
+    best
+}
+
+fn keep(best: &mut Vec<(u32, u32)>, candidate: (u32, u32)) {
+    if best.len() >= CANDIDATES && best.last().is_some_and(|last| *last < candidate) {
+        return;
+    }
+    best.push(candidate);
+    best.sort();
+    best.truncate(CANDIDATES);
+}
+
+fn entering(table: &Table, place: usize, side: Side, candidates: &[(u32, u32)]) -> Option<Pivot> {
+    let row = &table.rows[place];
+    let mut best = None;
+    let mut least = u32::MAX;
+    for (_, variable) in candidates {
+        let variable = *variable;
+        let Some((step, missed)) = after(table, row, side, variable, least) else {
+            continue;
+        };
+        if missed < least {
+            least = missed;
+            best = Some(Pivot { place, variable, step });
+        }
+        if least == 0 {
+            break;
+        }
+    }
+    best
+}
+
+fn after(table: &Table, row: &TableRow, side: Side, variable: u32, most: u32) -> Option<(Frac, u32)> {
+    let factor = row.factor_of(variable)?;
+    let step = step_to(table, row, Entry { variable, factor }, side)?;
+    Some((step, table.missed_after(variable, step, most)?))
+}
+
+// ---- pivots
+
+const MOST_ENTRIES: usize = 4_000_000;
+
+enum Turn {
+    Pivot(Pivot),
+    Settled,
+    Blocked(Blocked),
+}
+
+fn choose(table: &Table, turn: u64) -> Option<Turn> {
+    let rule = rule_of(table.rows.len() as u64, turn);
+    let Some(place) = leaving(table, rule) else {
+        return Some(Turn::Settled);
+    };
+    let row = &table.rows[place];
+    let side = table.variables[row.base as usize].missed?;
+    let candidates = helping(table, row, side, rule);
+    if candidates.is_empty() {
+        return Some(Turn::Blocked(Blocked { place, side }));
+    }
+    Some(Turn::Pivot(entering(table, place, side, &candidates)?))
+}
+
+fn rule_of(rows: u64, turn: u64) -> Rule {
+    if turn < rows {
+        Rule::Shortest
+    } else if turn < rows.saturating_mul(20) {
+        Rule::Least
+    } else {
+        Rule::Bland
+    }
+}
+
+fn most_pivots(table: &Table) -> u64 {
+    (table.rows.len() as u64).saturating_mul(40).saturating_add(1000)
+}
+
+fn make_pivot(table: &mut Table, pivot: Pivot) -> Option<()> {
+    table.blocked = None;
+    table.shift(pivot.variable, pivot.step)?;
+    let leaves = &table.rows[pivot.place];
+    let base = leaves.base;
+    let solved = leaves.solved_for(pivot.variable)?;
+    let changed = changed_rows(table, pivot, &solved)?;
+    for (place, row) in changed {
+        table.replace(place, row);
+    }
+    table.replace(pivot.place, solved);
+    table.variables[base as usize].row = None;
+    table.variables[pivot.variable as usize].row = Some(pivot.place);
+    if table.stored > MOST_ENTRIES {
+        return None;
+    }
+    Some(())
+}
+
+fn changed_rows(table: &Table, pivot: Pivot, solved: &TableRow) -> Option<Vec<(usize, TableRow)>> {
+    let mut changed = Vec::new();
+    for (place, row) in table.rows.iter().enumerate() {
+        if place == pivot.place {
+            continue;
+        }
+        if let Some(factor) = row.factor_of(pivot.variable) {
+            changed.push((place, row.with_row(solved, factor)?));
+        }
+    }
+    Some(changed)
+}
+
+// ---- points and combinations
+
+#[derive(Clone, Copy)]
+struct Step {
+    variable: u32,
+    step: Frac,
+}
+
+fn point(model: &Model, table: &Table, step: Option<Step>) -> Option<Vec<Frac>> {
+    let mut values = Vec::new();
+    for column in 0..model.columns.len() as u32 {
+        values.push(value_after(table, column, step)?);
+    }
+    Some(values)
+}
+
+fn value_after(table: &Table, variable: u32, step: Option<Step>) -> Option<Frac> {
+    let known = table.variables[variable as usize];
+    let Some(step) = step else {
+        return Some(known.value);
+    };
+    if variable == step.variable {
+        return known.value.plus(step.step);
+    }
+    let Some(place) = known.row else {
+        return Some(known.value);
+    };
+    let row = &table.rows[place];
+    match row.factor_of(step.variable) {
+        Some(factor) => moved(known.value, factor, row.scale, step.step),
+        None => Some(known.value),
+    }
+}
+
+fn read_off(table: &Table) -> Option<Step> {
+    let blocked = table.blocked?;
+    let row = &table.rows[blocked.place];
+    let entry = freed(table, row, blocked)?;
+    let step = step_to(table, row, entry, blocked.side)?;
+    if table.missed_after(entry.variable, step, 0)? > 0 {
+        return None;
+    }
+    Some(Step { variable: entry.variable, step })
+}
+
+fn freed(table: &Table, row: &TableRow, blocked: Blocked) -> Option<Entry> {
+    let mut freed = None;
+    for entry in &row.entries {
+        let known = table.variables[entry.variable as usize];
+        if limit_on(known.limits, side_of(*entry, blocked.side)).is_none() {
+            if freed.is_some() {
+                return None;
+            }
+            freed = Some(*entry);
+        }
+    }
+    freed
+}
+
+#[derive(Clone, Copy)]
+struct Weighed {
+    side: Side,
+    weight: Frac,
+}
+
+fn combo(table: &Table, columns: u32, set: &MemberSet, blocked: Blocked) -> Option<Vec<Share>> {
+    let weights = weights(table, blocked)?;
+    let mut shares = Vec::new();
+    for member in set.iter() {
+        if let Some(weight) = weight_of(columns, &weights, member) {
+            shares.push(Share { member, weight });
+        }
+    }
+    Some(shares)
+}
+
+fn weights(table: &Table, blocked: Blocked) -> Option<Vec<Option<Weighed>>> {
+    let mut weights = vec![None; table.variables.len()];
+    let row = &table.rows[blocked.place];
+    weights[row.base as usize] = Some(Weighed { side: blocked.side, weight: Frac::whole(1) });
+    for entry in &row.entries {
+        let weight = Frac::new(entry.factor.checked_abs()?, row.scale)?;
+        weights[entry.variable as usize] = Some(Weighed { side: side_of(*entry, blocked.side), weight });
+    }
+    Some(weights)
+}
+
+fn weight_of(columns: u32, weights: &[Option<Weighed>], member: Member) -> Option<Frac> {
+    let variable = match member {
+        Member::RowLo(index) | Member::RowUp(index) => columns + index,
+        Member::Lower(index) | Member::Upper(index) => index,
+    };
+    let weighed = weights[variable as usize]?;
+    if weighed.side == member.side() && weighed.weight > Frac::whole(0) {
+        Some(weighed.weight)
+    } else {
+        None
+    }
+}
+
+// ---- runs
+
+struct QuickRun {
+    table: Option<Table>,
+    was_kept: bool,
+    made: u64,
+}
+
+impl QuickRun {
+    fn suggest(&mut self, model: &Model, set: &MemberSet, pivots: u64) -> Option<Suggestion> {
+        let kept = self.table.take();
+        self.was_kept = kept.is_some();
+        let limits = limits_of(model, set);
+        let mut table = match kept {
+            Some(table) => table,
+            None => start(model, &limits)?,
+        };
+        table.limit(&limits)?;
+        let suggestion = found(model, set, &mut table, pivots, &mut self.made)?;
+        self.table = Some(table);
+        Some(suggestion)
+    }
+
+    fn restart(&mut self) -> bool {
+        self.table = None;
+        mem::replace(&mut self.was_kept, false)
+    }
+}
+
+enum End {
+    Settled,
+    Blocked,
+}
+
+fn found(model: &Model, set: &MemberSet, table: &mut Table, pivots: u64, made: &mut u64) -> Option<Suggestion> {
+    if let Some(step) = read_off(table) {
+        return Some(Suggestion::Point(point(model, table, Some(step))?));
+    }
+    match settle(table, pivots.min(most_pivots(table)), made)? {
+        End::Settled => Some(Suggestion::Point(point(model, table, None)?)),
+        End::Blocked => {
+            let blocked = table.blocked?;
+            Some(Suggestion::Combo(combo(table, model.columns.len() as u32, set, blocked)?))
+        }
+    }
+}
+
+fn settle(table: &mut Table, most: u64, made: &mut u64) -> Option<End> {
+    for turn in 0..most {
+        match choose(table, turn)? {
+            Turn::Pivot(chosen) => make_pivot(table, chosen)?,
+            Turn::Settled => return Some(End::Settled),
+            Turn::Blocked(blocked) => {
+                table.blocked = Some(blocked);
+                return Some(End::Blocked);
+            }
+        }
+        *made = made.saturating_add(1);
+    }
+    match choose(table, most)? {
+        Turn::Pivot(_) => None,
+        Turn::Settled => Some(End::Settled),
+        Turn::Blocked(blocked) => {
+            table.blocked = Some(blocked);
+            Some(End::Blocked)
+        }
+    }
+}
+
+// ---- the oracle
+
+const SMALL: u64 = 1_000;
+
+fn stands_alone(model: &Model, set: &MemberSet) -> bool {
+    let has_row = |row: u32| set.contains(Member::RowLo(row)) || set.contains(Member::RowUp(row));
+    let rows = (0..model.rows.len() as u32).filter(|row| has_row(*row)).count() as u64;
+    let crossed = |limits: &Limits| matches!((limits.lo, limits.up), (Some(lo), Some(up)) if up < lo);
+    rows * model.columns.len() as u64 <= SMALL || limits_of(model, set).iter().any(crossed)
+}
+
+struct Oracle<'a> {
+    model: &'a Model,
+    run: QuickRun,
+    point: Option<Vec<Frac>>,
+    combo: Option<Vec<Share>>,
+    asks: u64,
+}
+
+impl Oracle<'_> {
+    fn ask(&mut self, set: &MemberSet, pivots: u64) -> Option<Suggestion> {
+        self.asks += 1;
+        if stands_alone(self.model, set) {
+            return None;
+        }
+        let before = self.run.made;
+        if let Some(verdict) = self.run_once(set, pivots) {
+            return Some(verdict);
+        }
+        if !self.run.restart() {
+            return None;
+        }
+        let made = self.run.made.saturating_sub(before);
+        self.run_once(set, pivots.saturating_sub(made))
+    }
+
+    fn run_once(&mut self, set: &MemberSet, pivots: u64) -> Option<Suggestion> {
+        let suggestion = self.run.suggest(self.model, set, pivots)?;
+        match &suggestion {
+            Suggestion::Point(point) if is_point(self.model, set, point) => self.point = Some(point.clone()),
+            Suggestion::Combo(shares) if is_combo(self.model, set, shares) => self.combo = Some(shares.clone()),
+            _ => return None,
+        }
+        Some(suggestion)
+    }
+}
+
+// ---- the filter
+
+const PIVOTS: u64 = 100_000;
+
+fn used(set: &MemberSet, shares: &[Share]) -> MemberSet {
+    let mut used = set.emptied();
+    for share in shares {
+        if set.contains(share.member) {
+            used.put(share.member, true);
+        }
+    }
+    used
+}
+
+// The set that stays, with its witnesses; none where the reference run would be asked or a point satisfies the set.
+fn isolate(oracle: &mut Oracle, set: &MemberSet) -> Option<(MemberSet, Vec<Vec<Frac>>)> {
+    let Suggestion::Combo(first) = oracle.ask(set, PIVOTS)? else {
+        return None;
+    };
+    let mut left = MemberSet { marks: set.marks.clone(), ..*set };
+    let mut needed = used(&left, &first);
+    let mut witnesses = Vec::new();
+    for member in set.iter() {
+        left.put(member, false);
+        if !needed.contains(member) {
+            continue;
+        }
+        match oracle.ask(&left, PIVOTS)? {
+            Suggestion::Point(point) => {
+                left.put(member, true);
+                witnesses.push(point);
+            }
+            Suggestion::Combo(shares) => needed = used(&left, &shares),
+        }
+    }
+    Some((left, witnesses))
+}
+
+// ---- the model's text
+
+fn number(word: &str) -> Option<Frac> {
+    Frac::new(word.parse().ok()?, 1)
+}
+
+fn read(text: &str) -> Model {
+    let mut model = Model { columns: Vec::new(), rows: Vec::new() };
+    for line in text.lines() {
+        let words: Vec<&str> = line.split_whitespace().collect();
+        let [kind, lo, up, terms @ ..] = words.as_slice() else {
+            continue;
+        };
+        let limits = Limits { lo: number(lo), up: number(up) };
+        if *kind == "column" {
+            model.columns.push(limits);
+            continue;
+        }
+        let mut row = Row { terms: Vec::new(), limits };
+        for pair in terms.chunks(2) {
+            if let (Some(factor), Ok(column)) = (number(pair[0]), pair[1].parse()) {
+                row.terms.push(Term { column, factor });
+            }
+        }
+        row.terms.sort_by_key(|term| term.column);
+        model.rows.push(row);
+    }
+    model
+}
+
+fn main() {
+    let name = env::args().nth(1).unwrap_or_default();
+    let model = read(&fs::read_to_string(name).unwrap_or_default());
+    let run = QuickRun { table: None, was_kept: false, made: 0 };
+    let mut oracle = Oracle { model: &model, run, point: None, combo: None, asks: 0 };
+    let set = MemberSet::all(&model);
+    let Some((left, witnesses)) = isolate(&mut oracle, &set) else {
+        println!("asks {} pivots {}: quick runs do not answer all", oracle.asks, oracle.run.made);
+        process::exit(1);
+    };
+    assert_eq!(left.count(), witnesses.len());
+    println!("asks {} pivots {} size {}", oracle.asks, oracle.run.made, left.count());
+}

@@ -1,0 +1,137 @@
+//! Asks the questions of a script of models by chance, with quick runs beside the reference run alone, and tells where the two
+//! answers differ: whether there is a point, and which members the deletion and the additive filter leave.
+//!
+//! Small sets are asked of the reference run alone. All kinds but the first have more rows times columns than that.
+#![tactic(auto)]
+
+mod beside;
+mod chance;
+mod models;
+mod tally;
+
+use crate::beside::try_text;
+use crate::chance::Chance;
+use crate::models::{Kind, Shape, model_text};
+use crate::tally::Tally;
+use std::alloc::{AllocError, Global};
+use std::io;
+
+/// A kind of models, how many are tried, and the seed of the first.
+#[derive(Clone, Copy)]
+struct Batch {
+    name: &'static str,
+    kind: Kind,
+    models: u32,
+    seed: u32,
+}
+
+// Rows with whole numbers of one digit, beside so many columns that stand in no row.
+fn plain(idle: u32) -> Shape {
+    Shape {
+        most_rows: 8,
+        most_busy: 7,
+        idle,
+        places: 0,
+        digits: 1,
+        crossing: 0,
+    }
+}
+
+// The kinds that are tried.
+fn batches() -> [Batch; 8] {
+    let wide = plain(400);
+    [
+        Batch {
+            name: "small",
+            kind: Kind::Rows(Shape {
+                crossing: 12,
+                ..plain(0)
+            }),
+            models: 1_000,
+            seed: 1,
+        },
+        Batch {
+            name: "wide",
+            kind: Kind::Rows(wide),
+            models: 150,
+            seed: 1_001,
+        },
+        Batch {
+            name: "bounds that cross",
+            kind: Kind::Rows(Shape {
+                crossing: 60,
+                ..wide
+            }),
+            models: 150,
+            seed: 2_001,
+        },
+        Batch {
+            name: "tenths",
+            kind: Kind::Rows(Shape {
+                places: 1,
+                digits: 2,
+                ..wide
+            }),
+            models: 150,
+            seed: 3_001,
+        },
+        Batch {
+            name: "many digits",
+            kind: Kind::Rows(Shape {
+                places: 3,
+                digits: 9,
+                ..wide
+            }),
+            models: 80,
+            seed: 4_001,
+        },
+        Batch {
+            name: "plans",
+            kind: Kind::Plan,
+            models: 24,
+            seed: 5_001,
+        },
+        Batch {
+            name: "transports",
+            kind: Kind::Transport,
+            models: 24,
+            seed: 6_001,
+        },
+        Batch {
+            name: "flows",
+            kind: Kind::Flow,
+            models: 24,
+            seed: 7_001,
+        },
+    ]
+}
+
+// Tries the models of a batch.
+fn try_batch(alloc: Global, batch: Batch) -> Result<Tally, AllocError> {
+    let mut tally = Tally::new();
+    for number in 0..batch.models {
+        let mut chance = Chance::new(batch.seed.wrapping_add(number));
+        let text = model_text(alloc, batch.kind, &mut chance)?;
+        try_text(alloc, text.bytes.as_slice(), &mut tally)?;
+    }
+    Ok(tally)
+}
+
+fn main(rt: HostRuntime) -> io::Result<()> {
+    for batch in batches() {
+        let tally = try_batch(rt.alloc(), batch)?;
+        println!(rt;
+            "{}: models {} infeasible {} asks {} by quick runs {} by the reference run {} stopped {} and alone {} differ {}",
+            batch.name,
+            tally.models,
+            tally.infeasible,
+            tally.asks,
+            tally.asks.saturating_sub(tally.handed),
+            tally.handed,
+            tally.stopped,
+            tally.stopped_alone,
+            tally.differ
+        )?;
+    }
+    Ok(())
+}

@@ -1,0 +1,314 @@
+//! Models by chance, as texts in the MPS format.
+ghost use Rattle.std.specs.Prelude.{◌<◌};
+
+use crate::chance::Chance;
+use std::alloc::{AllocError, Global};
+
+/// A kind of models.
+#[derive(Clone, Copy)]
+pub(crate) enum Kind {
+    /// Rows over a few columns, beside which others stand in no row.
+    Rows(Shape),
+    /// A plan: what is made and what is in store meets each period's demand.
+    Plan,
+    /// A transport from suppliers to customers.
+    Transport,
+    /// A flow through nodes, of which the last wants some of it.
+    Flow,
+}
+
+/// The sizes of a model of rows, and what may stand in it.
+#[derive(Clone, Copy)]
+pub(crate) struct Shape {
+    /// There are from 2 rows to so many.
+    pub most_rows: u32,
+    /// There are from 2 columns in the rows to so many.
+    pub most_busy: u32,
+    /// So many columns stand in no row.
+    pub idle: u32,
+    /// So many digits behind the point.
+    pub places: u32,
+    /// Factors and sides have up to so many digits in all.
+    pub digits: u32,
+    /// Of so many columns with both bounds those of one cross; of none where it is 0.
+    pub crossing: u32,
+}
+
+/// A text that grows line by line.
+#[derive(Drop)]
+pub(crate) struct Text {
+    alloc: Global,
+    pub bytes: Vec<u8>,
+}
+
+impl Text {
+    // A text with nothing in it.
+    fn new(alloc: Global) -> Text {
+        Text {
+            alloc,
+            bytes: Vec::new(alloc),
+        }
+    }
+
+    // Puts words last.
+    fn put(&mut self, words: &str) -> Result<(), AllocError> {
+        self.bytes.extend_from_slice(words.as_bytes())?;
+        Ok(())
+    }
+
+    // The lines of rows of a kind, by number.
+    fn rows(&mut self, kind: &str, first: u32, count: u32) -> Result<(), AllocError> {
+        for row in first..first.saturating_add(count) {
+            let line = format!(in self.alloc; " {kind} r{row}\n")?;
+            self.put(line.as_str())?;
+        }
+        Ok(())
+    }
+
+    // The line by which a column is declared.
+    fn column(&mut self, column: u32) -> Result<(), AllocError> {
+        let line = format!(in self.alloc; " x{column} cost 1\n")?;
+        self.put(line.as_str())
+    }
+
+    // The line of an entry.
+    fn entry(&mut self, column: u32, row: u32, factor: &str) -> Result<(), AllocError> {
+        let line = format!(in self.alloc; " x{column} r{row} {factor}\n")?;
+        self.put(line.as_str())
+    }
+
+    // The line of a right side.
+    fn side(&mut self, row: u32, number: &str) -> Result<(), AllocError> {
+        let line = format!(in self.alloc; " rhs r{row} {number}\n")?;
+        self.put(line.as_str())
+    }
+
+    // The line of an upper bound.
+    fn upper(&mut self, column: u32, number: u32) -> Result<(), AllocError> {
+        let line = format!(in self.alloc; " UP bound x{column} {number}\n")?;
+        self.put(line.as_str())
+    }
+}
+
+/// A model of a kind.
+pub(crate) fn model_text(
+    alloc: Global,
+    kind: Kind,
+    chance: &mut Chance,
+) -> Result<Text, AllocError> {
+    let mut text = Text::new(alloc);
+    text.put("NAME made\nROWS\n N cost\n")?;
+    match kind {
+        Kind::Rows(shape) => put_rows(&mut text, shape, chance)?,
+        Kind::Plan => put_plan(&mut text, chance)?,
+        Kind::Transport => put_transport(&mut text, chance)?,
+        Kind::Flow => put_flow(&mut text, chance)?,
+    }
+    text.put("ENDATA\n")?;
+    Ok(text)
+}
+
+// ---- rows of all kinds
+
+// From 2 to so many.
+fn some(most: u32, chance: &mut Chance) -> u32 {
+    chance.below(most.max(2) - 1).saturating_add(2)
+}
+
+// Rows of all kinds over columns with all kinds of bounds.
+fn put_rows(text: &mut Text, shape: Shape, chance: &mut Chance) -> Result<(), AllocError> {
+    let rows = some(shape.most_rows, chance);
+    let busy = some(shape.most_busy, chance);
+    let columns = busy.saturating_add(shape.idle);
+    for row in 0..rows {
+        text.rows(row_kind(chance), row, 1)?;
+    }
+    text.put("COLUMNS\n")?;
+    for column in 0..columns {
+        text.column(column)?;
+        if column < busy {
+            put_entries(text, shape, column, rows, chance)?;
+        }
+    }
+    text.put("RHS\n")?;
+    for row in 0..rows {
+        let number = number(text.alloc, shape, chance)?;
+        text.side(row, number.as_str())?;
+    }
+    text.put("RANGES\n")?;
+    for row in 0..rows {
+        if chance.one_in(6) {
+            let line = format!(in text.alloc; " range r{row} {}\n", chance.below(7))?;
+            text.put(line.as_str())?;
+        }
+    }
+    text.put("BOUNDS\n")?;
+    for column in 0..columns {
+        put_bounds(text, shape, column, chance)?;
+    }
+    Ok(())
+}
+
+// At most, at least, or equal.
+fn row_kind(chance: &mut Chance) -> &'static str {
+    match chance.below(3) {
+        0 => "L",
+        1 => "G",
+        _ => "E",
+    }
+}
+
+// About every second entry of a column.
+fn put_entries(
+    text: &mut Text,
+    shape: Shape,
+    column: u32,
+    rows: u32,
+    chance: &mut Chance,
+) -> Result<(), AllocError> {
+    for row in 0..rows {
+        if chance.one_in(2) {
+            let factor = number(text.alloc, shape, chance)?;
+            text.entry(column, row, factor.as_str())?;
+        }
+    }
+    Ok(())
+}
+
+// A number of either sign with so many digits, as a decimal literal.
+fn number(alloc: Global, shape: Shape, chance: &mut Chance) -> Result<String, AllocError> {
+    let mut literal = String::new(alloc);
+    if chance.one_in(2) {
+        literal.push('-')?;
+    }
+    for _ in shape.places.saturating_add(1)..shape.digits {
+        literal.push(digit(chance.below(10)))?;
+    }
+    literal.push(digit(chance.below(5)))?;
+    if shape.places > 0 {
+        literal.push('.')?;
+    }
+    for _ in 0..shape.places {
+        literal.push(digit(chance.below(10)))?;
+    }
+    Ok(literal)
+}
+
+// The digit of a number below 10.
+fn digit(number: u32) -> char {
+    char::from_digit(number, 10).unwrap_or('0')
+}
+
+// Whether the bounds of a column are to cross.
+fn do_cross(shape: Shape, chance: &mut Chance) -> bool {
+    shape.crossing > 0 && chance.one_in(shape.crossing)
+}
+
+// One of the kinds of bounds: none of its own, one, both in order or crossing, one number for both, and none at all.
+fn put_bounds(
+    text: &mut Text,
+    shape: Shape,
+    column: u32,
+    chance: &mut Chance,
+) -> Result<(), AllocError> {
+    let low = i64::from(chance.below(7)) - 3;
+    let width = i64::from(chance.below(5));
+    let high = if do_cross(shape, chance) {
+        low - 1
+    } else {
+        low + width
+    };
+    let lines = match chance.below(7) {
+        0 => format!(in text.alloc; " LO bound x{column} {low}\n")?,
+        1 => format!(in text.alloc; " UP bound x{column} {width}\n")?,
+        2 => format!(in text.alloc; " LO bound x{column} {low}\n UP bound x{column} {high}\n")?,
+        3 => format!(in text.alloc; " FX bound x{column} {low}\n")?,
+        4 => format!(in text.alloc; " FR bound x{column}\n")?,
+        5 => format!(in text.alloc; " MI bound x{column}\n UP bound x{column} {low}\n")?,
+        _ => String::new(text.alloc),
+    };
+    text.put(lines.as_str())
+}
+
+// ---- plans, transports and flows
+
+// A plan of 24 to 27 periods, the last of which may ask for much more than the others.
+fn put_plan(text: &mut Text, chance: &mut Chance) -> Result<(), AllocError> {
+    let periods = chance.below(4).saturating_add(24);
+    text.rows("E", 0, periods)?;
+    text.put("COLUMNS\n")?;
+    for period in 0..periods {
+        text.column(period)?;
+        text.entry(period, period, "-1")?;
+        if period.saturating_add(1) < periods {
+            text.entry(period, period.saturating_add(1), "1")?;
+        }
+    }
+    for period in 0..periods {
+        text.column(periods.saturating_add(period))?;
+        text.entry(periods.saturating_add(period), period, "1")?;
+    }
+    text.put("RHS\n")?;
+    for period in 0..periods {
+        let mut demand = chance.below(6);
+        if period.saturating_add(1) == periods {
+            demand = demand.saturating_add(chance.below(150));
+        }
+        let number = format!(in text.alloc; "{demand}")?;
+        text.side(period, number.as_str())?;
+    }
+    text.put("BOUNDS\n")?;
+    for period in 0..periods {
+        text.upper(
+            periods.saturating_add(period),
+            chance.below(2).saturating_add(5),
+        )?;
+    }
+    Ok(())
+}
+
+// A transport from 10 suppliers to 10 customers.
+fn put_transport(text: &mut Text, chance: &mut Chance) -> Result<(), AllocError> {
+    text.rows("L", 0, 10)?;
+    text.rows("G", 10, 10)?;
+    text.put("COLUMNS\n")?;
+    for route in 0..100 {
+        text.column(route)?;
+        text.entry(route, route / 10, "1")?;
+        text.entry(route, (route % 10).saturating_add(10), "1")?;
+    }
+    text.put("RHS\n")?;
+    for row in 0..20 {
+        let number = format!(in text.alloc; "{}", chance.below(20))?;
+        text.side(row, number.as_str())?;
+    }
+    Ok(())
+}
+
+// A flow through 24 nodes with 3 arcs out of each but the last, to later ones.
+fn put_flow(text: &mut Text, chance: &mut Chance) -> Result<(), AllocError> {
+    text.rows("E", 1, 22)?;
+    text.rows("G", 23, 1)?;
+    text.put("COLUMNS\n")?;
+    for arc in 0..69 {
+        let from = arc / 3;
+        let to = chance
+            .below(5)
+            .saturating_add(from)
+            .saturating_add(1)
+            .min(23);
+        text.column(arc)?;
+        if from > 0 {
+            text.entry(arc, from, "-1")?;
+        }
+        text.entry(arc, to, "1")?;
+    }
+    text.put("RHS\n")?;
+    let wanted = format!(in text.alloc; "{}", chance.below(16).saturating_add(8))?;
+    text.side(23, wanted.as_str())?;
+    text.put("BOUNDS\n")?;
+    for arc in 0..69 {
+        text.upper(arc, chance.below(9).saturating_add(1))?;
+    }
+    Ok(())
+}
