@@ -39,20 +39,39 @@ fn share(member: Member) -> Share {
     }
 }
 
-// What is kept: both bounds, each once; or the point at 1.
-fn kept(alloc: Global, combo: bool) -> Result<Kept, AllocError> {
+// What is kept.
+#[derive(Clone, Copy)]
+enum Evidence {
+    // Both bounds, each once: they contradict one another.
+    Both,
+    // The upper bound alone, which does not cancel.
+    Half,
+    // The point at 1.
+    Value,
+}
+
+fn kept(alloc: Global, evidence: Evidence) -> Result<Kept, AllocError> {
     let mut kept = Kept::new();
-    if combo {
-        let shares = [share(Member::Lower(0)), share(Member::Upper(0))];
-        kept.combo = Some(Combo {
-            shares: Shares::new(Vec::from_slice(alloc, &shares)?),
-        });
-    } else {
-        kept.point = Some(Point {
-            values: Values::new(Vec::from_slice(alloc, &[Frac::whole(1)])?),
-        });
+    match evidence {
+        Evidence::Both => {
+            let shares = [share(Member::Lower(0)), share(Member::Upper(0))];
+            kept.combo = Some(combo(alloc, &shares)?);
+        }
+        Evidence::Half => kept.combo = Some(combo(alloc, &[share(Member::Upper(0))])?),
+        Evidence::Value => {
+            kept.point = Some(Point {
+                values: Values::new(Vec::from_slice(alloc, &[Frac::whole(1)])?),
+            });
+        }
     }
     Ok(kept)
+}
+
+// The combination of these shares.
+fn combo(alloc: Global, shares: &[Share]) -> Result<Combo, AllocError> {
+    Ok(Combo {
+        shares: Shares::new(Vec::from_slice(alloc, shares)?),
+    })
 }
 
 // What a verdict is.
@@ -65,25 +84,27 @@ fn word(verdict: &Option<Verdict>) -> &'static str {
 }
 
 // What is remembered gives for a set.
-fn said(alloc: Global, combo: bool, with_upper: bool) -> Result<&'static str, AllocError> {
+fn said(alloc: Global, evidence: Evidence, with_upper: bool) -> Result<&'static str, AllocError> {
     let Ok(model) = program(alloc) else {
         return Err(AllocError);
     };
     let set = bounds(alloc, &model, with_upper)?;
-    let kept = kept(alloc, combo)?;
+    let kept = kept(alloc, evidence)?;
     Ok(word(&kept.remembered(alloc, &model, &set)))
 }
 
 #[test]
 fn kept_evidence_is_checked_anew(rt: HostRuntime) -> Result<(), Fail> {
     let table = [
-        (true, true, "proof"),
-        (true, false, "nothing"),
-        (false, true, "nothing"),
-        (false, false, "point"),
+        (Evidence::Both, true, "proof"),
+        (Evidence::Both, false, "nothing"),
+        (Evidence::Half, true, "nothing"),
+        (Evidence::Half, false, "nothing"),
+        (Evidence::Value, true, "nothing"),
+        (Evidence::Value, false, "point"),
     ];
-    for (combo, with_upper, text) in table {
-        assert_eq!(rt; said(rt.alloc(), combo, with_upper)?, text);
+    for (evidence, with_upper, text) in table {
+        assert_eq!(rt; said(rt.alloc(), evidence, with_upper)?, text);
     }
     Ok(())
 }
