@@ -19,6 +19,8 @@ pub(crate) fn quick_oracle<'a>(
 ) -> QuickOracle<'a, LinearOracle<'a>>
     requires { budgets.pivots < 2 ^ 63 }
     ensures inner { result.inner ≡ fresh_oracle model.now budgets.pivots }
+    ensures pivots { result.pivots ≡ budgets.pivots }
+    ensures made { result.made ≡ kept.old }
     ensures tale { result.tale ≡ no_tale }
 {
     let inner = LinearOracle::new(alloc, model, budgets.pivots);

@@ -1,5 +1,5 @@
 //! Points and combinations that are confirmed by their checks, and copies of them.
-ghost use Rattle.std.specs.Prelude.{◌≡◌, ◌∷◌, [], IfOk, IfSome, List, length, true};
+ghost use Rattle.std.specs.Prelude.{◌≡◌, ◌∷◌, [], IfOk, IfSome, List, true};
 ghost use Rattle.lp_model.specs.declared.members.Member.{Member as OneMember};
 ghost use Rattle.lp_model.specs.Program.{Program};
 ghost use Rattle.certs.specs.Checks.{IsSetOf};
@@ -9,26 +9,33 @@ ghost use Rattle.certs.specs.Tales.{IsPointOf};
 ghost use Rattle.quick_oracle.specs.Answers.{IsConfirmed};
 
 use certs::{
-    Checked, Combo, MemberSet, Node, Nodes, Point, Proof, Shares, Values, Verdict, check_combo,
-    check_point,
+    Checked, Combo, MemberSet, Node, Nodes, Point, Proof, Shares, Values, Verdict, are_in_order,
+    check_combo, check_point,
 };
 use frac128::Frac;
 use lp_model::Model;
 use std::alloc::{AllocError, Global};
 
-/// Whether the check of a point says that it satisfies the set.
+/// Whether a point has a value for each column, and its check says that it satisfies the set.
 pub(crate) fn is_point(model: &Model, set: &MemberSet, point: &Point) -> bool
-    requires { length point.now.values ≡ length model.now.columns }
     ensures { result ≡ true → IsPointOf model.now set.now.members point.now }
 {
+    if point.values.as_slice().len() != model.column_count() as usize {
+        return false;
+    }
     is_yes(check_point(model, set, point))
 }
 
-/// Whether the check of a combination says that no point satisfies the set. Where memory is refused, it does not.
+/// Whether the shares of a combination stand in order, and its check says that no point satisfies the set. Where memory is
+/// refused, it does not.
 pub(crate) fn is_combo(alloc: Global, model: &Model, set: &MemberSet, combo: &Combo) -> bool
     requires { IsSetOf model.now set.now }
-    ensures { result ≡ true → IsCombination model.now set.now.members [] combo.now.shares }
+    ensures { result ≡ true → IsCombination model.now set.now.members [] combo.now.shares
+        × AreSharesInOrder combo.now.shares }
 {
+    if !are_in_order(combo.shares.as_slice()) {
+        return false;
+    }
     // That the program is well formed is told with its count of rows.
     let _rows = model.row_count();
     let Ok(mut sums) = vec![in alloc; Frac::whole(0); model.column_count() as usize] else {

@@ -1,16 +1,14 @@
 //! What is kept from ask to ask, and what it gives.
 ghost use Rattle.std.specs.Prelude.{◌≡◌, ◌+◌, ◌≤◌, IfSome, None, true};
 ghost use Rattle.certs.specs.Checks.{IsSetOf};
-ghost use Rattle.certs.specs.declared.solving.Verdict.{Verdict as OneVerdict};
-ghost use Rattle.quick_run.specs.Shape.{IsSuggestion, IsShareOf};
 ghost use Rattle.quick_oracle.specs.Alone.{stands_alone as is_alone};
 ghost use Rattle.quick_oracle.specs.Answers.{IsConfirmed};
 
 use crate::alone::stands_alone;
 use crate::confirmed::{copied_combo, copied_point, is_combo, is_point, leaf_verdict};
-use certs::{Combo, MemberSet, Point, Verdict, are_in_order};
+use certs::{Combo, MemberSet, Point, Verdict};
 use lp_model::Model;
-use quick_run::{QuickRun, Suggestion};
+use quick_run::{QuickRun, Suggest, Suggestion};
 use std::alloc::Global;
 
 #[cfg(test)]
@@ -19,31 +17,40 @@ mod tests;
 // After so many asks in a row that gave nothing, no quick run is made.
 const MOST_FAILURES: u32 = 2;
 
-/// What is kept from ask to ask, and from one oracle to the next, on one program: the table of the quick runs, and the
-/// last point and the last combination that were confirmed. Contracts see how many pivots the quick runs made.
+/// What is kept from ask to ask, and from one oracle to the next, on one program: what suggests, as the table of the quick
+/// runs, and the last point and the last combination that were confirmed. Contracts see how many pivots the quick runs made.
 #[derive(Drop)]
-pub struct Kept {
-    run: QuickRun,
+pub struct Kept<S: Suggest = QuickRun> {
+    run: S,
     point: Option<Point>,
     combo: Option<Combo>,
     failures: u32,
 }
 
-impl std::marker::Model for Kept {
+impl<S: Suggest> std::marker::Model for Kept<S> {
     ghost use Rattle.std.specs.Prelude.{ℕ};
 
     ghost Value = { ℕ };
 
-    ghost view = { λ k. k.run };
+    ghost view = { λ k. S.made k.run };
 }
 
-impl Kept {
+impl Kept<QuickRun> {
     /// Nothing was run and nothing confirmed yet.
-    pub fn new() -> Kept
+    pub fn new() -> Kept<QuickRun>
         ensures { result ≡ 0 }
     {
+        Kept::with_run(QuickRun::new())
+    }
+}
+
+impl<S: Suggest> Kept<S> {
+    /// Suggestions are asked of this, and nothing was confirmed yet.
+    pub fn with_run(run: S) -> Kept<S>
+        ensures { result ≡ S.made run }
+    {
         Kept {
-            run: QuickRun::new(),
+            run,
             point: None,
             combo: None,
             failures: 0,
@@ -70,6 +77,7 @@ impl Kept {
         requires { IsSetOf model.now set.now }
         ensures confirmed { IfSome result (IsConfirmed model.now set.now.members) }
         ensures alone { is_alone model.now set.now.members ≡ true → result ≡ None }
+        ensures counted { self.old ≤ self.new }
         ensures spent { self.new ≤ self.old + pivots }
     {
         if self.failures >= MOST_FAILURES || stands_alone(model, set) {
@@ -94,6 +102,7 @@ impl Kept {
     ) -> Option<Verdict>
         requires { IsSetOf model.now set.now }
         ensures confirmed { IfSome result (IsConfirmed model.now set.now.members) }
+        ensures counted { self.old ≤ self.new }
         ensures spent { self.new ≤ self.old + pivots }
     {
         if is_first && let Some(verdict) = self.remembered(alloc, model, set) {
@@ -125,6 +134,7 @@ impl Kept {
     ) -> Option<Verdict>
         requires { IsSetOf model.now set.now }
         ensures confirmed { IfSome result (IsConfirmed model.now set.now.members) }
+        ensures counted { self.old ≤ self.new }
         ensures spent { self.new ≤ self.old + pivots }
     {
         let before = self.run.pivots_made();
@@ -148,6 +158,7 @@ impl Kept {
     ) -> Option<Verdict>
         requires { IsSetOf model.now set.now }
         ensures confirmed { IfSome result (IsConfirmed model.now set.now.members) }
+        ensures counted { self.old ≤ self.new }
         ensures spent { self.new ≤ self.old + pivots }
     {
         match self.run.suggest(alloc, model, set, pivots)? {
@@ -157,7 +168,7 @@ impl Kept {
     }
 }
 
-// The verdict of a point, where its check says yes. A copy of it is kept, where memory allows.
+// The verdict of a point, where it is confirmed. A copy of it is kept, where memory allows.
 fn satisfied(
     alloc: Global,
     model: &Model,
@@ -165,7 +176,6 @@ fn satisfied(
     point: Point,
     kept: &mut Option<Point>,
 ) -> Option<Verdict>
-    requires { IsSuggestion model.now set.now.members (Suggestion.Point point) }
     ensures { IfSome result (IsConfirmed model.now set.now.members) }
 {
     if !is_point(model, set, &point) {
@@ -175,7 +185,7 @@ fn satisfied(
     Some(Verdict::Feasible(point))
 }
 
-// The verdict of a combination, where its check says yes. A copy of it is kept, where memory allows.
+// The verdict of a combination, where it is confirmed. A copy of it is kept, where memory allows.
 fn refuted(
     alloc: Global,
     model: &Model,
@@ -183,8 +193,7 @@ fn refuted(
     combo: Combo,
     kept: &mut Option<Combo>,
 ) -> Option<Verdict>
-    requires same { IsSetOf model.now set.now }
-    requires shape { IsSuggestion model.now set.now.members (Suggestion.Combo combo) }
+    requires { IsSetOf model.now set.now }
     ensures { IfSome result (IsConfirmed model.now set.now.members) }
 {
     if !is_combo(alloc, model, set, &combo) {
@@ -194,25 +203,23 @@ fn refuted(
     leaf_verdict(alloc, combo)
 }
 
-// The verdict of a point that was confirmed for another set, where its check says yes for this one.
+// The verdict of a point that was confirmed for another set, where it is confirmed for this one.
 fn satisfied_again(alloc: Global, model: &Model, set: &MemberSet, kept: &Point) -> Option<Verdict>
     ensures { IfSome result (IsConfirmed model.now set.now.members) }
 {
-    if kept.values.as_slice().len() != model.column_count() as usize
-        || !is_point(model, set, kept)
-    {
+    if !is_point(model, set, kept) {
         return None;
     }
     let point = copied_point(alloc, kept).ok()?;
     Some(Verdict::Feasible(point))
 }
 
-// The verdict of a combination that was confirmed for another set, where its check says yes for this one.
+// The verdict of a combination that was confirmed for another set, where it is confirmed for this one.
 fn refuted_again(alloc: Global, model: &Model, set: &MemberSet, kept: &Combo) -> Option<Verdict>
     requires { IsSetOf model.now set.now }
     ensures { IfSome result (IsConfirmed model.now set.now.members) }
 {
-    if !are_in_order(kept.shares.as_slice()) || !is_combo(alloc, model, set, kept) {
+    if !is_combo(alloc, model, set, kept) {
         return None;
     }
     let Ok(combo) = copied_combo(alloc, kept) else {

@@ -9,19 +9,20 @@ ghost use Rattle.quick_oracle.specs.Value.{QuickValue, state_with};
 use crate::kept::Kept;
 use certs::{MemberSet, Oracle, Stop, Tale, Verdict};
 use lp_model::Model;
+use quick_run::{QuickRun, Suggest};
 use std::alloc::Global;
 
 /// An oracle that answers by quick runs where their answers are confirmed, and else by the inner oracle.
 #[derive(Drop)]
-pub struct QuickOracle<'a, O: Oracle> {
+pub struct QuickOracle<'a, O: Oracle, S: Suggest = QuickRun> {
     model: &'a Model,
-    kept: Kept,
+    kept: Kept<S>,
     inner: O,
     pivots: u64,
     tale: Tale,
 }
 
-impl<'a, O: Oracle> std::marker::Model for QuickOracle<'a, O> {
+impl<'a, O: Oracle, S: Suggest> std::marker::Model for QuickOracle<'a, O, S> {
     ghost use Rattle.std.specs.Prelude.{◌≡◌};
     ghost use Rattle.quick_oracle.specs.Value.{QuickValue};
 
@@ -32,16 +33,16 @@ impl<'a, O: Oracle> std::marker::Model for QuickOracle<'a, O> {
     ghost invariant = { λ o. (O.state o.inner).model ≡ o.model.now };
 }
 
-impl<'a, O: Oracle> QuickOracle<'a, O> {
+impl<'a, O: Oracle, S: Suggest> QuickOracle<'a, O, S> {
     /// An oracle for a program, with what was kept of it, that makes quick runs of so many pivots an ask. It was asked
     /// nothing yet.
     pub fn new(
         alloc: Global,
         model: &'a Model,
-        kept: Kept,
+        kept: Kept<S>,
         inner: O,
         pivots: u64,
-    ) -> QuickOracle<'a, O>
+    ) -> QuickOracle<'a, O, S>
         requires { (O.state inner).model ≡ model.now }
         ensures { result ≡ record { inner = inner; pivots = pivots; made = kept; tale = no_tale } }
     {
@@ -76,16 +77,16 @@ impl<'a, O: Oracle> QuickOracle<'a, O> {
     }
 }
 
-impl<'a, O: Oracle + Drop> QuickOracle<'a, O> {
+impl<'a, O: Oracle + Drop, S: Suggest> QuickOracle<'a, O, S> {
     /// What is kept of the program, for the next oracle.
-    pub fn into_kept(self) -> Kept
+    pub fn into_kept(self) -> Kept<S>
         ensures { result ≡ self.entry.made }
     {
         self.kept
     }
 }
 
-impl<O: Oracle> Oracle for QuickOracle<'_, O> {
+impl<O: Oracle, S: Suggest> Oracle for QuickOracle<'_, O, S> {
     ghost state = { λ o. state_with (O.state o.inner) o.tale };
 
     ghost answers = { λ model budgets set result. IsQuickAnswer O.answers model budgets set result };
@@ -112,7 +113,8 @@ impl<O: Oracle> Oracle for QuickOracle<'_, O> {
         ensures alone { stands_alone (O.state self.old.inner).model set.now.members ≡ true
             → IsAsked O.answers (O.state self.old.inner) (O.state self.new.inner)
             set.now.members result }
-        // So many pivots are left to the quick runs of one ask.
+        // The quick runs' count never falls, and so many pivots are left to those of one ask.
+        ensures counted { self.old.made ≤ self.new.made }
         ensures spent { self.new.made ≤ self.old.made + self.old.pivots }
         ensures budget { self.new.pivots ≡ self.old.pivots }
     {
@@ -132,10 +134,10 @@ impl<O: Oracle> Oracle for QuickOracle<'_, O> {
 }
 
 // A confirmed verdict by a quick run, or else what the inner oracle answers.
-fn answered<O: Oracle>(
+fn answered<O: Oracle, S: Suggest>(
     alloc: Global,
     model: &Model,
-    kept: &mut Kept,
+    kept: &mut Kept<S>,
     inner: &mut O,
     set: &MemberSet,
     pivots: u64,
@@ -147,6 +149,7 @@ fn answered<O: Oracle>(
     ensures came { Came O.answers (O.state inner.old) (O.state inner.new) set.now.members result }
     ensures alone { stands_alone model.now set.now.members ≡ true
         → IsAsked O.answers (O.state inner.old) (O.state inner.new) set.now.members result }
+    ensures counted { kept.old ≤ kept.new }
     ensures spent { kept.new ≤ kept.old + pivots }
 {
     if let Some(verdict) = kept.verdict(alloc, model, set, pivots, is_first) {

@@ -14,4 +14,4 @@ mod suggestions;
 mod tables;
 
 pub use runs::QuickRun;
-pub use suggestions::Suggestion;
+pub use suggestions::{Suggest, Suggestion};

@@ -1,20 +1,21 @@
 //! Runs on a table that is kept.
-ghost use Rattle.std.specs.Prelude.{◌≡◌, ◌+◌, ◌≤◌, IfSome};
+ghost use Rattle.std.specs.Prelude.{◌≡◌, ◌+◌, ◌≤◌, IfSome, false, is_some};
 ghost use Rattle.certs.specs.Checks.{IsSetOf};
 ghost use Rattle.quick_run.specs.Shape.{IsSuggestion};
+ghost use Rattle.quick_run.specs.Value.{RunValue};
 
 use crate::combinations::combo;
 use crate::limits::limits_of;
 use crate::pivots::{Turn, choose, make_pivot, most_pivots};
 use crate::points::{point, read_off};
 use crate::starts::start;
-use crate::suggestions::Suggestion;
+use crate::suggestions::{Suggest, Suggestion};
 use crate::tables::Table;
 use certs::MemberSet;
 use lp_model::Model;
 use std::alloc::Global;
 
-/// Runs on one program, with the table that is kept from one to the next. Contracts see how many pivots were made so far.
+/// Runs on one program, with the table that is kept from one to the next.
 #[derive(Drop)]
 pub struct QuickRun {
     table: Option<Table>,
@@ -23,11 +24,12 @@ pub struct QuickRun {
 }
 
 impl std::marker::Model for QuickRun {
-    ghost use Rattle.std.specs.Prelude.{ℕ};
+    ghost use Rattle.std.specs.Prelude.{is_some};
+    ghost use Rattle.quick_run.specs.Value.{RunValue};
 
-    ghost Value = { ℕ };
+    ghost Value = { RunValue };
 
-    ghost view = { λ r. r.made };
+    ghost view = { λ r. record { made = r.made; has_table = is_some r.table; went_on = r.was_kept } };
 }
 
 // The end of a run: no variable misses a limit, or a row is blocked.
@@ -40,7 +42,7 @@ enum End {
 impl QuickRun {
     /// Nothing was run yet.
     pub fn new() -> QuickRun
-        ensures { result ≡ 0 }
+        ensures { result ≡ record { made = 0; has_table = false; went_on = false } }
     {
         QuickRun {
             table: None,
@@ -48,13 +50,10 @@ impl QuickRun {
             made: 0,
         }
     }
+}
 
-    /// How many pivots were made so far; it stays at its greatest value once there.
-    pub fn pivots_made(&self) -> u64
-        ensures { result ≡ self.now }
-    {
-        self.made
-    }
+impl Suggest for QuickRun {
+    ghost made = { λ r. r.made };
 
     /// A point or a combination that may show whether the set's members, marks left out, can be satisfied, found with at
     /// most so many pivots; none where a number does not fit, too many pivots or entries are wanted, or memory is refused.
@@ -67,7 +66,7 @@ impl QuickRun {
     /// for by moving that variable alone. Of the variables that miss a limit the one with the shortest row leaves, after as
     /// many pivots as there are rows the least one, and after twenty times as many the least one also enters (Bland, *New
     /// finite pivoting rules for the simplex method*, 1977). Where none is returned the table is thrown away.
-    pub fn suggest(
+    fn suggest(
         &mut self,
         alloc: Global,
         model: &Model,
@@ -76,7 +75,10 @@ impl QuickRun {
     ) -> Option<Suggestion>
         requires same { IsSetOf model.now set.now }
         ensures shape { IfSome result (IsSuggestion model.now set.now.members) }
-        ensures spent { self.new ≤ self.old + pivots }
+        ensures counted { self.old.made ≤ self.new.made }
+        ensures spent { self.new.made ≤ self.old.made + pivots }
+        ensures kept { self.new.has_table ≡ is_some result }
+        ensures went_on { self.new.went_on ≡ self.old.has_table }
     {
         let kept = self.table.take();
         self.was_kept = kept.is_some();
@@ -91,13 +93,23 @@ impl QuickRun {
         Some(suggestion)
     }
 
-    /// Throws the table away. True where the last suggestion was made on a table that had been kept: then one on a table
-    /// built anew may be another.
-    pub fn restart(&mut self) -> bool
-        ensures { self.new ≡ self.old }
+    /// Throws the table away. True where the last suggestion was asked of a table that had been kept, and the table was not
+    /// thrown away since: then a suggestion of a table that is built anew may be another.
+    fn restart(&mut self) -> bool
+        ensures told { result ≡ self.old.went_on }
+        ensures cleared { self.new ≡ record {
+            made = self.old.made; has_table = false; went_on = false
+        } }
     {
         self.table = None;
         std::mem::replace(&mut self.was_kept, false)
+    }
+
+    /// How many pivots were made so far; it stays at its greatest value once there.
+    fn pivots_made(&self) -> u64
+        ensures { result ≡ self.now.made }
+    {
+        self.made
     }
 }
 
@@ -111,6 +123,7 @@ fn found(
     made: &mut u64,
 ) -> Option<Suggestion>
     ensures shape { IfSome result (IsSuggestion model.now set.now.members) }
+    ensures counted { made.old ≤ made.new }
     ensures spent { made.new ≤ made.old + pivots }
 {
     if let Some(step) = read_off(table) {
@@ -127,7 +140,8 @@ fn found(
 
 // Makes turns until an end, with at most so many pivots; none where they are spent, or one is too wide.
 fn settle(alloc: Global, table: &mut Table, most: u64, made: &mut u64) -> Option<End>
-    ensures { made.new ≤ made.old + most }
+    ensures counted { made.old ≤ made.new }
+    ensures spent { made.new ≤ made.old + most }
 {
     for turn in 0..most {
         match choose(alloc, table, turn)? {

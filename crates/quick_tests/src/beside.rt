@@ -40,8 +40,8 @@ fn is_whole(member: Member) -> bool
     matches!(member, Member::Whole(_))
 }
 
-// Whether none of the members is a mark.
-fn are_unmarked(members: &[Member]) -> bool
+/// Whether none of the members is a mark.
+pub(crate) fn are_unmarked(members: &[Member]) -> bool
     ensures { result ≡ is_linear members.now }
 {
     for member in members {
@@ -52,8 +52,8 @@ fn are_unmarked(members: &[Member]) -> bool
     true
 }
 
-// All active members of a model.
-fn active(alloc: Global, model: &Model) -> Result<MemberSet, AllocError>
+/// All active members of a model.
+pub(crate) fn active(alloc: Global, model: &Model) -> Result<MemberSet, AllocError>
     ensures { IfOk result (IsSetOf model.now) }
 {
     model.members(alloc)

@@ -2,15 +2,20 @@
 //! answers differ: whether there is a point, and which members the deletion and the additive filter leave.
 //!
 //! Small sets are asked of the reference run alone. All kinds but the first have more rows times columns than that.
+//!
+//! Then suggestions that are wrong on purpose take the place of quick runs, and it tells of three asks for each how often there
+//! was a suggestion, how often the reference run was asked, and how many answers are not the reference run's own.
 #![tactic(auto)]
 
 mod beside;
 mod chance;
+mod liars;
 mod models;
 mod tally;
 
 use crate::beside::try_text;
 use crate::chance::Chance;
+use crate::liars::{Lie, try_lie};
 use crate::models::{Kind, Shape, model_text};
 use crate::tally::Tally;
 use std::alloc::{AllocError, Global};
@@ -131,6 +136,31 @@ fn main(rt: HostRuntime) -> io::Result<()> {
             tally.stopped,
             tally.stopped_alone,
             tally.differ
+        )?;
+    }
+    tell_lies(&rt)
+}
+
+// Tells what comes of each lie.
+fn tell_lies(rt: &HostRuntime) -> io::Result<()> {
+    let lies = [
+        ("nothing", Lie::Silence),
+        ("a point that misses a row", Lie::Point),
+        ("a point without values", Lie::NoValues),
+        ("a sum that does not cancel", Lie::Uncancelled),
+        ("weights below 0", Lie::Negative),
+        ("members in another order", Lie::Unordered),
+        ("a member that the set has not", Lie::Outside),
+    ];
+    for (name, lie) in lies {
+        let Some(told) = try_lie(rt.alloc(), lie)? else {
+            return println!(rt; "{name}: the model is not read");
+        };
+        println!(rt;
+            "{name}: asks 3 suggestions {} by the reference run {} differ {}",
+            told.suggestions,
+            told.handed,
+            told.differ
         )?;
     }
     Ok(())

@@ -108,6 +108,19 @@ pub(crate) fn model_text(
     Ok(text)
 }
 
+/// A model of two rows, of which one asks a column to be at least 1 and the other to be at most 0, beside 1,100 columns that
+/// stand in no row.
+pub(crate) fn opposed_text(alloc: Global) -> Result<Text, AllocError> {
+    let mut text = Text::new(alloc);
+    text.put("NAME opposed\nROWS\n N cost\n G r0\n L r1\nCOLUMNS\n")?;
+    text.put(" x0 r0 1\n x0 r1 1\n")?;
+    for column in 1..1_101 {
+        text.column(column)?;
+    }
+    text.put("RHS\n rhs r0 1\nENDATA\n")?;
+    Ok(text)
+}
+
 // ---- rows of all kinds
 
 // From 2 to so many.
