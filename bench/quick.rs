@@ -1,6 +1,7 @@
-// The asks of the deletion filter by quick runs alone, in plain Rust by the algorithm of the crates quick_run, quick_oracle, certs
-// and deletion_filter, part by part: what `bench/quick.sh` holds beside the proved program. It reads a model in plain lines
-// (`bench/forms.sh`), and ends with status 1 where the reference run would be asked.
+// The asks of the deletion filter by quick runs alone, or with the word `check` behind the model just the first of them, in plain
+// Rust by the algorithm of the crates quick_run, quick_oracle, certs and deletion_filter, part by part: what `bench/quick.sh` holds
+// beside the proved program. It reads a model in plain lines (`bench/forms.sh`), tells how many entries the table had at most, and
+// ends with status 1 where the reference run would be asked.
 use std::mem;
 use std::{env, fs, process};
 
@@ -228,126 +229,187 @@ struct Entry {
     factor: i128,
 }
 
+struct Entries {
+    variables: Vec<u32>,
+    factors: Vec<i128>,
+}
+
+impl Entries {
+    fn new() -> Entries {
+        Entries { variables: Vec::new(), factors: Vec::new() }
+    }
+
+    fn with_room(room: usize) -> Entries {
+        Entries { variables: Vec::with_capacity(room), factors: Vec::with_capacity(room) }
+    }
+
+    fn len(&self) -> usize {
+        self.variables.len()
+    }
+
+    fn iter(&self) -> impl Iterator<Item = (&u32, &i128)> + '_ {
+        self.variables.iter().zip(self.factors.iter())
+    }
+
+    fn clear(&mut self) {
+        self.variables.clear();
+        self.factors.clear();
+    }
+
+    fn push(&mut self, variable: u32, factor: i128) {
+        if factor != 0 {
+            self.variables.push(variable);
+            self.factors.push(factor);
+        }
+    }
+
+    fn factor_of(&self, variable: u32) -> Option<i128> {
+        let found = self.variables.binary_search(&variable);
+        Some(self.factors[found.ok()?])
+    }
+
+    fn rest(&self) -> Rest<'_> {
+        Rest { variables: &self.variables, factors: &self.factors }
+    }
+}
+
+#[derive(Clone, Copy)]
+struct Rest<'a> {
+    variables: &'a [u32],
+    factors: &'a [i128],
+}
+
 struct TableRow {
     base: u32,
     scale: i128,
-    entries: Vec<Entry>,
+    entries: Entries,
+    residues: u64,
 }
 
 impl TableRow {
+    fn new(base: u32, scale: i128, entries: Entries) -> TableRow {
+        let mut residues = 0;
+        for variable in &entries.variables {
+            residues |= residue(*variable);
+        }
+        TableRow { base, scale, entries, residues }
+    }
+
     fn factor_of(&self, variable: u32) -> Option<i128> {
-        let found = self.entries.binary_search_by_key(&variable, |entry| entry.variable);
-        Some(self.entries[found.ok()?].factor)
+        if self.residues & residue(variable) == 0 {
+            return None;
+        }
+        self.entries.factor_of(variable)
     }
 
     fn solved_for(&self, variable: u32) -> Option<TableRow> {
         let pivot = self.factor_of(variable)?;
         let rises = pivot > 0;
-        let mut entries = Vec::with_capacity(self.entries.len());
+        let mut entries = Entries::with_room(self.entries.len());
         let mut left = Some(Entry { variable: self.base, factor: signed(self.scale, rises)? });
-        for entry in &self.entries {
-            if entry.variable == variable {
-                continue;
+        for (other, factor) in self.entries.iter() {
+            if *other != variable {
+                left = push_before(&mut entries, left, *other);
+                entries.push(*other, signed(*factor, !rises)?);
             }
-            left = push_before(&mut entries, left, entry.variable);
-            entries.push(Entry { variable: entry.variable, factor: signed(entry.factor, !rises)? });
         }
         push_before(&mut entries, left, u32::MAX);
-        Some(TableRow { base: variable, scale: pivot.checked_abs()?, entries })
+        Some(TableRow::new(variable, pivot.checked_abs()?, entries))
     }
 
-    fn with_row(&self, other: &TableRow, factor: i128) -> Option<TableRow> {
+    fn with_row(&self, sum: &mut Entries, other: &TableRow, factor: i128) -> Option<TableRow> {
         let shared = common_divisor(other.scale, factor)?;
         let times = other.scale.checked_div(shared)?;
         let other_times = factor.checked_div(shared)?;
-        divided(TableRow {
-            base: self.base,
-            scale: product(times, self.scale)?,
-            entries: self.summed(times, other, other_times)?,
-        })
+        sum.clear();
+        self.put_sum(sum, times, other, other_times)?;
+        divided(self.base, product(times, self.scale)?, sum)
     }
 
-    fn summed(&self, times: i128, other: &TableRow, other_times: i128) -> Option<Vec<Entry>> {
-        let mut entries = Vec::with_capacity(self.entries.len() + other.entries.len());
-        let mut rest = other.entries.as_slice();
-        for entry in &self.entries {
-            if entry.variable == other.base {
+    fn put_sum(&self, sum: &mut Entries, times: i128, other: &TableRow, other_times: i128) -> Option<()> {
+        let mut rest = other.entries.rest();
+        for (variable, factor) in self.entries.iter() {
+            if *variable == other.base {
                 continue;
             }
-            rest = push_scaled(&mut entries, rest, other_times, entry.variable)?;
-            let mut factor = product(times, entry.factor)?;
-            if let [first, after @ ..] = rest {
-                if first.variable == entry.variable {
-                    factor = factor.checked_add(product(other_times, first.factor)?)?;
-                    rest = after;
-                }
+            rest = push_scaled(sum, rest, other_times, *variable)?;
+            let mut factor = product(times, *factor)?;
+            if let Rest { variables: [first, variables @ ..], factors: [number, factors @ ..] } = rest
+                && first == variable
+            {
+                factor = factor.checked_add(product(other_times, *number)?)?;
+                rest = Rest { variables, factors };
             }
-            push_entry(&mut entries, entry.variable, factor);
+            sum.push(*variable, factor);
         }
-        push_scaled(&mut entries, rest, other_times, u32::MAX)?;
-        Some(entries)
+        push_scaled(sum, rest, other_times, u32::MAX)?;
+        Some(())
     }
+}
+
+fn residue(variable: u32) -> u64 {
+    1 << (variable % 64)
 }
 
 fn signed(number: i128, same: bool) -> Option<i128> {
     if same { Some(number) } else { number.checked_neg() }
 }
 
-fn push_before(entries: &mut Vec<Entry>, entry: Option<Entry>, variable: u32) -> Option<Entry> {
+fn push_before(entries: &mut Entries, entry: Option<Entry>, variable: u32) -> Option<Entry> {
     match entry {
         Some(entry) if entry.variable < variable => {
-            entries.push(entry);
+            entries.push(entry.variable, entry.factor);
             None
         }
         _ => entry,
     }
 }
 
-fn push_entry(entries: &mut Vec<Entry>, variable: u32, factor: i128) {
-    if factor != 0 {
-        entries.push(Entry { variable, factor });
-    }
-}
-
-fn push_scaled<'a>(entries: &mut Vec<Entry>, others: &'a [Entry], times: i128, variable: u32) -> Option<&'a [Entry]> {
+fn push_scaled<'a>(sum: &mut Entries, others: Rest<'a>, times: i128, variable: u32) -> Option<Rest<'a>> {
     let mut rest = others;
-    while let [first, after @ ..] = rest {
-        if first.variable >= variable {
+    while let Rest { variables: [first, variables @ ..], factors: [factor, factors @ ..] } = rest {
+        if *first >= variable {
             return Some(rest);
         }
-        push_entry(entries, first.variable, product(times, first.factor)?);
-        rest = after;
+        sum.push(*first, product(times, *factor)?);
+        rest = Rest { variables, factors };
     }
     Some(rest)
 }
 
-fn divided(mut row: TableRow) -> Option<TableRow> {
-    let mut divisor = row.scale;
-    for entry in &row.entries {
-        if divisor == 1 {
-            return Some(row);
+fn divided(base: u32, scale: i128, entries: &Entries) -> Option<TableRow> {
+    let divisor = divisor_of(scale, &entries.factors)?;
+    let variables = entries.variables.to_vec();
+    let mut factors = entries.factors.to_vec();
+    if divisor > 1 {
+        for factor in &mut factors {
+            *factor = factor.checked_div(divisor)?;
         }
-        divisor = common_divisor(divisor, entry.factor)?;
     }
-    row.scale = row.scale.checked_div(divisor)?;
-    for entry in &mut row.entries {
-        entry.factor = entry.factor.checked_div(divisor)?;
+    Some(TableRow::new(base, scale.checked_div(divisor)?, Entries { variables, factors }))
+}
+
+fn divisor_of(scale: i128, factors: &[i128]) -> Option<i128> {
+    let mut divisor = scale;
+    for factor in factors {
+        if divisor == 1 {
+            break;
+        }
+        divisor = common_divisor(divisor, *factor)?;
     }
-    Some(row)
+    Some(divisor)
 }
 
 // ---- limits
 
-fn limits_of(model: &Model, set: &MemberSet) -> Vec<Limits> {
-    let mut limits = Vec::new();
+fn column_limits(model: &Model, set: &MemberSet, column: u32) -> Limits {
     let kept = |member: Member| if set.contains(member) { model.number(member) } else { None };
-    for column in 0..model.columns.len() as u32 {
-        limits.push(Limits { lo: kept(Member::Lower(column)), up: kept(Member::Upper(column)) });
-    }
-    for row in 0..model.rows.len() as u32 {
-        limits.push(Limits { lo: kept(Member::RowLo(row)), up: kept(Member::RowUp(row)) });
-    }
-    limits
+    Limits { lo: kept(Member::Lower(column)), up: kept(Member::Upper(column)) }
+}
+
+fn row_limits(model: &Model, set: &MemberSet, row: u32) -> Limits {
+    let kept = |member: Member| if set.contains(member) { model.number(member) } else { None };
+    Limits { lo: kept(Member::RowLo(row)), up: kept(Member::RowUp(row)) }
 }
 
 fn limit_on(limits: Limits, side: Side) -> Option<Frac> {
@@ -395,19 +457,29 @@ struct Table {
     variables: Vec<Variable>,
     rows: Vec<TableRow>,
     stored: usize,
+    most_stored: usize,
     blocked: Option<Blocked>,
 }
 
 impl Table {
-    fn limit(&mut self, limits: &[Limits]) -> Option<()> {
-        for (known, limits) in self.variables.iter_mut().zip(limits) {
-            known.limits = *limits;
-            known.missed = missed(known.limits, known.value);
+    fn limit(&mut self, model: &Model, set: &MemberSet) -> Option<()> {
+        let columns = model.columns.len() as u32;
+        for column in 0..columns {
+            self.put_limits(column, column_limits(model, set, column));
+        }
+        for row in 0..model.rows.len() as u32 {
+            self.put_limits(columns + row, row_limits(model, set, row));
         }
         for variable in 0..self.variables.len() as u32 {
             self.bring_inside(variable)?;
         }
         Some(())
+    }
+
+    fn put_limits(&mut self, variable: u32, limits: Limits) {
+        let known = &mut self.variables[variable as usize];
+        known.limits = limits;
+        known.missed = missed(limits, known.value);
     }
 
     fn bring_inside(&mut self, variable: u32) -> Option<()> {
@@ -436,34 +508,38 @@ impl Table {
         Some(())
     }
 
-    fn missed_after(&self, variable: u32, step: Frac, most: u32) -> Option<u32> {
+    fn misses(&self, row: &TableRow) -> bool {
+        self.variables[row.base as usize].missed.is_some()
+    }
+
+    fn missed_now(&self) -> u32 {
+        self.rows.iter().filter(|row| self.misses(row)).count() as u32
+    }
+
+    fn missed_after(&self, variable: u32, step: Frac, now: u32, most: u32) -> Option<u32> {
         let known = self.variables[variable as usize];
         let value = known.value.plus(step)?;
-        let mut count = u32::from(missed(known.limits, value).is_some());
+        let mut count = now.saturating_add(u32::from(missed(known.limits, value).is_some()));
+        let mut left = known.count;
         for row in &self.rows {
-            if count > most {
-                return Some(count);
+            if left == 0 || count > most.saturating_add(left) {
+                break;
             }
-            if self.is_missed_after(row, variable, step)? {
-                count = count.saturating_add(1);
+            if let Some(factor) = row.factor_of(variable) {
+                let basic = self.variables[row.base as usize];
+                let value = moved(basic.value, factor, row.scale, step)?;
+                count = count.saturating_add(u32::from(missed(basic.limits, value).is_some()));
+                count = count.saturating_sub(u32::from(basic.missed.is_some()));
+                left -= 1;
             }
         }
         Some(count)
     }
 
-    fn is_missed_after(&self, row: &TableRow, variable: u32, step: Frac) -> Option<bool> {
-        let basic = self.variables[row.base as usize];
-        let Some(factor) = row.factor_of(variable) else {
-            return Some(basic.missed.is_some());
-        };
-        let value = moved(basic.value, factor, row.scale, step)?;
-        Some(missed(basic.limits, value).is_some())
-    }
-
     fn replace(&mut self, place: usize, row: TableRow) {
         let old = &mut self.rows[place];
-        for entry in &old.entries {
-            self.variables[entry.variable as usize].count -= 1;
+        for variable in &old.entries.variables {
+            self.variables[*variable as usize].count -= 1;
         }
         self.stored -= old.entries.len();
         *old = row;
@@ -472,10 +548,11 @@ impl Table {
 
     fn count(&mut self, place: usize) {
         let row = &self.rows[place];
-        for entry in &row.entries {
-            self.variables[entry.variable as usize].count += 1;
+        for variable in &row.entries.variables {
+            self.variables[*variable as usize].count += 1;
         }
         self.stored += row.entries.len();
+        self.most_stored = self.most_stored.max(self.stored);
     }
 }
 
@@ -487,13 +564,23 @@ fn step_to(table: &Table, row: &TableRow, entry: Entry, side: Side) -> Option<Fr
 
 // ---- the start
 
-fn start(model: &Model, limits: &[Limits]) -> Option<Table> {
-    let mut table = Table { variables: Vec::new(), rows: Vec::new(), stored: 0, blocked: None };
-    for limits in limits {
-        table.variables.push(at_start(*limits));
+fn start(model: &Model, set: &MemberSet) -> Option<Table> {
+    let (columns, rows) = (model.columns.len() as u32, model.rows.len() as u32);
+    let mut table = Table {
+        variables: Vec::with_capacity(columns as usize + rows as usize),
+        rows: Vec::with_capacity(rows as usize),
+        stored: 0,
+        most_stored: 0,
+        blocked: None,
+    };
+    for column in 0..columns {
+        table.variables.push(at_start(column_limits(model, set, column)));
+    }
+    for row in 0..rows {
+        table.variables.push(at_start(row_limits(model, set, row)));
     }
     for (index, row) in model.rows.iter().enumerate() {
-        put_row(&mut table, (model.columns.len() + index) as u32, &row.terms)?;
+        put_row(&mut table, columns + index as u32, &row.terms)?;
     }
     Some(table)
 }
@@ -525,12 +612,12 @@ fn sum(table: &Table, terms: &[Term]) -> Option<Frac> {
 
 fn whole_row(base: u32, terms: &[Term]) -> Option<TableRow> {
     let scale = common_denominator(terms)?;
-    let mut entries = Vec::with_capacity(terms.len());
+    let mut entries = Entries::with_room(terms.len());
     for term in terms {
         let times = scale.checked_div(term.factor.den as i128)?;
-        entries.push(Entry { variable: term.column, factor: product(term.factor.num, times)? });
+        entries.push(term.column, product(term.factor.num, times)?);
     }
-    divided(TableRow { base, scale, entries })
+    divided(base, scale, &entries)
 }
 
 fn common_denominator(terms: &[Term]) -> Option<i128> {
@@ -564,7 +651,7 @@ struct Pivot {
 fn leaving(table: &Table, rule: Rule) -> Option<usize> {
     let mut best: Option<(usize, u32, usize)> = None;
     for (place, row) in table.rows.iter().enumerate() {
-        if table.variables[row.base as usize].missed.is_none() {
+        if !table.misses(row) {
             continue;
         }
         let length = if rule == Rule::Shortest { row.entries.len() } else { 0 };
@@ -576,19 +663,19 @@ fn leaving(table: &Table, rule: Rule) -> Option<usize> {
     best.map(|least| least.2)
 }
 
-fn side_of(entry: Entry, missed: Side) -> Side {
-    if entry.factor > 0 { opposite(missed) } else { missed }
+fn side_of(factor: i128, missed: Side) -> Side {
+    if factor > 0 { opposite(missed) } else { missed }
 }
 
 fn helping(table: &Table, row: &TableRow, side: Side, rule: Rule) -> Vec<(u32, u32)> {
     let mut best = Vec::new();
-    for entry in &row.entries {
-        let known = table.variables[entry.variable as usize];
-        let limit = limit_on(known.limits, side_of(*entry, side));
+    for (variable, factor) in row.entries.iter() {
+        let known = table.variables[*variable as usize];
+        let limit = limit_on(known.limits, side_of(*factor, side));
         if limit.is_some_and(|limit| limit == known.value) {
             continue;
         }
-        keep(&mut best, (known.count, entry.variable));
+        keep(&mut best, (known.count, *variable));
         if rule == Rule::Bland {
             break;
         }
@@ -607,11 +694,12 @@ fn keep(best: &mut Vec<(u32, u32)>, candidate: (u32, u32)) {
 
 fn entering(table: &Table, place: usize, side: Side, candidates: &[(u32, u32)]) -> Option<Pivot> {
     let row = &table.rows[place];
+    let now = table.missed_now();
     let mut best = None;
     let mut least = u32::MAX;
     for (_, variable) in candidates {
         let variable = *variable;
-        let Some((step, missed)) = after(table, row, side, variable, least) else {
+        let Some((step, missed)) = after(table, row, side, variable, now, least) else {
             continue;
         };
         if missed < least {
@@ -625,10 +713,10 @@ fn entering(table: &Table, place: usize, side: Side, candidates: &[(u32, u32)]) 
     best
 }
 
-fn after(table: &Table, row: &TableRow, side: Side, variable: u32, most: u32) -> Option<(Frac, u32)> {
+fn after(table: &Table, row: &TableRow, side: Side, variable: u32, now: u32, most: u32) -> Option<(Frac, u32)> {
     let factor = row.factor_of(variable)?;
     let step = step_to(table, row, Entry { variable, factor }, side)?;
-    Some((step, table.missed_after(variable, step, most)?))
+    Some((step, table.missed_after(variable, step, now, most)?))
 }
 
 // ---- pivots
@@ -675,10 +763,7 @@ fn make_pivot(table: &mut Table, pivot: Pivot) -> Option<()> {
     let leaves = &table.rows[pivot.place];
     let base = leaves.base;
     let solved = leaves.solved_for(pivot.variable)?;
-    let changed = changed_rows(table, pivot, &solved)?;
-    for (place, row) in changed {
-        table.replace(place, row);
-    }
+    put_in(table, pivot, &solved)?;
     table.replace(pivot.place, solved);
     table.variables[base as usize].row = None;
     table.variables[pivot.variable as usize].row = Some(pivot.place);
@@ -688,17 +773,19 @@ fn make_pivot(table: &mut Table, pivot: Pivot) -> Option<()> {
     Some(())
 }
 
-fn changed_rows(table: &Table, pivot: Pivot, solved: &TableRow) -> Option<Vec<(usize, TableRow)>> {
-    let mut changed = Vec::new();
-    for (place, row) in table.rows.iter().enumerate() {
+fn put_in(table: &mut Table, pivot: Pivot, solved: &TableRow) -> Option<()> {
+    let mut sum = Entries::new();
+    for place in 0..table.rows.len() {
         if place == pivot.place {
             continue;
         }
+        let row = &table.rows[place];
         if let Some(factor) = row.factor_of(pivot.variable) {
-            changed.push((place, row.with_row(solved, factor)?));
+            let changed = row.with_row(&mut sum, solved, factor)?;
+            table.replace(place, changed);
         }
     }
-    Some(changed)
+    Some(())
 }
 
 // ---- points and combinations
@@ -740,7 +827,8 @@ fn read_off(table: &Table) -> Option<Step> {
     let row = &table.rows[blocked.place];
     let entry = freed(table, row, blocked)?;
     let step = step_to(table, row, entry, blocked.side)?;
-    if table.missed_after(entry.variable, step, 0)? > 0 {
+    let now = table.missed_now();
+    if table.missed_after(entry.variable, step, now, 0)? > 0 {
         return None;
     }
     Some(Step { variable: entry.variable, step })
@@ -748,13 +836,14 @@ fn read_off(table: &Table) -> Option<Step> {
 
 fn freed(table: &Table, row: &TableRow, blocked: Blocked) -> Option<Entry> {
     let mut freed = None;
-    for entry in &row.entries {
-        let known = table.variables[entry.variable as usize];
-        if limit_on(known.limits, side_of(*entry, blocked.side)).is_none() {
+    for (variable, factor) in row.entries.iter() {
+        let (variable, factor) = (*variable, *factor);
+        let known = table.variables[variable as usize];
+        if limit_on(known.limits, side_of(factor, blocked.side)).is_none() {
             if freed.is_some() {
                 return None;
             }
-            freed = Some(*entry);
+            freed = Some(Entry { variable, factor });
         }
     }
     freed
@@ -781,9 +870,9 @@ fn weights(table: &Table, blocked: Blocked) -> Option<Vec<Option<Weighed>>> {
     let mut weights = vec![None; table.variables.len()];
     let row = &table.rows[blocked.place];
     weights[row.base as usize] = Some(Weighed { side: blocked.side, weight: Frac::whole(1) });
-    for entry in &row.entries {
-        let weight = Frac::new(entry.factor.checked_abs()?, row.scale)?;
-        weights[entry.variable as usize] = Some(Weighed { side: side_of(*entry, blocked.side), weight });
+    for (variable, factor) in row.entries.iter() {
+        let weight = Frac::new(factor.checked_abs()?, row.scale)?;
+        weights[*variable as usize] = Some(Weighed { side: side_of(*factor, blocked.side), weight });
     }
     Some(weights)
 }
@@ -813,12 +902,11 @@ impl QuickRun {
     fn suggest(&mut self, model: &Model, set: &MemberSet, pivots: u64) -> Option<Suggestion> {
         let kept = self.table.take();
         self.was_kept = kept.is_some();
-        let limits = limits_of(model, set);
         let mut table = match kept {
             Some(table) => table,
-            None => start(model, &limits)?,
+            None => start(model, set)?,
         };
-        table.limit(&limits)?;
+        table.limit(model, set)?;
         let suggestion = found(model, set, &mut table, pivots, &mut self.made)?;
         self.table = Some(table);
         Some(suggestion)
@@ -876,9 +964,12 @@ const SMALL: u64 = 1_000;
 
 fn stands_alone(model: &Model, set: &MemberSet) -> bool {
     let has_row = |row: u32| set.contains(Member::RowLo(row)) || set.contains(Member::RowUp(row));
-    let rows = (0..model.rows.len() as u32).filter(|row| has_row(*row)).count() as u64;
-    let crossed = |limits: &Limits| matches!((limits.lo, limits.up), (Some(lo), Some(up)) if up < lo);
-    rows * model.columns.len() as u64 <= SMALL || limits_of(model, set).iter().any(crossed)
+    let (columns, rows) = (model.columns.len() as u32, model.rows.len() as u32);
+    let count = (0..rows).filter(|row| has_row(*row)).count() as u64;
+    let crossed = |limits: Limits| matches!((limits.lo, limits.up), (Some(lo), Some(up)) if up < lo);
+    count * u64::from(columns) <= SMALL
+        || (0..columns).any(|column| crossed(column_limits(model, set, column)))
+        || (0..rows).any(|row| crossed(row_limits(model, set, row)))
 }
 
 struct Oracle<'a> {
@@ -986,15 +1077,25 @@ fn read(text: &str) -> Model {
 }
 
 fn main() {
-    let name = env::args().nth(1).unwrap_or_default();
+    let words: Vec<String> = env::args().collect();
+    let name = words.get(1).cloned().unwrap_or_default();
     let model = read(&fs::read_to_string(name).unwrap_or_default());
     let run = QuickRun { table: None, was_kept: false, made: 0 };
     let mut oracle = Oracle { model: &model, run, point: None, combo: None, asks: 0 };
     let set = MemberSet::all(&model);
-    let Some((left, witnesses)) = isolate(&mut oracle, &set) else {
+    let only_check = words.get(2).is_some_and(|word| word == "check");
+    let size = if only_check {
+        oracle.ask(&set, PIVOTS).map(|_| 0)
+    } else {
+        isolate(&mut oracle, &set).map(|(left, witnesses)| {
+            assert_eq!(left.count(), witnesses.len());
+            left.count()
+        })
+    };
+    let Some(size) = size else {
         println!("asks {} pivots {}: quick runs do not answer all", oracle.asks, oracle.run.made);
         process::exit(1);
     };
-    assert_eq!(left.count(), witnesses.len());
-    println!("asks {} pivots {} size {}", oracle.asks, oracle.run.made, left.count());
+    let most = oracle.run.table.map_or(0, |table| table.most_stored);
+    println!("asks {} pivots {} size {size} stored {most}", oracle.asks, oracle.run.made);
 }

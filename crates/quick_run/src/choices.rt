@@ -1,6 +1,7 @@
 //! Which variable leaves the basis, and which one enters.
+use crate::entries::Entry;
 use crate::limits::{limit_on, opposite};
-use crate::rows::{Entry, TableRow};
+use crate::rows::TableRow;
 use crate::tables::{Table, step_to};
 use certs::Side;
 use frac128::Frac;
@@ -32,7 +33,7 @@ pub(crate) struct Pivot {
 pub(crate) fn leaving(table: &Table, rule: Rule) -> Option<usize> {
     let mut best: Option<(usize, u32, usize)> = None;
     for (place, row) in table.rows.iter().enumerate() {
-        if !misses(table, row) {
+        if !table.misses(row) {
             continue;
         }
         let length = match rule {
@@ -47,20 +48,9 @@ pub(crate) fn leaving(table: &Table, rule: Rule) -> Option<usize> {
     best.map(|least| least.2)
 }
 
-// Whether the basic variable of a row misses a limit.
-fn misses(table: &Table, row: &TableRow) -> bool {
-    table
-        .variable(row.base)
-        .is_some_and(|known| known.missed.is_some())
-}
-
-/// The side of its limit in whose direction a variable counts for the basic variable of a row that misses a side.
-pub(crate) fn side_of(entry: Entry, missed: Side) -> Side {
-    if entry.factor > 0 {
-        opposite(missed)
-    } else {
-        missed
-    }
+/// The side of its limit in whose direction a variable with this factor counts for a basic variable that misses a side.
+pub(crate) fn side_of(factor: i128, missed: Side) -> Side {
+    if factor > 0 { opposite(missed) } else { missed }
 }
 
 /// The variables that can move so that the basic variable of a row comes nearer to a limit on the side that it misses: at
@@ -73,13 +63,14 @@ pub(crate) fn helping(
     rule: Rule,
 ) -> Option<Vec<(u32, u32)>> {
     let mut best = Vec::new(alloc);
-    for entry in row.entries.iter() {
-        let known = table.variable(entry.variable)?;
-        let limit = limit_on(known.limits, side_of(*entry, side));
+    let variables = row.entries.variables.iter();
+    for (variable, factor) in variables.zip(row.entries.factors.iter()) {
+        let known = table.variable(*variable)?;
+        let limit = limit_on(known.limits, side_of(*factor, side));
         if limit.is_some_and(|limit| limit == known.value) {
             continue;
         }
-        keep(&mut best, (known.count, entry.variable))?;
+        keep(&mut best, (known.count, *variable))?;
         if rule == Rule::Bland {
             break;
         }
@@ -107,11 +98,12 @@ pub(crate) fn entering(
     candidates: &[(u32, u32)],
 ) -> Option<Pivot> {
     let row = table.rows.get(place)?;
+    let now = table.missed_now();
     let mut best = None;
     let mut least = u32::MAX;
     for candidate in candidates {
         let variable = candidate.1;
-        let Some((step, missed)) = after(table, row, side, variable, least) else {
+        let Some((step, missed)) = after(table, row, side, variable, now, least) else {
             continue;
         };
         if missed < least {
@@ -129,15 +121,17 @@ pub(crate) fn entering(
     best
 }
 
-// The step of a variable that brings the basic one of a row to its limit, and how many then miss a limit.
+// The step of a variable that brings the basic one of a row to its limit, and how many then miss a limit, where `now` basic
+// ones do before: more than `most` where they are more than that.
 fn after(
     table: &Table,
     row: &TableRow,
     side: Side,
     variable: u32,
+    now: u32,
     most: u32,
 ) -> Option<(Frac, u32)> {
     let factor = row.factor_of(variable)?;
     let step = step_to(table, row, Entry { variable, factor }, side)?;
-    Some((step, table.missed_after(variable, step, most)?))
+    Some((step, table.missed_after(variable, step, now, most)?))
 }

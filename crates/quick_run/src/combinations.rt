@@ -44,10 +44,11 @@ fn weights(alloc: Global, table: &Table, blocked: Blocked) -> Option<Vec<Option<
         side: blocked.side,
         weight: Frac::whole(1),
     });
-    for entry in row.entries.iter() {
-        let magnitude = entry.factor.checked_abs()?;
-        *weights.get_mut(entry.variable as usize)? = Some(Weighed {
-            side: side_of(*entry, blocked.side),
+    let variables = row.entries.variables.iter();
+    for (variable, factor) in variables.zip(row.entries.factors.iter()) {
+        let magnitude = factor.checked_abs()?;
+        *weights.get_mut(*variable as usize)? = Some(Weighed {
+            side: side_of(*factor, blocked.side),
             weight: Frac::new(magnitude, row.scale).ok()?,
         });
     }

@@ -4,6 +4,7 @@
 mod arithmetic;
 mod choices;
 mod combinations;
+mod entries;
 mod limits;
 mod pivots;
 mod points;

@@ -1,31 +1,34 @@
 //! The limits of the variables, as a set of members gives them.
-ghost use Rattle.std.specs.Prelude.{◌≡◌};
+ghost use Rattle.std.specs.Prelude.{◌≡◌, ◌<◌, length};
 ghost use Rattle.certs.specs.Checks.{IsSetOf};
 ghost use Rattle.lp_model.specs.MemberSets.{IsPossibleIn};
 
 use certs::Limits;
 use frac128::Frac;
 use lp_model::{Member, MemberSet, Model, Side};
-use std::alloc::Global;
 
-/// The limits of the columns and then of the rows: the bounds and sides that the set has.
-pub(crate) fn limits_of(alloc: Global, model: &Model, set: &MemberSet) -> Option<Vec<Limits>>
+/// The limits of a column: the bounds that the set has.
+pub(crate) fn column_limits(model: &Model, set: &MemberSet, index: u32) -> Limits
     requires same { IsSetOf model.now set.now }
+    requires within { index < length model.now.columns }
 {
-    let mut limits = Vec::new(alloc);
-    for index in 0..model.column_count() {
-        let column = model.column(index);
-        let lo = kept(set, Member::Lower(index), column.lo);
-        let up = kept(set, Member::Upper(index), column.up);
-        limits.push(Limits { lo, up }).ok()?;
+    let column = model.column(index);
+    Limits {
+        lo: kept(set, Member::Lower(index), column.lo),
+        up: kept(set, Member::Upper(index), column.up),
     }
-    for index in 0..model.row_count() {
-        let row = model.row(index);
-        let lo = kept(set, Member::RowLo(index), row.lo);
-        let up = kept(set, Member::RowUp(index), row.up);
-        limits.push(Limits { lo, up }).ok()?;
+}
+
+/// The limits of a row: the sides that the set has.
+pub(crate) fn row_limits(model: &Model, set: &MemberSet, index: u32) -> Limits
+    requires same { IsSetOf model.now set.now }
+    requires within { index < length model.now.rows }
+{
+    let row = model.row(index);
+    Limits {
+        lo: kept(set, Member::RowLo(index), row.lo),
+        up: kept(set, Member::RowUp(index), row.up),
     }
-    Some(limits)
 }
 
 // The number of a member, where the set has the member.

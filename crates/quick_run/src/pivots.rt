@@ -1,5 +1,6 @@
 //! Pivots and turns.
 use crate::choices::{Pivot, Rule, entering, helping, leaving};
+use crate::entries::Entries;
 use crate::rows::TableRow;
 use crate::tables::{Blocked, Table};
 use std::alloc::Global;
@@ -48,17 +49,14 @@ pub(crate) fn most_pivots(table: &Table) -> u64 {
         .saturating_add(1000)
 }
 
-/// Makes a pivot: all new rows are made before one is put in.
+/// Makes a pivot. Where none is returned, since a new row does not fit, the table is of no more use.
 pub(crate) fn make_pivot(alloc: Global, table: &mut Table, pivot: Pivot) -> Option<()> {
     table.blocked = None;
     table.shift(pivot.variable, pivot.step)?;
     let leaves = table.rows.get(pivot.place)?;
     let base = leaves.base;
     let solved = leaves.solved_for(alloc, pivot.variable)?;
-    let changed = changed_rows(alloc, table, pivot, &solved)?;
-    for (place, row) in changed {
-        table.replace(place, row)?;
-    }
+    put_in(alloc, table, pivot, &solved)?;
     table.replace(pivot.place, solved)?;
     table.variables.get_mut(base as usize)?.row = None;
     table.variables.get_mut(pivot.variable as usize)?.row = Some(pivot.place);
@@ -68,23 +66,18 @@ pub(crate) fn make_pivot(alloc: Global, table: &mut Table, pivot: Pivot) -> Opti
     Some(())
 }
 
-// The other rows in which the entering variable counts, with its row put in.
-fn changed_rows(
-    alloc: Global,
-    table: &Table,
-    pivot: Pivot,
-    solved: &TableRow,
-) -> Option<Vec<(usize, TableRow)>> {
-    let mut changed = Vec::new(alloc);
-    for (place, row) in table.rows.iter().enumerate() {
+// Puts the row of the entering variable in for it, in each other row in which it counts.
+fn put_in(alloc: Global, table: &mut Table, pivot: Pivot, solved: &TableRow) -> Option<()> {
+    let mut sum = Entries::new(alloc);
+    for place in 0..table.rows.len() {
         if place == pivot.place {
             continue;
         }
+        let row = table.rows.get(place)?;
         if let Some(factor) = row.factor_of(pivot.variable) {
-            changed
-                .push((place, row.with_row(alloc, solved, factor)?))
-                .ok()?;
+            let changed = row.with_row(alloc, &mut sum, solved, factor)?;
+            table.replace(place, changed)?;
         }
     }
-    Some(changed)
+    Some(())
 }

@@ -3,8 +3,9 @@ ghost use Rattle.std.specs.Prelude.{◌≡◌, IfSome, length};
 
 use crate::arithmetic::moved;
 use crate::choices::side_of;
+use crate::entries::Entry;
 use crate::limits::limit_on;
-use crate::rows::{Entry, TableRow};
+use crate::rows::TableRow;
 use crate::tables::{Blocked, Table, step_to};
 use certs::{Point, Values};
 use frac128::Frac;
@@ -62,7 +63,8 @@ pub(crate) fn read_off(table: &Table) -> Option<Step> {
     let row = table.rows.get(blocked.place)?;
     let entry = freed(table, row, blocked)?;
     let step = step_to(table, row, entry, blocked.side)?;
-    if table.missed_after(entry.variable, step, 0)? > 0 {
+    let now = table.missed_now();
+    if table.missed_after(entry.variable, step, now, 0)? > 0 {
         return None;
     }
     Some(Step {
@@ -74,13 +76,15 @@ pub(crate) fn read_off(table: &Table) -> Option<Step> {
 // The one entry of a blocked row whose limit is gone; none where it is not just one.
 fn freed(table: &Table, row: &TableRow, blocked: Blocked) -> Option<Entry> {
     let mut freed = None;
-    for entry in row.entries.iter() {
-        let known = table.variable(entry.variable)?;
-        if limit_on(known.limits, side_of(*entry, blocked.side)).is_none() {
+    let variables = row.entries.variables.iter();
+    for (variable, factor) in variables.zip(row.entries.factors.iter()) {
+        let (variable, factor) = (*variable, *factor);
+        let known = table.variable(variable)?;
+        if limit_on(known.limits, side_of(factor, blocked.side)).is_none() {
             if freed.is_some() {
                 return None;
             }
-            freed = Some(*entry);
+            freed = Some(Entry { variable, factor });
         }
     }
     freed

@@ -1,107 +1,113 @@
 //! Rows of the table: whole numbers over one denominator.
 use crate::arithmetic::{common_divisor, product};
+use crate::entries::{Entries, Entry, Rest};
 use std::alloc::Global;
 
-/// A variable, so many times.
-#[derive(Clone, Copy)]
-pub(crate) struct Entry {
-    pub variable: u32,
-    pub factor: i128,
-}
-
-/// A basic variable as a sum of nonbasic ones: `scale` times `base` is the sum of the entries, which ascend by variable.
+/// A basic variable as a sum of nonbasic ones: `scale` times `base` is the sum of the entries.
 ///
-/// The scale is above 0, no factor is 0, and no number above 1 divides the scale and all factors.
+/// The scale is above 0, and no number above 1 divides the scale and all factors. The residues of the entries' variables by
+/// 64 are marked, so that of most variables that do not count this is told from the marks alone.
 #[derive(Drop)]
 pub(crate) struct TableRow {
     pub base: u32,
     pub scale: i128,
-    pub entries: Vec<Entry>,
+    pub entries: Entries,
+    residues: u64,
 }
 
 impl TableRow {
+    // The row of these entries.
+    fn new(base: u32, scale: i128, entries: Entries) -> TableRow {
+        let mut residues: u64 = 0;
+        for variable in entries.variables.iter() {
+            residues |= residue(*variable);
+        }
+        TableRow {
+            base,
+            scale,
+            entries,
+            residues,
+        }
+    }
+
     /// How often a variable counts; none where it does not.
     pub(crate) fn factor_of(&self, variable: u32) -> Option<i128> {
-        let found = self
-            .entries
-            .binary_search_by_key(&variable, |entry| entry.variable);
-        Some(self.entries.get(found.ok()?)?.factor)
+        if self.residues & residue(variable) == 0 {
+            return None;
+        }
+        self.entries.factor_of(variable)
     }
 
     /// The row of a nonbasic variable in place of the basic one.
     pub(crate) fn solved_for(&self, alloc: Global, variable: u32) -> Option<TableRow> {
         let pivot = self.factor_of(variable)?;
         let rises = pivot > 0;
-        let mut entries = Vec::with_capacity(alloc, self.entries.len()).ok()?;
+        let mut entries = Entries::with_room(alloc, self.entries.len())?;
         let mut left = Some(Entry {
             variable: self.base,
             factor: signed(self.scale, rises)?,
         });
-        for entry in self.entries.iter() {
-            if entry.variable == variable {
-                continue;
+        let own = self.entries.variables.iter();
+        for (other, factor) in own.zip(self.entries.factors.iter()) {
+            if *other != variable {
+                left = push_before(&mut entries, left, *other)?;
+                entries.push(*other, signed(*factor, !rises)?)?;
             }
-            left = push_before(&mut entries, left, entry.variable)?;
-            entries
-                .push(Entry {
-                    variable: entry.variable,
-                    factor: signed(entry.factor, !rises)?,
-                })
-                .ok()?;
         }
         push_before(&mut entries, left, u32::MAX)?;
-        Some(TableRow {
-            base: variable,
-            scale: pivot.checked_abs()?,
-            entries,
-        })
+        Some(TableRow::new(variable, pivot.checked_abs()?, entries))
     }
 
-    /// This row, with the row of a variable put in for it. The variable counts `factor` times.
+    /// This row, with the row of a variable put in for it. The variable counts `factor` times. The sum is made in entries
+    /// that are used again and again, and then stored at its size.
     pub(crate) fn with_row(
         &self,
         alloc: Global,
+        sum: &mut Entries,
         other: &TableRow,
         factor: i128,
     ) -> Option<TableRow> {
         let shared = common_divisor(other.scale, factor)?;
         let times = other.scale.checked_div(shared)?;
         let other_times = factor.checked_div(shared)?;
-        divided(TableRow {
-            base: self.base,
-            scale: product(times, self.scale)?,
-            entries: self.summed(alloc, times, other, other_times)?,
-        })
+        sum.clear();
+        self.put_sum(sum, times, other, other_times)?;
+        divided(alloc, self.base, product(times, self.scale)?, sum)
     }
 
-    // So many times the entries of this row, without that of the other's variable, and so many times the other's.
-    fn summed(
+    // Puts so many times the entries of this row, without that of the other's variable, and so many times the other's.
+    fn put_sum(
         &self,
-        alloc: Global,
+        sum: &mut Entries,
         times: i128,
         other: &TableRow,
         other_times: i128,
-    ) -> Option<Vec<Entry>> {
-        let room = self.entries.len().checked_add(other.entries.len())?;
-        let mut entries = Vec::with_capacity(alloc, room).ok()?;
-        let mut rest = other.entries.as_slice();
-        for entry in self.entries.iter() {
-            if entry.variable == other.base {
+    ) -> Option<()> {
+        let mut rest = other.entries.rest();
+        let own = self.entries.variables.iter();
+        for (variable, factor) in own.zip(self.entries.factors.iter()) {
+            if *variable == other.base {
                 continue;
             }
-            rest = push_scaled(&mut entries, rest, other_times, entry.variable)?;
-            let mut factor = product(times, entry.factor)?;
-            if let [first, after @ ..] = rest
-                && first.variable == entry.variable
+            rest = push_scaled(sum, rest, other_times, *variable)?;
+            let mut factor = product(times, *factor)?;
+            if let [first, variables @ ..] = rest.variables
+                && first == variable
+                && let [first, factors @ ..] = rest.factors
             {
-                factor = factor.checked_add(product(other_times, first.factor)?)?;
-                rest = after;
+                factor = factor.checked_add(product(other_times, *first)?)?;
+                rest = Rest { variables, factors };
             }
-            push_entry(&mut entries, entry.variable, factor)?;
+            sum.push(*variable, factor)?;
         }
-        push_scaled(&mut entries, rest, other_times, u32::MAX)?;
-        Some(entries)
+        push_scaled(sum, rest, other_times, u32::MAX)?;
+        Some(())
     }
+}
+
+// The mark of the residue of a variable by 64.
+fn residue(variable: u32) -> u64 {
+    1 << (variable % 64)
 }
 
 // The number, or its opposite.
@@ -115,58 +121,68 @@ fn signed(number: i128, same: bool) -> Option<i128> {
 
 // Pushes the entry where it comes before a variable, and gives it back where it does not.
 fn push_before(
-    entries: &mut Vec<Entry>,
+    entries: &mut Entries,
     entry: Option<Entry>,
     variable: u32,
 ) -> Option<Option<Entry>> {
     match entry {
         Some(entry) if entry.variable < variable => {
-            entries.push(entry).ok()?;
+            entries.push(entry.variable, entry.factor)?;
             Some(None)
         }
         _ => Some(entry),
     }
 }
 
-// Pushes an entry whose factor is not 0.
-fn push_entry(entries: &mut Vec<Entry>, variable: u32, factor: i128) -> Option<()> {
-    if factor == 0 {
-        return Some(());
-    }
-    entries.push(Entry { variable, factor }).ok()
-}
-
 // Pushes so many times those of the entries that come before a variable, and gives the rest.
 fn push_scaled<'a>(
-    entries: &mut Vec<Entry>,
-    others: &'a [Entry],
+    sum: &mut Entries,
+    others: Rest<'a>,
     times: i128,
     variable: u32,
-) -> Option<&'a [Entry]> {
+) -> Option<Rest<'a>> {
     let mut rest = others;
-    while let [first, after @ ..] = rest {
-        if first.variable >= variable {
+    while let [first, variables @ ..] = rest.variables {
+        if *first >= variable {
             return Some(rest);
         }
-        push_entry(entries, first.variable, product(times, first.factor)?)?;
-        rest = after;
+        let [factor, factors @ ..] = rest.factors else {
+            return None;
+        };
+        sum.push(*first, product(times, *factor)?)?;
+        rest = Rest { variables, factors };
     }
     Some(rest)
 }
 
-/// The row divided by the greatest number that divides its scale and all factors.
-pub(crate) fn divided(row: TableRow) -> Option<TableRow> {
-    let mut divisor = row.scale;
-    for entry in row.entries.iter() {
-        if divisor == 1 {
-            return Some(row);
+/// The row of these entries over a scale, divided by the greatest number that divides the scale and all factors, and stored
+/// at its size.
+pub(crate) fn divided(
+    alloc: Global,
+    base: u32,
+    scale: i128,
+    entries: &Entries,
+) -> Option<TableRow> {
+    let divisor = divisor_of(scale, entries.factors.as_slice())?;
+    let variables = Vec::from_slice(alloc, entries.variables.as_slice()).ok()?;
+    let mut factors = Vec::from_slice(alloc, entries.factors.as_slice()).ok()?;
+    if divisor > 1 {
+        for factor in factors.iter_mut() {
+            *factor = factor.checked_div(divisor)?;
         }
-        divisor = common_divisor(divisor, entry.factor)?;
     }
-    let mut row = row;
-    row.scale = row.scale.checked_div(divisor)?;
-    for entry in row.entries.iter_mut() {
-        entry.factor = entry.factor.checked_div(divisor)?;
+    let stored = Entries { variables, factors };
+    Some(TableRow::new(base, scale.checked_div(divisor)?, stored))
+}
+
+// The greatest number that divides a scale and all factors.
+fn divisor_of(scale: i128, factors: &[i128]) -> Option<i128> {
+    let mut divisor = scale;
+    for factor in factors {
+        if divisor == 1 {
+            break;
+        }
+        divisor = common_divisor(divisor, *factor)?;
     }
-    Some(row)
+    Some(divisor)
 }

@@ -5,7 +5,6 @@ ghost use Rattle.quick_run.specs.Shape.{IsSuggestion};
 ghost use Rattle.quick_run.specs.Value.{RunValue};
 
 use crate::combinations::combo;
-use crate::limits::limits_of;
 use crate::pivots::{Turn, choose, make_pivot, most_pivots};
 use crate::points::{point, read_off};
 use crate::starts::start;
@@ -82,12 +81,11 @@ impl Suggest for QuickRun {
     {
         let kept = self.table.take();
         self.was_kept = kept.is_some();
-        let limits = limits_of(alloc, model, set)?;
         let mut table = match kept {
             Some(table) => table,
-            None => start(alloc, model, limits.as_slice())?,
+            None => start(alloc, model, set)?,
         };
-        table.limit(limits.as_slice())?;
+        table.limit(model, set)?;
         let suggestion = found(alloc, model, set, &mut table, pivots, &mut self.made)?;
         self.table = Some(table);
         Some(suggestion)
@@ -98,7 +96,9 @@ impl Suggest for QuickRun {
     fn restart(&mut self) -> bool
         ensures told { result ≡ self.old.went_on }
         ensures cleared { self.new ≡ record {
-            made = self.old.made; has_table = false; went_on = false
+          made = self.old.made;
+          has_table = false;
+          went_on = false;
         } }
     {
         self.table = None;

@@ -1,29 +1,41 @@
 //! The table at the start: the rows are basic, and each column stands at its lower limit, else at its upper one, else at 0.
+ghost use Rattle.std.specs.Prelude.{◌≡◌};
+ghost use Rattle.certs.specs.Checks.{IsSetOf};
+
 use crate::arithmetic::{common_divisor, product};
-use crate::limits::missed;
-use crate::rows::{Entry, TableRow, divided};
+use crate::entries::Entries;
+use crate::limits::{column_limits, missed, row_limits};
+use crate::rows::{TableRow, divided};
 use crate::tables::{Table, Variable};
-use certs::Limits;
+use certs::{Limits, MemberSet};
 use frac128::Frac;
 use lp_model::{Model, Term};
 use std::alloc::Global;
 
-/// The table of a program under these limits of its columns and rows; none where a row does not fit.
-pub(crate) fn start(alloc: Global, model: &Model, limits: &[Limits]) -> Option<Table> {
+/// The table of a program under the limits of a set; none where a row does not fit.
+pub(crate) fn start(alloc: Global, model: &Model, set: &MemberSet) -> Option<Table>
+    requires same { IsSetOf model.now set.now }
+{
+    let columns = model.column_count();
+    let rows = model.row_count();
+    let count = columns.checked_add(rows)? as usize;
     let mut table = Table {
-        variables: Vec::new(alloc),
-        rows: Vec::new(alloc),
+        variables: Vec::with_capacity(alloc, count).ok()?,
+        rows: Vec::with_capacity(alloc, rows as usize).ok()?,
         stored: 0,
         blocked: None,
     };
-    for limits in limits.iter() {
-        table.variables.push(at_start(*limits)).ok()?;
+    for index in 0..columns {
+        let limits = column_limits(model, set, index);
+        table.variables.push(at_start(limits)).ok()?;
     }
-    let columns = model.column_count();
-    for index in 0..model.row_count() {
+    for index in 0..rows {
+        let limits = row_limits(model, set, index);
+        table.variables.push(at_start(limits)).ok()?;
+    }
+    for index in 0..rows {
         let terms = model.row(index).terms.as_slice();
-        let base = columns.checked_add(index)?;
-        put_row(alloc, &mut table, base, terms)?;
+        put_row(alloc, &mut table, columns.checked_add(index)?, terms)?;
     }
     Some(table)
 }
@@ -65,22 +77,12 @@ fn sum(table: &Table, terms: &[Term]) -> Option<Frac> {
 // The terms over their common denominator.
 fn whole_row(alloc: Global, base: u32, terms: &[Term]) -> Option<TableRow> {
     let scale = common_denominator(terms)?;
-    let mut entries = Vec::with_capacity(alloc, terms.len()).ok()?;
+    let mut entries = Entries::with_room(alloc, terms.len())?;
     for term in terms {
         let times = scale.checked_div(term.factor.den())?;
-        let factor = product(term.factor.num(), times)?;
-        entries
-            .push(Entry {
-                variable: term.column,
-                factor,
-            })
-            .ok()?;
+        entries.push(term.column, product(term.factor.num(), times)?)?;
     }
-    divided(TableRow {
-        base,
-        scale,
-        entries,
-    })
+    divided(alloc, base, scale, &entries)
 }
 
 // The least common multiple of the denominators.

@@ -1,9 +1,14 @@
 //! The table: all rows of a program, with what is known of each variable.
+ghost use Rattle.std.specs.Prelude.{◌≡◌};
+ghost use Rattle.certs.specs.Checks.{IsSetOf};
+
 use crate::arithmetic::moved;
-use crate::limits::{limit_on, missed};
-use crate::rows::{Entry, TableRow};
-use certs::{Limits, Side};
+use crate::entries::Entry;
+use crate::limits::{column_limits, limit_on, missed, row_limits};
+use crate::rows::TableRow;
+use certs::{Limits, MemberSet, Side};
 use frac128::Frac;
+use lp_model::Model;
 
 /// What the table has of a variable: where it stands, the side whose limit it misses, its row where it is basic, and in how
 /// many rows it counts.
@@ -39,15 +44,28 @@ impl Table {
         self.variables.get(variable as usize)
     }
 
-    /// Puts the variables under other limits. A nonbasic one that is outside moves to the limit that it misses.
-    pub(crate) fn limit(&mut self, limits: &[Limits]) -> Option<()> {
-        for (known, limits) in self.variables.iter_mut().zip(limits.iter()) {
-            known.limits = *limits;
-            known.missed = missed(known.limits, known.value);
+    /// Puts the variables under the limits of a set. A nonbasic one that is outside moves to the limit that it misses.
+    pub(crate) fn limit(&mut self, model: &Model, set: &MemberSet) -> Option<()>
+        requires same { IsSetOf model.now set.now }
+    {
+        let columns = model.column_count();
+        for index in 0..columns {
+            self.put_limits(index, column_limits(model, set, index))?;
+        }
+        for index in 0..model.row_count() {
+            self.put_limits(columns.checked_add(index)?, row_limits(model, set, index))?;
         }
         for variable in 0..u32::try_from(self.variables.len()).ok()? {
             self.bring_inside(variable)?;
         }
+        Some(())
+    }
+
+    // Puts a variable under other limits.
+    fn put_limits(&mut self, variable: u32, limits: Limits) -> Option<()> {
+        let known = self.variables.get_mut(variable as usize)?;
+        known.limits = limits;
+        known.missed = missed(limits, known.value);
         Some(())
     }
 
@@ -79,38 +97,56 @@ impl Table {
         Some(())
     }
 
-    /// How many variables would miss a limit after a nonbasic one moved by a step; one more than `most` where they are more
-    /// than that.
-    pub(crate) fn missed_after(&self, variable: u32, step: Frac, most: u32) -> Option<u32> {
+    /// Whether the basic variable of a row misses a limit.
+    pub(crate) fn misses(&self, row: &TableRow) -> bool {
+        self.variable(row.base)
+            .is_some_and(|known| known.missed.is_some())
+    }
+
+    /// How many basic variables miss a limit.
+    pub(crate) fn missed_now(&self) -> u32 {
+        let mut count: u32 = 0;
+        for row in self.rows.iter() {
+            count = count.saturating_add(u32::from(self.misses(row)));
+        }
+        count
+    }
+
+    /// How many variables would miss a limit after a nonbasic one moved by a step, where `now` basic ones do before: more than
+    /// `most` where they are more than that. Only the rows in which it counts are looked at.
+    pub(crate) fn missed_after(
+        &self,
+        variable: u32,
+        step: Frac,
+        now: u32,
+        most: u32,
+    ) -> Option<u32> {
         let known = self.variable(variable)?;
         let value = known.value.plus(step).ok()?;
-        let mut count = u32::from(missed(known.limits, value).is_some());
+        let mut count = now.saturating_add(u32::from(missed(known.limits, value).is_some()));
+        let mut left = known.count;
         for row in self.rows.iter() {
-            if count > most {
-                return Some(count);
+            if left == 0 || count > most.saturating_add(left) {
+                break;
             }
-            if self.is_missed_after(row, variable, step)? {
-                count = count.saturating_add(1);
+            if let Some(factor) = row.factor_of(variable) {
+                let basic = self.variable(row.base)?;
+                let value = moved(basic.value, factor, row.scale, step)?;
+                let misses = missed(basic.limits, value).is_some();
+                count = count
+                    .saturating_add(u32::from(misses))
+                    .saturating_sub(u32::from(basic.missed.is_some()));
+                left -= 1;
             }
         }
         Some(count)
     }
 
-    // Whether the basic variable of a row would miss a limit.
-    fn is_missed_after(&self, row: &TableRow, variable: u32, step: Frac) -> Option<bool> {
-        let basic = self.variable(row.base)?;
-        let Some(factor) = row.factor_of(variable) else {
-            return Some(basic.missed.is_some());
-        };
-        let value = moved(basic.value, factor, row.scale, step)?;
-        Some(missed(basic.limits, value).is_some())
-    }
-
     /// Puts a row in the place of another, and counts anew.
     pub(crate) fn replace(&mut self, place: usize, row: TableRow) -> Option<()> {
         let old = self.rows.get_mut(place)?;
-        for entry in old.entries.iter() {
-            let known = self.variables.get_mut(entry.variable as usize)?;
+        for variable in old.entries.variables.iter() {
+            let known = self.variables.get_mut(*variable as usize)?;
             known.count = known.count.saturating_sub(1);
         }
         self.stored = self.stored.saturating_sub(old.entries.len());
@@ -121,8 +157,8 @@ impl Table {
     /// Counts the entries of a row that is put in.
     pub(crate) fn count(&mut self, place: usize) -> Option<()> {
         let row = self.rows.get(place)?;
-        for entry in row.entries.iter() {
-            let known = self.variables.get_mut(entry.variable as usize)?;
+        for variable in row.entries.variables.iter() {
+            let known = self.variables.get_mut(*variable as usize)?;
             known.count = known.count.saturating_add(1);
         }
         self.stored = self.stored.checked_add(row.entries.len())?;
