@@ -204,6 +204,33 @@ mixed() {
     function range_of(i) { return i in range ? range[i] : 0 }'
 }
 
+# A random system of so many rows and columns, so many entries a row, whose factors have up to so many digits, that a point of small
+# whole numbers satisfies, but for the last row, which asks for 1 more than the three before it allow together. Runs over it often
+# come to numbers that do not fit.
+wide() {
+    awk -v rows="$1" -v columns="$2" -v each="$3" -v digits="$4" "$made"'BEGIN {
+        CONVFMT = OFMT = "%.0f"
+        state = 1 + rows * columns + digits
+        for (j = 0; j < columns; j++) point[j] = below(4)
+        last = rows - 1
+        for (i = 0; i < last; i++) {
+            side[i] = 0; kind[i] = i % 3 == 0 && i < last - 3 ? "G" : "L"
+            for (k = 0; k < each; k++) {
+                j = below(columns)
+                if ((i, j) in factor) continue
+                factor[i, j] = 1 + below(10 ^ digits - 1); side[i] += factor[i, j] * point[j]
+            }
+        }
+        side[last] = 1; kind[last] = "G"
+        for (i = last - 3; i < last; i++) {
+            side[last] += side[i]
+            for (j = 0; j < columns; j++) if ((i, j) in factor) factor[last, j] += factor[i, j]
+        }
+        for (j = 0; j < columns; j++) for (i = 0; i < rows; i++) if ((i, j) in factor) put(i, j, factor[i, j])
+        print_model(rows, columns)
+    }'
+}
+
 # Makes the models of the tables one by one, and calls a command with the name and the file of each: `each_model COMMAND [WORD..]`.
 # With words, only of those whose names have one of them.
 each_model() {

@@ -1,9 +1,9 @@
 #!/bin/sh
-# The deletion filter by quick runs: the proved program iis_bench beside the same algorithm in plain Rust (`bench/quick.rs`, by
-# `rustc -O`), on models of `bench/models.sh`, in one run. Both must ask and pivot equally often and find as many members. Prints
-# the processor seconds of each from start to end, with the reading of the model, and their ratio: each is run four times in a row,
-# in three turns, and the least mean counts. With words, the models whose names have one of them are taken. It wants GNU time
-# (Debian's package `time`). A benchmark, no test.
+# The deletion filter by quick runs: the proved program iis_bench, or that which IIS_BENCH names, beside the same algorithm in plain
+# Rust (`bench/quick.rs`, by `rustc -O`), on models of `bench/models.sh`, in one run. Both must ask and pivot equally often and find
+# as many members. Prints the processor seconds of each from start to end, with the reading of the model, and their ratio: each is
+# run four times in a row, in three turns, and the least mean counts. With words, the models whose names have one of them are taken.
+# It wants GNU time (Debian's package `time`). A benchmark, no test.
 set -eu
 
 top=$(CDPATH='' cd -- "$(dirname -- "$0")/.." && pwd)
@@ -14,6 +14,7 @@ trap 'rm -rf "$work"' EXIT
 # shellcheck source=bench/forms.sh
 . "$top/bench/forms.sh"
 cd "$work"
+bench=${IIS_BENCH:-$top/crates/iis_bench/out/iis_bench}
 [ "$#" -gt 0 ] || set -- "plan of 500" "plan of 1000" "2000 x 4000 infeasible" "transport 60" "flow 600"
 
 # Runs a command four times: its output goes to a file, and the mean of its processor seconds to the end of another.
@@ -42,7 +43,7 @@ measure() {
     : >proved.times
     : >plain.times
     for _ in 1 2 3; do
-        run proved proved.times "$top/crates/iis_bench/out/iis_bench" "$2" deletion
+        run proved proved.times "$bench" "$2" deletion
         run said plain.times ./plain model.plain
     done
     [ "$(counts proved)" = "$(counts said)" ] || {
@@ -58,7 +59,7 @@ measure() {
         }'
 }
 
-(cd "$top/crates/iis_bench" && rt run) >log 2>&1 </dev/null || {
+[ -n "${IIS_BENCH:-}" ] || (cd "$top/crates/iis_bench" && rt run) >log 2>&1 </dev/null || {
     tail -n 5 log >&2
     exit 1
 }

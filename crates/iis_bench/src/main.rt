@@ -1,5 +1,5 @@
-//! Looks for an irreducible set of a model by a filter, with quick runs or by the reference runs alone: what
-//! `bench/iis.sh` measures.
+//! Asks whether a point satisfies a model, or looks for an irreducible set of it by a filter, with quick runs or by the
+//! reference runs alone: what `bench/iis.sh`, `bench/quick.sh`, `bench/alone.sh` and `bench/memory.sh` measure.
 #![tactic(auto)]
 
 ghost use Rattle.std.specs.Prelude.{◌≡◌, true, None, IfOk};
@@ -7,7 +7,7 @@ ghost use Rattle.lp_model.specs.Members.{is_mark};
 ghost use Rattle.certs.specs.Checks.{IsSetOf};
 ghost use Rattle.certs.specs.Answers.{is_linear};
 
-use certs::{Irreducible, MemberSet, Oracle, Stop};
+use certs::{Irreducible, MemberSet, Oracle, Stop, Verdict};
 use filter_steps::listed;
 use iis_edge::{HostShelf, Shelf};
 use linear_oracle::LinearOracle;
@@ -27,9 +27,11 @@ const MOST: usize = 16_777_216;
 // What a run may spend.
 const PIVOTS: u64 = 100_000;
 
-// Which filter looks for the set.
+// What is asked: nothing, whether there is a point, or for a set by a filter.
 #[derive(Clone, Copy)]
-enum Filter {
+enum Question {
+    Nothing,
+    Check,
     Deletion,
     Additive,
     Sensitivity,
@@ -40,19 +42,57 @@ enum Filter {
 struct Request {
     name: String,
     bytes: Vec<u8>,
-    filter: Filter,
+    question: Question,
     is_quick: bool,
 }
 
-// What a search came to, and what it took: the asks, those of them that the reference run was asked for, and the pivots
+// What a question came to: nothing was asked, a verdict, a set of so many members, or a stop.
+#[derive(Clone, Copy)]
+enum End {
+    Nothing,
+    Feasible,
+    Infeasible,
+    Set(u64),
+    Wide,
+    Spent,
+    Nodes,
+    Large,
+    Memory,
+}
+
+impl End {
+    // The word for it.
+    fn word(self) -> &'static str {
+        match self {
+            End::Nothing => "nothing",
+            End::Feasible => "feasible",
+            End::Infeasible => "infeasible",
+            End::Set(_) => "set",
+            End::Wide => "wide",
+            End::Spent => "spent",
+            End::Nodes => "nodes",
+            End::Large => "large",
+            End::Memory => "memory",
+        }
+    }
+
+    // How many members were found.
+    fn size(self) -> u64 {
+        match self {
+            End::Set(size) => size,
+            _ => 0,
+        }
+    }
+}
+
+// What a question came to, and what it took: the asks, those of them that the reference run was asked for, and the pivots
 // of all runs.
 #[derive(Clone, Copy)]
 struct Told {
     asks: u64,
     reference: u64,
     pivots: u64,
-    end: &'static str,
-    size: u64,
+    end: End,
 }
 
 // Whether a member is a mark.
@@ -74,48 +114,47 @@ fn are_unmarked(members: &[Member]) -> bool
     true
 }
 
-// What a filter finds by one oracle.
-fn isolated<O: Oracle>(
-    alloc: Global,
-    filter: Filter,
-    oracle: &mut O,
-    set: &MemberSet,
-) -> Result<Irreducible, Stop>
+// What a question comes to by one oracle.
+fn asked<O: Oracle>(alloc: Global, question: Question, oracle: &mut O, set: &MemberSet) -> End
     requires same { IsSetOf (O.state oracle.old).model set.now }
     requires served { (O.state oracle.old).serves set.now.members ≡ true }
     requires fresh { (O.state oracle.old).tale.first_core ≡ None }
 {
-    match filter {
-        Filter::Deletion => deletion_filter::isolate(alloc, oracle, set),
-        Filter::Additive => additive_filter::isolate(alloc, oracle, set),
-        Filter::Sensitivity => sensitivity_filter::isolate(alloc, oracle, set),
+    match question {
+        Question::Nothing => End::Nothing,
+        Question::Check => verdict_end(&oracle.ask(alloc, set)),
+        Question::Deletion => set_end(&deletion_filter::isolate(alloc, oracle, set)),
+        Question::Additive => set_end(&additive_filter::isolate(alloc, oracle, set)),
+        Question::Sensitivity => set_end(&sensitivity_filter::isolate(alloc, oracle, set)),
     }
 }
 
-// The word for what a search came to.
-fn word(given: &Result<Irreducible, Stop>) -> &'static str {
+// What a verdict comes to.
+fn verdict_end(given: &Result<Verdict, Stop>) -> End {
     match given {
-        Ok(Irreducible::Set { .. }) => "set",
-        Ok(Irreducible::Feasible(_)) => "feasible",
-        Err(stop) => stop_word(stop),
+        Ok(Verdict::Feasible(_)) => End::Feasible,
+        Ok(Verdict::Infeasible(_)) => End::Infeasible,
+        Err(stop) => stop_end(stop),
     }
 }
 
-fn stop_word(stop: &Stop) -> &'static str {
+// What a search comes to.
+fn set_end(given: &Result<Irreducible, Stop>) -> End {
+    match given {
+        Ok(Irreducible::Set { members, .. }) => End::Set(members.count()),
+        Ok(Irreducible::Feasible(_)) => End::Feasible,
+        Err(stop) => stop_end(stop),
+    }
+}
+
+// What a stop is.
+fn stop_end(stop: &Stop) -> End {
     match stop {
-        Stop::Wide(_, _, _) => "wide",
-        Stop::Pivots(_) => "spent",
-        Stop::Nodes(_) => "nodes",
-        Stop::Large(_) => "large",
-        Stop::Memory => "memory",
-    }
-}
-
-// How many members were found.
-fn size(given: &Result<Irreducible, Stop>) -> u64 {
-    match given {
-        Ok(Irreducible::Set { members, .. }) => members.count(),
-        _ => 0,
+        Stop::Wide(_, _, _) => End::Wide,
+        Stop::Pivots(_) => End::Spent,
+        Stop::Nodes(_) => End::Nodes,
+        Stop::Large(_) => End::Large,
+        Stop::Memory => End::Memory,
     }
 }
 
@@ -126,25 +165,24 @@ fn active(alloc: Global, model: &Model) -> Result<MemberSet, AllocError>
     model.members(alloc)
 }
 
-// A search over the active members, by reference runs alone.
-fn search(alloc: Global, model: &Model, filter: Filter) -> Result<Told, AllocError> {
+// A question of the active members, by reference runs alone.
+fn ask_alone(alloc: Global, model: &Model, question: Question) -> Result<Told, AllocError> {
     let set = active(alloc, model)?;
     if !are_unmarked(listed(alloc, &set)?.as_slice()) {
         return Err(AllocError);
     }
     let mut oracle = LinearOracle::new(alloc, model, PIVOTS);
-    let given = isolated(alloc, filter, &mut oracle, &set);
+    let end = asked(alloc, question, &mut oracle, &set);
     Ok(Told {
         asks: oracle.tale().asks(),
         reference: oracle.tale().asks(),
         pivots: oracle.pivots_made(),
-        end: word(&given),
-        size: size(&given),
+        end,
     })
 }
 
-// A search over the active members, with quick runs.
-fn quick_search(alloc: Global, model: &Model, filter: Filter) -> Result<Told, AllocError> {
+// A question of the active members, with quick runs.
+fn ask_quick(alloc: Global, model: &Model, question: Question) -> Result<Told, AllocError> {
     let set = active(alloc, model)?;
     if !are_unmarked(listed(alloc, &set)?.as_slice()) {
         return Err(AllocError);
@@ -152,11 +190,12 @@ fn quick_search(alloc: Global, model: &Model, filter: Filter) -> Result<Told, Al
     let inner = LinearOracle::new(alloc, model, PIVOTS);
     let mut quick = QuickOracle::new(alloc, model, Kept::new(), inner, PIVOTS);
     let mut first = LinearOracle::new(alloc, model, PIVOTS);
-    let given = match filter {
-        Filter::Sensitivity => {
-            sensitivity_filter::isolate_with(alloc, &mut first, &mut quick, &set)
+    let end = match question {
+        Question::Sensitivity => {
+            let given = sensitivity_filter::isolate_with(alloc, &mut first, &mut quick, &set);
+            set_end(&given)
         }
-        _ => isolated(alloc, filter, &mut quick, &set),
+        _ => asked(alloc, question, &mut quick, &set),
     };
     let reference = quick.inner();
     Ok(Told {
@@ -166,17 +205,18 @@ fn quick_search(alloc: Global, model: &Model, filter: Filter) -> Result<Told, Al
             .pivots_made()
             .saturating_add(reference.pivots_made())
             .saturating_add(quick.pivots_made()),
-        end: word(&given),
-        size: size(&given),
+        end,
     })
 }
 
-// The filter that a word names.
-fn named(word: &str) -> Filter {
+// The question that a word stands for.
+fn named(word: &str) -> Question {
     match word {
-        "additive" => Filter::Additive,
-        "sensitivity" => Filter::Sensitivity,
-        _ => Filter::Deletion,
+        "nothing" => Question::Nothing,
+        "check" => Question::Check,
+        "additive" => Question::Additive,
+        "sensitivity" => Question::Sensitivity,
+        _ => Question::Deletion,
     }
 }
 
@@ -188,13 +228,13 @@ fn read_file(rt: &HostRuntime, name: &str, bytes: &mut Vec<u8>) {
     }
 }
 
-// The model's file, the filter, and `reference` where no quick runs are to be made, in this order.
+// The model's file, the question, and `reference` where no quick runs are to be made, in this order.
 fn read_words(rt: &HostRuntime) -> Result<Request, AllocError> {
     let alloc = rt.alloc();
     let mut request = Request {
         name: String::new(alloc),
         bytes: SAMPLE.to_vec(alloc)?,
-        filter: Filter::Deletion,
+        question: Question::Deletion,
         is_quick: true,
     };
     let Ok(args) = env::args(rt) else {
@@ -205,8 +245,8 @@ fn read_words(rt: &HostRuntime) -> Result<Request, AllocError> {
         read_file(rt, name.as_str(), &mut request.bytes);
         request.name = name;
     }
-    if let Some(filter) = words.next() {
-        request.filter = named(filter.as_str());
+    if let Some(question) = words.next() {
+        request.question = named(question.as_str());
     }
     if let Some(runs) = words.next() {
         request.is_quick = runs.as_str() != "reference";
@@ -214,7 +254,7 @@ fn read_words(rt: &HostRuntime) -> Result<Request, AllocError> {
     Ok(request)
 }
 
-// What the search that the words ask for comes to, or none where the model is not read.
+// What the question that the words ask comes to, or none where the model is not read.
 fn answer(alloc: Global, request: &Request) -> Option<Told> {
     if request.bytes.len() >= 2_147_483_648 {
         return None;
@@ -223,9 +263,9 @@ fn answer(alloc: Global, request: &Request) -> Option<Told> {
         return None;
     };
     if request.is_quick {
-        quick_search(alloc, &model, request.filter).ok()
+        ask_quick(alloc, &model, request.question).ok()
     } else {
-        search(alloc, &model, request.filter).ok()
+        ask_alone(alloc, &model, request.question).ok()
     }
 }
 
@@ -238,6 +278,10 @@ fn main(rt: HostRuntime) -> io::Result<()> {
     };
     println!(rt;
         "asks {} reference {} pivots {} end {} size {}",
-        told.asks, told.reference, told.pivots, told.end, told.size
+        told.asks,
+        told.reference,
+        told.pivots,
+        told.end.word(),
+        told.end.size()
     )
 }

@@ -158,9 +158,7 @@ fn tell_lies(rt: &HostRuntime) -> io::Result<()> {
         };
         println!(rt;
             "{name}: asks 3 suggestions {} by the reference run {} differ {}",
-            told.suggestions,
-            told.handed,
-            told.differ
+            told.suggestions, told.handed, told.differ
         )?;
     }
     Ok(())
