@@ -1,24 +1,18 @@
 -- What filters give as answers.
-use Rattle.std.proofs.Common.{◌≡◌, refl, sym, subst, false, true≢false, List, [], append_assoc, append-nil, length, Ok, Err}
+use Rattle.std.proofs.Common.{◌≡◌, refl, sym, subst, List, append_assoc, append-nil, length, Ok, Err}
 use Rattle.std.specs.Prelude.{All, Contains, IfErr, IfOk, None, Result}
 use Rattle.std.proofs.lemmas.List.Elements.{All-contains, All-contains_itself, All-filter, All-weaker}
 use Rattle.lp_model.specs.declared.members.Member.{Member}
-use Rattle.lp_model.specs.declared.members.Member.TheVariants.{Whole}
 use Rattle.lp_model.specs.Program.{Program}
-use Rattle.lp_model.specs.Members.{active_members, is_active, is_mark, possible_members}
+use Rattle.lp_model.specs.Members.{active_members, is_active, possible_members}
 use Rattle.lp_model.specs.MemberSets.{IsPossibleIn, active_set}
 use Rattle.lp_model.specs.Satisfaction.{IsPart, IsSatisfiable}
 use Rattle.lp_model.proofs.Marked.{possible_is}
 use Rattle.certs.specs.declared.evidence.Proof.{Proof}
-use Rattle.certs.specs.declared.evidence.Share.{Share}
-use Rattle.certs.specs.declared.evidence.Source.{Source}
-use Rattle.certs.specs.declared.evidence.Source.TheVariants.{Member as Of, Below, Above}
 use Rattle.certs.specs.declared.solving.Irreducible.{Irreducible}
 use Rattle.certs.specs.declared.solving.Irreducible.TheVariants.{Set, Feasible as AtPoint}
-use Rattle.certs.specs.Combination.{IsCombination, IsFrom, IsThere}
 use Rattle.certs.specs.Filter.{Early, IsEarlyTest, IsLateTest, Late}
-use Rattle.certs.specs.Proof.{IsMarked, IsProof, IsTreeProof, Tree, preorder}
-use Rattle.certs.specs.Proof.Tree.{Tip, Fork}
+use Rattle.certs.specs.Proof.{IsFittingNode, IsProof}
 use Rattle.certs.specs.Sites.{Budgets}
 use Rattle.certs.specs.declared.solving.Stop.{Stop}
 use Rattle.certs.specs.declared.solving.Verdict.{Verdict}
@@ -32,7 +26,7 @@ use Rattle.report_text.specs.declared.report.Core.{Core}
 use Rattle.report_printer.specs.Printing.{IsKnownAnswer, IsKnownCore, IsKnownNode}
 use Rattle.analysis.specs.Answers.{IsAnswerOf, IsFoundInOrder, IsStopAnswer, answer_of}
 use Rattle.analysis.specs.Right.{IsIsolated, IsRightCore}
-use Rattle.analysis.proofs.Refuting.{IsLeafProof, printed_nodes}
+use Rattle.analysis.proofs.Refuting.{known_nodes}
 use Rattle.analysis.proofs.Stopping.{IsRunOf, isolated_stop, known_stopped, run_answer}
 
 -- ---- parts of the active members
@@ -59,15 +53,17 @@ early_test_is_part model set test t =
 -- is right to a search
 pub found_is_right : (answers : Program → Budgets → List Member → Result Verdict Stop → Type 0) (IsLeft : Program → List Member → List Member → Type 0) (IsKept IsTest : List Member → Type 0) (state : OracleState) (budgets : Budgets) (found : Irreducible)
     → ((asked : List Member) (proof : Proof) → answers state.model state.budgets asked (Ok (Infeasible proof)) → AreLeavesInOrder proof.nodes)
+    → ((asked : List Member) (proof : Proof) → answers state.model state.budgets asked (Ok (Infeasible proof)) → All IsFittingNode proof.nodes)
     → ((k : List Member) → IsLeft state.model (active_members state.model) k → IsKept k) → ((k : List Member) → IsLeft state.model (active_members state.model) k → IsPart k (active_members state.model))
     → IsFoundInOrder found → IsIsolation IsLeft answers state (active_members state.model) found → IsIsolated IsKept IsTest state.model budgets (answer_of found)
-found_is_right answers IsLeft IsKept IsTest state budgets (Set members witnesses proof) ordered kept part order h = (
+found_is_right answers IsLeft IsKept IsTest state budgets (Set members witnesses proof) ordered fits kept part order h = (
   record {
     of_model = h.same;
     active = part members.members h.kept;
     in_order = order;
     proves = h.proof;
     ordered = subst AreLeavesInOrder (sym h.told.nodes_are) (ordered h.told.asked h.told.proof h.told.answered);
+    fits = subst (All IsFittingNode) (sym h.told.nodes_are) (fits h.told.asked h.told.proof h.told.answered);
     witnesses = h.witnesses;
     irreducible = h.irreducible;
     rounds = refl;
@@ -75,7 +71,7 @@ found_is_right answers IsLeft IsKept IsTest state budgets (Set members witnesses
   },
   kept members.members h.kept,
 )
-found_is_right answers IsLeft IsKept IsTest state budgets (AtPoint point) ordered kept part order h = h
+found_is_right answers IsLeft IsKept IsTest state budgets (AtPoint point) ordered fits kept part order h = h
 
 -- ---- and can be printed
 pub possible_members_are : (model : Program) → All (IsPossibleIn (active_set model)) (active_members model)
@@ -83,65 +79,48 @@ possible_members_are model =
     All-filter (is_active model) (IsPossibleIn (active_set model)) (possible_members model)
     (All-weaker (Contains (possible_members model)) (IsPossibleIn (active_set model)) (λ m c. possible_is (length model.rows) (length model.columns) m c) (possible_members model) (All-contains_itself (possible_members model)))
 
-from_more : (part set : List Member) (source : Source) → IsPart part set → IsFrom part source → IsFrom set source
-from_more part set (Of m) h c = All-contains (Contains set) part m h c
-from_more part set (Below j) h c = tt
-from_more part set (Above j) h c = tt
+pub part_possible : (model : Program) (part : List Member) → IsPart part (active_members model) → All (IsPossibleIn (active_set model)) part
+part_possible model part h =
+    All-weaker (Contains (active_members model)) (IsPossibleIn (active_set model)) (λ m c. All-contains (IsPossibleIn (active_set model)) (active_members model) m (possible_members_are model) c) part h
 
--- a combination of some is one of more
-combination_of_more : (model : Program) (part set : List Member) (shares : List Share) → IsPart part set → IsCombination model part [] shares → IsCombination model set [] shares
-combination_of_more model part set shares h c = record {
-  positive = c.positive;
-  there = All-weaker (IsThere model part []) (IsThere model set []) (λ s t. record { from = from_more part set s.source h t.from; number = t.number }) shares c.there;
-  cancels = c.cancels;
-  contradicts = c.contradicts;
-}
+pub known_proof : (model : Program) (part : List Member) (proof : Proof) → IsPart part (active_members model) → IsProof model part proof.nodes → All (IsKnownNode model) proof.nodes
+known_proof model part proof h p = known_nodes model part (part_possible model part h) proof.nodes p
 
--- without marks a proof is one leaf
-pub leaf_of_tree : (model : Program) (part : List Member) (proof : Proof) → IsPart part (active_members model) → All (λ m. is_mark m ≡ false) (active_members model)
-    → (tree : Tree) → preorder tree ≡ proof.nodes → IsTreeProof model part [] tree → IsLeafProof model proof
-leaf_of_tree model part proof h linear (Tip shares) e c = record { combo = record { shares = shares }; leaf = sym e; combination = combination_of_more model part (active_members model) shares h c }
-leaf_of_tree model part proof h linear (Fork j k lower upper) e p =
-    let marked : IsMarked model part j = p.0 in
-    absurd (true≢false (All-contains (λ m. is_mark m ≡ false) (active_members model) (Whole j) linear (All-contains (Contains (active_members model)) part (Whole j) h marked.in_set)))
-
-pub known_proof : (model : Program) (part : List Member) (proof : Proof) → IsPart part (active_members model) → All (λ m. is_mark m ≡ false) (active_members model) → IsProof model part proof.nodes → All (IsKnownNode model) proof.nodes
-known_proof model part proof h linear p = printed_nodes model (active_set model) proof refl (possible_members_are model) (leaf_of_tree model part proof h linear p.tree p.listed p.proves)
-
-pub known_core : (model : Program) (core : Core) → All (λ m. is_mark m ≡ false) (active_members model) → IsRightCore model core → IsKnownCore model core
-known_core model core linear h = record {
+pub known_core : (model : Program) (core : Core) → IsRightCore model core → IsKnownCore model core
+known_core model core h = record {
   members = h.of_model;
   points = λ k d l. (h.witnesses.each k d l).each_column;
-  proof = known_proof model core.members.members core.proof h.active linear h.proves;
+  proof = known_proof model core.members.members core.proof h.active h.proves;
 }
 
-pub found_is_known : (IsKept IsTest : List Member → Type 0) (model : Program) (budgets : Budgets) (found : Irreducible) → All (λ m. is_mark m ≡ false) (active_members model) → IsIsolated IsKept IsTest model budgets (answer_of found) → IsKnownAnswer model (answer_of found)
-found_is_known IsKept IsTest model budgets (Set members witnesses proof) linear h = known_core model (record { members = members; witnesses = witnesses.items; proof = proof; rounds = None; price = None }) linear h.0
-found_is_known IsKept IsTest model budgets (AtPoint point) linear h = h.each_column
+pub found_is_known : (IsKept IsTest : List Member → Type 0) (model : Program) (budgets : Budgets) (found : Irreducible) → IsIsolated IsKept IsTest model budgets (answer_of found) → IsKnownAnswer model (answer_of found)
+found_is_known IsKept IsTest model budgets (Set members witnesses proof) h = known_core model (record { members = members; witnesses = witnesses.items; proof = proof; rounds = None; price = None }) h.0
+found_is_known IsKept IsTest model budgets (AtPoint point) h = h.each_column
 
 -- ---- the answer
 -- for what a filter finds
 found_answer : (answers : Program → Budgets → List Member → Result Verdict Stop → Type 0) (IsLeft : Program → List Member → List Member → Type 0) (IsKept IsTest : List Member → Type 0) (state : OracleState) (budgets : Budgets) (found : Irreducible) (answer : Answer)
-    → All (λ m. is_mark m ≡ false) (active_members state.model)
     → ((asked : List Member) (proof : Proof) → answers state.model state.budgets asked (Ok (Infeasible proof)) → AreLeavesInOrder proof.nodes)
+    → ((asked : List Member) (proof : Proof) → answers state.model state.budgets asked (Ok (Infeasible proof)) → All IsFittingNode proof.nodes)
     → ((k : List Member) → IsLeft state.model (active_members state.model) k → IsKept k) → ((k : List Member) → IsLeft state.model (active_members state.model) k → IsPart k (active_members state.model))
     → (answer ≡ answer_of found) × IsFoundInOrder found → IsIsolation IsLeft answers state (active_members state.model) found → IsIsolated IsKept IsTest state.model budgets answer × IsKnownAnswer state.model answer
-found_answer answers IsLeft IsKept IsTest state budgets found answer linear ordered kept part is h =
-    let right : IsIsolated IsKept IsTest state.model budgets (answer_of found) = found_is_right answers IsLeft IsKept IsTest state budgets found ordered kept part is.1 h in (
+found_answer answers IsLeft IsKept IsTest state budgets found answer ordered fits kept part is h =
+    let right : IsIsolated IsKept IsTest state.model budgets (answer_of found) = found_is_right answers IsLeft IsKept IsTest state budgets found ordered fits kept part is.1 h in (
       subst (IsIsolated IsKept IsTest state.model budgets) (sym is.0) right,
-      subst (IsKnownAnswer state.model) (sym is.0) (found_is_known IsKept IsTest state.model budgets found linear right),
+      subst (IsKnownAnswer state.model) (sym is.0) (found_is_known IsKept IsTest state.model budgets found right),
     )
 
 -- and for what it gives, a stop included
 pub given_answer : (answers : Program → Budgets → List Member → Result Verdict Stop → Type 0) (IsLeft : Program → List Member → List Member → Type 0) (IsKept IsTest : List Member → Type 0) (state : OracleState) (budgets : Budgets)
-    (given : Result Irreducible Stop) {E : Type 0} (result : Result Answer E) → All (λ m. is_mark m ≡ false) (active_members state.model)
+    (given : Result Irreducible Stop) {E : Type 0} (result : Result Answer E)
     → ((asked : List Member) (proof : Proof) → answers state.model state.budgets asked (Ok (Infeasible proof)) → AreLeavesInOrder proof.nodes)
+    → ((asked : List Member) (proof : Proof) → answers state.model state.budgets asked (Ok (Infeasible proof)) → All IsFittingNode proof.nodes)
     → ((k : List Member) → IsLeft state.model (active_members state.model) k → IsKept k) → ((k : List Member) → IsLeft state.model (active_members state.model) k → IsPart k (active_members state.model))
-    → IfOk given (IsIsolation IsLeft answers state (active_members state.model)) → IfErr given (IsRunOf IsTest state.model budgets.pivots)
+    → IfOk given (IsIsolation IsLeft answers state (active_members state.model)) → IfErr given (IsRunOf IsTest state.model budgets)
     → IfOk result (IsAnswerOf given) → IfOk result (IsIsolated IsKept IsTest state.model budgets) × IfOk result (IsKnownAnswer state.model)
-given_answer answers IsLeft IsKept IsTest state budgets (Ok found) (Ok answer) linear ordered kept part h run is = found_answer answers IsLeft IsKept IsTest state budgets found answer linear ordered kept part is h
-given_answer answers IsLeft IsKept IsTest state budgets (Err stop) {E} (Ok answer) linear ordered kept part h run is =
+given_answer answers IsLeft IsKept IsTest state budgets (Ok found) (Ok answer) ordered fits kept part h run is = found_answer answers IsLeft IsKept IsTest state budgets found answer ordered fits kept part is h
+given_answer answers IsLeft IsKept IsTest state budgets (Err stop) {E} (Ok answer) ordered fits kept part h run is =
     let stopped : IsStopAnswer IsTest state.model budgets answer = run_answer IsTest state.model budgets stop {E = E} (Ok answer) run is in
     (isolated_stop IsKept IsTest state.model budgets {E = E} (Ok answer) stopped, known_stopped IsTest state.model budgets {E = E} (Ok answer) stopped)
-given_answer answers IsLeft IsKept IsTest state budgets (Ok found) (Err error) linear ordered kept part h run is = (tt, tt)
-given_answer answers IsLeft IsKept IsTest state budgets (Err stop) (Err error) linear ordered kept part h run is = (tt, tt)
+given_answer answers IsLeft IsKept IsTest state budgets (Ok found) (Err error) ordered fits kept part h run is = (tt, tt)
+given_answer answers IsLeft IsKept IsTest state budgets (Err stop) (Err error) ordered fits kept part h run is = (tt, tt)

@@ -1,6 +1,6 @@
 -- Right answers stand in the grammar of reports, where all names are words.
-use Rattle.std.proofs.Common.{◌≡◌, ◌≢◌, ◌<◌, ◌≤◌, ◌+◌, refl, sym, subst, ℕ, true, false, not, List, [], ◌∷◌, ◌++◌, length, get_or, zip, inl, inr, arith}
-use Rattle.std.specs.Prelude.{All, Contains, IsSome, IsTrue}
+use Rattle.std.proofs.Common.{◌≡◌, ◌≢◌, ◌<◌, ◌≤◌, ◌+◌, refl, sym, subst, ℕ, true, not, List, [], ◌∷◌, ◌++◌, length, get_or, zip, inl, inr, arith}
+use Rattle.std.specs.Prelude.{All, Contains, IsTrue}
 use Rattle.std.specs.List.{list_any}
 use Rattle.std.proofs.lemmas.Bool.{cases_lt}
 use Rattle.std.proofs.lemmas.List.{get_or_past}
@@ -10,13 +10,13 @@ use Rattle.rational.specs.Rational.{zero_ℚ}
 use Rattle.lp_model.specs.declared.members.Member.{Member}
 use Rattle.lp_model.specs.declared.members.Member.TheVariants.{RowLo, RowUp, Lower, Upper, Whole}
 use Rattle.lp_model.specs.Program.{Program, IsWellFormed, empty_column, empty_row, noted_column}
-use Rattle.lp_model.specs.Members.{active_members, comes_before, has, is_mark}
+use Rattle.lp_model.specs.Members.{active_members, comes_before, has}
 use Rattle.lp_model.specs.MemberSets.{SetValue, IsMemberFor, IsPossibleIn, active_set}
 use Rattle.lp_model.specs.Satisfaction.{IsPart, values_at}
 use Rattle.lp_model.proofs.Sets.{members_law}
-use Rattle.certs.specs.declared.evidence.Combo.{Combo}
+use Rattle.certs.specs.declared.evidence.Branch.{Branch}
 use Rattle.certs.specs.declared.evidence.Node.{Node}
-use Rattle.certs.specs.declared.evidence.Node.TheVariants.{Leaf}
+use Rattle.certs.specs.declared.evidence.Node.TheVariants.{Split, Leaf}
 use Rattle.certs.specs.declared.evidence.Point.{Point}
 use Rattle.certs.specs.declared.evidence.Proof.{Proof}
 use Rattle.certs.specs.declared.evidence.Source.{Source}
@@ -24,10 +24,9 @@ use Rattle.certs.specs.declared.evidence.Source.TheVariants.{Member as Of, Below
 use Rattle.certs.specs.declared.solving.Site.{Site}
 use Rattle.certs.specs.declared.solving.Stop.{Stop}
 use Rattle.certs.specs.declared.solving.Stop.TheVariants.{Wide as TooWide, Pivots as Spent, Nodes, Large, Memory}
-use Rattle.certs.specs.Combination.{IsCombination, IsFrom, source_number}
 use Rattle.certs.specs.Named.{node_uses, used_set}
 use Rattle.certs.specs.Order.{AreLeavesInOrder, IsNodeInOrder}
-use Rattle.certs.specs.Proof.{IsProof}
+use Rattle.certs.specs.Proof.{IsFittingNode, IsProof}
 use Rattle.certs.specs.Sites.{Budgets}
 use Rattle.certs.specs.Tales.{IsPointOf}
 use Rattle.filter_steps.specs.Isolated.{without}
@@ -35,20 +34,21 @@ use Rattle.report_text.specs.declared.report.Method.{Method}
 use Rattle.report_text.specs.declared.report.Method.TheVariants.{Deletion, Additive, Sensitivity}
 use Rattle.report_text.specs.declared.report.Core.{Core}
 use Rattle.report_text.specs.declared.report.Command.{Command}
-use Rattle.report_text.specs.declared.report.Command.TheVariants.{Check, Iis, Pivots}
+use Rattle.report_text.specs.declared.report.Command.TheVariants.{Check, Iis, Pivots, Nodes as MostNodes}
 use Rattle.report_text.specs.declared.report.Answer.{Answer}
 use Rattle.report_text.specs.declared.report.Answer.TheVariants.{Feasible, Infeasible, Irreducible, Done, Stopped}
 use Rattle.report_text.specs.declared.report.Entry.{Entry}
 use Rattle.report_text.specs.Turns.{AllEntries, entry_commands}
 use Rattle.report_text.specs.Grammar.{column_name}
-use Rattle.report_text.specs.Form.{is_word, IsNamedColumn, IsNamedMember, IsListed, IsWithinLimit, IsPointFor, IsNamedSource, IsUse, IsOneLeaf, IsSettleSite, IsSiteFor, IsStopFor, IsCoreFor, IsAnswerFor, IsCommand, IsEntryFor, IsReportFor, AreEntriesFor, AreNumbered, can_answer}
+use Rattle.report_text.specs.Form.{is_word, IsNamedColumn, IsNamedMember, IsListed, IsPointFor, IsNamedSource, IsNodeFor, IsProofFor, IsSettleSite, IsSiteFor, IsStopFor, IsCoreFor, IsAnswerFor, IsCommand, IsEntryFor, IsReportFor, AreEntriesFor, AreNumbered, can_answer}
+use Rattle.report_printer.specs.Printing.{IsKnownSource}
 use Rattle.report_printer.specs.Numbers.{HasNumbersWithin, HasValuesWithin, HasWeightsWithin, HasWitnessesWithin, IsCoreWithin, IsProofWithin, IsStopWithin}
 use Rattle.analysis.specs.NamesAreWords.{HasWords}
 use Rattle.analysis.specs.Right.{AreRight, IsChecked, IsIsolated, IsRefutation, IsRightAfter, IsRightCore, IsRightStop, IsWhole, Right, budgets_in_force}
 use Rattle.analysis.specs.Pieces.{Answers}
 use Rattle.analysis.specs.Written.{report_of}
-use Rattle.analysis.proofs.Found.{leaf_of_tree, possible_members_are}
-use Rattle.analysis.proofs.Refuting.{IsLeafProof, no_above, no_below}
+use Rattle.analysis.proofs.Found.{part_possible, possible_members_are}
+use Rattle.analysis.proofs.Refuting.{IsSoundNode, sound_nodes}
 
 -- ---- lists
 front_of : {A : Type 0} (P : A → Type 0) (xs ys : List A) → All P (xs ++ ys) → All P xs
@@ -64,7 +64,7 @@ each_within (m ∷ ms) (w ∷ ws) e h =
     let rest : length ws ≡ length ms = omega arith in
     All-cons HasValuesWithin w ws (All-head (λ (p : Member × Point). HasValuesWithin p.1) (m, w) (zip ms ws) h) (each_within ms ws rest (All-tail (λ (p : Member × Point). HasValuesWithin p.1) (m, w) (zip ms ws) h))
 
-module _ (model : Program) (words : HasWords model) (linear : All (λ m. is_mark m ≡ false) (active_members model)) where
+module _ (model : Program) (words : HasWords model) where
   -- ---- names
   named_column : (j : ℕ) → j < length model.columns → IsNamedColumn model j
   named_column j l = record { known = l; word = words.columns j empty_column l }
@@ -95,29 +95,29 @@ module _ (model : Program) (words : HasWords model) (linear : All (λ m. is_mark
   point_form members p h within = record { len = h.each_column; fits = within; named = value_named p h.each_column }
 
   -- ---- proofs
-  source_named : (source : Source) → IsFrom (active_members model) source → IsSome (source_number model [] source) → IsNamedSource model source
-  source_named (Of m) from number = All-contains (IsNamedMember model) (active_members model) m active_named from
-  source_named (Below j) from number = absurd (no_below model j number)
-  source_named (Above j) from number = absurd (no_above model j number)
+  source_named : (source : Source) → IsKnownSource model source → IsNamedSource model source
+  source_named (Of m) known = named_member m known
+  source_named (Below j) known = named_column j known
+  source_named (Above j) known = named_column j known
 
-  are_uses : (combo : Combo) → IsCombination model (active_members model) [] combo.shares → All (λ s. IsWithinLimit s.weight) combo.shares → All (IsUse model) combo.shares
-  are_uses combo h within k d l =
-      let share = get_or combo.shares k d in
-      let there = h.there k d l in
-      record { named = source_named share.source there.from there.number; positive = h.positive k d l; fits = within k d l }
+  module _ (part : List Member) (h : IsPart part (active_members model)) where
+    Sound : Node → Type 0
+    Sound = IsSoundNode model part (part_possible model part h)
 
-  one_leaf : (proof : Proof) → IsLeafProof model proof → AreLeavesInOrder proof.nodes → IsProofWithin proof → IsOneLeaf model proof
-  one_leaf proof h ordered within = record {
-    combo = h.combo;
-    one = h.leaf;
-    uses = record {
-      each = are_uses h.combo h.combination (All-head HasWeightsWithin (Leaf h.combo) [] (subst (All HasWeightsWithin) h.leaf within));
-      in_order = All-head IsNodeInOrder (Leaf h.combo) [] (subst (All IsNodeInOrder) h.leaf ordered);
-    };
-  }
+    node_form : (node : Node) → Sound node → IsFittingNode node → IsNodeInOrder node → HasWeightsWithin node → IsNodeFor model node
+    unfolding Sound
+    node_form (Split j k) sound fits ordered within = (named_column j sound, fits)
+    node_form (Leaf combo) sound fits ordered within = record {
+      each = λ k d l. record { named = source_named (get_or combo.shares k d).source (sound.0 k d l); positive = sound.1 k d l; fits = within k d l };
+      in_order = ordered;
+    }
 
-  proof_form : (part : List Member) (proof : Proof) → IsPart part (active_members model) → IsProof model part proof.nodes → AreLeavesInOrder proof.nodes → IsProofWithin proof → IsOneLeaf model proof
-  proof_form part proof h p ordered within = one_leaf proof (leaf_of_tree model part proof h linear p.tree p.listed p.proves) ordered within
+    proof_form : (proof : Proof) → IsProof model part proof.nodes → AreLeavesInOrder proof.nodes → All IsFittingNode proof.nodes → IsProofWithin proof → IsProofFor model proof
+    unfolding Sound
+    proof_form proof p ordered fits within = record {
+      one = record { tree = p.tree; listed = p.listed };
+      each = λ k d l. node_form (get_or proof.nodes k d) (sound_nodes model part (part_possible model part h) proof.nodes p k d l) (fits k d l) (ordered k d l) (within k d l);
+    }
 
   -- ---- the members that a proof uses
   used_part : (nodes : List Node) → IsPart (used_set (active_set model) nodes).members (active_members model)
@@ -130,10 +130,10 @@ module _ (model : Program) (words : HasWords model) (linear : All (λ m. is_mark
     in_order = AllPairs-filter (λ m n. IsTrue (comes_before m n)) (λ (m : Member). list_any (node_uses m) nodes) (active_members model) (members_law model).0;
   }
 
-  refutation_form : (printed : SetValue) (proof : Proof) → IsRefutation model printed proof → IsProofWithin proof → IsListed model printed × IsOneLeaf model proof
+  refutation_form : (printed : SetValue) (proof : Proof) → IsRefutation model printed proof → IsProofWithin proof → IsListed model printed × IsProofFor model proof
   refutation_form printed proof h within = (
     subst (IsListed model) (sym h.used) (used_listed proof.nodes),
-    proof_form printed.members proof (subst (λ (set : SetValue). IsPart set.members (active_members model)) (sym h.used) (used_part proof.nodes)) h.proves h.ordered within,
+    proof_form printed.members (subst (λ (set : SetValue). IsPart set.members (active_members model)) (sym h.used) (used_part proof.nodes)) proof h.proves h.ordered h.fits within,
   )
 
   -- ---- irreducible sets
@@ -144,19 +144,23 @@ module _ (model : Program) (words : HasWords model) (linear : All (λ m. is_mark
     points = λ k d l.
         point_form (without core.members.members k) (get_or core.witnesses k d) (h.witnesses.each k d l)
         (each_within core.members.members core.witnesses h.witnesses.as_many within.witnesses k d l);
-    proof = proof_form core.members.members core.proof h.active h.proves h.ordered within.proof;
+    proof = proof_form core.members.members h.active core.proof h.proves h.ordered h.fits within.proof;
     rounds = h.rounds;
     price = h.price;
   }
 
   -- ---- stops
   site_form : (site : Site) → IsSettleSite model site → IsSiteFor model site
-  site_form site h = record { settle = h; named = All-filter (λ (m : Member). not (has site.set.members m)) (IsNamedMember model) (active_members model) active_named }
+  site_form site h = record {
+    settle = h;
+    named = All-filter (λ (m : Member). not (has site.set.members m)) (IsNamedMember model) (active_members model) active_named;
+    path = All-weaker (λ (b : Branch). b.column < length model.columns) (λ (b : Branch). IsNamedColumn model b.column) (λ b l. named_column b.column l) site.path h.known;
+  }
 
   stop_form : (IsTest : List Member → Type 0) (budgets : Budgets) (stop : Stop) → IsRightStop IsTest model budgets stop → IsStopWithin stop → IsStopFor model stop
   stop_form IsTest budgets (TooWide site k o) h within = (site_form site h.0.settle, within)
   stop_form IsTest budgets (Spent site) h within = site_form site h.0.settle
-  stop_form IsTest budgets (Nodes site) h within = absurd h
+  stop_form IsTest budgets (Nodes site) h within = site_form site h.0.settle
   stop_form IsTest budgets (Large size) h within = absurd h
   stop_form IsTest budgets Memory h within = absurd h
 
@@ -166,8 +170,8 @@ module _ (model : Program) (words : HasWords model) (linear : All (λ m. is_mark
   IsAnswerTo command answer = (can_answer command answer ≡ true) × IsAnswerFor model answer
 
   checked_form : (budgets : Budgets) (answer : Answer) → IsChecked model budgets answer → HasNumbersWithin answer → IsAnswerTo Check answer
-  checked_form budgets (Feasible p) h within = (refl, point_form (active_members model) p h within)
-  checked_form budgets (Infeasible printed proof) h within = (refl, refutation_form printed proof h within)
+  checked_form budgets (Feasible p) h within = (refl, point_form (active_members model) p h.0 within)
+  checked_form budgets (Infeasible printed proof) h within = (refl, refutation_form printed proof h.0 within)
   checked_form budgets (Irreducible core) h within = absurd h
   checked_form budgets Done h within = absurd h
   checked_form budgets (Stopped stop) h within = (refl, stop_form (IsWhole model) budgets stop h within)
@@ -185,6 +189,7 @@ module _ (model : Program) (words : HasWords model) (linear : All (λ m. is_mark
   answer_form budgets (Iis Additive) answer h within = isolated_form _ _ Additive budgets answer h within
   answer_form budgets (Iis Sensitivity) answer h within = isolated_form _ _ Sensitivity budgets answer h within
   answer_form budgets (Pivots n) answer h within = subst (IsAnswerTo (Pivots n)) (sym h) (refl, tt)
+  answer_form budgets (MostNodes n) answer h within = subst (IsAnswerTo (MostNodes n)) (sym h) (refl, tt)
 
   -- ---- reports
   entry_form : (before : List Command) (e : Entry) → IsCommand e.command → IsRightAfter model before e → IsEntryFor model e
@@ -211,5 +216,5 @@ module _ (model : Program) (words : HasWords model) (linear : All (λ m. is_mark
 abbrev pub AllInGrammar : Program → List Command → Type 0
 AllInGrammar model commands = (a : Answers model commands) → HasWords model → IsReportFor model (report_of model a.entries)
 
-pub all_in_grammar : (model : Program) (commands : List Command) → IsWellFormed model → All (λ m. is_mark m ≡ false) (active_members model) → All IsCommand commands → AllInGrammar model commands
-all_in_grammar model commands formed linear built a words = in_grammar model words linear commands a.entries formed built a.right a.numbered
+pub all_in_grammar : (model : Program) (commands : List Command) → IsWellFormed model → All IsCommand commands → AllInGrammar model commands
+all_in_grammar model commands formed built a words = in_grammar model words commands a.entries formed built a.right a.numbered

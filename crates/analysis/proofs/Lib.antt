@@ -4,6 +4,7 @@ pub mod Refuting
 pub mod Stopping
 pub mod Asked
 pub mod Found
+pub mod InBox
 pub mod Searched
 pub mod Sofar
 pub mod Report

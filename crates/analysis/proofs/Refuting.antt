@@ -1,63 +1,95 @@
--- The active members that a proof uses.
-use Rattle.std.proofs.Common.{◌≡◌, ℕ, sym, ◌∙◌, ap, subst, true≢false, List, [], ◌∷◌}
-use Rattle.std.specs.Prelude.{All, Contains, IsSome}
-use Rattle.std.proofs.lemmas.List.Elements.{All-weaker, All-contains, All-nil, All-cons}
+-- The active members that a proof uses, and what it names.
+use Rattle.std.proofs.Common.{◌≡◌, ◌<◌, ℕ, refl, sym, ◌∙◌, ap, subst, Bool, true, false, true≢false, cond, not, ◌&&◌, ◌==◌, List, [], ◌∷◌, ◌++◌, length, option_map, Some}
+use Rattle.std.specs.Prelude.{All, IsSome}
+use Rattle.std.proofs.lemmas.Bool.{and_parts, eqb-true}
+use Rattle.std.proofs.lemmas.List.Elements.{All-weaker, All-contains, All-nil, All-cons, All-head, All-tail, All-append}
+use lib.IntN.{pos, ◌+ℤ◌}
+use Rattle.rational.specs.Rational.{whole, zero_ℚ, ◌<ℚ◌}
+use Rattle.lp_model.specs.declared.members.Member.{Member}
 use Rattle.lp_model.specs.Program.{Program}
 use Rattle.lp_model.specs.Members.{active_members}
 use Rattle.lp_model.specs.MemberSets.{SetValue, IsPossibleIn, active_set}
+use Rattle.certs.specs.declared.evidence.Branch.{Branch}
 use Rattle.certs.specs.declared.evidence.Source.{Source}
 use Rattle.certs.specs.declared.evidence.Source.TheVariants.{Member as Of, Below, Above}
-use Rattle.certs.specs.declared.evidence.Combo.{Combo}
 use Rattle.certs.specs.declared.evidence.Node.{Node}
-use Rattle.certs.specs.declared.evidence.Node.TheVariants.{Leaf}
+use Rattle.certs.specs.declared.evidence.Node.TheVariants.{Split, Leaf}
 use Rattle.certs.specs.declared.evidence.Proof.{Proof}
 use Rattle.certs.specs.Checks.{IsSetOf}
-use Rattle.certs.specs.Combination.{IsFrom, IsThere, IsCombination, source_number}
-use Rattle.certs.specs.Proof.{IsProof}
+use Rattle.certs.specs.Combination.{IsFrom, IsThere, source_number, least_upper, greatest_lower, lesser, greater}
+use Rattle.certs.specs.Proof.{IsProof, IsFittingNode, IsTreeProof, Tree, at_least, at_most, preorder}
+use Rattle.certs.specs.Proof.Tree.{Tip, Fork}
 use Rattle.certs.specs.Named.{used_set}
 use Rattle.certs.specs.Order.{AreLeavesInOrder}
+use Rattle.branch_proof.proofs.Nodes.{mark_known}
 use Rattle.filter_steps.proofs.Proofs.{proof_of_used}
-use Rattle.report_printer.specs.Printing.{IsKnownSource as IsPrintedSource, IsKnownNode as IsPrintedNode}
+use Rattle.report_printer.specs.Printing.{IsKnownSource, IsKnownNode}
 use Rattle.analysis.specs.Right.{IsRefutation}
 
 -- a proof of the active members refutes those that it uses
-pub refutes : (model : Program) (proof : Proof) (printed : SetValue) → IsProof model (active_members model) proof.nodes → AreLeavesInOrder proof.nodes → printed ≡ used_set (active_set model) proof.nodes → IsRefutation model printed proof
-refutes model proof printed p ordered same = record {
+pub refutes : (model : Program) (proof : Proof) (printed : SetValue) → IsProof model (active_members model) proof.nodes → AreLeavesInOrder proof.nodes → All IsFittingNode proof.nodes → printed ≡ used_set (active_set model) proof.nodes → IsRefutation model printed proof
+refutes model proof printed p ordered fits same = record {
   proves = subst (λ (set : SetValue). IsProof model set.members proof.nodes) (sym same) (proof_of_used model (active_set model) proof.nodes p);
   ordered = ordered;
+  fits = fits;
   used = same;
 }
 
--- ---- known members
--- the proof is one leaf, with a combination of the active members
-pub record IsLeafProof (model : Program) (proof : Proof) : Type 0 where
-  pub combo : Combo
-  pub leaf : proof.nodes ≡ Leaf combo ∷ []
-  pub combination : IsCombination model (active_members model) [] combo.shares
+-- ---- branches
+-- a path with an upper branch on a column knows the column
+upper_known : (n j : ℕ) (path : List Branch) → All (λ b. b.column < n) path → IsSome (option_map whole (least_upper path j)) → j < n
+upper_known n j [] h s = absurd (true≢false (sym s))
+upper_known n j (b ∷ path) h s = by (λ z. upper_known n j path (All-tail (λ (c : Branch). c.column < n) b path h) z) ((b.column == j) && b.upper) refl s
+  where
+    by : (IsSome (option_map whole (least_upper path j)) → j < n) → (t : Bool) → ((b.column == j) && b.upper) ≡ t → IsSome (option_map whole (cond t (Some (lesser b.at (least_upper path j))) (least_upper path j))) → j < n
+    by rest true e s = subst (λ k. k < n) (eqb-true b.column j (and_parts (b.column == j) b.upper e).0) (All-head (λ (c : Branch). c.column < n) b path h)
+    by rest false e s = rest s
 
--- on no path there are no branches
-pub no_below : (model : Program) (j : ℕ) → IsSome (source_number model [] (Below j)) → ⊥
-no_below model j h = absurd (true≢false (sym h))
+-- and so does one with a lower branch
+lower_known : (n j : ℕ) (path : List Branch) → All (λ b. b.column < n) path → IsSome (option_map whole (greatest_lower path j)) → j < n
+lower_known n j [] h s = absurd (true≢false (sym s))
+lower_known n j (b ∷ path) h s = by (λ z. lower_known n j path (All-tail (λ (c : Branch). c.column < n) b path h) z) ((b.column == j) && not b.upper) refl s
+  where
+    by : (IsSome (option_map whole (greatest_lower path j)) → j < n) → (t : Bool) → ((b.column == j) && not b.upper) ≡ t → IsSome (option_map whole (cond t (Some (greater b.at (greatest_lower path j))) (greatest_lower path j))) → j < n
+    by rest true e s = subst (λ k. k < n) (eqb-true b.column j (and_parts (b.column == j) (not b.upper) e).0) (All-head (λ (c : Branch). c.column < n) b path h)
+    by rest false e s = rest s
 
-pub no_above : (model : Program) (j : ℕ) → IsSome (source_number model [] (Above j)) → ⊥
-no_above model j h = absurd (true≢false (sym h))
+-- ---- what a proof of some members of the program names
+module _ (model : Program) (part : List Member) (possible : All (IsPossibleIn (active_set model)) part) where
+  known_source : (path : List Branch) (source : Source) → All (λ b. b.column < length model.columns) path → IsFrom part source → IsSome (source_number model path source) → IsKnownSource model source
+  known_source path (Of m) known from number = All-contains (IsPossibleIn (active_set model)) part m possible from
+  known_source path (Below j) known from number = upper_known (length model.columns) j path known number
+  known_source path (Above j) known from number = lower_known (length model.columns) j path known number
 
-printed_source : (model : Program) (set : SetValue) (source : Source) → set ≡ active_set model → All (IsPossibleIn set) set.members
-    → IsFrom (active_members model) source → IsSome (source_number model [] source) → IsPrintedSource model source
-printed_source model set (Of m) whole all from number =
-    subst (λ (l : SetValue). IsPossibleIn l m) whole
-    (All-contains (IsPossibleIn set) set.members m all (subst (λ (l : SetValue). Contains l.members m) (sym whole) from))
-printed_source model set (Below j) whole all from number = absurd (no_below model j number)
-printed_source model set (Above j) whole all from number = absurd (no_above model j number)
+  -- a node names columns and members of the program, and its weights are above 0
+  abbrev pub IsSoundNode : Node → Type 0
+  IsSoundNode (Split j k) = j < length model.columns
+  IsSoundNode (Leaf combo) = All (λ s. IsKnownSource model s.source) combo.shares × All (λ s. zero_ℚ <ℚ s.weight) combo.shares
 
--- and ones of the program
-pub printed_nodes : (model : Program) (set : SetValue) (proof : Proof) → set ≡ active_set model → All (IsPossibleIn set) set.members → IsLeafProof model proof → All (IsPrintedNode model) proof.nodes
-printed_nodes model set proof whole all leaf =
-    subst (All (IsPrintedNode model)) (sym leaf.leaf)
-    (All-cons (IsPrintedNode model) (Leaf leaf.combo) []
-    (All-weaker (IsThere model (active_members model) []) (λ s. IsPrintedSource model s.source)
-    (λ s t. printed_source model set s.source whole all t.from t.number) leaf.combo.shares leaf.combination.there)
-    (All-nil (IsPrintedNode model)))
+  pushed : (path : List Branch) (b : Branch) → b.column < length model.columns → All (λ c. c.column < length model.columns) path → All (λ c. c.column < length model.columns) (path ++ b ∷ [])
+  pushed path b l h = All-append (λ (c : Branch). c.column < length model.columns) path (b ∷ []) h (All-cons (λ (c : Branch). c.column < length model.columns) b [] l (All-nil (λ (c : Branch). c.column < length model.columns)))
+
+  sound_tree : (path : List Branch) (tree : Tree) → All (λ b. b.column < length model.columns) path → IsTreeProof model part path tree → All IsSoundNode (preorder tree)
+  sound_tree path (Tip shares) known h =
+      All-cons IsSoundNode (Leaf (record { shares = shares })) []
+      (All-weaker (IsThere model part path) (λ s. IsKnownSource model s.source) (λ s t. known_source path s.source known t.from t.number) shares h.there, h.positive)
+      (All-nil IsSoundNode)
+  sound_tree path (Fork j k lower upper) known h =
+      let on : j < length model.columns = mark_known model part j h.0 in
+      All-cons IsSoundNode (Split j k) (preorder lower ++ preorder upper) on
+      (All-append IsSoundNode (preorder lower) (preorder upper)
+      (sound_tree (path ++ at_most j k ∷ []) lower (pushed path (at_most j k) on known) h.1)
+      (sound_tree (path ++ at_least j (k +ℤ pos 1) ∷ []) upper (pushed path (at_least j (k +ℤ pos 1)) on known) h.2))
+
+  pub sound_nodes : (nodes : List Node) → IsProof model part nodes → All IsSoundNode nodes
+  sound_nodes nodes p = subst (All IsSoundNode) p.listed (sound_tree [] p.tree (All-nil (λ (b : Branch). b.column < length model.columns)) p.proves)
+
+  sound_known : (node : Node) → IsSoundNode node → IsKnownNode model node
+  sound_known (Split j k) h = h
+  sound_known (Leaf combo) h = h.0
+
+  pub known_nodes : (nodes : List Node) → IsProof model part nodes → All (IsKnownNode model) nodes
+  known_nodes nodes p = All-weaker IsSoundNode (IsKnownNode model) sound_known nodes (sound_nodes nodes p)
 
 -- the members used are ones of the program
 pub used_of_model : (model : Program) (set : SetValue) (nodes : List Node) (used : SetValue) → set ≡ active_set model → used ≡ used_set set nodes → IsSetOf model used

@@ -1,23 +1,28 @@
 -- What filters give that ask the quick oracle, as answers.
-use Rattle.std.proofs.Common.{◌≡◌, sym, subst, ℕ, false, List, Ok, Err, inl, inr}
+use Rattle.std.proofs.Common.{◌≡◌, sym, ap, subst, true, List, Ok, Err, inl, inr}
 use Rattle.std.specs.Prelude.{All, IfErr, IfOk, Option, Result}
 use Rattle.std.proofs.lemmas.List.Elements.{All-contains_itself}
 use Rattle.lp_model.specs.declared.members.Member.{Member}
-use Rattle.lp_model.specs.Members.{active_members, is_mark}
+use Rattle.lp_model.specs.Members.{active_members}
 use Rattle.lp_model.specs.MemberSets.{SetValue, active_set}
 use Rattle.lp_model.specs.Program.{Program}
 use Rattle.lp_model.specs.Satisfaction.{IsPart}
 use Rattle.certs.specs.declared.evidence.Proof.{Proof}
 use Rattle.certs.specs.declared.solving.Irreducible.{Irreducible}
 use Rattle.certs.specs.declared.solving.Stop.{Stop}
+use Rattle.certs.specs.declared.solving.Verdict.{Verdict}
 use Rattle.certs.specs.declared.solving.Verdict.TheVariants.{Infeasible}
-use Rattle.certs.specs.Answers.{AnswersAt}
+use Rattle.certs.specs.Answers.{AnswersAt, IsTreeAnswer}
 use Rattle.certs.specs.Order.{AreLeavesInOrder}
+use Rattle.certs.specs.Proof.{IsFittingNode}
 use Rattle.certs.specs.Sites.{Budgets}
 use Rattle.certs.specs.Tales.{FirstCore, OracleState, TaleValue}
-use Rattle.certs.proofs.PlainAnswers.{plain_ordered}
+use Rattle.certs.specs.Trees.{has_mark}
 use Rattle.filter_steps.specs.Isolated.{IsIsolation, IsStoppedAt}
 use Rattle.linear_oracle.specs.Value.{OracleValue, state_of}
+use Rattle.branch_oracle.specs.Value.{BranchValue, state_with as with_trees}
+use Rattle.quick_oracle.specs.Alone.{stands_alone}
+use Rattle.quick_oracle.specs.Answers.{IsAsked}
 use Rattle.quick_oracle.specs.Value.{state_with}
 use Rattle.sensitivity_filter.specs.Cores.{IsLateOfCore as IsLateOfTold}
 use Rattle.sensitivity_filter.specs.Pairs.{IsStoppedWith, at_core, at_whole, either}
@@ -25,80 +30,102 @@ use Rattle.report_text.specs.declared.report.Answer.{Answer}
 use Rattle.report_printer.specs.Printing.{IsKnownAnswer}
 use Rattle.analysis.specs.Answers.{IsAnswerOf, fresh_oracle}
 use Rattle.analysis.specs.Right.{IsCoreTest, IsIsolated, IsLateOfCore}
-use Rattle.analysis.proofs.Asked.{QuickAnswers, proof_ordered, stop_plain}
+use Rattle.analysis.proofs.Asked.{InnerAnswers, QuickAnswers, by_tree, inner_fits, inner_ordered, inner_stop, marked_alone, proof_fits, proof_ordered, reference_core, stop_reference}
 use Rattle.analysis.proofs.Found.{given_answer, late_is_part, late_test_is_part, within}
-use Rattle.analysis.proofs.Stopping.{IsRunOf, PlainAnswers}
+use Rattle.analysis.proofs.Stopping.{IsRunOf}
+
+-- what callers see of the oracle by trees
+abbrev pub branch_state : BranchValue OracleValue → OracleState
+branch_state oracle = with_trees (state_of oracle.inner) oracle.nodes oracle.tale
 
 -- the quick oracle over one that was asked nothing yet
-abbrev quick_state : Program → ℕ → TaleValue → OracleState
-quick_state model pivots tale = state_with (state_of (fresh_oracle model pivots)) tale
+abbrev quick_state : Program → Budgets → TaleValue → OracleState
+quick_state model budgets tale = state_with (branch_state (fresh_oracle model budgets)) tale
+
+-- ---- an ask for all active members
+module _ (model : Program) (budgets : Budgets) (inner : BranchValue OracleValue) (fresh : inner ≡ fresh_oracle model budgets) (set : SetValue) where
+  -- its answer is one within the budgets
+  pub fresh_answer : (result : Result Verdict Stop) → QuickAnswers (branch_state inner).model (branch_state inner).budgets set.members result → QuickAnswers model budgets set.members result
+  fresh_answer result h = subst (λ (o : BranchValue OracleValue). QuickAnswers (branch_state o).model (branch_state o).budgets set.members result) fresh h
+
+  -- and where there is a mark the tree's
+  pub fresh_tree : (verdict : Verdict) (after : OracleState) → set ≡ active_set model → has_mark (active_members model) ≡ true
+      → (stands_alone (branch_state inner).model set.members ≡ true → IsAsked InnerAnswers (branch_state inner) after set.members (Ok verdict)) → IsTreeAnswer model budgets (active_members model) (Ok verdict)
+  fresh_tree verdict after whole marked alone =
+      let here : has_mark set.members ≡ true = subst (λ (s : SetValue). has_mark s.members ≡ true) (sym whole) marked in
+      subst (λ (s : SetValue). IsTreeAnswer model budgets s.members (Ok verdict)) whole
+      (by_tree model budgets set.members verdict (branch_state inner) after (ap (λ (o : BranchValue OracleValue). (branch_state o).model) fresh) (ap (λ (o : BranchValue OracleValue). (branch_state o).budgets) fresh) here
+      (alone (marked_alone (branch_state inner).model set.members here)))
 
 -- ---- one oracle
-filter_stop : (IsTest : Program → List Member → List Member → Type 0) (IsRight : List Member → Type 0) (model : Program) (pivots : ℕ) (tale : TaleValue) (after : OracleState)
+filter_stop : (IsTest : Program → List Member → List Member → Type 0) (IsRight : List Member → Type 0) (model : Program) (budgets : Budgets) (tale : TaleValue) (after : OracleState)
     → ((t : List Member) → IsTest model (active_members model) t → IsPart t (active_members model)) → ((t : List Member) → IsTest model (active_members model) t → IsRight t)
-    → (given : Result Irreducible Stop) → IfErr given (IsStoppedAt IsTest QuickAnswers (active_members model) (quick_state model pivots tale) after) → IfErr given (IsRunOf IsRight model pivots)
-filter_stop IsTest IsRight model pivots tale after part right (Ok found) h = tt
-filter_stop IsTest IsRight model pivots tale after part right (Err stop) h = record {
+    → (given : Result Irreducible Stop) → IfErr given (IsStoppedAt IsTest QuickAnswers (active_members model) (quick_state model budgets tale) after) → IfErr given (IsRunOf IsRight model budgets)
+filter_stop IsTest IsRight model budgets tale after part right (Ok found) h = tt
+filter_stop IsTest IsRight model budgets tale after part right (Err stop) h = record {
   asked = h.asked;
-  answered = stop_plain model (record { pivots = pivots; nodes = 0 }) h.asked stop h.answered;
+  answered = stop_reference model budgets h.asked stop h.answered;
   part = part h.asked h.test;
   test = right h.asked h.test;
 }
 
 -- what the filter gives is right
-pub search_answer : (IsLeft IsTest : Program → List Member → List Member → Type 0) (IsKept IsRight : List Member → Type 0) (model : Program) (set : SetValue) (budgets : Budgets) (inner : OracleValue) (tale : TaleValue) (after : OracleState)
-    (given : Result Irreducible Stop) {E : Type 0} (result : Result Answer E) → inner ≡ fresh_oracle model budgets.pivots → set ≡ active_set model → All (λ m. is_mark m ≡ false) (active_members model)
+pub search_answer : (IsLeft IsTest : Program → List Member → List Member → Type 0) (IsKept IsRight : List Member → Type 0) (model : Program) (set : SetValue) (budgets : Budgets) (inner : BranchValue OracleValue) (tale : TaleValue) (after : OracleState)
+    (given : Result Irreducible Stop) {E : Type 0} (result : Result Answer E) → inner ≡ fresh_oracle model budgets → set ≡ active_set model
     → ((k : List Member) → IsLeft model (active_members model) k → IsKept k) → ((k : List Member) → IsLeft model (active_members model) k → IsPart k (active_members model))
     → ((t : List Member) → IsTest model (active_members model) t → IsRight t) → ((t : List Member) → IsTest model (active_members model) t → IsPart t (active_members model))
-    → IfOk given (IsIsolation IsLeft QuickAnswers (state_with (state_of inner) tale) set.members) → IfErr given (IsStoppedAt IsTest QuickAnswers set.members (state_with (state_of inner) tale) after)
+    → IfOk given (IsIsolation IsLeft QuickAnswers (state_with (branch_state inner) tale) set.members) → IfErr given (IsStoppedAt IsTest QuickAnswers set.members (state_with (branch_state inner) tale) after)
     → IfOk result (IsAnswerOf given) → IfOk result (IsIsolated IsKept IsRight model budgets) × IfOk result (IsKnownAnswer model)
-search_answer IsLeft IsTest IsKept IsRight model set budgets inner tale after given result fresh whole linear kept part right tested found stopped is =
-    given_answer QuickAnswers IsLeft IsKept IsRight (quick_state model budgets.pivots tale) budgets given result linear (λ asked proof k. proof_ordered model (record { pivots = budgets.pivots; nodes = 0 }) asked proof k) kept part
-    (subst (λ (s : SetValue). IfOk given (IsIsolation IsLeft QuickAnswers (quick_state model budgets.pivots tale) s.members)) whole
-    (subst (λ (o : OracleValue). IfOk given (IsIsolation IsLeft QuickAnswers (state_with (state_of o) tale) set.members)) fresh found))
-    (filter_stop IsTest IsRight model budgets.pivots tale after tested right given
-    (subst (λ (s : SetValue). IfErr given (IsStoppedAt IsTest QuickAnswers s.members (quick_state model budgets.pivots tale) after)) whole
-    (subst (λ (o : OracleValue). IfErr given (IsStoppedAt IsTest QuickAnswers set.members (state_with (state_of o) tale) after)) fresh stopped)))
+search_answer IsLeft IsTest IsKept IsRight model set budgets inner tale after given result fresh whole kept part right tested found stopped is =
+    given_answer QuickAnswers IsLeft IsKept IsRight (quick_state model budgets tale) budgets given result (λ asked proof k. proof_ordered model budgets asked proof k) (λ asked proof k. proof_fits model budgets asked proof k) kept part
+    (subst (λ (s : SetValue). IfOk given (IsIsolation IsLeft QuickAnswers (quick_state model budgets tale) s.members)) whole
+    (subst (λ (o : BranchValue OracleValue). IfOk given (IsIsolation IsLeft QuickAnswers (state_with (branch_state o) tale) set.members)) fresh found))
+    (filter_stop IsTest IsRight model budgets tale after tested right given
+    (subst (λ (s : SetValue). IfErr given (IsStoppedAt IsTest QuickAnswers s.members (quick_state model budgets tale) after)) whole
+    (subst (λ (o : BranchValue OracleValue). IfErr given (IsStoppedAt IsTest QuickAnswers set.members (state_with (branch_state o) tale) after)) fresh stopped)))
     is
 
--- ---- two oracles: a run of the budget for all active members, and the quick oracle inside the first core
+-- ---- two oracles: the reference for all active members, and the quick oracle inside the first core
 core_stop : (model : Program) (budgets : Budgets) (tale : TaleValue) (first_new later_new : OracleState) (given : Result Irreducible Stop)
-    → IfErr given (IsStoppedWith PlainAnswers QuickAnswers (active_members model) (state_of (fresh_oracle model budgets.pivots)) first_new (quick_state model budgets.pivots tale) later_new) → IfErr given (IsRunOf (IsCoreTest model budgets) model budgets.pivots)
+    → IfErr given (IsStoppedWith InnerAnswers QuickAnswers (active_members model) (branch_state (fresh_oracle model budgets)) first_new (quick_state model budgets tale) later_new) → IfErr given (IsRunOf (IsCoreTest model budgets) model budgets)
 core_stop model budgets tale first_new later_new (Ok found) h = tt
 core_stop model budgets tale first_new later_new (Err stop) (at_whole h same) = record {
   asked = h.asked;
-  answered = h.answered;
+  answered = inner_stop model budgets h.asked stop h.answered;
   part = subst (λ (t : List Member). IsPart t (active_members model)) (sym h.test) (All-contains_itself (active_members model));
   test = inl h.test;
 }
 core_stop model budgets tale first_new later_new (Err stop) (at_core {core = core} is h quiet) = record {
   asked = h.asked;
-  answered = stop_plain model (record { pivots = budgets.pivots; nodes = 0 }) h.asked stop h.answered;
+  answered = stop_reference model budgets h.asked stop h.answered;
   part = within h.asked core (active_members model) (late_test_is_part model core h.asked h.test) is.part;
-  test = inr (core, (is.answered, h.test));
+  test = inr (core, (reference_core model budgets core is.answered, h.test));
 }
 
-either_ordered : (model : Program) (budgets : Budgets) (asked : List Member) (proof : Proof) → either PlainAnswers QuickAnswers budgets model budgets asked (Ok (Infeasible proof)) → AreLeavesInOrder proof.nodes
-either_ordered model budgets asked proof (inl h) = plain_ordered model budgets.pivots asked proof h
+either_ordered : (model : Program) (budgets : Budgets) (asked : List Member) (proof : Proof) → either InnerAnswers QuickAnswers budgets model budgets asked (Ok (Infeasible proof)) → AreLeavesInOrder proof.nodes
+either_ordered model budgets asked proof (inl h) = inner_ordered model budgets asked proof h
 either_ordered model budgets asked proof (inr h) = proof_ordered model budgets asked proof h
 
+either_fits : (model : Program) (budgets : Budgets) (asked : List Member) (proof : Proof) → either InnerAnswers QuickAnswers budgets model budgets asked (Ok (Infeasible proof)) → All IsFittingNode proof.nodes
+either_fits model budgets asked proof (inl h) = inner_fits model budgets asked proof h
+either_fits model budgets asked proof (inr h) = proof_fits model budgets asked proof h
+
 -- what the filter gives is right
-pub core_answer : (model : Program) (set : SetValue) (budgets : Budgets) (first inner : OracleValue) (tale : TaleValue) (first_new later_new : OracleState) (given : Result Irreducible Stop) {E : Type 0} (result : Result Answer E)
-    → first ≡ fresh_oracle model budgets.pivots → inner ≡ fresh_oracle model budgets.pivots → set ≡ active_set model → All (λ m. is_mark m ≡ false) (active_members model)
-    → IfOk given (IsIsolation (IsLateOfTold (AnswersAt PlainAnswers (state_of first)) first_new.tale.first_core) (either PlainAnswers QuickAnswers (state_with (state_of inner) tale).budgets) (state_of first) set.members)
-    → IfErr given (IsStoppedWith PlainAnswers QuickAnswers set.members (state_of first) first_new (state_with (state_of inner) tale) later_new)
+pub core_answer : (model : Program) (set : SetValue) (budgets : Budgets) (first inner : BranchValue OracleValue) (tale : TaleValue) (first_new later_new : OracleState) (given : Result Irreducible Stop) {E : Type 0} (result : Result Answer E)
+    → first ≡ fresh_oracle model budgets → inner ≡ fresh_oracle model budgets → set ≡ active_set model
+    → IfOk given (IsIsolation (IsLateOfTold (AnswersAt InnerAnswers (branch_state first)) first_new.tale.first_core) (either InnerAnswers QuickAnswers (state_with (branch_state inner) tale).budgets) (branch_state first) set.members)
+    → IfErr given (IsStoppedWith InnerAnswers QuickAnswers set.members (branch_state first) first_new (state_with (branch_state inner) tale) later_new)
     → IfOk result (IsAnswerOf given) → IfOk result (IsIsolated (IsLateOfCore model budgets) (IsCoreTest model budgets) model budgets) × IfOk result (IsKnownAnswer model)
-core_answer model set budgets first inner tale first_new later_new given result first_fresh inner_fresh whole linear found stopped is =
-    let state : OracleState = state_of (fresh_oracle model budgets.pivots) in
-    let allowed : Budgets = record { pivots = budgets.pivots; nodes = 0 } in
+core_answer model set budgets first inner tale first_new later_new given result first_fresh inner_fresh whole found stopped is =
+    let state : OracleState = branch_state (fresh_oracle model budgets) in
     let told : Option FirstCore = first_new.tale.first_core in
-    given_answer (either PlainAnswers QuickAnswers allowed) (IsLateOfTold (AnswersAt PlainAnswers state) told) (IsLateOfCore model budgets) (IsCoreTest model budgets) state budgets given result linear (either_ordered model allowed)
-    (λ kept k. (k.core, (k.is_core.answered, k.late))) (λ kept k. within kept k.core (active_members model) (late_is_part model k.core kept k.late) k.is_core.part)
-    (subst (λ (s : SetValue). IfOk given (IsIsolation (IsLateOfTold (AnswersAt PlainAnswers state) told) (either PlainAnswers QuickAnswers allowed) state s.members)) whole
-    (subst (λ (o : OracleValue). IfOk given (IsIsolation (IsLateOfTold (AnswersAt PlainAnswers state) told) (either PlainAnswers QuickAnswers (state_with (state_of o) tale).budgets) state set.members)) inner_fresh
-    (subst (λ (o : OracleValue). IfOk given (IsIsolation (IsLateOfTold (AnswersAt PlainAnswers (state_of o)) told) (either PlainAnswers QuickAnswers (state_with (state_of inner) tale).budgets) (state_of o) set.members)) first_fresh found)))
+    given_answer (either InnerAnswers QuickAnswers budgets) (IsLateOfTold (AnswersAt InnerAnswers state) told) (IsLateOfCore model budgets) (IsCoreTest model budgets) state budgets given result (either_ordered model budgets) (either_fits model budgets)
+    (λ kept k. (k.core, (reference_core model budgets k.core k.is_core.answered, k.late))) (λ kept k. within kept k.core (active_members model) (late_is_part model k.core kept k.late) k.is_core.part)
+    (subst (λ (s : SetValue). IfOk given (IsIsolation (IsLateOfTold (AnswersAt InnerAnswers state) told) (either InnerAnswers QuickAnswers budgets) state s.members)) whole
+    (subst (λ (o : BranchValue OracleValue). IfOk given (IsIsolation (IsLateOfTold (AnswersAt InnerAnswers state) told) (either InnerAnswers QuickAnswers (state_with (branch_state o) tale).budgets) state set.members)) inner_fresh
+    (subst (λ (o : BranchValue OracleValue). IfOk given (IsIsolation (IsLateOfTold (AnswersAt InnerAnswers (branch_state o)) told) (either InnerAnswers QuickAnswers (state_with (branch_state inner) tale).budgets) (branch_state o) set.members)) first_fresh found)))
     (core_stop model budgets tale first_new later_new given
-    (subst (λ (s : SetValue). IfErr given (IsStoppedWith PlainAnswers QuickAnswers s.members state first_new (quick_state model budgets.pivots tale) later_new)) whole
-    (subst (λ (o : OracleValue). IfErr given (IsStoppedWith PlainAnswers QuickAnswers set.members state first_new (state_with (state_of o) tale) later_new)) inner_fresh
-    (subst (λ (o : OracleValue). IfErr given (IsStoppedWith PlainAnswers QuickAnswers set.members (state_of o) first_new (state_with (state_of inner) tale) later_new)) first_fresh stopped))))
+    (subst (λ (s : SetValue). IfErr given (IsStoppedWith InnerAnswers QuickAnswers s.members state first_new (quick_state model budgets tale) later_new)) whole
+    (subst (λ (o : BranchValue OracleValue). IfErr given (IsStoppedWith InnerAnswers QuickAnswers set.members state first_new (state_with (branch_state o) tale) later_new)) inner_fresh
+    (subst (λ (o : BranchValue OracleValue). IfErr given (IsStoppedWith InnerAnswers QuickAnswers set.members (branch_state o) first_new (state_with (branch_state inner) tale) later_new)) first_fresh stopped))))
     is

@@ -1,7 +1,7 @@
 -- Stops of oracles as answers.
-use Rattle.std.proofs.Common.{◌≡◌, refl, sym, ◌∙◌, ap, subst, ℕ, Bool, true, false, ◌&&◌, List, [], filter, length, Result, Ok, Err, inl, inr}
-use Rattle.std.specs.Prelude.{Contains, IfOk}
-use Rattle.std.proofs.lemmas.List.Elements.{All-contains, filter_passes}
+use Rattle.std.proofs.Common.{◌≡◌, ◌<◌, refl, sym, ◌∙◌, ap, subst, ℕ, Bool, true, false, ◌&&◌, List, [], filter, length, Result, Ok, Err, inl, inr}
+use Rattle.std.specs.Prelude.{All, Contains, IfOk}
+use Rattle.std.proofs.lemmas.List.Elements.{All-contains, All-nil, filter_passes}
 use Rattle.lp_model.specs.declared.members.Member.{Member}
 use Rattle.lp_model.specs.Program.{Program}
 use Rattle.lp_model.specs.Members.{active_members, has, is_active, possible_members}
@@ -10,26 +10,20 @@ use Rattle.lp_model.specs.Satisfaction.{IsPart}
 use Rattle.lp_model.proofs.Sets.{contains_of_has}
 use Rattle.certs.specs.declared.evidence.Branch.{Branch}
 use Rattle.certs.specs.declared.solving.Site.{Site}
-use Rattle.certs.specs.declared.solving.SiteKind.{SiteKind}
-use Rattle.certs.specs.declared.solving.SiteKind.TheVariants.{Settle}
 use Rattle.certs.specs.declared.solving.Stop.{Stop}
 use Rattle.certs.specs.declared.solving.Stop.TheVariants.{Wide, Pivots as Spent, Nodes, Large, Memory}
 use Rattle.certs.specs.Checks.{IsSetOf}
-use Rattle.certs.specs.Improves.{ImproveEnd}
-use Rattle.certs.specs.Improves.ImproveEnd.{TooWide as ImproveTooWide, Spent as ImproveSpent}
-use Rattle.certs.specs.Plain.{plain_system}
-use Rattle.certs.specs.Runs.{End}
-use Rattle.certs.specs.Runs.End.{TooWide as SettleTooWide, Spent as SettleSpent}
-use Rattle.certs.specs.Sites.{Budgets, StopsBy, site_system}
-use Rattle.certs.specs.Solves.{RunEnds}
-use Rattle.certs.specs.declared.solving.Verdict.{Verdict}
-use Rattle.certs.specs.Answers.{IsAnsweredStop, IsPlainAnswer}
+use Rattle.certs.specs.Combination.{IsFitting}
+use Rattle.certs.specs.Sites.{Budgets}
+use Rattle.certs.specs.Answers.{IsAnsweredStop, IsReferenceAnswer, IsTreeSite}
 use Rattle.certs.specs.Tales.{IsNodeSite}
+use Rattle.frac128.specs.declared.Wide.{Wide as Operation}
 use Rattle.certs.proofs.HasLists.{agree_on}
 use Rattle.certs.proofs.Parted.{filter_both}
+use Rattle.branch_proof.proofs.TreeStops.{reference_stopped}
 use Rattle.report_text.specs.declared.report.Answer.{Answer}
 use Rattle.report_text.specs.declared.report.Answer.TheVariants.{Feasible, Infeasible, Irreducible, Done, Stopped}
-use Rattle.report_printer.specs.Printing.{IsKnownAnswer, IsKnownStop}
+use Rattle.report_printer.specs.Printing.{IsKnownAnswer, IsKnownSite, IsKnownStop}
 use Rattle.analysis.specs.Answers.{IsPossibleSite, IsStopAnswer, IsToldStop}
 use Rattle.analysis.specs.Right.{IsChecked, IsIsolated, IsRightStop, IsSiteOf, IsWhole}
 
@@ -63,41 +57,54 @@ empty_is model set of none =
     ∙ ap (λ (n : ℕ). record set { rows = length model.rows; columns = n }) of.columns
     ∙ ap (λ (l : List Member). record (empty_set model) { members = l }) none
 
-site_of : (model : Program) (asked : List Member) (site : Site) → IsNodeSite model asked [] site → IsPossibleSite site → IsPart asked (active_members model) → IsSiteOf (λ s. s ≡ asked) model site
-site_of model asked site node possible part = record {
+-- the site of a node, whose path is known and fits
+site_of : (model : Program) (asked : List Member) (site : Site) → IsTreeSite model asked site → IsPossibleSite site → IsPart asked (active_members model) → IsSiteOf (λ s. s ≡ asked) model site
+site_of model asked site h possible part = record {
   settle = record {
-    kind = node.kind;
-    of_model = node.set_of;
-    active = active_site model site.set node.set_of possible (subst (λ l. IsPart l (active_members model)) (sym node.set_is) part);
-    enforced_is = empty_is model site.enforced node.enforced_of node.none_enforced;
-    path_is = node.path_is;
+    kind = h.node.kind;
+    of_model = h.node.set_of;
+    active = active_site model site.set h.node.set_of possible (subst (λ l. IsPart l (active_members model)) (sym h.node.set_is) part);
+    enforced_is = empty_is model site.enforced h.node.enforced_of h.node.none_enforced;
+    known = h.known;
+    fits = h.fits;
   };
-  test = node.set_is;
+  test = h.node.set_is;
 }
 
--- the run of the set's plain system is the site's own run
-own_run : (model : Program) (pivots : ℕ) (asked : List Member) (kind : SiteKind) (set enforced : SetValue) (path : List Branch) (first : End) (further : ImproveEnd) → kind ≡ Settle → set.members ≡ asked → path ≡ []
-    → RunEnds (plain_system model asked [] false) pivots first → StopsBy kind (site_system model (record { kind = kind; set = set; enforced = enforced; path = path })) pivots first further
-own_run model pivots asked kind set enforced path first further k e p run =
-    subst (λ (z : SiteKind). StopsBy z (site_system model (record { kind = z; set = set; enforced = enforced; path = path })) pivots first further) (sym k)
-    (subst (λ (l : List Member). RunEnds (plain_system model l path false) pivots first) (sym e)
-    (subst (λ (q : List Branch). RunEnds (plain_system model asked q false) pivots first) (sym p) run))
+-- with no path there is nothing to be known
+root_site : (model : Program) (asked : List Member) (site : Site) → IsNodeSite model asked [] site → IsTreeSite model asked site
+root_site model asked site node = record {
+  node = subst (λ (p : List Branch). IsNodeSite model asked p site) (sym node.path_is) node;
+  known = subst (All (λ b. b.column < length model.columns)) (sym node.path_is) (All-nil (λ (b : Branch). b.column < length model.columns));
+  fits = subst (All IsFitting) (sym node.path_is) (All-nil IsFitting);
+}
 
--- ---- stops that an oracle answers
+-- ---- stops that the reference answers
+-- the sites of its runs and of its trees
+wide_site : (model : Program) (budgets : Budgets) (asked : List Member) (site : Site) (step : ℕ) (wide : Operation) → IsReferenceAnswer model budgets asked (Err (Wide site step wide)) → IsTreeSite model asked site
+wide_site model budgets asked site step wide (inl h) = root_site model asked site h.ends.0
+wide_site model budgets asked site step wide (inr h) = h.ends.0
+
+spent_site : (model : Program) (budgets : Budgets) (asked : List Member) (site : Site) → IsReferenceAnswer model budgets asked (Err (Spent site)) → IsTreeSite model asked site
+spent_site model budgets asked site (inl h) = root_site model asked site h.ends.0
+spent_site model budgets asked site (inr h) = h.ends.0
+
+whole_site : (model : Program) (budgets : Budgets) (asked : List Member) (site : Site) → IsReferenceAnswer model budgets asked (Err (Nodes site)) → IsTreeSite model asked site
+whole_site model budgets asked site (inl h) = absurd h.ends
+whole_site model budgets asked site (inr h) = root_site model asked site h.ends.0
+
 -- as an answer it is right
-right_stop : (model : Program) (budgets : Budgets) (asked : List Member) (stop : Stop) (answer : Answer) → IsPlainAnswer model budgets.pivots asked (Err stop) → IsPart asked (active_members model) → IsToldStop stop answer
+right_stop : (model : Program) (budgets : Budgets) (asked : List Member) (stop : Stop) (answer : Answer) → IsReferenceAnswer model budgets asked (Err stop) → IsPart asked (active_members model) → IsToldStop stop answer
     → IsStopAnswer (λ s. s ≡ asked) model budgets answer
 right_stop model budgets asked (Wide site turn wide) answer h part told =
-    subst (IsStopAnswer (λ s. s ≡ asked) model budgets) (sym told.0) (
-      site_of model asked site h.ends.0 told.1 part,
-      own_run model budgets.pivots asked site.kind site.set site.enforced site.path (SettleTooWide turn wide) (ImproveTooWide turn wide) h.ends.0.kind h.ends.0.set_is h.ends.0.path_is h.ends.1,
-    )
+    subst (IsStopAnswer (λ s. s ≡ asked) model budgets) (sym told.0)
+    (site_of model asked site (wide_site model budgets asked site turn wide h) told.1 part, reference_stopped model budgets asked (Wide site turn wide) (λ e. cc) h)
 right_stop model budgets asked (Spent site) answer h part told =
-    subst (IsStopAnswer (λ s. s ≡ asked) model budgets) (sym told.0) (
-      site_of model asked site h.ends.0 told.1 part,
-      own_run model budgets.pivots asked site.kind site.set site.enforced site.path SettleSpent ImproveSpent h.ends.0.kind h.ends.0.set_is h.ends.0.path_is h.ends.1,
-    )
-right_stop model budgets asked (Nodes site) answer h part told = absurd told
+    subst (IsStopAnswer (λ s. s ≡ asked) model budgets) (sym told.0)
+    (site_of model asked site (spent_site model budgets asked site h) told.1 part, reference_stopped model budgets asked (Spent site) (λ e. cc) h)
+right_stop model budgets asked (Nodes site) answer h part told =
+    subst (IsStopAnswer (λ s. s ≡ asked) model budgets) (sym told.0)
+    (site_of model asked site (whole_site model budgets asked site h) told.1 part, reference_stopped model budgets asked (Nodes site) (λ e. cc) h)
 right_stop model budgets asked (Large size) answer h part told = absurd told
 right_stop model budgets asked Memory answer h part told = absurd told
 
@@ -108,7 +115,7 @@ site_passes IsTest model asked site test h = record { settle = h.settle; test = 
 stop_passes : (IsTest : List Member → Type 0) (model : Program) (budgets : Budgets) (asked : List Member) → IsTest asked → (stop : Stop) → IsRightStop (λ s. s ≡ asked) model budgets stop → IsRightStop IsTest model budgets stop
 stop_passes IsTest model budgets asked test (Wide site turn wide) h = (site_passes IsTest model asked site test h.0, h.1)
 stop_passes IsTest model budgets asked test (Spent site) h = (site_passes IsTest model asked site test h.0, h.1)
-stop_passes IsTest model budgets asked test (Nodes site) h = absurd h
+stop_passes IsTest model budgets asked test (Nodes site) h = (site_passes IsTest model asked site test h.0, h.1)
 stop_passes IsTest model budgets asked test (Large size) h = absurd h
 stop_passes IsTest model budgets asked test Memory h = absurd h
 
@@ -120,7 +127,7 @@ passes IsTest model budgets asked test Done h = absurd h
 passes IsTest model budgets asked test (Stopped stop) h = stop_passes IsTest model budgets asked test stop h
 
 -- what is answered to an ask for a set of active members that passes the test
-stop_answer : (IsTest : List Member → Type 0) (model : Program) (budgets : Budgets) (asked : List Member) (stop : Stop) (answer : Answer) → IsAnsweredStop (IsPlainAnswer model budgets.pivots) asked stop
+stop_answer : (IsTest : List Member → Type 0) (model : Program) (budgets : Budgets) (asked : List Member) (stop : Stop) (answer : Answer) → IsAnsweredStop (IsReferenceAnswer model budgets) asked stop
     → IsPart asked (active_members model) → IsTest asked → IsToldStop stop answer → IsStopAnswer IsTest model budgets answer
 stop_answer IsTest model budgets asked stop answer (inl memory) part test told = absurd (subst (λ (s : Stop). IsToldStop s answer) memory told)
 stop_answer IsTest model budgets asked stop answer (inr h) part test told = passes IsTest model budgets asked test answer (right_stop model budgets asked stop answer h part told)
@@ -149,10 +156,13 @@ checked_stop model budgets (Ok answer) h = checked_answer model budgets answer h
 checked_stop model budgets (Err error) h = tt
 
 -- ---- and can be printed
+known_site : (IsTest : List Member → Type 0) (model : Program) (site : Site) → IsSiteOf IsTest model site → IsKnownSite model site
+known_site IsTest model site h = record { set = h.settle.of_model; path = h.settle.known }
+
 pub known_stop : (IsTest : List Member → Type 0) (model : Program) (budgets : Budgets) (stop : Stop) → IsRightStop IsTest model budgets stop → IsKnownStop model stop
-known_stop IsTest model budgets (Wide site turn wide) h = h.0.settle.of_model
-known_stop IsTest model budgets (Spent site) h = h.0.settle.of_model
-known_stop IsTest model budgets (Nodes site) h = absurd h
+known_stop IsTest model budgets (Wide site turn wide) h = known_site IsTest model site h.0
+known_stop IsTest model budgets (Spent site) h = known_site IsTest model site h.0
+known_stop IsTest model budgets (Nodes site) h = known_site IsTest model site h.0
 known_stop IsTest model budgets (Large size) h = absurd h
 known_stop IsTest model budgets Memory h = absurd h
 
@@ -168,18 +178,14 @@ known_stopped IsTest model budgets (Ok answer) h = known_answer IsTest model bud
 known_stopped IsTest model budgets (Err error) h = tt
 
 -- ---- what is asked
--- what an oracle answers that makes the runs of plain systems
-abbrev pub PlainAnswers : Program → Budgets → List Member → Result Verdict Stop → Type 0
-PlainAnswers model budgets set result = IsPlainAnswer model budgets.pivots set result
-
--- The stop of a run of so many pivots, of a set of active members that passes a test; or want of memory.
-pub record IsRunOf (IsTest : List Member → Type 0) (model : Program) (pivots : ℕ) (stop : Stop) : Type 0 where
+-- The stop of the reference for a set of active members that passes a test; or want of memory.
+pub record IsRunOf (IsTest : List Member → Type 0) (model : Program) (budgets : Budgets) (stop : Stop) : Type 0 where
   pub asked : List Member
-  pub answered : IsAnsweredStop (IsPlainAnswer model pivots) asked stop
+  pub answered : IsAnsweredStop (IsReferenceAnswer model budgets) asked stop
   pub part : IsPart asked (active_members model)
   pub test : IsTest asked
 
 -- as an answer it is a stop of such a set
-pub run_answer : (IsTest : List Member → Type 0) (model : Program) (budgets : Budgets) (stop : Stop) {E : Type 0} (result : Result Answer E) → IsRunOf IsTest model budgets.pivots stop → IfOk result (IsToldStop stop) → IfOk result (IsStopAnswer IsTest model budgets)
+pub run_answer : (IsTest : List Member → Type 0) (model : Program) (budgets : Budgets) (stop : Stop) {E : Type 0} (result : Result Answer E) → IsRunOf IsTest model budgets stop → IfOk result (IsToldStop stop) → IfOk result (IsStopAnswer IsTest model budgets)
 run_answer IsTest model budgets stop (Ok answer) h told = stop_answer IsTest model budgets h.asked stop answer h.answered h.part h.test told
 run_answer IsTest model budgets stop (Err error) h told = tt

@@ -1,5 +1,5 @@
--- The budgets in code, the oracle that makes runs, and answers from what filters and oracles tell.
-use Rattle.std.specs.Prelude.{◌≡◌, ⊤, ℕ, List, None, filter, Result, Ok, Err}
+-- The budgets in code, the oracle that makes runs and trees, and answers from what filters and oracles tell.
+use Rattle.std.specs.Prelude.{◌≡◌, ⊤, List, None, filter, Result, Ok, Err}
 use Rattle.lp_model.specs.declared.members.Member.{Member}
 use Rattle.lp_model.specs.Program.{Program}
 use Rattle.lp_model.specs.Members.{has, IsInOrder}
@@ -12,6 +12,7 @@ use Rattle.certs.specs.declared.solving.Stop.TheVariants.{Wide, Pivots as Spent,
 use Rattle.certs.specs.Sites.{Budgets}
 use Rattle.certs.specs.Tales.{no_tale}
 use Rattle.linear_oracle.specs.Value.{OracleValue}
+use Rattle.branch_oracle.specs.Value.{BranchValue}
 use Rattle.report_text.specs.declared.report.Answer.{Answer}
 use Rattle.report_text.specs.declared.report.Answer.TheVariants.{Feasible, Irreducible as Isolated, Stopped}
 use Rattle.analysis.specs.declared.answering.Budgets.{Budgets as Code}
@@ -21,20 +22,20 @@ use Rattle.analysis.specs.Right.{IsRightStop}
 abbrev pub budgets_of : Code → Budgets
 budgets_of b = record { pivots = b.pivots; nodes = b.nodes }
 
--- an oracle that makes the runs of a program, each with so many pivots, and was asked nothing yet
-abbrev pub fresh_oracle : Program → ℕ → OracleValue
-fresh_oracle model pivots = record { model = model; pivots = pivots; made = 0; tale = no_tale }
+-- an oracle that makes the runs and trees of a program within the budgets, and was asked nothing yet
+abbrev pub fresh_oracle : Program → Budgets → BranchValue OracleValue
+fresh_oracle model budgets = record { inner = record { model = model; pivots = budgets.pivots; made = 0; tale = no_tale }; nodes = budgets.nodes; taken = 0; tale = no_tale }
 
 -- what a filter gives, as an answer
 abbrev pub answer_of : Irreducible → Answer
 answer_of (Set members witnesses proof) = Isolated (record { members = members; witnesses = witnesses.items; proof = proof; rounds = None; price = None })
 answer_of (AtPoint point) = Feasible point
 
--- a stop that a settle run may have: there is no tree, and no size
+-- a stop that a run or a tree may have: there is no size
 abbrev pub IsRunStop : Stop → Type 0
 IsRunStop (Wide site k o) = ⊤
 IsRunStop (Spent site) = ⊤
-IsRunStop (Nodes site) = ⊥
+IsRunStop (Nodes site) = ⊤
 IsRunStop (Large size) = ⊥
 IsRunStop Memory = ⊤
 
@@ -46,7 +47,7 @@ IsPossibleSite site = site.set.members ≡ filter (has site.set.members) (possib
 abbrev pub IsToldStop : Stop → Answer → Type 0
 IsToldStop (Wide site k o) answer = (answer ≡ Stopped (Wide site k o)) × IsPossibleSite site
 IsToldStop (Spent site) answer = (answer ≡ Stopped (Spent site)) × IsPossibleSite site
-IsToldStop (Nodes site) answer = ⊥
+IsToldStop (Nodes site) answer = (answer ≡ Stopped (Nodes site)) × IsPossibleSite site
 IsToldStop (Large size) answer = ⊥
 IsToldStop Memory answer = ⊥
 

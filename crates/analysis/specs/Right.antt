@@ -1,12 +1,13 @@
 -- What it is for an answer to be right: of the program, within the budgets in force, to its command.
-use Rattle.std.specs.Prelude.{◌≡◌, ◌⊎◌, List, [], ◌++◌, fold, None}
+use Rattle.std.specs.Prelude.{◌≡◌, ◌≢◌, ◌⊎◌, ◌*◌, ◌≤◌, true, List, [], ◌++◌, fold, None, All}
 use Rattle.lp_model.specs.Program.{Program}
 use Rattle.lp_model.specs.declared.members.Member.{Member}
 use Rattle.lp_model.specs.Members.{active_members, IsInOrder}
 use Rattle.lp_model.specs.MemberSets.{SetValue, active_set}
 use Rattle.lp_model.specs.Satisfaction.{IsPart, IsIrreducible}
+use Rattle.certs.specs.declared.evidence.Point.{Point}
 use Rattle.certs.specs.declared.evidence.Proof.{Proof}
-use Rattle.certs.specs.Answers.{IsCoreBy, IsPlainAnswer}
+use Rattle.certs.specs.Answers.{IsCoreBy, IsReferenceAnswer}
 use Rattle.certs.specs.Checks.{IsSetOf}
 use Rattle.certs.specs.Order.{AreLeavesInOrder}
 use Rattle.certs.specs.Tales.{IsPointOf}
@@ -14,15 +15,17 @@ use Rattle.certs.specs.Filter.{Late, Early, IsLateTest, IsEarlyTest}
 use Rattle.certs.specs.declared.solving.Site.{Site}
 use Rattle.certs.specs.declared.solving.Stop.{Stop}
 use Rattle.certs.specs.declared.solving.Stop.TheVariants.{Wide, Pivots as Spent, Nodes, Large, Memory}
-use Rattle.certs.specs.Proof.{IsProof}
+use Rattle.certs.specs.Proof.{IsProof, IsFittingNode}
 use Rattle.certs.specs.Named.{used_set}
 use Rattle.certs.specs.Sites.{Budgets, IsStopped}
+use Rattle.certs.specs.Trees.{TreeEnd, HasTree, IsTree, has_mark}
 use Rattle.filter_steps.specs.Isolated.{AreWitnesses}
+use Rattle.tree_laws.specs.Boxes.{Box, IsBoxOf, volume}
 use Rattle.report_text.specs.declared.report.Method.{Method}
 use Rattle.report_text.specs.declared.report.Method.TheVariants.{Deletion, Additive, Sensitivity}
 use Rattle.report_text.specs.declared.report.Core.{Core}
 use Rattle.report_text.specs.declared.report.Command.{Command}
-use Rattle.report_text.specs.declared.report.Command.TheVariants.{Check, Iis, Pivots}
+use Rattle.report_text.specs.declared.report.Command.TheVariants.{Check, Iis, Pivots, Nodes as MostNodes}
 use Rattle.report_text.specs.declared.report.Answer.{Answer}
 use Rattle.report_text.specs.declared.report.Answer.TheVariants.{Feasible, Infeasible, Irreducible, Done, Stopped}
 use Rattle.report_text.specs.declared.report.Entry.{Entry}
@@ -31,13 +34,14 @@ use Rattle.report_text.specs.Form.{IsSettleSite}
 use Rattle.report_printer.specs.Numbers.{HasNumbersWithin}
 
 -- ---- answers
--- The proof is one of the printed members, the shares of each leaf stand in order, and these are the active members that it uses.
+-- The proof is one of the printed members, the shares of each leaf stand in order, the numbers of its splits fit, and these are the active members that it uses.
 pub record IsRefutation (model : Program) (printed : SetValue) (proof : Proof) : Type 0 where
   pub proves : IsProof model printed.members proof.nodes
   pub ordered : AreLeavesInOrder proof.nodes
+  pub fits : All IsFittingNode proof.nodes
   pub used : printed ≡ used_set (active_set model) proof.nodes
 
--- the site is the settle run of a set of active members that passes the test
+-- the site is a settle run of a set of active members that passes the test
 pub record IsSiteOf (IsTest : List Member → Type 0) (model : Program) (site : Site) : Type 0 where
   pub settle : IsSettleSite model site
   pub test : IsTest site.set.members
@@ -46,7 +50,7 @@ pub record IsSiteOf (IsTest : List Member → Type 0) (model : Program) (site : 
 abbrev pub IsRightStop : (List Member → Type 0) → Program → Budgets → Stop → Type 0
 IsRightStop IsTest model budgets (Wide site k o) = IsSiteOf IsTest model site × IsStopped model budgets (Wide site k o)
 IsRightStop IsTest model budgets (Spent site) = IsSiteOf IsTest model site × IsStopped model budgets (Spent site)
-IsRightStop IsTest model budgets (Nodes site) = ⊥
+IsRightStop IsTest model budgets (Nodes site) = IsSiteOf IsTest model site × IsStopped model budgets (Nodes site)
 IsRightStop IsTest model budgets (Large size) = ⊥
 IsRightStop IsTest model budgets Memory = ⊥
 
@@ -54,21 +58,35 @@ IsRightStop IsTest model budgets Memory = ⊥
 abbrev pub IsWhole : Program → List Member → Type 0
 IsWhole model set = set ≡ active_members model
 
--- what is right to `check`
+-- where some active member is a mark, the tree of the active members ends so
+abbrev pub TreeFinds : Program → Budgets → Point → Type 0
+TreeFinds model budgets point = has_mark (active_members model) ≡ true → HasTree model (active_members model) budgets.pivots budgets.nodes (TreeEnd.Found point.values)
+
+-- and its nodes are those of the proof
+abbrev pub TreeCloses : Program → Budgets → Proof → Type 0
+TreeCloses model budgets proof = has_mark (active_members model) ≡ true → IsTree model (active_members model) budgets.pivots budgets.nodes proof.nodes TreeEnd.Closed
+
+-- What is right to `check`. Where some active member is a mark, the answer is that of the tree, so that a stop comes just where the tree stops.
 abbrev pub IsChecked : Program → Budgets → Answer → Type 0
-IsChecked model budgets (Feasible point) = IsPointOf model (active_members model) point
-IsChecked model budgets (Infeasible printed proof) = IsRefutation model printed proof
+IsChecked model budgets (Feasible point) = IsPointOf model (active_members model) point × TreeFinds model budgets point
+IsChecked model budgets (Infeasible printed proof) = IsRefutation model printed proof × TreeCloses model budgets proof
 IsChecked model budgets (Stopped stop) = IsRightStop (IsWhole model) model budgets stop
 IsChecked model budgets _ = ⊥
 
+-- Where the active columns with marks stand in a box, the answer is no stop for want of nodes with twice its points to take.
+abbrev pub HasNodesInBox : Program → Budgets → Answer → Type 0
+HasNodesInBox model budgets answer =
+    (box : Box) → IsBoxOf model (active_members model) box → 2 * volume model (active_members model) box ≤ budgets.nodes → (site : Site) → answer ≢ Stopped (Nodes site)
+
 -- ---- irreducible sets
--- Active members in order that are irreducible: the proof is one of them, with the shares of each leaf in order, and for each of them its own witness satisfies all the others. Neither rounds nor a price are given as yet.
+-- Active members in order that are irreducible: the proof is one of them, with the shares of each leaf in order and numbers of splits that fit, and for each of them its own witness satisfies all the others. Neither rounds nor a price are given as yet.
 pub record IsRightCore (model : Program) (core : Core) : Type 0 where
   pub of_model : IsSetOf model core.members
   pub active : IsPart core.members.members (active_members model)
   pub in_order : IsInOrder core.members.members
   pub proves : IsProof model core.members.members core.proof.nodes
   pub ordered : AreLeavesInOrder core.proof.nodes
+  pub fits : All IsFittingNode core.proof.nodes
   pub witnesses : AreWitnesses model core.members.members core.witnesses
   pub irreducible : IsIrreducible model core.members.members
   pub rounds : core.rounds ≡ None
@@ -81,9 +99,9 @@ IsIsolated IsKept IsTest model budgets (Irreducible core) = IsRightCore model co
 IsIsolated IsKept IsTest model budgets (Stopped stop) = IsRightStop IsTest model budgets stop
 IsIsolated IsKept IsTest model budgets _ = ⊥
 
--- The core of the active members within the budgets: those that the proof by the run of their plain system uses.
+-- The core of the active members within the budgets: those that the proof by the run of their plain system uses, or by their tree where some of them is a mark.
 abbrev pub IsCore : Program → Budgets → List Member → Type 0
-IsCore model budgets core = IsCoreBy (IsPlainAnswer model budgets.pivots) (active_members model) core
+IsCore model budgets core = IsCoreBy (IsReferenceAnswer model budgets) (active_members model) core
 
 -- what a late filter leaves of the core
 abbrev pub IsLateOfCore : Program → Budgets → List Member → Type 0
@@ -104,6 +122,7 @@ abbrev pub Right : Program → Budgets → Command → Answer → Type 0
 Right model budgets Check answer = IsChecked model budgets answer
 Right model budgets (Iis method) answer = IsFound method model budgets answer
 Right model budgets (Pivots n) answer = answer ≡ Done
+Right model budgets (MostNodes n) answer = answer ≡ Done
 
 -- ---- budgets
 -- those in force at first
@@ -113,6 +132,7 @@ first_budgets = record { pivots = 100000; nodes = 10000 }
 -- and after a command
 abbrev pub budgets_after : Budgets → Command → Budgets
 budgets_after budgets (Pivots n) = record budgets { pivots = n }
+budgets_after budgets (MostNodes n) = record budgets { nodes = n }
 budgets_after budgets _ = budgets
 
 -- those in force behind commands

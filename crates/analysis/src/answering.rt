@@ -1,19 +1,18 @@
 //! The answer to a command.
 ghost use Rattle.std.specs.Prelude.{◌≡◌, ◌<◌, ◌^◌, IfOk, All, false};
-ghost use Rattle.lp_model.specs.Members.{active_members, is_mark};
+ghost use Rattle.lp_model.specs.Members.{active_members};
 ghost use Rattle.lp_model.specs.MemberSets.{active_set};
 ghost use Rattle.certs.specs.Order.{AreLeavesInOrder};
-ghost use Rattle.certs.specs.Proof.{IsProof};
+ghost use Rattle.certs.specs.Proof.{IsFittingNode, IsProof};
 ghost use Rattle.certs.specs.Sites.{Budgets as Allowed};
 ghost use Rattle.report_text.specs.Form.{IsCommand};
 ghost use Rattle.report_printer.specs.Printing.{IsKnownAnswer};
-ghost use Rattle.analysis.specs.Answers.{budgets_of};
-ghost use Rattle.analysis.specs.Right.{IsChecked, Right, budgets_after, first_budgets as budgets_at_first};
+ghost use Rattle.analysis.specs.Answers.{budgets_of, fresh_oracle};
+ghost use Rattle.analysis.specs.Right.{HasNodesInBox, IsChecked, Right, TreeCloses, budgets_after, first_budgets as budgets_at_first};
 
-use crate::asking::quick_oracle;
+use crate::asking::{Reference, quick_oracle};
 use crate::searching::{search, stopped};
 use certs::{MemberSet, Oracle, Proof, Verdict, members_used};
-use linear_oracle::LinearOracle;
 use lp_model::Model;
 use quick_oracle::{Kept, QuickOracle};
 use report_text::{Answer, Command};
@@ -45,6 +44,10 @@ pub(crate) fn after(budgets: Budgets, command: &Command) -> Budgets
             pivots: *pivots,
             nodes: budgets.nodes,
         },
+        Command::Nodes(nodes) => Budgets {
+            pivots: budgets.pivots,
+            nodes: *nodes,
+        },
         _ => budgets,
     }
 }
@@ -57,7 +60,6 @@ pub(crate) fn answer(
     command: &Command,
     kept: &mut Kept,
 ) -> Result<Answer, AllocError>
-    requires linear { All (λ m. is_mark m ≡ false) (active_members model.now) }
     requires built { IsCommand command.now }
     requires few { budgets.pivots < 2 ^ 63 }
     ensures right { IfOk result (Right model.now (budgets_of budgets) command.now) }
@@ -66,7 +68,7 @@ pub(crate) fn answer(
     match command {
         Command::Check => check(alloc, model, budgets, kept),
         Command::Iis(method) => search(alloc, model, budgets, *method, kept),
-        Command::Pivots(_) => Ok(Answer::Done),
+        Command::Pivots(_) | Command::Nodes(_) => Ok(Answer::Done),
     }
 }
 
@@ -77,14 +79,16 @@ fn check(
     budgets: Budgets,
     kept: &mut Kept,
 ) -> Result<Answer, AllocError>
-    requires linear { All (λ m. is_mark m ≡ false) (active_members model.now) }
     requires few { budgets.pivots < 2 ^ 63 }
     ensures right { IfOk result (IsChecked model.now (budgets_of budgets)) }
+    ensures boxed { IfOk result (HasNodesInBox model.now (budgets_of budgets)) }
     ensures known { IfOk result (IsKnownAnswer model.now) }
 {
+    // That the program is well formed is told with its count of rows.
+    let _rows = model.row_count();
     let set = model.members(alloc)?;
     let mut oracle = quick_oracle(alloc, model, budgets, kept);
-    let answer = check_by(alloc, model, &mut oracle, &set);
+    let answer = check_by(alloc, model, budgets, &mut oracle, &set);
     *kept = oracle.into_kept();
     answer
 }
@@ -93,14 +97,13 @@ fn check(
 fn check_by(
     alloc: Global,
     model: &Model,
-    oracle: &mut QuickOracle<'_, LinearOracle<'_>>,
+    budgets: Budgets,
+    oracle: &mut QuickOracle<'_, Reference<'_>>,
     set: &MemberSet,
 ) -> Result<Answer, AllocError>
-    requires linear { All (λ m. is_mark m ≡ false) (active_members model.now) }
     requires whole { set.now ≡ active_set model.now }
-    requires program { oracle.old.inner.model ≡ model.now }
-    ensures right { (budgets : Allowed) → oracle.old.inner.pivots ≡ budgets.pivots
-        → IfOk result (IsChecked model.now budgets) }
+    requires fresh { oracle.old.inner ≡ fresh_oracle model.now (budgets_of budgets) }
+    ensures right { IfOk result (IsChecked model.now (budgets_of budgets)) }
     ensures known { IfOk result (IsKnownAnswer model.now) }
 {
     match oracle.ask(alloc, set) {
@@ -118,10 +121,10 @@ fn refuted(
     proof: Proof,
 ) -> Result<Answer, AllocError>
     requires whole { set.now ≡ active_set model.now }
-    requires linear { All (λ m. is_mark m ≡ false) (active_members model.now) }
     requires proof { IsProof model.now (active_members model.now) proof.nodes }
     requires ordered { AreLeavesInOrder proof.nodes }
-    ensures right { (budgets : Allowed) → IfOk result (IsChecked model.now budgets) }
+    requires fits { All IsFittingNode proof.nodes }
+    ensures right { (budgets : Allowed) → TreeCloses model.now budgets proof → IfOk result (IsChecked model.now budgets) }
     ensures known { IfOk result (IsKnownAnswer model.now) }
 {
     set.stands_in_order();

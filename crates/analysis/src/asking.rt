@@ -1,29 +1,46 @@
-//! The oracle that is asked: quick runs, and else the runs of the budget.
+//! The oracles that are asked: quick runs, and else the runs and trees of the budgets.
 ghost use Rattle.std.specs.Prelude.{◌≡◌, ◌<◌, ◌^◌};
 ghost use Rattle.certs.specs.Tales.{no_tale};
-ghost use Rattle.analysis.specs.Answers.{fresh_oracle};
+ghost use Rattle.analysis.specs.Answers.{budgets_of, fresh_oracle};
 
 use crate::answering::Budgets;
+use branch_oracle::BranchOracle;
 use linear_oracle::LinearOracle;
 use lp_model::Model;
 use quick_oracle::{Kept, QuickOracle};
 use std::alloc::Global;
 use std::mem;
 
-/// A quick oracle over one that makes the runs of a program within the budgets. It takes what is kept of the program.
+/// The oracle of the reference: the runs of sets without marks, and the trees of those with a mark, within the budgets.
+pub(crate) type Reference<'a> = BranchOracle<'a, LinearOracle<'a>>;
+
+/// One of a program, that was asked nothing yet.
+pub(crate) fn reference_oracle<'a>(
+    alloc: Global,
+    model: &'a Model,
+    budgets: Budgets,
+) -> Reference<'a>
+    requires { budgets.pivots < 2 ^ 63 }
+    ensures { result ≡ fresh_oracle model.now (budgets_of budgets) }
+{
+    let inner = LinearOracle::new(alloc, model, budgets.pivots);
+    BranchOracle::new(alloc, model, inner, budgets.nodes)
+}
+
+/// A quick oracle over the reference. It takes what is kept of the program.
 pub(crate) fn quick_oracle<'a>(
     alloc: Global,
     model: &'a Model,
     budgets: Budgets,
     kept: &mut Kept,
-) -> QuickOracle<'a, LinearOracle<'a>>
+) -> QuickOracle<'a, Reference<'a>>
     requires { budgets.pivots < 2 ^ 63 }
-    ensures inner { result.inner ≡ fresh_oracle model.now budgets.pivots }
+    ensures inner { result.inner ≡ fresh_oracle model.now (budgets_of budgets) }
     ensures pivots { result.pivots ≡ budgets.pivots }
     ensures made { result.made ≡ kept.old }
     ensures tale { result.tale ≡ no_tale }
 {
-    let inner = LinearOracle::new(alloc, model, budgets.pivots);
+    let inner = reference_oracle(alloc, model, budgets);
     let kept = mem::replace(kept, Kept::new());
     QuickOracle::new(alloc, model, kept, inner, budgets.pivots)
 }

@@ -1,7 +1,6 @@
 //! The pieces of an analysis: the head with the notes, an entry for each command, the foot.
 ghost use Rattle.std.specs.Prelude.{◌≡◌, ◌<◌, ◌^◌, ◌||◌, All, cond, false};
 ghost use Rattle.analysis.specs.declared.pieces.Want.TheVariants.{Memory};
-ghost use Rattle.lp_model.specs.Members.{active_members, is_mark};
 ghost use Rattle.report_text.specs.Form.{IsCommand};
 ghost use Rattle.analysis.specs.Answers.{budgets_of};
 ghost use Rattle.analysis.specs.Pieces.{EntriesPut, EntryPut, ReportPut, TextPut};
@@ -37,10 +36,8 @@ impl From<AllocError> for Want {
 /// - 4: a put failed; a front of the report is put.
 /// - 7: want of memory; the head and the entries of the first commands are put, or nothing.
 ///
-/// What is put whole is a report in the grammar, where all names of the program are words. The program has no active
-/// marks.
+/// What is put whole is a report in the grammar, where all names of the program are words.
 pub fn analyse<W: Sink>(alloc: Global, model: &Model, script: &Script, out: &mut W) -> u8
-    requires linear { All (λ m. is_mark m ≡ false) (active_members model.now) }
     requires built { All IsCommand script.now }
     ensures { IsAnalysis W.faults W.taken out.old out.new model.now script.now result }
 {
@@ -67,7 +64,6 @@ fn put_report<W: Sink>(
     commands: &[Command],
     out: &mut W,
 ) -> Result<bool, Want>
-    requires linear { All (λ m. is_mark m ≡ false) (active_members model.now) }
     requires built { All IsCommand commands.now }
     ensures { ReportPut W.faults W.taken out.old out.new model.now commands.now result }
 {
@@ -112,7 +108,6 @@ fn put_entries<W: Sink>(
     commands: &[Command],
     out: &mut W,
 ) -> Result<bool, Want>
-    requires linear { All (λ m. is_mark m ≡ false) (active_members model.now) }
     requires built { All IsCommand commands.now }
     ensures { EntriesPut W.faults W.taken out.old out.new model.now commands.now result }
 {
@@ -143,7 +138,6 @@ fn put_entry<W: Sink>(
     kept: &mut Kept,
     out: &mut W,
 ) -> Result<bool, Want>
-    requires linear { All (λ m. is_mark m ≡ false) (active_members model.now) }
     requires built { IsCommand command.now }
     requires few { budgets.pivots < 2 ^ 63 }
     ensures { EntryPut W.faults W.taken out.old out.new model.now (budgets_of budgets) command.now result }

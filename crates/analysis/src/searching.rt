@@ -1,6 +1,5 @@
 //! Searches for irreducible sets of the active members, and stops of solves as answers.
 ghost use Rattle.std.specs.Prelude.{◌≡◌, ◌<◌, ◌^◌, All, IfErr, IfOk, false};
-ghost use Rattle.lp_model.specs.Members.{active_members, is_mark};
 ghost use Rattle.lp_model.specs.MemberSets.{active_set};
 ghost use Rattle.certs.specs.Tales.{no_tale};
 ghost use Rattle.report_printer.specs.Printing.{IsKnownAnswer};
@@ -8,9 +7,8 @@ ghost use Rattle.analysis.specs.Answers.{IsAnswerOf, IsFoundInOrder, IsRunStop, 
 ghost use Rattle.analysis.specs.Right.{IsFound};
 
 use crate::answering::Budgets;
-use crate::asking::quick_oracle;
+use crate::asking::{Reference, quick_oracle, reference_oracle};
 use certs::{Irreducible, MemberSet, Stop};
-use linear_oracle::LinearOracle;
 use lp_model::Model;
 use quick_oracle::{Kept, QuickOracle};
 use report_text::{Answer, Core, Method, Witnesses};
@@ -25,7 +23,6 @@ pub(crate) fn search(
     method: Method,
     kept: &mut Kept,
 ) -> Result<Answer, AllocError>
-    requires linear { All (λ m. is_mark m ≡ false) (active_members model.now) }
     requires few { budgets.pivots < 2 ^ 63 }
     ensures right { IfOk result (IsFound method model.now (budgets_of budgets)) }
     ensures known { IfOk result (IsKnownAnswer model.now) }
@@ -44,13 +41,12 @@ fn search_by(
     model: &Model,
     budgets: Budgets,
     method: Method,
-    oracle: &mut QuickOracle<'_, LinearOracle<'_>>,
+    oracle: &mut QuickOracle<'_, Reference<'_>>,
     set: &MemberSet,
 ) -> Result<Answer, AllocError>
-    requires linear { All (λ m. is_mark m ≡ false) (active_members model.now) }
     requires few { budgets.pivots < 2 ^ 63 }
     requires whole { set.now ≡ active_set model.now }
-    requires inner { oracle.old.inner ≡ fresh_oracle model.now budgets.pivots }
+    requires inner { oracle.old.inner ≡ fresh_oracle model.now (budgets_of budgets) }
     requires tale { oracle.old.tale ≡ no_tale }
     ensures right { IfOk result (IsFound method model.now (budgets_of budgets)) }
     ensures known { IfOk result (IsKnownAnswer model.now) }
@@ -59,7 +55,7 @@ fn search_by(
         Method::Deletion => concluded(deletion_filter::isolate(alloc, oracle, set)),
         Method::Additive => concluded(additive_filter::isolate(alloc, oracle, set)),
         Method::Sensitivity => {
-            let mut first = LinearOracle::new(alloc, model, budgets.pivots);
+            let mut first = reference_oracle(alloc, model, budgets);
             concluded(sensitivity_filter::isolate_with(alloc, &mut first, oracle, set))
         }
     }
@@ -114,7 +110,11 @@ pub(crate) fn stopped(stop: Stop) -> Result<Answer, AllocError>
             site.set.stands_in_order();
             Ok(Answer::Stopped(Stop::Pivots(site)))
         }
-        Stop::Nodes(_) | Stop::Large(_) => unreachable!(),
+        Stop::Nodes(site) => {
+            site.set.stands_in_order();
+            Ok(Answer::Stopped(Stop::Nodes(site)))
+        }
+        Stop::Large(_) => unreachable!(),
         Stop::Memory => Err(AllocError),
     }
 }

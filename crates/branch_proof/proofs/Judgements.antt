@@ -1,7 +1,6 @@
 -- What the judgement of a list of nodes says, and what comes of its nodes one by one.
-use Rattle.std.proofs.Common.{◌≡◌, ◌<◌, ◌≤◌, ◌+◌, ◌-◌, ℕ, refl, ap, sym, ◌∙◌, subst, List, [], ◌∷◌, ◌++◌, append-nil, length, drop, get_or, flat_map, arith}
+use Rattle.std.proofs.Common.{◌≡◌, ◌<◌, ◌≤◌, ◌+◌, ◌-◌, ℕ, refl, ap, sym, ◌∙◌, subst, List, [], ◌∷◌, ◌++◌, append-nil, length, drop, get_or, arith}
 use Rattle.std.specs.Prelude.{◌↔◌}
-use Rattle.std.specs.List.{AllZip}
 use Rattle.std.proofs.lemmas.List.{drop_more, drop_all, length-drop}
 use Rattle.std.proofs.lemmas.List.Elements.{All-nil, All-cons}
 use Rattle.lp_model.specs.declared.members.Member.{Member}
@@ -11,30 +10,23 @@ use Rattle.certs.specs.declared.evidence.Branch.{Branch}
 use Rattle.certs.specs.declared.evidence.Checked.{Checked}
 use Rattle.certs.specs.declared.evidence.Checked.TheVariants.{Yes as Passes, No as Fails, Wide as TooWide}
 use Rattle.certs.specs.declared.evidence.Node.{Node}
-use Rattle.certs.specs.Proof.{Tree, preorder, IsProof}
+use Rattle.certs.specs.Proof.{preorder, IsProof}
 use Rattle.certs.proofs.Refuted.{proof_law}
 use Rattle.branch_proof.specs.declared.checks.Judged.{Judged}
 use Rattle.branch_proof.specs.declared.checks.Judged.TheVariants.{Yes, No}
-use Rattle.branch_proof.specs.Walk.{child_paths, judgement, node_check, unless_failed, walk, IsWithin}
+use Rattle.certs.specs.Trees.{child_paths}
+use Rattle.branch_proof.specs.Walk.{judgement, node_check, unless_failed, walk, IsWithin}
 use Rattle.branch_proof.specs.Narrow.{IsNarrowProof}
 use Rattle.branch_proof.specs.Pending.{AreKnown}
-use Rattle.branch_proof.proofs.Forests.{IsTaken, IsNeverNo, forest_of, walk-taken, walk-never_no}
+use Rattle.branch_proof.proofs.Forests.{IsTaken, IsNeverNo, forest_of, one_tree, walk-taken, walk-never_no}
 
 -- ---- all nodes
--- the trees of one path are one tree
-one_tree : (model : Program) (set : List Member) (nodes : List Node) (trees : List Tree) → AllZip (IsTaken model set) ([] ∷ []) trees → flat_map preorder trees ≡ nodes → IsNarrowProof model set nodes
-one_tree model set nodes [] z e = absurd z
-one_tree model set nodes (t ∷ []) z e = record {
-  proof = record { tree = t; listed = sym (append-nil (preorder t)) ∙ e; proves = z.0.0 };
-  narrow = z.0.1;
-}
-one_tree model set nodes (t ∷ (u ∷ trees)) z e = absurd z.1
-
 proof_by : (model : Program) (set : List Member) (nodes : List Node) → IsWellFormed model → judgement model set nodes ≡ Yes → IsNarrowProof model set nodes
 proof_by model set nodes f e =
     let Known : List Branch → Type 0 = AreKnown (length model.columns) in
     let forest = forest_of model set 0 ([] ∷ []) nodes f (All-cons Known [] [] (All-nil (λ (b : Branch). b.column < length model.columns)) (All-nil Known)) e in
-    one_tree model set nodes forest.trees forest.taken forest.listed
+    let (t, (listed, taken)) = one_tree (IsTaken model set) [] nodes forest in
+    record { proof = record { tree = t; listed = listed; proves = taken.0 }; narrow = taken.1 }
 
 yes_by : (model : Program) (set : List Member) (nodes : List Node) → IsNarrowProof model set nodes → judgement model set nodes ≡ Yes
 yes_by model set nodes p =

@@ -2,3 +2,5 @@ pub mod Turns
 pub mod Nodes
 pub mod Forests
 pub mod Judgements
+pub mod TreeAnswers
+pub mod TreeStops

@@ -23,7 +23,8 @@ use Rattle.certs.specs.Proof.{IsMarked}
 use Rattle.certs.proofs.Refused.{combination_no_law}
 use Rattle.certs.specs.declared.evidence.Node.{Node}
 use Rattle.certs.specs.declared.evidence.Node.TheVariants.{Split, Leaf}
-use Rattle.branch_proof.specs.Walk.{mark_test, node_check}
+use Rattle.certs.specs.Trees.{mark_test}
+use Rattle.branch_proof.specs.Walk.{node_check}
 use Rattle.branch_proof.specs.Pending.{IsKnown}
 use Rattle.branch_proof.specs.Narrow.{AreNarrow}
 

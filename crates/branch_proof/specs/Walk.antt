@@ -1,33 +1,21 @@
 -- What the check of a list of nodes answers: a walk over the list, with the paths of the subtrees that are still to come.
-use Rattle.std.specs.Prelude.{ℕ, ◌+◌, ◌<◌, ◌≤◌, pos, ◌+ℤ◌, ◌≤ℤ◌, ◌<ℤ◌, neg_ℤ, Bool, ◌&&◌, cond, List, [], ◌∷◌, ◌++◌, length, ⊤}
+use Rattle.std.specs.Prelude.{ℕ, ◌+◌, ◌<◌, ◌≤◌, cond, List, [], ◌∷◌, ◌++◌, length, ⊤}
 use Rattle.lp_model.specs.declared.members.Member.{Member}
-use Rattle.lp_model.specs.declared.members.Member.TheVariants.{Whole}
 use Rattle.lp_model.specs.Program.{Program}
-use Rattle.lp_model.specs.Members.{exists, has}
-use Rattle.frac128.specs.Limit.{limit}
 use Rattle.certs.specs.declared.evidence.Branch.{Branch}
 use Rattle.certs.specs.declared.evidence.Checked.{Checked}
 use Rattle.certs.specs.declared.evidence.Checked.TheVariants.{Yes as Passes, No as Fails, Wide as TooWide}
 use Rattle.certs.specs.declared.evidence.Node.{Node}
 use Rattle.certs.specs.declared.evidence.Node.TheVariants.{Split, Leaf}
 use Rattle.certs.specs.Checks.{outcome, combination_steps}
-use Rattle.certs.specs.Proof.{at_most, at_least}
+use Rattle.certs.specs.Trees.{child_paths, mark_test}
 use Rattle.branch_proof.specs.declared.checks.Judged.{Judged}
 use Rattle.branch_proof.specs.declared.checks.Judged.TheVariants.{Yes, No, Wide}
-
--- whether the mark of a column is one of the program and of the set
-abbrev pub mark_test : Program → List Member → ℕ → Bool
-mark_test model set j = exists model (Whole j) && has set (Whole j)
 
 -- the check of a node on its path: of a split its mark, of a leaf its combination
 abbrev pub node_check : Program → List Member → List Branch → Node → Checked
 node_check model set path (Split j k) = cond (mark_test model set j) Passes Fails
 node_check model set path (Leaf combo) = outcome (combination_steps model set path combo.shares)
-
--- the paths of a node's children, the lower child first
-abbrev pub child_paths : List Branch → Node → List (List Branch)
-child_paths path (Split j k) = (path ++ at_most j k ∷ []) ∷ (path ++ at_least j (k +ℤ pos 1) ∷ []) ∷ []
-child_paths path (Leaf combo) = []
 
 -- what follows node n where it passes, and else how it fails
 abbrev pub unless_failed : ℕ → Checked → Judged → Judged
@@ -46,11 +34,6 @@ walk model set n (path ∷ paths) (node ∷ nodes) =
 -- all nodes, from the root on, whose path has no branch
 abbrev pub judgement : Program → List Member → List Node → Judged
 judgement model set nodes = walk model set 0 ([] ∷ []) nodes
-
--- the number of a split stands from -M to M - 1, where M is the greatest part of a fraction
-abbrev pub IsFittingNode : Node → Type 0
-IsFittingNode (Split j k) = (neg_ℤ (pos limit) ≤ℤ k) × (k <ℤ pos limit)
-IsFittingNode (Leaf combo) = ⊤
 
 -- the number that is answered is that of a node, or with `No` that of all nodes
 abbrev pub IsWithin : ℕ → Judged → Type 0

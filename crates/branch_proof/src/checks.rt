@@ -4,7 +4,9 @@ ghost use Rattle.lp_model.specs.Satisfaction.{IsUnsatisfiable};
 ghost use Rattle.certs.specs.Checks.{IsSetOf};
 ghost use Rattle.certs.specs.Combination.{IsFitting};
 ghost use Rattle.certs.specs.Proof.{IsProof};
-ghost use Rattle.branch_proof.specs.Walk.{IsFittingNode, IsWithin, judgement, mark_test, node_check};
+ghost use Rattle.certs.specs.Trees.{mark_test};
+ghost use Rattle.certs.specs.Proof.{IsFittingNode};
+ghost use Rattle.branch_proof.specs.Walk.{IsWithin, judgement, node_check};
 ghost use Rattle.branch_proof.specs.Narrow.{IsNarrowProof};
 
 use crate::paths::go_on;
@@ -96,8 +98,8 @@ fn check_node(
     }
 }
 
-// Whether the program and the set have the mark of a column.
-fn is_marked(model: &Model, set: &MemberSet, column: u32) -> bool
+/// Whether the program and the set have the mark of a column. The program may lack the column.
+pub fn is_marked(model: &Model, set: &MemberSet, column: u32) -> bool
     requires { IsSetOf model.now set.now }
     ensures { result ≡ mark_test model.now set.now.members column }
 {

@@ -4,7 +4,8 @@
 mod checks;
 mod paths;
 
-pub use checks::{Judged, check_proof};
+pub use checks::{Judged, check_proof, is_marked};
+pub use paths::go_on;
 
 #[cfg(test)]
 mod tests;

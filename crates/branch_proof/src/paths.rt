@@ -2,16 +2,24 @@
 ghost use Rattle.std.specs.Prelude.{◌≡◌, ◌<◌, ◌∷◌, [], ◌++◌, All, IfOk, true, ℕ, if◌then◌else◌};
 ghost use Rattle.certs.specs.Combination.{IsFitting};
 ghost use Rattle.certs.specs.Proof.{at_most as at_most_of};
-ghost use Rattle.branch_proof.specs.Walk.{IsFittingNode, child_paths};
+ghost use Rattle.certs.specs.Trees.{child_paths};
+ghost use Rattle.certs.specs.Proof.{IsFittingNode};
 ghost use Rattle.branch_proof.specs.Pending.{AreKnown, IsKnown, IsTurnable, pending, turned as turned_of};
 
 use certs::{Branch, Node};
 use std::alloc::AllocError;
 
-/// Goes on from a node that passes to the next node of the tree, and takes its path. Whether there is one.
+/// Goes on from a node to the next one of its tree, in preorder, and takes its path. Whether there is one.
 ///
-/// A path tells what is still to come: for each branch that says at most, the subtree of the upper child.
-pub(crate) fn go_on(path: &mut Vec<Branch>, node: &Node) -> Result<bool, AllocError>
+/// A path tells what is still to come: for each branch that says at most, the subtree of the upper child. From a split the
+/// path goes on to the lower child; from a leaf it is taken back to the last branch that says at most, which is turned to
+/// say at least one more. The numbers of the path and of the node stand within -(2^127 - 1) and 2^127 - 1 also when they
+/// are turned.
+///
+/// # Errors
+///
+/// There is no memory for one branch more. The path may then be cut short.
+pub fn go_on(path: &mut Vec<Branch>, node: &Node) -> Result<bool, AllocError>
     requires turnable { All IsTurnable path.old.items }
     requires fitting { IsFittingNode node.now }
     ensures next { IfOk result

@@ -1,6 +1,6 @@
 //! A column with a mark, from 1/3 to 2/3, and a tree that splits it at 1, and at 0 below that.
 ghost use Rattle.std.specs.Prelude.{All, IfOk};
-ghost use Rattle.branch_proof.specs.Walk.{IsFittingNode};
+ghost use Rattle.certs.specs.Proof.{IsFittingNode};
 
 use super::*;
 use certs::{Combo, Node, Nodes, Proof, Share, Shares, Source};

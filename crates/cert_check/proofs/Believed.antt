@@ -9,7 +9,7 @@ use Rattle.lp_model.specs.declared.parts.Note.TheVariants.{LowerRemoved, LowerKe
 use Rattle.lp_model.specs.declared.members.Member.{Member}
 use Rattle.lp_model.specs.Program.{Program, IsWellFormed}
 use Rattle.lp_model.specs.Members.{is_same, is_active, active_members, IsInOrder}
-use Rattle.lp_model.specs.Satisfaction.{values_at, Satisfies, IsSatisfiable, IsPart}
+use Rattle.lp_model.specs.Satisfaction.{values_at, Satisfies, IsSatisfiable, IsUnsatisfiable, IsPart}
 use Rattle.lp_model.proofs.Sets.{members_law}
 use Rattle.lp_model.proofs.Walk.{list_without}
 use Rattle.certs.specs.declared.evidence.Checked.{Checked}
@@ -17,7 +17,12 @@ use Rattle.certs.specs.declared.evidence.Checked.TheVariants.{Yes, No, Wide}
 use Rattle.certs.specs.declared.evidence.Point.{Point}
 use Rattle.certs.specs.Checks.{outcome, point_steps}
 use Rattle.certs.proofs.Passed.{point_check_law}
-use Rattle.certs.proofs.Sound.{satisfiable_law, unsatisfiable_law}
+use Rattle.certs.proofs.Sound.{satisfiable_law}
+use Rattle.certs.specs.declared.evidence.Node.{Node}
+use Rattle.certs.specs.declared.evidence.Proof.{Proof}
+use Rattle.branch_proof.specs.declared.checks.Judged.{Judged}
+use Rattle.branch_proof.specs.Walk.{judgement}
+use Rattle.branch_proof.proofs.Judgements.{told}
 use Rattle.report_text.specs.declared.report.Answer.{Answer}
 use Rattle.report_text.specs.declared.report.Answer.TheVariants.{Feasible, Infeasible, Irreducible, Done, Stopped}
 use Rattle.report_text.specs.declared.report.Command.{Command}
@@ -25,7 +30,7 @@ use Rattle.report_text.specs.declared.report.Entry.{Entry}
 use Rattle.report_text.specs.Turns.{after}
 use Rattle.report_text.specs.Form.{IsAnswerFor, AreEntriesFor}
 use Rattle.report_text.specs.Grammar.{witness_phrases}
-use Rattle.cert_check.specs.Trials.{said, paired_trials, same_note, is_active_use, leaf_shares, leaf_trial, others, witness_trials, witnesses_of, used_members, answer_trials, entry_trials, entries_trials, Trial, trials, unless_failed, outcome_of, IsAccepted}
+use Rattle.cert_check.specs.Trials.{said, paired_trials, same_note, is_active_use, judged_trials, proof_members, proof_trials, others, witness_trials, witnesses_of, answer_trials, entry_trials, entries_trials, Trial, trials, unless_failed, outcome_of, IsAccepted}
 use Rattle.cert_check.specs.Stops.{first_stop, stop_or}
 use Rattle.cert_check.specs.Truth.{IsTrueAnswer, AreTrue, AcceptedLaw}
 use Rattle.cert_check.proofs.Firsts.{found_yes, parts_pass}
@@ -96,23 +101,35 @@ module _ (model : Program) (set : List Member) where
       let rest = ap (λ (l : List Member). others l x) e ∙ list_without front x back (subst IsInOrder e in_order) in
       subst (IsSatisfiable model) rest (satisfiable_law limit model (others set x) found.0.values found.1.1)
 
+-- ---- proofs
+judged_yes : (n : ℕ) (nodes : List Node) (judged : Judged) → first_stop (judged_trials n nodes judged) ≡ None → judged ≡ Judged.Yes
+judged_yes n nodes Judged.Yes e = refl
+judged_yes n nodes (Judged.No k) e = absurd (cc)
+judged_yes n nodes (Judged.Wide k o) e = absurd (cc)
+
+-- where every node passes, no point satisfies the members
+believed_proof : (model : Program) (set : List Member) (n : ℕ) (proof : Proof) → IsWellFormed model → first_stop (proof_trials model set n proof) ≡ None → IsUnsatisfiable model set
+believed_proof model set n proof f e =
+    let judged = judgement model set proof.nodes in
+    (told model set proof.nodes judged f refl).unsatisfiable (judged_yes n proof.nodes judged e)
+
 -- ---- answers
 pub true_answer : (model : Program) (n : ℕ) (a : Answer) → IsWellFormed model → IsAnswerFor model a → first_stop (answer_trials model n a) ≡ None → IsTrueAnswer model a
 true_answer model n (Feasible p) f h e =
     point_check_law limit model (active_members model) (values_at p.values) (found_yes (n + 2) (outcome (point_steps model (active_members model) (values_at p.values))) None e).0
 true_answer model n (Infeasible set proof) f h e =
-    let leaf = leaf_trial model set.members (n + (3 + length set.members)) proof in
-    let both = parts_pass (paired_trials (is_active_use model) (n + 2) set.members (used_members model (leaf_shares proof.nodes))) (leaf ∷ []) e in
+    let line = n + (3 + length set.members) in
+    let both = parts_pass (paired_trials (is_active_use model) (n + 2) set.members (proof_members model proof)) (proof_trials model set.members line proof) e in
     record {
-      active = part_of_active model set.members (pairs_on model (n + 2) set.members (used_members model (leaf_shares proof.nodes)) both.0);
-      unsatisfiable = unsatisfiable_law limit model set.members (leaf_shares proof.nodes) f (found_yes leaf.line leaf.found None both.1).0;
+      active = part_of_active model set.members (pairs_on model (n + 2) set.members (proof_members model proof) both.0);
+      unsatisfiable = believed_proof model set.members line proof f both.1;
     }
 true_answer model n (Irreducible core) f h e =
     let set = core.members.members in
-    let leaf = leaf_trial model set (n + (3 + length (flat_map witness_phrases (witnesses_of core)))) core.proof in
-    let both = parts_pass (witness_trials model set (n + 2) (witnesses_of core)) (leaf ∷ []) e in
+    let line = n + (3 + length (flat_map witness_phrases (witnesses_of core))) in
+    let both = parts_pass (witness_trials model set (n + 2) (witnesses_of core)) (proof_trials model set line core.proof) e in
     let each = tried model set (n + 2) (witnesses_of core) both.0 in
-    let cannot = unsatisfiable_law limit model set (leaf_shares core.proof.nodes) f (found_yes leaf.line leaf.found None both.1).0 in
+    let cannot = believed_proof model set line core.proof f both.1 in
     record {
       active = part_of_active model set (all_zip (λ m. is_active model m ≡ true) set core.witnesses h.each (All-weaker (Tried model set) (λ w. is_active model w.0 ≡ true) (λ w t. t.0) (witnesses_of core) each));
       unsatisfiable = cannot;

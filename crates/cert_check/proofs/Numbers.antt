@@ -1,6 +1,6 @@
 -- How many lines there are.
-use Rattle.std.proofs.Common.{◌≡◌, ◌≤◌, ◌<◌, ◌+◌, refl, ℕ, suc, List, [], ◌∷◌, ◌++◌, length, map, flat_map, length-append, arith}
-use Rattle.std.proofs.lemmas.List.{length-map}
+use Rattle.std.proofs.Common.{◌≡◌, ◌≤◌, ◌<◌, ◌+◌, refl, sym, ◌∙◌, ap, ℕ, zero, suc, List, [], ◌∷◌, ◌++◌, length, map, take, drop, get_or, flat_map, length-append, arith}
+use Rattle.std.proofs.lemmas.List.{at_drop_more, length-map}
 use Rattle.lp_model.specs.Program.{Program}
 use Rattle.lp_model.specs.MemberSets.{SetValue}
 use Rattle.certs.specs.declared.evidence.Proof.{Proof}
@@ -11,13 +11,33 @@ use Rattle.report_text.specs.Turns.{after}
 use Rattle.report_text.specs.declared.report.Report.{Report}
 use Rattle.report_text.specs.declared.report.Answer.TheVariants.{Infeasible, Irreducible}
 use Rattle.report_text.specs.declared.phrases.Phrase.{Phrase}
-use Rattle.report_text.specs.Grammar.{Line, text_of, phrase_line, witness_phrases, proof_phrases, answer_phrases, entry_phrases, entries_phrases, report_phrases, report_lines}
+use Rattle.report_text.specs.Grammar.{Line, text_of, phrase_line, node_phrases, witness_phrases, proof_phrases, answer_phrases, entry_phrases, entries_phrases, report_phrases, report_lines}
 use Rattle.report_text.specs.Form.{AreNumbered}
 use Rattle.cert_check.specs.Trials.{witnesses_of}
 use Rattle.cert_check.specs.Uses.{AreShort}
 
--- the members are fewer than the lines
-pub members_fit : (model : Program) (set : SetValue) (proof : Proof) → length set.members ≤ length (answer_phrases model (Infeasible set proof))
+-- ---- the lines of a list of parts
+module _ {A : Type 0} (lines : A → List Phrase) where
+  -- those of one part and of the rest
+  pub next_lines : (list : List A) (i : ℕ) (a : A) → i < length list → a ≡ get_or list i a → length (flat_map lines (drop i list)) ≡ length (lines a) + length (flat_map lines (drop (i + 1) list))
+  next_lines list i a l is =
+      at_drop_more (λ (z : List A). length (flat_map lines z)) list i a l
+      ∙ (length-append (lines (get_or list i a)) (flat_map lines (drop (i + 1) list))
+      ∙ ap (λ (x : A). length (lines x) + length (flat_map lines (drop (i + 1) list))) (sym is))
+
+  -- those of the first parts are no more than all
+  pub front_lines : (n : ℕ) (list : List A) → length (flat_map lines (take n list)) ≤ length (flat_map lines list)
+  front_lines zero list = omega arith
+  front_lines (suc n) [] = omega arith
+  front_lines (suc n) (a ∷ list) =
+      let front = length-append (lines a) (flat_map lines (take n list)) in
+      let all = length-append (lines a) (flat_map lines list) in
+      let rest : length (flat_map lines (take n list)) ≤ length (flat_map lines list) = front_lines n list in
+      omega (arith, front, all, rest)
+
+-- ---- the lines of an answer
+-- the members and the nodes are fewer than the lines
+pub members_fit : (model : Program) (set : SetValue) (proof : Proof) → length set.members + length (flat_map node_phrases proof.nodes) ≤ length (answer_phrases model (Infeasible set proof))
 members_fit model set proof =
     let members = map Phrase.Member set.members in
     let front = members ++ proof_phrases proof in
@@ -25,17 +45,19 @@ members_fit model set proof =
     let b : length members ≡ length set.members = length-map set.members Phrase.Member in
     let c : length (answer_phrases model (Infeasible set proof)) ≡ suc (length (front ++ Phrase.End ∷ [])) = refl in
     let d : length (front ++ Phrase.End ∷ []) ≡ length front + 1 = length-append front (Phrase.End ∷ []) in
-    omega (arith, a, b, c, d)
+    let e : length (proof_phrases proof) ≡ suc (length (flat_map node_phrases proof.nodes)) = refl in
+    omega (arith, a, b, c, d, e)
 
--- and so are the lines of members and witnesses
-pub witnesses_fit : (model : Program) (core : Core) → length (flat_map witness_phrases (witnesses_of core)) ≤ length (answer_phrases model (Irreducible core))
+-- and so are those of members with witnesses, and the nodes
+pub witnesses_fit : (model : Program) (core : Core) → length (flat_map witness_phrases (witnesses_of core)) + length (flat_map node_phrases core.proof.nodes) ≤ length (answer_phrases model (Irreducible core))
 witnesses_fit model core =
     let witnesses = flat_map witness_phrases (witnesses_of core) in
     let front = witnesses ++ proof_phrases core.proof in
     let a : length front ≡ length witnesses + length (proof_phrases core.proof) = length-append witnesses (proof_phrases core.proof) in
     let c : length (answer_phrases model (Irreducible core)) ≡ suc (length (front ++ Phrase.End ∷ [])) = refl in
     let d : length (front ++ Phrase.End ∷ []) ≡ length front + 1 = length-append front (Phrase.End ∷ []) in
-    omega (arith, a, c, d)
+    let e : length (proof_phrases core.proof) ≡ suc (length (flat_map node_phrases core.proof.nodes)) = refl in
+    omega (arith, a, c, d, e)
 
 -- ---- the lines of entries, where line number n is that of the first
 entries_short : (model : Program) (before : List Command) (n : ℕ) (entries : List Entry) → AreNumbered model before n entries → n + length (entries_phrases model before entries) ≤ 2147483648 → AreShort model before entries

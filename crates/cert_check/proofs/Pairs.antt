@@ -3,11 +3,8 @@ use Rattle.std.proofs.Common.{◌≡◌, ◌<◌, ◌≤◌, ◌+◌, refl, sym,
 use Rattle.std.specs.Iterator.{YieldsFirst}
 use Rattle.std.proofs.lemmas.List.{at_drop_more, at_drop_all}
 use Rattle.lp_model.specs.declared.members.Member.{Member}
-use Rattle.lp_model.specs.declared.members.Member.TheVariants.{RowLo, RowUp, Lower, Upper, Whole}
 use Rattle.lp_model.specs.Program.{Program}
 use Rattle.lp_model.specs.Members.{is_same, is_active}
-use Rattle.lp_model.specs.MemberSets.{IsMemberFor}
-use Rattle.lp_model.specs.Evaluation.{IsInRange}
 use Rattle.lp_model.proofs.Sets.{same_members, same_self}
 use Rattle.cert_check.specs.declared.outcome.Stop.TheVariants.{Rejected}
 use Rattle.cert_check.specs.Trials.{said, paired_trials, is_active_use}

@@ -1,6 +1,5 @@
 -- The trials of a report: which lines can fail against a program, in the order of the lines, and what is found there.
-use Rattle.std.specs.Prelude.{ℕ, ◌+◌, ◌==◌, Bool, true, false, ◌&&◌, not, List, [], ◌∷◌, ◌++◌, length, zip, filter, flat_map}
-use Rattle.std.specs.List.{list_any}
+use Rattle.std.specs.Prelude.{ℕ, ◌+◌, ◌==◌, Bool, true, false, ◌&&◌, not, List, [], ◌∷◌, ◌++◌, length, take, zip, filter, flat_map}
 use Rattle.lp_model.specs.declared.parts.Note.{Note}
 use Rattle.lp_model.specs.declared.parts.Note.TheVariants.{LowerRemoved, LowerKept}
 use Rattle.lp_model.specs.declared.members.Member.{Member}
@@ -8,15 +7,15 @@ use Rattle.lp_model.specs.Program.{Program}
 use Rattle.lp_model.specs.Members.{is_same, is_active, possible_members, active_members}
 use Rattle.lp_model.specs.MemberSets.{SetValue}
 use Rattle.lp_model.specs.Satisfaction.{values_at}
-use Rattle.certs.specs.declared.evidence.Share.{Share}
 use Rattle.certs.specs.declared.evidence.Point.{Point}
 use Rattle.certs.specs.declared.evidence.Node.{Node}
-use Rattle.certs.specs.declared.evidence.Node.TheVariants.{Split, Leaf}
 use Rattle.certs.specs.declared.evidence.Proof.{Proof}
 use Rattle.certs.specs.declared.evidence.Checked.{Checked}
 use Rattle.certs.specs.declared.evidence.Checked.TheVariants.{Yes, No, Wide}
-use Rattle.certs.specs.Violation.{is_of}
-use Rattle.certs.specs.Checks.{outcome, point_steps, combination_steps}
+use Rattle.certs.specs.Checks.{outcome, point_steps}
+use Rattle.certs.specs.Named.{used_members}
+use Rattle.branch_proof.specs.declared.checks.Judged.{Judged}
+use Rattle.branch_proof.specs.Walk.{judgement}
 use Rattle.report_text.specs.declared.report.Core.{Core}
 use Rattle.report_text.specs.declared.report.Answer.{Answer}
 use Rattle.report_text.specs.declared.report.Answer.TheVariants.{Feasible, Infeasible, Irreducible, Done, Stopped}
@@ -25,7 +24,7 @@ use Rattle.report_text.specs.declared.report.Report.{Report}
 use Rattle.report_text.specs.declared.report.Command.{Command}
 use Rattle.report_text.specs.declared.layout.TheConstants.{HEAD_LINES, OPENING_LINES, MEMBER_LINES, PROOF_LINES}
 use Rattle.report_text.specs.Turns.{after, gathered}
-use Rattle.report_text.specs.Grammar.{witness_phrases}
+use Rattle.report_text.specs.Grammar.{node_phrases, witness_phrases}
 use Rattle.cert_check.specs.declared.outcome.Outcome.{Outcome}
 use Rattle.cert_check.specs.declared.outcome.Outcome.TheVariants.{Accepted, Rejected, Wide as TooWide, Memory}
 
@@ -64,19 +63,23 @@ abbrev pub point_trial : Program → List Member → ℕ → Point → Trial
 point_trial model set n p = on_line n (outcome (point_steps model set (values_at p.values)))
 
 -- ---- proofs
--- the shares of a proof whose first node is a leaf
-abbrev pub leaf_shares : List Node → List Share
-leaf_shares [] = []
-leaf_shares (Split j k ∷ nodes) = []
-leaf_shares (Leaf combo ∷ nodes) = combo.shares
+-- the line of node number k, where the first stands on line n
+abbrev pub node_line : ℕ → List Node → ℕ → ℕ
+node_line n nodes k = n + length (flat_map node_phrases (take k nodes))
 
--- the leaf of a proof against members, on the line of its `leaf`
-abbrev pub leaf_trial : Program → List Member → ℕ → Proof → Trial
-leaf_trial model set n proof = on_line n (outcome (combination_steps model set [] (leaf_shares proof.nodes)))
+-- the node that does not pass, on its line
+abbrev pub judged_trials : ℕ → List Node → Judged → List Trial
+judged_trials n nodes Judged.Yes = []
+judged_trials n nodes (Judged.No k) = on_line (node_line n nodes k) No ∷ []
+judged_trials n nodes (Judged.Wide k o) = on_line (node_line n nodes k) (Wide o) ∷ []
 
--- the members that some share names, each once, in member order
-abbrev pub used_members : Program → List Share → List Member
-used_members model shares = filter (λ m. list_any (λ s. is_of m s.source) shares) (possible_members model)
+-- A proof against members, the first node on line n: the first node that does not pass is found there, on its `split` or `leaf`.
+abbrev pub proof_trials : Program → List Member → ℕ → Proof → List Trial
+proof_trials model set n proof = judged_trials n proof.nodes (judgement model set proof.nodes)
+
+-- the members that the proof uses, each once, in member order
+abbrev pub proof_members : Program → Proof → List Member
+proof_members model proof = used_members (possible_members model) proof.nodes
 
 -- a printed member is active, and is the one that the proof uses
 abbrev pub is_active_use : Program → Member → Member → Bool
@@ -87,11 +90,11 @@ is_active_use model printed used = is_active model printed && is_same printed us
 abbrev pub feasible_trials : Program → ℕ → Point → List Trial
 feasible_trials model n p = point_trial model (active_members model) (n + OPENING_LINES) p ∷ []
 
--- the members against those that the leaf uses, and the leaf
+-- the members against those that the proof uses, and the proof
 abbrev pub infeasible_trials : Program → ℕ → SetValue → Proof → List Trial
 infeasible_trials model n set proof =
-    paired_trials (is_active_use model) (n + OPENING_LINES) set.members (used_members model (leaf_shares proof.nodes))
-    ++ leaf_trial model set.members (n + ((OPENING_LINES + PROOF_LINES) + length set.members)) proof ∷ []
+    paired_trials (is_active_use model) (n + OPENING_LINES) set.members (proof_members model proof)
+    ++ proof_trials model set.members (n + ((OPENING_LINES + PROOF_LINES) + length set.members)) proof
 
 -- the members of a set but one
 abbrev pub others : List Member → Member → List Member
@@ -109,11 +112,11 @@ witness_trials model set n (w ∷ witnesses) =
 abbrev pub witnesses_of : Core → List (Member × Point)
 witnesses_of core = zip core.members.members core.witnesses
 
--- the members with their witnesses, and the leaf
+-- the members with their witnesses, and the proof
 abbrev pub irreducible_trials : Program → ℕ → Core → List Trial
 irreducible_trials model n core =
     witness_trials model core.members.members (n + OPENING_LINES) (witnesses_of core)
-    ++ leaf_trial model core.members.members (n + ((OPENING_LINES + PROOF_LINES) + length (flat_map witness_phrases (witnesses_of core)))) core.proof ∷ []
+    ++ proof_trials model core.members.members (n + ((OPENING_LINES + PROOF_LINES) + length (flat_map witness_phrases (witnesses_of core)))) core.proof
 
 -- those of an answer; nothing is tried of a command that is done, nor of a stop
 abbrev pub answer_trials : Program → ℕ → Answer → List Trial

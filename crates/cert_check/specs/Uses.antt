@@ -1,39 +1,25 @@
--- What single functions ask of proofs and entries: the sources of shares, the leaf of a proof, and how far an entry goes.
-use Rattle.std.specs.Prelude.{◌+◌, ◌<◌, List, [], ◌∷◌, length}
+-- What single functions ask of sets and entries: members that are put in, and how far an entry goes.
+use Rattle.std.specs.Prelude.{◌+◌, ◌<◌, Bool, ◌||◌, List, filter, length}
+use Rattle.lp_model.specs.declared.members.Member.{Member}
 use Rattle.lp_model.specs.Program.{Program}
-use Rattle.lp_model.specs.MemberSets.{SetValue, IsMemberFor, IsPossibleIn, set_with}
+use Rattle.lp_model.specs.Members.{has}
+use Rattle.lp_model.specs.MemberSets.{SetValue, possible_in, set_with}
 use Rattle.certs.specs.declared.evidence.Source.{Source}
 use Rattle.certs.specs.declared.evidence.Source.TheVariants.{Member as Of, Below, Above}
-use Rattle.certs.specs.declared.evidence.Node.{Node}
-use Rattle.certs.specs.declared.evidence.Node.TheVariants.{Split, Leaf}
 use Rattle.report_text.specs.declared.report.Command.{Command}
 use Rattle.report_text.specs.declared.report.Entry.{Entry}
 use Rattle.report_text.specs.Turns.{after, AllEntries}
 use Rattle.report_text.specs.Grammar.{entry_phrases}
 
--- a member that a source names is one that the set may have
-abbrev pub IsSourceIn : SetValue → Source → Type 0
-IsSourceIn set (Of m) = IsPossibleIn set m
-IsSourceIn set (Below j) = Unit {0}
-IsSourceIn set (Above j) = Unit {0}
-
--- a member that a source names is one that the program may have
-abbrev pub IsSourceFor : Program → Source → Type 0
-IsSourceFor model (Of m) = IsMemberFor (length model.rows) (length model.columns) m
-IsSourceFor model (Below j) = Unit {0}
-IsSourceFor model (Above j) = Unit {0}
+-- the set with those possible members that pass a test besides
+abbrev pub with_tested : SetValue → (Member → Bool) → SetValue
+with_tested set test = record set { members = filter (λ m. has set.members m || test m) (possible_in set) }
 
 -- the set with the member that a source names
 abbrev pub with_source : SetValue → Source → SetValue
 with_source set (Of m) = set_with set m
 with_source set (Below j) = set
 with_source set (Above j) = set
-
--- the first node is a leaf
-abbrev pub IsLeaf : List Node → Type 0
-IsLeaf [] = ⊥
-IsLeaf (Split j k ∷ nodes) = ⊥
-IsLeaf (Leaf combo ∷ nodes) = Unit {0}
 
 -- the lines of an entry have numbers that can be counted
 abbrev pub IsShort : Program → Entry → Type 0

@@ -1,17 +1,17 @@
 //! Whether the entries of a report hold.
 ghost use Rattle.std.specs.Prelude.{◌≡◌, ◌+◌, ◌<◌, [], length, flat_map};
 ghost use Rattle.lp_model.specs.MemberSets.{active_set};
-ghost use Rattle.report_text.specs.Form.{IsOneLeaf, IsPointFor, IsListed, IsCoreFor, IsAnswerFor, AreEntriesFor};
-ghost use Rattle.report_text.specs.Grammar.{answer_phrases, witness_phrases};
-ghost use Rattle.cert_check.specs.Trials.{leaf_shares, witnesses_of, feasible_trials, infeasible_trials, irreducible_trials, answer_trials, entries_trials};
+ghost use Rattle.report_text.specs.Form.{IsProofFor, IsPointFor, IsListed, IsCoreFor, IsAnswerFor, AreEntriesFor};
+ghost use Rattle.report_text.specs.Grammar.{answer_phrases, node_phrases, witness_phrases};
+ghost use Rattle.cert_check.specs.Trials.{witnesses_of, feasible_trials, infeasible_trials, irreducible_trials, answer_trials, entries_trials};
 ghost use Rattle.cert_check.specs.Stops.{first_stop, Says};
-ghost use Rattle.cert_check.specs.Uses.{IsLeaf, AreShort};
+ghost use Rattle.cert_check.specs.Uses.{AreShort};
 
 use crate::members::{check_members, used_members};
 use crate::outcome::{Stop, settle};
+use crate::trees::check_tree;
 use crate::witnesses::check_witnesses;
-use certs::{Combo, Node, Point, Proof, check_combo, check_point};
-use frac128::Frac;
+use certs::{Point, Proof, check_point};
 use lp_model::{MemberSet, Model};
 use report_text::{Answer, Core, Entry, OPENING_LINES, PROOF_LINES};
 use std::alloc::Global;
@@ -25,18 +25,8 @@ pub(crate) fn check_entries(alloc: Global, model: &Model, entries: &[Entry]) -> 
     let Ok(active) = model.members(alloc) else {
         return Err(Stop::Memory);
     };
-    let Ok(mut sums) = vec![in alloc; Frac::whole(0); model.column_count() as usize] else {
-        return Err(Stop::Memory);
-    };
     for entry in entries {
-        check_answer(
-            alloc,
-            model,
-            &active,
-            &entry.answer,
-            entry.line,
-            sums.as_mut_slice(),
-        )?;
+        check_answer(alloc, model, &active, &entry.answer, entry.line)?;
     }
     Ok(())
 }
@@ -48,10 +38,8 @@ fn check_answer(
     active: &MemberSet,
     answer: &Answer,
     line: u32,
-    sums: &mut [Frac],
 ) -> Result<(), Stop>
     requires active { active.now ≡ active_set model.now }
-    requires room { length sums.old ≡ length model.now.columns }
     requires form { IsAnswerFor model.now answer.now }
     requires short { line + length (answer_phrases model.now answer.now) < 4294967280 }
     ensures { Says (first_stop (answer_trials model.now line answer.now)) result }
@@ -59,9 +47,9 @@ fn check_answer(
     match answer {
         Answer::Feasible(point) => check_feasible(model, active, point, line),
         Answer::Infeasible(members, proof) => {
-            check_infeasible(alloc, model, members, proof, line, sums)
+            check_infeasible(alloc, model, members, proof, line)
         }
-        Answer::Irreducible(core) => check_core(alloc, model, core, line, sums),
+        Answer::Irreducible(core) => check_core(alloc, model, core, line),
         Answer::Done | Answer::Stopped(_) => Ok(()),
     }
 }
@@ -83,36 +71,23 @@ fn check_infeasible(
     members: &MemberSet,
     proof: &Proof,
     line: u32,
-    sums: &mut [Frac],
 ) -> Result<(), Stop>
-    requires room { length sums.old ≡ length model.now.columns }
     requires members { IsListed model.now members.now }
-    requires proof { IsOneLeaf model.now proof.now }
-    requires short { line + length members.now.members < 4294967290 }
+    requires proof { IsProofFor model.now proof.now }
+    requires short { line + (length members.now.members + length (flat_map node_phrases proof.now.nodes)) < 4294967290 }
     ensures { Says (first_stop (infeasible_trials model.now line members.now proof.now)) result }
 {
-    let combo = leaf_of(proof);
-    let Ok(used) = used_members(alloc, model, combo.shares.as_slice()) else {
+    let Ok(used) = used_members(alloc, model, proof) else {
         return Err(Stop::Memory);
     };
     let end = check_members(model, members, &used, line + OPENING_LINES)?;
-    settle(
-        end + PROOF_LINES,
-        check_combo(model, members, &[], combo, sums),
-    )
+    check_tree(alloc, model, members, proof, end + PROOF_LINES)
 }
 
 // Checks an irreducible set: its members with their witnesses, and its proof.
-fn check_core(
-    alloc: Global,
-    model: &Model,
-    core: &Core,
-    line: u32,
-    sums: &mut [Frac],
-) -> Result<(), Stop>
-    requires room { length sums.old ≡ length model.now.columns }
+fn check_core(alloc: Global, model: &Model, core: &Core, line: u32) -> Result<(), Stop>
     requires form { IsCoreFor model.now core.now }
-    requires short { line + length (flat_map witness_phrases (witnesses_of core.now)) < 4294967290 }
+    requires short { line + (length (flat_map witness_phrases (witnesses_of core.now)) + length (flat_map node_phrases core.now.proof.nodes)) < 4294967290 }
     ensures { Says (first_stop (irreducible_trials model.now line core.now)) result }
 {
     let Ok(mut others) = core.members.copy(alloc) else {
@@ -121,18 +96,5 @@ fn check_core(
     let witnesses = core.witnesses.as_slice();
     let start = line + OPENING_LINES;
     let end = check_witnesses(model, &core.members, &mut others, witnesses, start)?;
-    let combo = leaf_of(&core.proof);
-    let leaf = end + PROOF_LINES;
-    settle(leaf, check_combo(model, &core.members, &[], combo, sums))
-}
-
-// The combination of the one leaf.
-fn leaf_of(proof: &Proof) -> &Combo
-    requires { IsLeaf proof.now.nodes }
-    ensures { result.now.shares ≡ leaf_shares proof.now.nodes }
-{
-    match &proof.nodes.as_slice()[0] {
-        Node::Leaf(combo) => combo,
-        Node::Split { .. } => unreachable!(),
-    }
+    check_tree(alloc, model, &core.members, &core.proof, end + PROOF_LINES)
 }

@@ -6,6 +6,7 @@ mod members;
 mod notes;
 mod outcome;
 mod reports;
+mod trees;
 mod witnesses;
 
 pub use outcome::Outcome;

@@ -1,36 +1,62 @@
 //! Whether printed members are active, and those that a proof uses.
 ghost use Rattle.std.specs.Prelude.{◌≡◌, ◌+◌, ◌<◌, ◌↔◌, All, IfOk, IsTrue, MatchResult, None, Some, length};
+ghost use Rattle.std.specs.List.{list_any};
+ghost use Rattle.lp_model.specs.MemberSets.{empty_set};
 ghost use Rattle.certs.specs.Checks.{IsSetOf};
-ghost use Rattle.cert_check.specs.Trials.{paired_trials, is_active_use, used_members as used_by};
+ghost use Rattle.certs.specs.Named.{IsKnownNode, IsKnownSource, node_uses};
+ghost use Rattle.certs.specs.Violation.{is_of};
+ghost use Rattle.cert_check.specs.Trials.{paired_trials, is_active_use, proof_members};
 ghost use Rattle.cert_check.specs.Stops.{first_stop, IsStop};
-ghost use Rattle.cert_check.specs.Uses.{IsSourceFor, IsSourceIn, with_source};
+ghost use Rattle.cert_check.specs.Uses.{with_source, with_tested};
 
 use crate::outcome::Stop;
-use certs::{Share, Source};
+use certs::{Node, Proof, Share, Source};
 use lp_model::{Member, MemberSet, Model};
 use std::alloc::{AllocError, Global};
 
-/// The members that some share names.
+/// The members that the proof uses: those that its shares name, and the marks of its split columns.
 pub(crate) fn used_members(
     alloc: Global,
     model: &Model,
-    shares: &[Share],
+    proof: &Proof,
 ) -> Result<MemberSet, AllocError>
-    requires { All (λ s. IsSourceFor model.now s.source) shares.now }
+    requires { All (IsKnownNode (empty_set model.now)) proof.now.nodes }
     ensures same { IfOk result (λ set. IsSetOf model.now set) }
-    ensures used { IfOk result (λ set. set.members ≡ used_by model.now shares.now) }
+    ensures used { IfOk result (λ set. set.members ≡ proof_members model.now proof.now) }
 {
     let mut used = MemberSet::empty(alloc, model)?;
-    for share in shares {
-        insert_source(&mut used, share.source);
+    for node in proof.nodes.as_slice() {
+        insert_node(&mut used, node);
     }
     used.stands_in_order();
     Ok(used)
 }
 
-// Puts the member that a source names into the set.
+// Puts in the members that a node uses.
+fn insert_node(set: &mut MemberSet, node: &Node)
+    requires { IsKnownNode set.old node.now }
+    ensures { set.new ≡ with_tested set.old (λ m. node_uses m node.now) }
+{
+    match node {
+        Node::Split { column, .. } => set.insert(Member::Whole(*column)),
+        Node::Leaf(combo) => insert_shares(set, combo.shares.as_slice()),
+    }
+}
+
+// Puts in the members that shares name.
+fn insert_shares(set: &mut MemberSet, shares: &[Share])
+    requires { All (λ s. IsKnownSource set.old s.source) shares.now }
+    ensures { set.new ≡ with_tested set.old (λ m. list_any (λ s. is_of m s.source) shares.now) }
+{
+    for share in shares {
+        insert_source(set, share.source);
+    }
+    set.stands_in_order();
+}
+
+// Puts in the member that a source names.
 fn insert_source(set: &mut MemberSet, source: Source)
-    requires { IsSourceIn set.old source }
+    requires { IsKnownSource set.old source }
     ensures { set.new ≡ with_source set.old source }
 {
     if let Source::Member(member) = source {

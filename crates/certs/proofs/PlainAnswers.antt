@@ -55,10 +55,10 @@ plain_holds model pivots set (Infeasible proof) h = record {
 pub plain_ordered : (model : Program) (pivots : ℕ) (set : List Member) (proof : Proof) → IsPlainAnswer model pivots set (Ok (Infeasible proof)) → AreLeavesInOrder proof.nodes
 plain_ordered model pivots set proof h =
     subst AreLeavesInOrder (sym h.ends.leaf)
-    (All-cons IsNodeInOrder (Leaf h.ends.combo) [] (plain_cut_in_order model set pivots h.ends.combo.shares h.ends.cut) (All-nil IsNodeInOrder))
+    (All-cons IsNodeInOrder (Leaf h.ends.combo) [] (plain_cut_in_order model set [] pivots h.ends.combo.shares h.ends.cut) (All-nil IsNodeInOrder))
 
 -- ---- stops
-own_site : (set : List Member) (members : List Member) → members ≡ set → IsPart members set
+pub own_site : (set : List Member) (members : List Member) → members ≡ set → IsPart members set
 own_site set members e = subst (λ l. IsPart l set) (sym e) (All-contains_itself set)
 
 site_within : (model : Program) (set : List Member) (pivots : ℕ) (stop : Stop) → IsNodeEnd model set [] pivots (Err stop) → IsSiteWithin set stop

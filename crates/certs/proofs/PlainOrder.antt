@@ -1,25 +1,27 @@
--- The shares of a plain cut stand in order.
-use Rattle.std.proofs.Common.{◌≡◌, ◌+◌, ◌-◌, ◌*◌, ◌<◌, ◌≤◌, refl, sym, ◌∙◌, ap, subst, ℕ, zero, suc, Bool, true, false, cond, not, List, [], ◌∷◌, ◌++◌, append-nil, map, length, get_or, filter, ltb, arith, inl, inr, lt-ltb}
+-- The shares of a plain cut stand in order, on any path.
+use Rattle.std.proofs.Common.{◌≡◌, ◌+◌, ◌-◌, ◌*◌, ◌<◌, ◌≤◌, refl, sym, ◌∙◌, ap, subst, ℕ, zero, suc, Bool, true, false, cond, not, List, [], ◌∷◌, ◌++◌, map, length, get_or, filter, ltb, arith, inl, inr, lt-ltb}
 use Rattle.std.specs.Prelude.{All, AllPairs, IsTrue, ◌⊎◌, flat_map, slice_index}
 use Rattle.std.specs.List.{list_all}
-use Rattle.std.proofs.lemmas.Bool.{and_parts, le-ltb, ltb-true}
+use Rattle.std.proofs.lemmas.Bool.{and_parts, le-ltb, ltb-true, le-leb, eqb-true}
 use Rattle.std.proofs.lemmas.List.{length-map}
 use Rattle.std.proofs.lemmas.List.Elements.{All-nil, All-cons, All-head, All-tail, All-append, All-filter, All-get_or, All-map, All-weaker, filter_passes}
 use Rattle.std.proofs.lemmas.List.Kept.{AllPairs-cons, AllPairs-filter}
 use Rattle.rational.specs.Rational.{ℚ, neg_ℚ, zero_ℚ, one_ℚ, eq_ℚ, lt_q}
 use Rattle.lp_model.specs.declared.members.Member.{Member}
-use Rattle.lp_model.specs.declared.members.Member.TheVariants.{RowLo, RowUp, Lower, Upper}
+use Rattle.lp_model.specs.declared.members.Member.TheVariants.{RowLo, RowUp, Lower, Upper, Whole}
 use Rattle.lp_model.specs.declared.members.Side.{Side}
 use Rattle.lp_model.specs.declared.members.Side.TheVariants.{Lo, Up}
 use Rattle.lp_model.specs.Program.{Program}
 use Rattle.lp_model.specs.Members.{comes_before}
+use Rattle.certs.specs.declared.evidence.Branch.{Branch}
 use Rattle.certs.specs.declared.evidence.Source.{Source}
 use Rattle.certs.specs.declared.evidence.Source.TheVariants.{Member as Of, Below, Above}
 use Rattle.certs.specs.declared.evidence.Share.{Share}
+use Rattle.certs.specs.Combination.{source_number}
 use Rattle.certs.specs.Ended.{blocked_multiple, is_upper, numbers_from, share_for, shares_for}
-use Rattle.certs.specs.Named.{arranged, bound_of, row_side_of, is_above, is_below, is_member, named, on_column, program_shares, stands_for, translated}
+use Rattle.certs.specs.Named.{arranged, bound_of, row_side_of, is_above, is_below, is_member, member_of, named, on_column, program_shares, stands_for, translated}
 use Rattle.certs.specs.Order.{AreSharesInOrder, are_in_order, source_before}
-use Rattle.certs.specs.Plain.{column_limits, crossing_shares, has_row, plain_row, plain_system, rows_in}
+use Rattle.certs.specs.Plain.{column_limits, crossing_shares, has_row, is_lowered, is_raised, number_in, plain_row, plain_system, rows_in}
 use Rattle.certs.specs.Solves.{BlocksWith, CrossesWith, IsPlainCut}
 use Rattle.certs.specs.System.{LinearSystem, VariableShare}
 use Rattle.certs.proofs.Translated.{length_mapped}
@@ -305,81 +307,249 @@ module _ (model : Program) (set : List Member) where
       let high : VariableShare = record { variable = v; side = Up; weight = one_ℚ } in
       AllPairs-cons Stands low (high ∷ []) (All-cons (Stands low) high [] (crossing_pair v one_ℚ) (All-nil (Stands low))) (one_pair Stands high)
 
-  -- ---- arranged they stay as they are
-  is_placed_member : (s : VariableShare) → is_member (placed s).source ≡ true
-  is_placed_member s = by (ltb s.variable columns) s.side
-    where
-      by : (b : Bool) (side : Side) → is_member (stands_for model set [] (Of (cond b (bound_of s.variable side) (row_side_of (s.variable - columns) side)))) ≡ true
-      by true Lo = refl
-      by true Up = refl
-      by false Lo = refl
-      by false Up = refl
+-- ---- on a path
+-- what a bound may give way to: the path's branches on its column
+abbrev branch_of : Member → Source
+branch_of (RowLo i) = Of (RowLo i)
+branch_of (RowUp i) = Of (RowUp i)
+branch_of (Lower j) = Above j
+branch_of (Upper j) = Below j
+branch_of (Whole j) = Of (Whole j)
 
-not_below : (j : ℕ) (source : Source) → is_member source ≡ true → is_below j source ≡ false
-not_below j (Of m) e = refl
-not_below j (Below k) e = absurd (let f : false ≡ true = e in cc)
-not_below j (Above k) e = absurd (let f : false ≡ true = e in cc)
+-- two of one kind stand in order
+abbrev AreApart : Source → Source → Type 0
+AreApart (Of m) (Of n) = comes_before m n ≡ true
+AreApart (Of m) (Below k) = Unit {0}
+AreApart (Of m) (Above k) = Unit {0}
+AreApart (Below j) (Of n) = Unit {0}
+AreApart (Below j) (Below k) = j < k
+AreApart (Below j) (Above k) = Unit {0}
+AreApart (Above j) (Of n) = Unit {0}
+AreApart (Above j) (Below k) = Unit {0}
+AreApart (Above j) (Above k) = j < k
 
-not_above : (j : ℕ) (source : Source) → is_member source ≡ true → is_above j source ≡ false
-not_above j (Of m) e = refl
-not_above j (Below k) e = absurd (let f : false ≡ true = e in cc)
-not_above j (Above k) e = absurd (let f : false ≡ true = e in cc)
+-- they stay so where the path takes the place of one of them
+first_taken : (m n : Member) → comes_before m n ≡ true → AreApart (branch_of m) (Of n)
+first_taken (RowLo i) n h = h
+first_taken (RowUp i) n h = h
+first_taken (Lower j) n h = tt
+first_taken (Upper j) n h = tt
+first_taken (Whole j) n h = h
 
-all_pass : {X : Type 0} (p : X → Bool) (xs : List X) → All (λ x. p x ≡ true) xs → filter p xs ≡ xs
-all_pass p [] h = refl
-all_pass p (x ∷ xs) h = ap (λ b. cond b (x ∷ filter p xs) (filter p xs)) (All-head (λ y. p y ≡ true) x xs h) ∙ ap (λ ys. x ∷ ys) (all_pass p xs (All-tail (λ y. p y ≡ true) x xs h))
+second_taken : (m n : Member) → comes_before m n ≡ true → AreApart (Of m) (branch_of n)
+second_taken m (RowLo i) h = h
+second_taken m (RowUp i) h = h
+second_taken m (Lower j) h = tt
+second_taken m (Upper j) h = tt
+second_taken m (Whole j) h = h
 
-none_pass : {X : Type 0} (p : X → Bool) (xs : List X) → All (λ x. p x ≡ false) xs → filter p xs ≡ []
-none_pass p [] h = refl
-none_pass p (x ∷ xs) h = ap (λ b. cond b (x ∷ filter p xs) (filter p xs)) (All-head (λ y. p y ≡ false) x xs h) ∙ none_pass p xs (All-tail (λ y. p y ≡ false) x xs h)
+-- and of both
+both_taken : (m n : Member) → comes_before m n ≡ true → AreApart (branch_of m) (branch_of n)
+both_taken (RowLo i) n h = second_taken (RowLo i) n h
+both_taken (RowUp i) n h = second_taken (RowUp i) n h
+both_taken (Whole j) n h = second_taken (Whole j) n h
+both_taken (Lower j) (Lower k) h = ltb-true j k h
+both_taken (Lower j) (RowLo i) h = tt
+both_taken (Lower j) (RowUp i) h = tt
+both_taken (Lower j) (Upper k) h = tt
+both_taken (Lower j) (Whole k) h = tt
+both_taken (Upper j) (Upper k) h = ltb-true j k h
+both_taken (Upper j) (RowLo i) h = tt
+both_taken (Upper j) (RowUp i) h = tt
+both_taken (Upper j) (Lower k) h = tt
+both_taken (Upper j) (Whole k) h = tt
 
-no_branches : (shares : List Share) → All (λ (s : Share). is_member s.source ≡ true) shares → (js : List ℕ) → flat_map (on_column shares) js ≡ []
-no_branches shares h [] = refl
-no_branches shares h (j ∷ js) =
-    ap (λ l. (l ++ filter (λ (s : Share). is_above j s.source) shares) ++ flat_map (on_column shares) js)
-    (none_pass (λ (s : Share). is_below j s.source) shares (All-weaker (λ (s : Share). is_member s.source ≡ true) (λ (s : Share). is_below j s.source ≡ false) (λ s e. not_below j s.source e) shares h))
-    ∙ ap (λ l. ([] ++ l) ++ flat_map (on_column shares) js)
-    (none_pass (λ (s : Share). is_above j s.source) shares (All-weaker (λ (s : Share). is_member s.source ≡ true) (λ (s : Share). is_above j s.source ≡ false) (λ s e. not_above j s.source e) shares h))
-    ∙ no_branches shares h js
+taken : (a b : Bool) (m n : Member) → comes_before m n ≡ true → AreApart (cond a (branch_of m) (Of m)) (cond b (branch_of n) (Of n))
+taken false false m n h = h
+taken true false m n h = first_taken m n h
+taken false true m n h = second_taken m n h
+taken true true m n h = both_taken m n h
 
-stay_arranged : (n : ℕ) (shares : List Share) → All (λ (s : Share). is_member s.source ≡ true) shares → arranged n shares ≡ shares
-stay_arranged n shares h =
-    ap (λ l. l ++ flat_map (on_column shares) (numbers_from 0 n)) (all_pass (λ (s : Share). is_member s.source) shares h)
-    ∙ ap (λ l. shares ++ l) (no_branches shares h (numbers_from 0 n))
-    ∙ append-nil shares
+module _ (model : Program) (set : List Member) where
+  -- what a side of a row or a limit stands for with no path
+  abbrev own : Member → Member
+  own (RowLo k) = RowLo (slice_index (rows_in model set) k)
+  own (RowUp k) = RowUp (slice_index (rows_in model set) k)
+  own (Lower j) = Lower j
+  own (Upper j) = Upper j
+  own (Whole j) = Whole j
+
+  own_source : (x : Member) → stands_for model set [] (Of x) ≡ Of (own x)
+  own_source (RowLo k) = refl
+  own_source (RowUp k) = refl
+  own_source (Lower j) = refl
+  own_source (Upper j) = refl
+  own_source (Whole j) = refl
+
+  -- and with one
+  path_source : (path : List Branch) (x : Member) → (b : Bool) × (stands_for model set path (Of x) ≡ cond b (branch_of (own x)) (Of (own x)))
+  path_source path (RowLo k) = (false, refl)
+  path_source path (RowUp k) = (false, refl)
+  path_source path (Lower j) = (is_raised (number_in model set (Lower j)) (source_number model path (Above j)), refl)
+  path_source path (Upper j) = (is_lowered (number_in model set (Upper j)) (source_number model path (Below j)), refl)
+  path_source path (Whole j) = (false, refl)
+
+  apart_on : (path : List Branch) (x y : Member) → IsTrue (source_before (stands_for model set [] (Of x)) (stands_for model set [] (Of y))) → AreApart (stands_for model set path (Of x)) (stands_for model set path (Of y))
+  apart_on path x y h =
+      let (a, first) = path_source path x in
+      let (b, second) = path_source path y in
+      let before : comes_before (own x) (own y) ≡ true =
+      subst (λ (z : Source). IsTrue (source_before (Of (own x)) z)) (own_source y) (subst (λ (z : Source). IsTrue (source_before z (stands_for model set [] (Of y)))) (own_source x) h) in
+      subst (λ (z : Source). AreApart z (stands_for model set path (Of y))) (sym first)
+      (subst (AreApart (cond a (branch_of (own x)) (Of (own x)))) (sym second) (taken a b (own x) (own y) before))
+
+-- ---- arranged by kinds
+-- a branch on a column with that
+abbrev OnColumn : (ℕ → Type 0) → Source → Type 0
+OnColumn P (Of m) = ⊥
+OnColumn P (Below k) = P k
+OnColumn P (Above k) = P k
+
+abbrev Before : Share → Share → Type 0
+Before s t = IsTrue (source_before s.source t.source)
+
+abbrev Apart : Share → Share → Type 0
+Apart s t = AreApart s.source t.source
+
+members_before : (a b : Source) → is_member a ≡ true → is_member b ≡ true → AreApart a b → IsTrue (source_before a b)
+members_before (Of m) (Of n) e f h = h
+members_before (Of m) (Below k) e f h = absurd (let g : false ≡ true = f in cc)
+members_before (Of m) (Above k) e f h = absurd (let g : false ≡ true = f in cc)
+members_before (Below j) b e f h = absurd (let g : false ≡ true = e in cc)
+members_before (Above j) b e f h = absurd (let g : false ≡ true = e in cc)
+
+member_first : (P : ℕ → Type 0) (a b : Source) → is_member a ≡ true → OnColumn P b → IsTrue (source_before a b)
+member_first P (Of m) (Below k) e h = refl
+member_first P (Of m) (Above k) e h = refl
+member_first P (Of m) (Of n) e h = absurd h
+member_first P (Below j) b e h = absurd (let g : false ≡ true = e in cc)
+member_first P (Above j) b e h = absurd (let g : false ≡ true = e in cc)
+
+later_column : (j : ℕ) (a b : Source) → OnColumn (λ k. k ≡ j) a → OnColumn (λ k. j < k) b → IsTrue (source_before a b)
+later_column j (Of m) b e h = absurd e
+later_column j (Below k) (Of n) e h = absurd h
+later_column j (Above k) (Of n) e h = absurd h
+later_column j (Below k) (Below l) e h = lt-ltb k l (omega (arith, e, h))
+later_column j (Below k) (Above l) e h = le-leb k l (omega (arith, e, h))
+later_column j (Above k) (Below l) e h = lt-ltb k l (omega (arith, e, h))
+later_column j (Above k) (Above l) e h = lt-ltb k l (omega (arith, e, h))
+
+-- what the tests of a column say
+below_on : (j : ℕ) (a : Source) → is_below j a ≡ true → OnColumn (λ k. k ≡ j) a
+below_on j (Of m) e = absurd (let g : false ≡ true = e in cc)
+below_on j (Below k) e = sym (eqb-true j k e)
+below_on j (Above k) e = absurd (let g : false ≡ true = e in cc)
+
+above_on : (j : ℕ) (a : Source) → is_above j a ≡ true → OnColumn (λ k. k ≡ j) a
+above_on j (Of m) e = absurd (let g : false ≡ true = e in cc)
+above_on j (Below k) e = absurd (let g : false ≡ true = e in cc)
+above_on j (Above k) e = sym (eqb-true j k e)
+
+one_below : (j : ℕ) (a b : Source) → is_below j a ≡ true → is_below j b ≡ true → AreApart a b → ⊥
+one_below j (Below k) (Below l) e f h = let x = eqb-true j k e in let y = eqb-true j l f in omega (arith, x, y, h)
+one_below j (Below k) (Of m) e f h = let g : false ≡ true = f in cc
+one_below j (Below k) (Above l) e f h = let g : false ≡ true = f in cc
+one_below j (Of m) b e f h = let g : false ≡ true = e in cc
+one_below j (Above k) b e f h = let g : false ≡ true = e in cc
+
+one_above : (j : ℕ) (a b : Source) → is_above j a ≡ true → is_above j b ≡ true → AreApart a b → ⊥
+one_above j (Above k) (Above l) e f h = let x = eqb-true j k e in let y = eqb-true j l f in omega (arith, x, y, h)
+one_above j (Above k) (Of m) e f h = let g : false ≡ true = f in cc
+one_above j (Above k) (Below l) e f h = let g : false ≡ true = f in cc
+one_above j (Of m) b e f h = let g : false ≡ true = e in cc
+one_above j (Below k) b e f h = let g : false ≡ true = e in cc
+
+below_first : (j : ℕ) (a b : Source) → is_below j a ≡ true → is_above j b ≡ true → IsTrue (source_before a b)
+below_first j (Below k) (Above l) e f = let x = eqb-true j k e in let y = eqb-true j l f in le-leb k l (omega (arith, x, y))
+below_first j (Below k) (Of m) e f = absurd (let g : false ≡ true = f in cc)
+below_first j (Below k) (Below l) e f = absurd (let g : false ≡ true = f in cc)
+below_first j (Of m) b e f = absurd (let g : false ≡ true = e in cc)
+below_first j (Above k) b e f = absurd (let g : false ≡ true = e in cc)
+
+module _ (shares : List Share) where
+  abbrev belows : ℕ → List Share
+  belows j = filter (λ s. is_below j s.source) shares
+
+  abbrev aboves : ℕ → List Share
+  aboves j = filter (λ s. is_above j s.source) shares
+
+  column_on : (j : ℕ) → All (λ (s : Share). OnColumn (λ k. k ≡ j) s.source) (on_column shares j)
+  column_on j =
+      All-append (λ (s : Share). OnColumn (λ k. k ≡ j) s.source) (belows j) (aboves j)
+      (All-weaker (λ (s : Share). is_below j s.source ≡ true) (λ (s : Share). OnColumn (λ k. k ≡ j) s.source) (λ s e. below_on j s.source e) (belows j) (filter_passes (λ (s : Share). is_below j s.source) shares))
+      (All-weaker (λ (s : Share). is_above j s.source ≡ true) (λ (s : Share). OnColumn (λ k. k ≡ j) s.source) (λ s e. above_on j s.source e) (aboves j) (filter_passes (λ (s : Share). is_above j s.source) shares))
+
+  moved : (P : ℕ → Type 0) (j : ℕ) (a : Source) → P j → OnColumn (λ k. k ≡ j) a → OnColumn P a
+  moved P j (Of m) p h = absurd h
+  moved P j (Below k) p h = subst P (sym h) p
+  moved P j (Above k) p h = subst P (sym h) p
+
+  columns_on : (P : ℕ → Type 0) (js : List ℕ) → All P js → All (λ (s : Share). OnColumn P s.source) (flat_map (on_column shares) js)
+  columns_on P [] h = All-nil (λ (s : Share). OnColumn P s.source)
+  columns_on P (j ∷ js) h =
+      All-append (λ (s : Share). OnColumn P s.source) (on_column shares j) (flat_map (on_column shares) js)
+      (All-weaker (λ (s : Share). OnColumn (λ k. k ≡ j) s.source) (λ (s : Share). OnColumn P s.source) (λ s e. moved P j s.source (All-head P j js h) e) (on_column shares j) (column_on j))
+      (columns_on P js (All-tail P j js h))
+
+  module _ (apart : AllPairs Apart shares) where
+    column_in_order : (j : ℕ) → AllPairs Before (on_column shares j)
+    column_in_order j =
+        pairs_append Before (belows j) (aboves j)
+        (pairs_weaker Apart Before (λ (s : Share). is_below j s.source ≡ true) (λ s t e f h. absurd (one_below j s.source t.source e f h)) (belows j)
+        (filter_passes (λ (s : Share). is_below j s.source) shares) (AllPairs-filter Apart (λ (s : Share). is_below j s.source) shares apart))
+        (pairs_weaker Apart Before (λ (s : Share). is_above j s.source ≡ true) (λ s t e f h. absurd (one_above j s.source t.source e f h)) (aboves j)
+        (filter_passes (λ (s : Share). is_above j s.source) shares) (AllPairs-filter Apart (λ (s : Share). is_above j s.source) shares apart))
+        (across Before (λ (s : Share). is_below j s.source ≡ true) (λ (s : Share). is_above j s.source ≡ true) (λ s t e f. below_first j s.source t.source e f) (belows j) (aboves j)
+        (filter_passes (λ (s : Share). is_below j s.source) shares) (filter_passes (λ (s : Share). is_above j s.source) shares))
+
+    columns_in_order : (js : List ℕ) → AllPairs (λ v w. v < w) js → AllPairs Before (flat_map (on_column shares) js)
+    columns_in_order [] h = no_pairs Before
+    columns_in_order (j ∷ js) h =
+        pairs_append Before (on_column shares j) (flat_map (on_column shares) js) (column_in_order j) (columns_in_order js (pairs_tail (λ a b. a < b) j js h))
+        (across Before (λ (s : Share). OnColumn (λ k. k ≡ j) s.source) (λ (s : Share). OnColumn (λ k. j < k) s.source) (λ s t e k. later_column j s.source t.source e k)
+        (on_column shares j) (flat_map (on_column shares) js) (column_on j) (columns_on (λ k. j < k) js (pairs_head (λ a b. a < b) j js h)))
+
+    arranged_in_order : (n : ℕ) → AreSharesInOrder (arranged n shares)
+    arranged_in_order n =
+        let members : List Share = filter (λ (s : Share). is_member s.source) shares in
+        let branches : List Share = flat_map (on_column shares) (numbers_from 0 n) in
+        let kept = filter_passes (λ (s : Share). is_member s.source) shares in
+        pairs_append Before members branches
+        (pairs_weaker Apart Before (λ (s : Share). is_member s.source ≡ true) (λ s t e f h. members_before s.source t.source e f h) members kept (AllPairs-filter Apart (λ (s : Share). is_member s.source) shares apart))
+        (columns_in_order (numbers_from 0 n) (numbers_ascend 0 n))
+        (across Before (λ (s : Share). is_member s.source ≡ true) (λ (s : Share). OnColumn (λ k. (0 ≤ k) × (k < 0 + n)) s.source) (λ s t e h. member_first (λ k. (0 ≤ k) × (k < 0 + n)) s.source t.source e h) members branches kept
+        (columns_on (λ k. (0 ≤ k) × (k < 0 + n)) (numbers_from 0 n) (numbers_within 0 n)))
 
 map_twice : {X Y Z : Type 0} (f : X → Y) (g : Y → Z) (xs : List X) → map g (map f xs) ≡ map (λ x. g (f x)) xs
 map_twice f g [] = refl
 map_twice f g (x ∷ xs) = ap (λ l. g (f x) ∷ l) (map_twice f g xs)
 
 -- ---- a plain cut
-all_of : {X : Type 0} (P : X → Type 0) → ((x : X) → P x) → (xs : List X) → All P xs
-all_of P f xs k d l = f (get_or xs k d)
-
-in_order : (model : Program) (set : List Member) (of : List VariableShare) → AllPairs (Stands model set) of → AreSharesInOrder (program_shares model set [] (map (named (length model.columns)) of))
-in_order model set of h =
-    let g : VariableShare → Share = placed model set in
-    let together : map (translated model set []) (map (named (length model.columns)) of) ≡ map g of = map_twice (named (length model.columns)) (translated model set []) of in
-    let members : All (λ (s : Share). is_member s.source ≡ true) (map g of) = All-map (λ (s : Share). is_member s.source ≡ true) g of (all_of (λ s. is_member (g s).source ≡ true) (is_placed_member model set) of) in
-    subst AreSharesInOrder (sym (ap (arranged (length model.columns)) together ∙ stay_arranged (length model.columns) (map g of) members))
-    (pairs_map g (λ (s t : Share). IsTrue (source_before s.source t.source)) of h)
+in_order : (model : Program) (set : List Member) (path : List Branch) (of : List VariableShare) → AllPairs (Stands model set) of → AreSharesInOrder (program_shares model set path (map (named (length model.columns)) of))
+in_order model set path of h =
+    let n : ℕ = length model.columns in
+    let g : VariableShare → Share = λ s. translated model set path (named n s) in
+    let apart : AllPairs (λ (s t : VariableShare). Apart (g s) (g t)) of =
+    λ i j d lt l. apart_on model set path (member_of n (get_or of i d).variable (get_or of i d).side) (member_of n (get_or of j d).variable (get_or of j d).side) (h i j d lt l) in
+    subst (λ (l : List Share). AreSharesInOrder (arranged n l)) (sym (map_twice (named n) (translated model set path) of))
+    (arranged_in_order (map g of) (pairs_map g Apart of apart) n)
 
 -- the shares of a blocked row, in a system with so many columns and rows
 abbrev parts : ℕ → ℕ → (ℕ → ℚ) → List VariableShare
 parts a b c = shares_for c (numbers_from a b) ++ (filter (λ s. not (is_upper s)) (shares_for c (numbers_from 0 a)) ++ filter is_upper (shares_for c (numbers_from 0 a)))
 
-given_stand : (model : Program) (set : List Member) (pivots : ℕ) (of : List VariableShare) → CrossesWith (plain_system model set [] false) of ⊎ BlocksWith (plain_system model set [] false) pivots of
+given_stand : (model : Program) (set : List Member) (path : List Branch) (pivots : ℕ) (of : List VariableShare) → CrossesWith (plain_system model set path false) of ⊎ BlocksWith (plain_system model set path false) pivots of
     → AllPairs (Stands model set) of
-given_stand model set pivots of (inl h) = subst (AllPairs (Stands model set)) (sym h.shares_are) (crossing_stand model set h.variable)
-given_stand model set pivots of (inr h) =
-    let system : LinearSystem = plain_system model set [] false in
-    let columns_are : length system.columns ≡ length model.columns = length_mapped (column_limits model set []) (length model.columns) in
+given_stand model set path pivots of (inl h) = subst (AllPairs (Stands model set)) (sym h.shares_are) (crossing_stand model set h.variable)
+given_stand model set path pivots of (inr h) =
+    let system : LinearSystem = plain_system model set path false in
+    let columns_are : length system.columns ≡ length model.columns = length_mapped (column_limits model set path) (length model.columns) in
     let rows_are : length system.rows ≡ length (rows_in model set) = length-map (rows_in model set) (plain_row model set) in
     let c : ℕ → ℚ = blocked_multiple h.here.tableau h.variable h.side in
     subst (AllPairs (Stands model set)) (sym h.shares_are)
     (subst (λ a. AllPairs (Stands model set) (parts a (length system.rows) c)) (sym columns_are)
     (subst (λ b. AllPairs (Stands model set) (parts (length model.columns) b c)) (sym rows_are) (blocked_stand model set c)))
 
-pub plain_cut_in_order : (model : Program) (set : List Member) (pivots : ℕ) (shares : List Share) → IsPlainCut model set [] pivots shares → AreSharesInOrder shares
-plain_cut_in_order model set pivots shares cut =
-    subst AreSharesInOrder (sym cut.shares_are) (in_order model set cut.of (given_stand model set pivots cut.of cut.given))
+pub plain_cut_in_order : (model : Program) (set : List Member) (path : List Branch) (pivots : ℕ) (shares : List Share) → IsPlainCut model set path pivots shares → AreSharesInOrder shares
+plain_cut_in_order model set path pivots shares cut =
+    subst AreSharesInOrder (sym cut.shares_are) (in_order model set path cut.of (given_stand model set path pivots cut.of cut.given))

@@ -1,10 +1,11 @@
 -- Proofs by branches: a split of a column with a mark, and a combination at each leaf.
-use Rattle.std.specs.Prelude.{◌≡◌, ℕ, ℤ, pos, ◌+ℤ◌, true, false, IsTrue, List, [], ◌∷◌, ◌++◌, Contains}
+use Rattle.std.specs.Prelude.{◌≡◌, ⊤, ℕ, ℤ, pos, neg_ℤ, ◌+ℤ◌, ◌≤ℤ◌, ◌<ℤ◌, true, false, IsTrue, List, [], ◌∷◌, ◌++◌, Contains}
 use Rattle.lp_model.specs.declared.members.Member.{Member}
 use Rattle.lp_model.specs.declared.members.Member.TheVariants.{Whole}
 use Rattle.lp_model.specs.Program.{Program}
 use Rattle.lp_model.specs.Members.{exists}
 use Rattle.lp_model.specs.Satisfaction.{IsUnsatisfiable}
+use Rattle.frac128.specs.Limit.{limit}
 use Rattle.certs.specs.declared.evidence.Branch.{Branch}
 use Rattle.certs.specs.declared.evidence.Share.{Share}
 use Rattle.certs.specs.declared.evidence.Node.{Node}
@@ -28,6 +29,11 @@ at_most j k = record { column = j; upper = true; at = k }
 -- column j is at least k
 abbrev pub at_least : ℕ → ℤ → Branch
 at_least j k = record { column = j; upper = false; at = k }
+
+-- the number of a split stands from -M to M - 1, where M is the greatest part of a fraction
+abbrev pub IsFittingNode : Node → Type 0
+IsFittingNode (Split j k) = (neg_ℤ (pos limit) ≤ℤ k) × (k <ℤ pos limit)
+IsFittingNode (Leaf combo) = ⊤
 
 -- the mark is one of the program and of the set
 pub record IsMarked (model : Program) (set : List Member) (j : ℕ) : Type 0 where

@@ -9,7 +9,7 @@ mod LastTable
 mod Cheapest
 mod NoWeighting
 mod Outcomes
-mod PlainPaths
+pub mod PlainPaths
 mod Examples
 mod Meaning
 mod Tables

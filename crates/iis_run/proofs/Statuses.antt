@@ -584,4 +584,4 @@ module _ {S K : Type 0} (file : S → List ℕ → Option (List ℕ)) (fetch_fau
   -- what follows a plan is a run
   pub planned_run : (request : Option Request) (status : ℕ) (plan : Plan) → IsReady plan → IsPlanned (file shelf_old) (fetch_faults shelf_old) (fetch_faults shelf_new) request plan → Follows put_faults taken out_old out_new plan status → Run request status
   planned_run request status (Say ending) ready cause written = inl (record { ending = ending; cause = cause; written = written })
-  planned_run request status (Answer program commands) ready session written = inr (record { program = program; commands = commands; asked = session; words = ready.1; written = written })
+  planned_run request status (Answer program commands) ready session written = inr (record { program = program; commands = commands; asked = session; words = ready.0; written = written })

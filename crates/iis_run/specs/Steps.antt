@@ -2,7 +2,6 @@
 use Rattle.std.specs.Prelude.{◌≡◌, ◌<◌, ◌≤◌, ⊤, ℕ, List, length, Option, IfSome, All}
 use Rattle.iis_edge.specs.Causes.{Rose, KeepsCounts}
 use Rattle.lp_model.specs.Program.{Program}
-use Rattle.model_files.specs.Reading.{IsMarkless}
 use Rattle.report_text.specs.Form.{IsCommand}
 use Rattle.analysis.specs.NamesAreWords.{HasWords}
 use Rattle.analysis.specs.Written.{IsAnalysis}
@@ -85,10 +84,10 @@ abbrev pub IsQuietPlan : (List ℕ → ℕ) → (List ℕ → ℕ) → Plan → 
 IsQuietPlan before now (Say ending) = IsQuietEnd before now ending
 IsQuietPlan before now (Answer program commands) = KeepsCounts before now
 
--- what is to be answered can be, and printed: there are no marks, the names are words, and a script may have each command
+-- what is to be answered can be, and printed: the names are words, and a script may have each command
 abbrev pub IsReady : Plan → Type 0
 IsReady (Say ending) = ⊤
-IsReady (Answer program commands) = IsMarkless program × HasWords program × All IsCommand commands
+IsReady (Answer program commands) = HasWords program × All IsCommand commands
 
 -- what a plan writes, and its status
 abbrev pub Follows : {K : Type 0} → (K → ℕ) → (K → Option (List ℕ)) → K → K → Plan → ℕ → Type 0

@@ -2,7 +2,6 @@
 ghost use Rattle.std.specs.Prelude.{◌≡◌, ◌≤◌, ℕ, List, length, All, IfOk, IfErr, IfSome, OnOk};
 ghost use Rattle.iis_edge.specs.Causes.{KeepsCounts};
 ghost use Rattle.report_text.specs.Form.{IsCommand};
-ghost use Rattle.model_files.specs.Reading.{IsMarkless};
 ghost use Rattle.analysis.specs.NamesAreWords.{HasWords};
 ghost use Rattle.iis_run.specs.Causes.{ComesTo, IsModelOf, checked_ending, refused_ending};
 ghost use Rattle.iis_run.specs.Scripts.{IsCommands, script_ending};
@@ -27,7 +26,6 @@ pub(crate) fn fetch_model<S: Shelf>(
     name: &str,
 ) -> Result<Model, Ending>
     ensures read { IfOk result (λ model. IfSome (S.file shelf.old name.now) (λ b. IsModelOf name.now b model)) }
-    ensures markless { IfOk result IsMarkless }
     ensures words { IfOk result HasWords }
     ensures stop { IfErr result (IsModelStop name.now (S.file shelf.old name.now) (S.faults shelf.old name.now) (S.faults shelf.new name.now)) }
     ensures quiet { IfErr result (IsQuietEnd (S.faults shelf.old) (S.faults shelf.new)) }

@@ -3,7 +3,6 @@ ghost use Rattle.std.specs.Prelude.{◌≡◌, ◌⊎◌, ◌≤◌, ◌↔◌, 
 ghost use Rattle.iis_edge.specs.Causes.{KeepsCounts, Rose};
 ghost use Rattle.iis_run.specs.Words.{request_of};
 ghost use Rattle.iis_run.specs.Run.{IsRun, HasFetchStop, IsModelRefused, IsTextRefused, IsAccepted, IsUnsettled, IsRefuted, IsBorneOut, IsReadBack, Settles};
-ghost use Rattle.model_files.specs.Reading.{IsMarkless};
 ghost use Rattle.analysis.specs.NamesAreWords.{HasWords};
 ghost use Rattle.iis_run.specs.Steps.{IsPlanned, IsQuietPlan, IsReady, IsScriptPlan, IsSecondPlan, Follows};
 
@@ -19,7 +18,6 @@ use std::alloc::Global;
 
 // Fetches the script and plans the answers to it.
 fn plan_answers<S: Shelf>(alloc: Global, model: Model, shelf: &mut S, name: &str) -> Plan
-    requires markless { IsMarkless model }
     requires words { HasWords model }
     ensures planned { IsScriptPlan model (S.file shelf.old name.now) (S.faults shelf.old name.now) (S.faults shelf.new name.now) result }
     ensures quiet { IsQuietPlan (S.faults shelf.old) (S.faults shelf.new) result }
@@ -35,7 +33,6 @@ fn plan_answers<S: Shelf>(alloc: Global, model: Model, shelf: &mut S, name: &str
 
 // Fetches the second file: a report is checked, and the answers to a script are planned.
 fn plan_second<S: Shelf>(alloc: Global, model: Model, shelf: &mut S, verb: Verb, name: &str) -> Plan
-    requires markless { IsMarkless model }
     requires words { HasWords model }
     ensures planned { IsSecondPlan verb model (S.file shelf.old name.now) (S.faults shelf.old name.now) (S.faults shelf.new name.now) result }
     ensures quiet { IsQuietPlan (S.faults shelf.old) (S.faults shelf.new) result }
@@ -96,7 +93,7 @@ fn follow<W: Sink>(alloc: Global, plan: Plan, out: &mut W) -> u8
 /// - 4: the put of the `accepted` line failed, or the put of a piece of the report.
 /// - 5: `model refused line N KIND`, exactly where the told bytes declare no model: line N has the first fault, which is
 ///   of this kind. A name that ends with `.lp`, in any case of letters, is that of a model in the LP format, any other that of one in
-///   the MPS format. A model with whole columns is `model refused line 1 unsupported`.
+///   the MPS format.
 /// - 6: `report refused line N`, where no report on that model goes on with whole line N, the first such one; or
 ///   `report refused truncated`, where every whole line is right and the report ends too soon; or `script refused line
 ///   N`, where line N is the first of the script that is no command, or one too many.

@@ -1,4 +1,4 @@
-mod Firsts
+pub mod Firsts
 mod Shares
 mod Runs
 mod Members

@@ -122,8 +122,12 @@ pub(crate) fn stop_end(alloc: Global, set: &MemberSet, path: &[Branch], stop: Ru
     }
 }
 
-// The site of a set's plain system on a path.
-fn settle_site(alloc: Global, set: &MemberSet, path: &[Branch]) -> Result<Site, AllocError>
+/// The site of the settle run of a set's plain system on a path, with no enforced part.
+///
+/// # Errors
+///
+/// There is no memory for copies of the set and the path.
+pub fn settle_site(alloc: Global, set: &MemberSet, path: &[Branch]) -> Result<Site, AllocError>
     ensures { (model : Program) → IsSetOf model set.now → IfOk result (IsNodeSite model set.now.members path.now) }
 {
     Ok(Site {

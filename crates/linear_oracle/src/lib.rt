@@ -6,6 +6,7 @@ mod ends;
 mod oracle;
 mod solve;
 
+pub use ends::settle_site;
 pub use oracle::LinearOracle;
 
 #[cfg(test)]

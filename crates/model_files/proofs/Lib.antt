@@ -2,5 +2,4 @@ pub mod Formed
 pub mod Lists
 pub mod MpsFormed
 pub mod LpFormed
-pub mod Marks
 pub mod Meaning

@@ -1,9 +1,6 @@
 -- The model that a file declares, by the format of its name.
-use Rattle.std.specs.Prelude.{◌≡◌, ℕ, ◌-◌, Bool, cond, List, length, drop, codes, Option, Some, None}
-use Rattle.std.specs.List.{list_any}
-use Rattle.std.specs.Option.{option_or}
+use Rattle.std.specs.Prelude.{◌≡◌, ℕ, ◌-◌, cond, List, length, drop, codes, Option, Some, None}
 use Rattle.std.specs.Str.{str_eq_ignore_ascii_case}
-use Rattle.text_fields.specs.declared.faults.ReadKind.TheVariants.{Unsupported}
 use Rattle.text_fields.specs.declared.faults.ReadStop.{ReadStop}
 use Rattle.text_fields.specs.declared.faults.ReadFault.{ReadFault}
 use Rattle.text_fields.specs.Faults.{IsFaultOf}
@@ -18,27 +15,15 @@ pub use Rattle.model_files.specs.declared.formats.Format.TheVariants.{Mps, Lp}
 unfoldable pub format_of : List ℕ → Format
 format_of name = cond (str_eq_ignore_ascii_case (drop (length name - 3) name) (codes ".lp")) Lp Mps
 
--- the first fault of the bytes in a format
-abbrev pub format_fault : Format → List ℕ → Option ReadStop
-format_fault Mps bytes = mps_fault bytes
-format_fault Lp bytes = lp_fault bytes
+-- why the bytes declare no program in a format: their first fault
+abbrev pub model_fault : Format → List ℕ → Option ReadStop
+model_fault Mps bytes = mps_fault bytes
+model_fault Lp bytes = lp_fault bytes
 
 -- the program that they declare
 abbrev pub format_program : Format → List ℕ → Program
 format_program Mps bytes = mps_program bytes
 format_program Lp bytes = lp_program bytes
-
--- a program with a whole column
-abbrev pub has_mark : Program → Bool
-has_mark program = list_any (λ c. c.whole) program.columns
-
--- marks are not answered yet: a model with one is refused once it is read
-abbrev pub mark_fault : Program → Option ReadStop
-mark_fault program = cond (has_mark program) (Some (record { line = 1; kind = Unsupported })) None
-
--- why the bytes declare no model in a format: their first fault, or else a mark
-unfoldable pub model_fault : Format → List ℕ → Option ReadStop
-model_fault format bytes = option_or (format_fault format bytes) (mark_fault (format_program format bytes))
 
 -- the bytes of a file of this name declare the program
 pub record Declares (name bytes : List ℕ) (program : Program) : Type 0 where

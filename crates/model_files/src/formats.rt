@@ -1,15 +1,14 @@
 //! The two formats, and the reading of a model.
 ghost use Rattle.std.specs.Str.{str_eq_ignore_ascii_case};
 ghost use Rattle.std.specs.Prelude.{◌≡◌, ◌<◌, ◌^◌, None, codes, length, IfErr, IfOk, MatchResult};
-ghost use Rattle.model_files.specs.Formats.{Declares, IsRefusal, format_fault, format_of, format_program, has_mark, model_fault};
-ghost use Rattle.model_files.specs.Reading.{IsMarkless};
+ghost use Rattle.model_files.specs.Formats.{Declares, IsRefusal, format_of, format_program, model_fault};
 ghost use Rattle.text_fields.specs.Faults.{IsFaultOf};
 
 use lp_model::Model;
 use lp_reader::read_lp;
 use mps_reader::read_mps;
 use std::alloc::Global;
-use text_fields::{ReadFault, ReadKind, ReadStop};
+use text_fields::ReadFault;
 
 /// A format of models.
 #[derive(Clone, Copy, PartialEq, Eq, Debug)]
@@ -39,8 +38,8 @@ fn format_named(name: &[u8]) -> Format
 fn read_format(alloc: Global, format: Format, bytes: &[u8]) -> Result<Model, ReadFault>
     requires { length bytes.now < 2 ^ 31 }
     ensures { MatchResult result
-        (λ model. (format_fault format bytes.now ≡ None) × (model ≡ format_program format bytes.now))
-        (IsFaultOf (format_fault format bytes.now)) }
+        (λ model. (model_fault format bytes.now ≡ None) × (model ≡ format_program format bytes.now))
+        (IsFaultOf (model_fault format bytes.now)) }
 {
     match format {
         Format::Mps => read_mps(alloc, bytes),
@@ -48,40 +47,16 @@ fn read_format(alloc: Global, format: Format, bytes: &[u8]) -> Result<Model, Rea
     }
 }
 
-// Whether some column is whole.
-fn is_marked(model: &Model) -> bool
-    ensures { result ≡ has_mark model.now }
-{
-    for index in 0..model.column_count() {
-        if model.column(index).whole {
-            return true;
-        }
-    }
-    false
-}
-
 /// The model that a file declares: one whose name ends with `.lp`, in any case of letters, in the LP format, and any
 /// other in the MPS format.
 ///
 /// # Errors
 ///
-/// The first fault of the text, with its line; or `Unsupported` at line 1 where a model is declared that has a whole
-/// column, of which nothing is answered yet; or want of memory.
+/// The first fault of the text, with its line; or want of memory.
 pub fn read_model(alloc: Global, name: &[u8], bytes: &[u8]) -> Result<Model, ReadFault>
     requires { length bytes.now < 2 ^ 31 }
     ensures declared { IfOk result (Declares name.now bytes.now) }
-    ensures markless { IfOk result IsMarkless }
     ensures refused { IfErr result (IsRefusal name.now bytes.now) }
 {
-    let model = match read_format(alloc, format_named(name), bytes) {
-        Ok(model) => model,
-        Err(fault) => return Err(fault),
-    };
-    if is_marked(&model) {
-        return Err(ReadFault::Stop(ReadStop {
-            line: 1,
-            kind: ReadKind::Unsupported,
-        }));
-    }
-    Ok(model)
+    read_format(alloc, format_named(name), bytes)
 }

@@ -1,5 +1,6 @@
 -- What a check that says yes confirms.
 use Rattle.std.proofs.Common.{◌≡◌, ◌<◌, sym, subst, List, [], ◌∷◌, length}
+use Rattle.std.specs.Prelude.{All}
 use Rattle.std.proofs.lemmas.List.Elements.{All-cons, All-nil}
 use Rattle.frac128.specs.Limit.{limit}
 use Rattle.lp_model.specs.declared.members.Member.{Member}
@@ -16,7 +17,7 @@ use Rattle.certs.specs.declared.solving.Verdict.TheVariants.{Infeasible}
 use Rattle.certs.specs.Checks.{outcome, point_steps, combination_steps}
 use Rattle.certs.specs.Combination.{IsCombination}
 use Rattle.certs.specs.Order.{AreLeavesInOrder, AreSharesInOrder, IsNodeInOrder}
-use Rattle.certs.specs.Proof.{Tip}
+use Rattle.certs.specs.Proof.{Tip, IsFittingNode}
 use Rattle.certs.specs.Tales.{IsPointOf}
 use Rattle.certs.proofs.Passed.{point_check_law, combination_check_law}
 use Rattle.quick_oracle.specs.Answers.{IsConfirmed}
@@ -33,5 +34,8 @@ combo_confirmed model set shares formed said = combination_check_law limit model
 pub leaf_confirmed : (model : Program) (set : List Member) (combo : Combo) (proof : Proof) → IsCombination model set [] combo.shares → AreSharesInOrder combo.shares → proof.nodes ≡ Leaf combo ∷ [] → IsConfirmed model set (Infeasible proof)
 leaf_confirmed model set combo proof combination ordered is = (
   record { tree = Tip combo.shares; listed = sym is; proves = combination },
-  subst AreLeavesInOrder (sym is) (All-cons IsNodeInOrder (Leaf combo) [] ordered (All-nil IsNodeInOrder)),
+  (
+    subst AreLeavesInOrder (sym is) (All-cons IsNodeInOrder (Leaf combo) [] ordered (All-nil IsNodeInOrder)),
+    subst (All IsFittingNode) (sym is) (All-cons IsFittingNode (Leaf combo) [] tt (All-nil IsFittingNode)),
+  ),
 )

@@ -1,5 +1,5 @@
 -- What a quick oracle answers: confirmed verdicts, and else what the inner oracle answers.
-use Rattle.std.specs.Prelude.{◌≡◌, ◌⊎◌, List, Result, Ok, Err}
+use Rattle.std.specs.Prelude.{◌≡◌, ◌⊎◌, List, Result, Ok, Err, All}
 use Rattle.std.proofs.Common.{inl, inr, subst, sym}
 use Rattle.lp_model.specs.declared.members.Member.{Member}
 use Rattle.lp_model.specs.Program.{Program}
@@ -9,7 +9,7 @@ use Rattle.certs.specs.declared.solving.Stop.TheVariants.{Memory}
 use Rattle.certs.specs.declared.solving.Verdict.{Verdict}
 use Rattle.certs.specs.declared.solving.Verdict.TheVariants.{Feasible, Infeasible}
 use Rattle.certs.specs.Order.{AreLeavesInOrder}
-use Rattle.certs.specs.Proof.{IsProof}
+use Rattle.certs.specs.Proof.{IsProof, IsFittingNode}
 use Rattle.certs.specs.Sites.{Budgets}
 use Rattle.certs.specs.Tales.{IsPointOf, IsSiteWithin, IsVerdict, OracleState, asked_after}
 
@@ -18,10 +18,10 @@ abbrev pub Relation : Type 1
 Relation = Program → Budgets → List Member → Result Verdict Stop → Type 0
 
 -- ---- confirmed verdicts
--- a point of the set; or a proof of it, with the shares of each leaf in order
+-- a point of the set; or a proof of it, with the shares of each leaf in order and numbers of splits that fit
 abbrev pub IsConfirmed : Program → List Member → Verdict → Type 0
 IsConfirmed model set (Feasible point) = IsPointOf model set point
-IsConfirmed model set (Infeasible proof) = IsProof model set proof.nodes × AreLeavesInOrder proof.nodes
+IsConfirmed model set (Infeasible proof) = IsProof model set proof.nodes × (AreLeavesInOrder proof.nodes × All IsFittingNode proof.nodes)
 
 -- such a verdict, or want of memory
 abbrev pub IsConfirmedAnswer : Program → List Member → Result Verdict Stop → Type 0
@@ -60,7 +60,7 @@ module _ (answers : Relation) (model : Program) (budgets : Budgets) (set : List 
   -- the shares of each leaf stand in order
   pub quick_ordered : (proof : Proof) → (answers model budgets set (Ok (Infeasible proof)) → AreLeavesInOrder proof.nodes) → IsQuickAnswer answers model budgets set (Ok (Infeasible proof)) → AreLeavesInOrder proof.nodes
   quick_ordered proof ordered (inl h) = ordered h
-  quick_ordered proof ordered (inr h) = h.1
+  quick_ordered proof ordered (inr h) = h.1.0
 
   -- a stop is within the set
   pub quick_within : (stop : Stop) → (answers model budgets set (Err stop) → IsSiteWithin set stop) → IsQuickAnswer answers model budgets set (Err stop) → IsSiteWithin set stop

@@ -1,5 +1,5 @@
 -- What is left to be printed after a step.
-use Rattle.std.proofs.Common.{◌≡◌, ◌<◌, ◌≤◌, ◌+◌, refl, sym, ◌∙◌, ap, subst, ℕ, not, ◌&&◌, List, [], ◌∷◌, ◌++◌, append_assoc, append-nil, drop, get_or, length, filter, zip, map, flat_map}
+use Rattle.std.proofs.Common.{◌≡◌, ◌<◌, ◌≤◌, ◌+◌, refl, sym, ◌∙◌, ap, ℕ, not, ◌&&◌, List, [], ◌∷◌, ◌++◌, append_assoc, append-nil, drop, get_or, length, filter, zip, map, flat_map}
 use Rattle.std.proofs.lemmas.List.{at_drop_more, map-append}
 use Rattle.std.proofs.Math.ListN.{drop_of_length-le}
 use Rattle.std.proofs.lemmas.Grind.{flat_map-append}
@@ -7,10 +7,8 @@ use Rattle.std.specs.Prelude.{All, Contains}
 use Rattle.std.proofs.lemmas.List.Elements.{filter-append, All-contains_itself, All-weaker}
 use Rattle.lp_model.specs.declared.parts.Note.{Note}
 use Rattle.lp_model.specs.declared.members.Member.{Member}
-use Rattle.lp_model.specs.declared.members.Member.TheVariants.{RowLo, RowUp, Lower, Upper, Whole}
 use Rattle.lp_model.specs.Program.{Program}
 use Rattle.lp_model.specs.Members.{has, is_active, possible_members}
-use Rattle.lp_model.specs.Evaluation.{IsInRange}
 use Rattle.lp_model.proofs.Marked.{possible_is}
 use Rattle.lp_model.specs.MemberSets.{SetValue, IsPossibleIn}
 use Rattle.certs.specs.Checks.{IsSetOf}

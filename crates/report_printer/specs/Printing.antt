@@ -12,6 +12,7 @@ use Rattle.certs.specs.declared.evidence.Node.{Node}
 use Rattle.certs.specs.declared.evidence.Node.TheVariants.{Split, Leaf}
 use Rattle.certs.specs.declared.evidence.Proof.{Proof}
 use Rattle.certs.specs.Checks.{IsSetOf}
+use Rattle.certs.specs.declared.solving.Site.{Site}
 use Rattle.certs.specs.declared.solving.Stop.{Stop}
 use Rattle.certs.specs.declared.solving.Stop.TheVariants.{Wide as TooWide, Pivots as Spent, Nodes, Large, Memory}
 use Rattle.report_text.specs.declared.report.Core.{Core}
@@ -66,11 +67,16 @@ pub record IsKnownCore (model : Program) (core : Core) : Type 0 where
   pub points : All (IsKnownPoint model) core.witnesses
   pub proof : IsKnownProof model core.proof
 
--- a set of members of the program; what has no site has none
+-- a set of members of the program, and branches on columns that there are
+pub record IsKnownSite (model : Program) (site : Site) : Type 0 where
+  pub set : IsSetOf model site.set
+  pub path : All (λ b. b.column < length model.columns) site.path
+
+-- such a site, where it has one
 abbrev pub IsKnownStop : Program → Stop → Type 0
-IsKnownStop model (TooWide site k o) = IsSetOf model site.set
-IsKnownStop model (Spent site) = IsSetOf model site.set
-IsKnownStop model (Nodes site) = IsSetOf model site.set
+IsKnownStop model (TooWide site k o) = IsKnownSite model site
+IsKnownStop model (Spent site) = IsKnownSite model site
+IsKnownStop model (Nodes site) = IsKnownSite model site
 IsKnownStop model (Large size) = Unit {0}
 IsKnownStop model Memory = Unit {0}
 

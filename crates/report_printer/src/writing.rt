@@ -7,12 +7,12 @@ ghost use Rattle.frac128.specs.Printed.{printed};
 ghost use Rattle.certs.specs.Checks.{IsSetOf};
 ghost use Rattle.lp_model.specs.Program.{Program, noted_column};
 ghost use Rattle.lp_model.specs.Members.{has, is_active as is_in_force};
-ghost use Rattle.report_text.specs.Grammar.{◌then◌, spelled, column_name, name_of, kind_word, source_word, source_name, op_word, site_word, method_word, command_text, phrase_line, value_phrases, point_phrases, node_phrases, proof_phrases, without_phrase, left_out, site_phrases, stop_phrases, witness_phrases, answer_front, answer_end, answer_phrases, entry_phrases, phrases_text};
+ghost use Rattle.report_text.specs.Grammar.{◌then◌, spelled, column_name, name_of, kind_word, source_word, source_name, op_word, site_word, method_word, command_text, phrase_line, value_phrases, point_phrases, node_phrases, proof_phrases, without_phrase, branch_phrase, branch_keyword, keyword_text, left_out, site_phrases, stop_phrases, witness_phrases, answer_front, answer_end, answer_phrases, entry_phrases, phrases_text};
 ghost use Rattle.report_text.specs.Form.{IsCount, IsOperation, IsWithinLimit};
 ghost use Rattle.report_printer.specs.Numbers.{HasNumbersWithin, HasValuesWithin, HasWeightsWithin, HasWitnessesWithin, IsCoreWithin, IsProofWithin, IsStopWithin};
-ghost use Rattle.report_printer.specs.Printing.{CanPrintLaw, PartsLaw, ended, head_phrases, IsKnownMember, IsKnownSource, IsKnownNode, IsKnownProof, IsKnownPoint, IsKnownCore, IsKnownStop, IsKnownAnswer, Keeps, missing_text};
+ghost use Rattle.report_printer.specs.Printing.{CanPrintLaw, PartsLaw, ended, head_phrases, IsKnownMember, IsKnownSource, IsKnownNode, IsKnownProof, IsKnownPoint, IsKnownCore, IsKnownSite, IsKnownStop, IsKnownAnswer, Keeps, missing_text};
 
-use certs::{Node, Point, Proof, Share, Site, SiteKind, Source, Stop};
+use certs::{Branch, Node, Point, Proof, Share, Site, SiteKind, Source, Stop};
 use frac128::{Exact, Frac, Op, Wide};
 use itoa::Buffer;
 use lp_model::{Member, MemberSet, Model, Note};
@@ -323,15 +323,46 @@ fn print_left_out(model: &Model, set: &MemberSet, into: &mut Vec<u8>) -> Result<
     Ok(())
 }
 
-// Appends the lines of a site: its kind, and the active members that are not in its set.
+// The word for the side of its column on which a branch is.
+fn side_name(upper: bool) -> &'static str
+    ensures { result.now ≡ keyword_text (branch_keyword upper) }
+{
+    if upper { "below" } else { "above" }
+}
+
+// Appends the line of a branch.
+fn print_branch(model: &Model, branch: Branch, into: &mut Vec<u8>) -> Result<(), AllocError>
+    requires { branch.column < length model.now.columns }
+    ensures text { OnOk result (into.new.items ≡ into.old.items ++ ended (phrase_line model.now (branch_phrase branch))) }
+    ensures front { Keeps into.old.items into.new.items }
+{
+    push_word(side_name(branch.upper).as_bytes(), into)?;
+    push_word(model.column_name(branch.column), into)?;
+    push_whole(branch.at, into)
+}
+
+// Appends the lines of branches.
+fn print_path(model: &Model, path: &[Branch], into: &mut Vec<u8>) -> Result<(), AllocError>
+    requires { All (λ b. b.column < length model.now.columns) path.now }
+    ensures text { OnOk result (into.new.items ≡ into.old.items ++ phrases_text model.now (map branch_phrase path.now)) }
+    ensures front { Keeps into.old.items into.new.items }
+{
+    for branch in path {
+        print_branch(model, *branch, into)?;
+    }
+    Ok(())
+}
+
+// Appends the lines of a site: its kind, the active members that are not in its set, and the branches of its path.
 fn print_site(model: &Model, site: &Site, into: &mut Vec<u8>) -> Result<(), AllocError>
-    requires { IsSetOf model.now site.now.set }
+    requires { IsKnownSite model.now site.now }
     ensures text { OnOk result (into.new.items ≡ into.old.items ++ phrases_text model.now (site_phrases model.now site.now)) }
     ensures front { Keeps into.old.items into.new.items }
 {
     push_word(b"site", into)?;
     push_line(site_name(site.kind).as_bytes(), into)?;
-    print_left_out(model, &site.set, into)
+    print_left_out(model, &site.set, into)?;
+    print_path(model, site.path.as_slice(), into)
 }
 
 // Appends the line of a turn's number.
@@ -367,7 +398,7 @@ fn print_wide(
     operation: &Wide,
     into: &mut Vec<u8>,
 ) -> Result<(), AllocError>
-    requires { IsSetOf model.now site.now.set }
+    requires { IsKnownSite model.now site.now }
     ensures text { OnOk result (into.new.items ≡ into.old.items ++ phrases_text model.now (stop_phrases model.now (Stop.Wide site.now step operation.now))) }
     ensures front { Keeps into.old.items into.new.items }
     ensures within { OnOk result (IsStopWithin (Stop.Wide site.now step operation.now)) }
@@ -386,7 +417,7 @@ fn print_spent(
     site: &Site,
     into: &mut Vec<u8>,
 ) -> Result<(), AllocError>
-    requires { IsSetOf model.now site.now.set }
+    requires { IsKnownSite model.now site.now }
     ensures text { OnOk result (into.new.items ≡ into.old.items ++ (ended what.now ++ phrases_text model.now (site_phrases model.now site.now))) }
     ensures front { Keeps into.old.items into.new.items }
 {
@@ -577,12 +608,12 @@ fn print_iis(method: Method, into: &mut Vec<u8>) -> Result<(), AllocError>
     into.extend_from_slice(method_name(method).as_bytes())
 }
 
-// Appends a command that sets the budget of pivots.
-fn print_budget(most: u64, into: &mut Vec<u8>) -> Result<(), AllocError>
-    ensures text { OnOk result (into.new.items ≡ into.old.items ++ command_text (Command.Pivots most)) }
+// Appends words, and how many of what they name a budget has.
+fn print_budget(what: &[u8], most: u64, into: &mut Vec<u8>) -> Result<(), AllocError>
+    ensures text { OnOk result (into.new.items ≡ into.old.items ++ (what.now then decimal most)) }
     ensures front { Keeps into.old.items into.new.items }
 {
-    push_word(b"budget pivots", into)?;
+    push_word(what, into)?;
     push_decimal(most, into)?;
     Ok(())
 }
@@ -595,7 +626,8 @@ fn put_command(command: &Command, into: &mut Vec<u8>) -> Result<(), AllocError>
     match command {
         Command::Check => into.extend_from_slice(b"check"),
         Command::Iis(method) => print_iis(*method, into),
-        Command::Pivots(most) => print_budget(*most, into),
+        Command::Pivots(most) => print_budget(b"budget pivots", *most, into),
+        Command::Nodes(most) => print_budget(b"budget nodes", *most, into),
     }
 }
 

@@ -1,12 +1,12 @@
 -- Laws of the grammar: the last line of a report stands nowhere else in it, so bytes have one ending.
-use Rattle.std.proofs.Common.{◌≡◌, refl, sym, ap, ◌∙◌, true, false, List, [], ◌∷◌, ◌++◌, ◌==◌, true≢false, append_assoc, append-nil, arith}
+use Rattle.std.proofs.Common.{◌≡◌, refl, sym, ap, ◌∙◌, Bool, true, false, List, [], ◌∷◌, ◌++◌, ◌==◌, true≢false, append_assoc, append-nil, arith}
 use Rattle.std.specs.Prelude.{◌≢◌, All, AllPairs, codes, slice_index}
 use Rattle.std.proofs.lemmas.List.Elements.{All-nil, All-cons, All-head, All-tail}
 use Rattle.std.proofs.lemmas.List.Kept.{AllPairs-cons}
 use Rattle.lp_model.specs.Program.{Program, noted_column}
 use Rattle.lp_model.specs.declared.parts.Note.TheVariants.{LowerRemoved, LowerKept}
 use Rattle.report_text.specs.declared.report.Report.{Report}
-use Rattle.report_text.specs.Grammar.{Line, phrase_line, lines_of, body_phrases, report_lines}
+use Rattle.report_text.specs.Grammar.{Line, keyword_text, branch_keyword, stop_details, spelled, phrase_line, lines_of, body_phrases, report_lines}
 use Rattle.report_text.specs.Form.{IsNamedColumn, IsReportFor}
 use Rattle.report_text.specs.declared.phrases.Phrase.{Phrase}
 use Rattle.report_text.specs.declared.phrases.StopPhrase.{StopPhrase}
@@ -47,6 +47,11 @@ phrase_apart model Phrase.Foot e = absurd (true≢false e)
 phrase_apart model (Phrase.Note (LowerRemoved j)) e = other_start (phrase_line model (Phrase.Note (LowerRemoved j))) refl
 phrase_apart model (Phrase.Note (LowerKept j)) e = other_start (phrase_line model (Phrase.Note (LowerKept j))) refl
 phrase_apart model (Phrase.Stop StopPhrase.Wide) e = other_start (phrase_line model (Phrase.Stop StopPhrase.Wide)) refl
+phrase_apart model (Phrase.Stop (StopPhrase.Branch b)) e = by b.upper
+  where
+    by : (upper : Bool) → NotFoot (spelled (keyword_text (branch_keyword upper)) (stop_details model (StopPhrase.Branch b)))
+    by true = other_start (spelled (codes "below") (stop_details model (StopPhrase.Branch b))) refl
+    by false = other_start (spelled (codes "above") (stop_details model (StopPhrase.Branch b))) refl
 phrase_apart model (Phrase.Stop s) e = other_start (phrase_line model (Phrase.Stop s)) refl
 phrase_apart model (Phrase.Command Check) e = other_start (phrase_line model (Phrase.Command Check)) refl
 phrase_apart model (Phrase.Command c) e = other_start (phrase_line model (Phrase.Command c)) refl

@@ -17,21 +17,25 @@ use Rattle.lp_model.specs.declared.members.Member.TheVariants.{RowLo, RowUp, Who
 use Rattle.lp_model.specs.Shown.{new_row, named_row, new_column, named_column}
 use Rattle.lp_model.specs.Program.{Program, NamedRow, NamedColumn, noted_column}
 use Rattle.lp_model.specs.Members.{comes_before}
-use Rattle.lp_model.specs.MemberSets.{SetValue}
+use Rattle.lp_model.specs.MemberSets.{SetValue, empty_set}
 use Rattle.certs.specs.declared.evidence.Source.TheVariants.{Member as Of, Below, Above}
 use Rattle.certs.specs.declared.evidence.Share.{Share}
 use Rattle.certs.specs.declared.evidence.Point.{Point}
-use Rattle.certs.specs.declared.evidence.Node.TheVariants.{Leaf}
+use Rattle.certs.specs.declared.evidence.Node.TheVariants.{Split, Leaf}
 use Rattle.certs.specs.declared.evidence.Proof.{Proof}
 use Rattle.report_text.specs.declared.report.Method.TheVariants.{Deletion}
-use Rattle.report_text.specs.declared.report.Command.TheVariants.{Check, Iis}
+use Rattle.report_text.specs.declared.report.Command.TheVariants.{Check, Iis, Nodes}
 use Rattle.report_text.specs.declared.report.Answer.{Answer}
-use Rattle.report_text.specs.declared.report.Answer.TheVariants.{Feasible, Infeasible, Irreducible}
+use Rattle.report_text.specs.declared.report.Answer.TheVariants.{Feasible, Infeasible, Irreducible, Done, Stopped}
 use Rattle.report_text.specs.declared.report.Report.{Report}
 use Rattle.report_text.specs.Grammar.{Line, report_lines, text_of}
 use Rattle.report_reader.proofs.Endings.{pair_in_order, nothing_is_front, foot, NotFoot, body, body_is, needs_foot, needs_head, whole_ends}
 use Rattle.certs.specs.Order.{source_before}
-use Rattle.report_text.specs.Form.{IsNamedColumn, IsNamedMember, IsListed, IsUse, AreUses, IsReportFor}
+use Rattle.certs.specs.Proof.{Tip, at_most, at_least}
+use Rattle.certs.specs.declared.solving.SiteKind.TheVariants.{Settle}
+use Rattle.certs.specs.declared.solving.Site.{Site}
+use Rattle.certs.specs.declared.solving.Stop.TheVariants.{Nodes as NodesSpent}
+use Rattle.report_text.specs.Form.{IsNamedColumn, IsNamedMember, IsListed, IsUse, AreUses, IsNodeFor, IsReportFor}
 use Rattle.report_reader.specs.Reading.{Reads, IsFront, IsWhole, IsBadLine, IsTruncated}
 
 abbrev term : ℕ → ℤ → Term
@@ -56,8 +60,11 @@ use_of m w = record { source = Of m; weight = w }
 abbrev leaf : List Share → Proof
 leaf shares = record { nodes = Leaf (record { shares = shares }) ∷ [] }
 
+abbrev both : List Share
+both = use_of (RowUp 0) one_ℚ ∷ use_of (RowLo 1) (frac (pos 3) 2) ∷ []
+
 abbrev proof : Proof
-proof = leaf (use_of (RowUp 0) one_ℚ ∷ use_of (RowLo 1) (frac (pos 3) 2) ∷ [])
+proof = leaf both
 
 abbrev point : List ℚ → Point
 point values = record { values = values }
@@ -99,6 +106,30 @@ two_entries_have_lines = refl
 no_entries_have_lines : report_lines two_rows (record { notes = []; entries = [] }) ≡ codes "iisan report 2" ∷ codes "report end" ∷ []
 no_entries_have_lines = refl
 
+-- ---- a tree, and the stop of its set's run at a node
+abbrev tree : Proof
+tree = record { nodes = Split 0 (negsuc 1) ∷ Leaf (record { shares = both }) ∷ Split 1 (pos 4) ∷ Leaf (record { shares = both }) ∷ Leaf (record { shares = [] }) ∷ [] }
+
+abbrev node_site : Site
+node_site = record { kind = Settle; set = rows_set; enforced = empty_set two_rows; path = at_most 0 (pos 3) ∷ at_least 1 (negsuc 1) ∷ [] }
+
+abbrev tree_report : Report
+tree_report = record {
+  notes = [];
+  entries = record { command = Nodes 7; answer = Done; line = 2 } ∷ record { command = Check; answer = Infeasible rows_set tree; line = 4 } ∷ record { command = Check; answer = Stopped (NodesSpent node_site); line = 18 } ∷ [];
+}
+
+tree_has_lines : report_lines two_rows tree_report
+    ≡ codes "iisan report 2" ∷ codes "command budget nodes 7" ∷ codes "done" ∷ codes "command check" ∷ codes "infeasible"
+    ∷ codes "member rowup c1" ∷ codes "member rowlo c2" ∷ codes "proof"
+    ∷ codes "split x -2" ∷ codes "leaf" ∷ codes "use rowup c1 1" ∷ codes "use rowlo c2 3/2"
+    ∷ codes "split y 4" ∷ codes "leaf" ∷ codes "use rowup c1 1" ∷ codes "use rowlo c2 3/2" ∷ codes "leaf" ∷ codes "end"
+    ∷ codes "command check" ∷ codes "nodes spent" ∷ codes "site settle" ∷ codes "without lower x" ∷ codes "without lower y"
+    ∷ codes "below x 3" ∷ codes "above y -2" ∷ codes "end"
+    ∷ codes "report end" ∷ []
+unfolding frac gcd gcd_within digits
+tree_has_lines = refl
+
 -- ---- that report stands in the grammar, and its bytes are read as it
 rows_named : All (IsNamedMember two_rows) (RowUp 0 ∷ RowLo 1 ∷ [])
 rows_named = All-cons (IsNamedMember two_rows) (RowUp 0) (RowLo 1 ∷ []) (record { known = omega arith; word = refl })
@@ -115,7 +146,7 @@ second_use : IsUse two_rows (use_of (RowLo 1) (frac (pos 3) 2))
 unfolding frac gcd gcd_within lt_q
 second_use = record { named = record { known = omega arith; word = refl }; positive = lt_q-true zero_ℚ (frac (pos 3) 2) refl; fits = refl }
 
-both_uses : AreUses two_rows (use_of (RowUp 0) one_ℚ ∷ use_of (RowLo 1) (frac (pos 3) 2) ∷ [])
+both_uses : AreUses two_rows both
 both_uses = record {
   each = All-cons (IsUse two_rows) (use_of (RowUp 0) one_ℚ) (use_of (RowLo 1) (frac (pos 3) 2) ∷ []) first_use
       (All-cons (IsUse two_rows) (use_of (RowLo 1) (frac (pos 3) 2)) [] second_use (All-nil (IsUse two_rows)));
@@ -125,7 +156,7 @@ both_uses = record {
 contradiction_in_form : IsReportFor two_rows contradiction
 contradiction_in_form = record {
   notes = All-nil (λ note. IsNamedColumn two_rows (noted_column note));
-  entries = (record { command = tt; kind = refl; answer = (rows_listed, record { combo = record { shares = use_of (RowUp 0) one_ℚ ∷ use_of (RowLo 1) (frac (pos 3) 2) ∷ [] }; one = refl; uses = both_uses }) }, tt);
+  entries = (record { command = tt; kind = refl; answer = (rows_listed, record { one = record { tree = Tip both; listed = refl }; each = All-cons (IsNodeFor two_rows) (Leaf (record { shares = both })) [] both_uses (All-nil (IsNodeFor two_rows)) }) }, tt);
   numbered = (refl, tt);
 }
 

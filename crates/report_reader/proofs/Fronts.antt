@@ -1,13 +1,13 @@
 -- Each phrase that is taken stands behind what is read, and what is read is the front of a report.
-use Rattle.std.proofs.Common.{◌≡◌, ◌≢◌, ◌<◌, ◌≤◌, refl, sym, ap, subst, ◌∙◌, ℕ, zero, suc, ◌+◌, ◌-◌, Bool, true, false, cond, ◌&&◌, List, [], ◌∷◌, ◌++◌, length, append_assoc, append-nil, Some, None, arith, ◌⊎◌, inl, inr}
-use Rattle.std.specs.Prelude.{map, flat_map, zip, replicate, option_map, All, IsTrue, nat_le}
+use Rattle.std.proofs.Common.{eqb-true, ◌≡◌, ◌≢◌, ◌<◌, ◌≤◌, refl, sym, ap, subst, ◌∙◌, ℕ, zero, suc, ◌+◌, ◌-◌, ◌==◌, Bool, true, false, cond, ◌&&◌, List, [], ◌∷◌, ◌++◌, length, append_assoc, append-nil, Some, None, arith, ◌⊎◌, inl, inr}
+use Rattle.std.specs.Prelude.{map, flat_map, zip, replicate, option_map, All, IsTrue, nat_lt, nat_le}
 use Rattle.std.specs.List.{list_all}
 use Rattle.std.proofs.lemmas.List.{length-append, length-replicate, length-map, map-append}
 use Rattle.std.proofs.lemmas.List.Elements.{All-nil, All-append, All-push, All-replicate}
 use Rattle.std.proofs.lemmas.List.Quantifiers.{all_pairs_push}
 use Rattle.std.proofs.lemmas.List.Concat.{flat_map-append}
 use Rattle.std.proofs.lemmas.List.Sums.{AllPass-from_list_all}
-use Rattle.std.proofs.lemmas.Bool.{leb-true, and_parts}
+use Rattle.std.proofs.lemmas.Bool.{leb-true, ltb-true, and_parts}
 use Rattle.algebra.specs.Gcd.{gcd, gcd_within}
 use Rattle.rational.specs.Rational.{ℚ, frac, zero_ℚ, eq_ℚ}
 use Rattle.rational.proofs.Compare.{eq-Decides}
@@ -16,13 +16,17 @@ use Rattle.lp_model.specs.declared.parts.Note.{Note}
 use Rattle.lp_model.specs.declared.members.Member.{Member}
 use Rattle.lp_model.specs.Members.{comes_before, is_active}
 use Rattle.lp_model.specs.Satisfaction.{values_at}
+use Rattle.certs.specs.declared.evidence.Branch.{Branch}
 use Rattle.certs.specs.declared.evidence.Share.{Share}
+use Rattle.certs.specs.declared.evidence.Node.{Node}
+use Rattle.certs.specs.declared.evidence.Node.TheVariants.{Split}
 use Rattle.certs.specs.declared.evidence.Point.{Point}
 use Rattle.certs.specs.declared.solving.SiteKind.TheVariants.{Settle}
+use Rattle.frac128.specs.declared.Wide.{Wide as Operation}
 use Rattle.certs.specs.declared.solving.Stop.{Stop}
-use Rattle.certs.specs.declared.solving.Stop.TheVariants.{Wide as TooWide, Pivots as Spent}
+use Rattle.certs.specs.declared.solving.Stop.TheVariants.{Wide as TooWide, Pivots as Spent, Nodes as NodesSpent}
 use Rattle.report_text.specs.declared.report.Command.{Command}
-use Rattle.report_text.specs.declared.report.Command.TheVariants.{Check, Iis, Pivots}
+use Rattle.report_text.specs.declared.report.Command.TheVariants.{Check, Iis, Pivots, Nodes}
 use Rattle.report_text.specs.declared.report.Answer.{Answer}
 use Rattle.report_text.specs.declared.report.Entry.{Entry}
 use Rattle.report_text.specs.declared.phrases.Phrase.{Phrase}
@@ -36,14 +40,15 @@ use Rattle.report_reader.specs.declared.drafts.Next.{Next}
 use Rattle.report_reader.specs.declared.drafts.Stage.{Stage}
 use Rattle.report_reader.specs.declared.drafts.Draft.{Draft}
 use Rattle.report_text.specs.Turns.{after}
-use Rattle.report_text.specs.Grammar.{column_name, entries_phrases, value_phrases, point_phrases, proof_phrases, witness_phrases, without_phrase, site_phrases, answer_front, answer_end, entry_phrases, body_phrases}
+use Rattle.report_text.specs.Grammar.{column_name, entries_phrases, value_phrases, point_phrases, node_phrases, witness_phrases, without_phrase, branch_phrase, site_phrases, answer_front, answer_end, entry_phrases, body_phrases}
 use Rattle.report_text.proofs.InTurn.{gathered-push, AllEntries-push, numbered-push}
 use Rattle.certs.specs.Order.{source_before}
-use Rattle.report_text.specs.Form.{is_word, IsNamedColumn, IsNamedMember, IsWithinLimit, IsUse, AreUses, IsListed, IsOneLeaf, IsPointFor, IsAnswerFor, IsEntryFor, can_answer}
-use Rattle.report_reader.specs.Phrases.{IsPhraseFor}
-use Rattle.report_reader.specs.Drafts.{filled, point_of, leaf_of, set_of, answer_of, only_if, witnessed_with, site_without, stop_begun, stop_with, extended, placed, between, advanced, AreValues, AreMembers, AreWitnesses, IsFound, IsOneMore, AreLeftOut, IsStopPart, Asks, IsPartFor, IsDraftFor}
+use Rattle.report_text.specs.Form.{is_word, IsNamedColumn, IsNamedMember, IsWithinLimit, IsUse, AreUses, IsListed, IsPointFor, IsAnswerFor, IsEntryFor, can_answer}
+use Rattle.report_reader.specs.Phrases.{IsNamedBranch, IsPhraseFor}
+use Rattle.report_reader.specs.Drafts.{filled, point_of, leaf_of, set_of, answer_of, only_if, proof_with, witnessed_with, site_without, stop_begun, stop_with, extended, placed, between, advanced, AreValues, AreMembers, AreWitnesses, IsFound, IsOneMore, AreLeftOut, IsTold, IsStopPart, AreNodes, Asks, IsPartFor, IsDraftFor}
 use Rattle.report_reader.proofs.Named.{told}
-use Rattle.report_reader.proofs.LeftOut.{none_left, left_twice, site_in_form}
+use Rattle.report_reader.proofs.DueTrees.{whole_due, split_due, leaf_due, none_due}
+use Rattle.report_reader.proofs.LeftOut.{none_told, left_twice, site_in_form}
 
 -- ---- what is read, as phrases
 abbrev pub found_phrases : Found → List Phrase
@@ -58,16 +63,21 @@ settle_phrase = Phrase.Stop (StopPhrase.Site Settle)
 abbrev pub opening : StopCause → StopPhrase
 opening StopCause.Wide = StopPhrase.Wide
 opening StopCause.Spent = StopPhrase.Spent
+opening StopCause.Nodes = StopPhrase.Nodes
 
--- the same, the site of its run, and the members left out
-abbrev pub begun_phrases : StopCause → List Member → List Phrase
-begun_phrases cause left = Phrase.Stop (opening cause) ∷ settle_phrase ∷ map without_phrase left
+-- the same, the site of its run, the members left out, and the branches
+abbrev pub begun_phrases : StopCause → List Member → List Branch → List Phrase
+begun_phrases cause left path = Phrase.Stop (opening cause) ∷ settle_phrase ∷ (map without_phrase left ++ map branch_phrase path)
 
 abbrev pub stop_part_phrases : StopPart → List Phrase
 stop_part_phrases (StopPart.Begun cause) = Phrase.Stop (opening cause) ∷ []
-stop_part_phrases (StopPart.Site cause left) = begun_phrases cause left
-stop_part_phrases (StopPart.Step left k) = begun_phrases StopCause.Wide left ++ Phrase.Stop (StopPhrase.Step k) ∷ []
-stop_part_phrases (StopPart.Operation left k o) = begun_phrases StopCause.Wide left ++ Phrase.Stop (StopPhrase.Step k) ∷ Phrase.Stop (StopPhrase.Operation o) ∷ []
+stop_part_phrases (StopPart.Site cause left path) = begun_phrases cause left path
+stop_part_phrases (StopPart.Step left path k) = begun_phrases StopCause.Wide left path ++ Phrase.Stop (StopPhrase.Step k) ∷ []
+stop_part_phrases (StopPart.Operation left path k o) = begun_phrases StopCause.Wide left path ++ Phrase.Stop (StopPhrase.Step k) ∷ Phrase.Stop (StopPhrase.Operation o) ∷ []
+
+-- a set, and the nodes of its proof
+abbrev pub nodes_phrases : Found → List Node → List Phrase
+nodes_phrases found nodes = found_phrases found ++ Phrase.Proof ∷ flat_map node_phrases nodes
 
 abbrev pub part_phrases : Part → List Phrase
 part_phrases Part.Nothing = []
@@ -76,8 +86,8 @@ part_phrases (Part.Point values) = Phrase.Feasible ∷ Phrase.Point ∷ value_ph
 part_phrases (Part.Listed found) = found_phrases found
 part_phrases (Part.Member members witnesses m) = found_phrases (Found.Witnessed members witnesses) ++ Phrase.Member m ∷ []
 part_phrases (Part.Witness members witnesses m values) = found_phrases (Found.Witnessed members witnesses) ++ Phrase.Member m ∷ Phrase.Point ∷ value_phrases 0 values
-part_phrases (Part.Proof found) = found_phrases found ++ Phrase.Proof ∷ []
-part_phrases (Part.Leaf found shares) = found_phrases found ++ Phrase.Proof ∷ Phrase.Leaf ∷ map Phrase.Use shares
+part_phrases (Part.Proof found nodes due) = nodes_phrases found nodes
+part_phrases (Part.Leaf found nodes due shares) = nodes_phrases found nodes ++ Phrase.Leaf ∷ map Phrase.Use shares
 part_phrases (Part.Stop part) = stop_part_phrases part
 
 abbrev pub draft_phrases : Program → Draft → List Phrase
@@ -263,7 +273,7 @@ module _ (model : Program) where
       subst (λ q. IsPartFor model (Iis method) q × (part_phrases q ≡ found_phrases (Found.Witnessed members witnesses) ++ Phrase.Member m ∷ [])) (same_more (Part.Member members witnesses m) next t.1)
       ((member_taken members m h.0 k t.0, h.1), refl)
   witnessed_taken (Iis method) members witnesses Phrase.Proof next h k e =
-      subst (λ q. IsPartFor model (Iis method) q × (part_phrases q ≡ found_phrases (Found.Witnessed members witnesses) ++ Phrase.Proof ∷ [])) (more_is (Part.Proof (Found.Witnessed members witnesses)) next e) (h, refl)
+      subst (λ q. IsPartFor model (Iis method) q × (part_phrases q ≡ found_phrases (Found.Witnessed members witnesses) ++ Phrase.Proof ∷ [])) (more_is (Part.Proof (Found.Witnessed members witnesses) [] 1) next e) ((h, whole_due model), refl)
   witnessed_taken (Iis method) members witnesses _ next h k e = absurd (cc)
   witnessed_taken c members witnesses p next h k e = absurd h
 
@@ -288,22 +298,68 @@ module _ (model : Program) where
   unfolding Took
   begun_taken c StopPhrase.Wide next asks e = subst (Took c Part.Nothing (Phrase.Stop StopPhrase.Wide)) (more_is (Part.Stop (StopPart.Begun StopCause.Wide)) next e) ((asks, tt), refl)
   begun_taken c StopPhrase.Spent next asks e = subst (Took c Part.Nothing (Phrase.Stop StopPhrase.Spent)) (more_is (Part.Stop (StopPart.Begun StopCause.Spent)) next e) ((asks, tt), refl)
+  begun_taken c StopPhrase.Nodes next asks e = subst (Took c Part.Nothing (Phrase.Stop StopPhrase.Nodes)) (more_is (Part.Stop (StopPart.Begun StopCause.Nodes)) next e) ((asks, tt), refl)
   begun_taken c _ next asks e = absurd (cc)
 
   stop_taken : (c : Command) (part : StopPart) (p : Phrase) (next : Part) → Asks c × IsStopPart model part → IsPhraseFor model p → stop_with model part p ≡ Some (Next.More next) → Took c (Part.Stop part) p next
   unfolding Took
-  stop_taken c (StopPart.Begun cause) (Phrase.Stop (StopPhrase.Site Settle)) next h k e = subst (Took c (Part.Stop (StopPart.Begun cause)) settle_phrase) (more_is (Part.Stop (StopPart.Site cause [])) next e) ((h.0, none_left model), refl)
-  stop_taken c (StopPart.Site cause left) (Phrase.Stop (StopPhrase.Without m)) next h k e =
-      list_taken c (Part.Stop (StopPart.Site cause left)) (without_phrase m) (λ members. Part.Stop (StopPart.Site cause members)) (is_active model m && list_all (λ n. comes_before n m) left) (left ++ m ∷ []) next
-      (λ t. ((h.0, left_taken left m h.1 k t), ap (λ l. Phrase.Stop (opening cause) ∷ settle_phrase ∷ l) (map_push without_phrase left m))) e
-  stop_taken c (StopPart.Site StopCause.Wide left) (Phrase.Stop (StopPhrase.Step n)) next h k e =
-      subst (Took c (Part.Stop (StopPart.Site StopCause.Wide left)) (Phrase.Stop (StopPhrase.Step n))) (more_is (Part.Stop (StopPart.Step left n)) next e) ((h.0, (h.1, k)), refl)
-  stop_taken c (StopPart.Site StopCause.Spent left) Phrase.End next h k e = absurd (cc)
-  stop_taken c (StopPart.Step left n) (Phrase.Stop (StopPhrase.Operation o)) next h k e =
-      subst (Took c (Part.Stop (StopPart.Step left n)) (Phrase.Stop (StopPhrase.Operation o))) (more_is (Part.Stop (StopPart.Operation left n o)) next e)
-      ((h.0, (h.1.0, (h.1.1, k))), sym (append_assoc (begun_phrases StopCause.Wide left) (Phrase.Stop (StopPhrase.Step n) ∷ []) (Phrase.Stop (StopPhrase.Operation o) ∷ [])))
-  stop_taken c (StopPart.Operation left n o) Phrase.End next h k e = absurd (cc)
+  stop_taken c (StopPart.Begun cause) (Phrase.Stop (StopPhrase.Site Settle)) next h k e = subst (Took c (Part.Stop (StopPart.Begun cause)) settle_phrase) (more_is (Part.Stop (StopPart.Site cause [] [])) next e) ((h.0, none_told model), refl)
+  stop_taken c (StopPart.Site cause left []) (Phrase.Stop (StopPhrase.Without m)) next h k e =
+      list_taken c (Part.Stop (StopPart.Site cause left [])) (without_phrase m) (λ members. Part.Stop (StopPart.Site cause members [])) (is_active model m && list_all (λ n. comes_before n m) left) (left ++ m ∷ []) next
+      (λ t. (
+        (h.0, (left_taken left m h.1.0 k t, h.1.1)),
+        ap (λ l. Phrase.Stop (opening cause) ∷ settle_phrase ∷ l)
+            (append-nil (map without_phrase (left ++ m ∷ [])) ∙ map_push without_phrase left m ∙ ap (λ l. l ++ without_phrase m ∷ []) (sym (append-nil (map without_phrase left)))),
+      )) e
+  stop_taken c (StopPart.Site cause left (b ∷ path)) (Phrase.Stop (StopPhrase.Without m)) next h k e =
+      let first : Bool = length (b ∷ path) == 0 in
+      let t = mapped_told (λ members. Next.More (Part.Stop (StopPart.Site cause members (b ∷ path)))) ((first && is_active model m) && list_all (λ n. comes_before n m) left) (left ++ m ∷ []) (Next.More next) e in
+      let none : length (b ∷ path) ≡ 0 = eqb-true (length (b ∷ path)) 0 (and_parts first (is_active model m) (and_parts (first && is_active model m) (list_all (λ n. comes_before n m) left) t.0).0).0 in
+      absurd (omega arith)
+  stop_taken c (StopPart.Site cause left path) (Phrase.Stop (StopPhrase.Branch b)) next h k e =
+      subst (Took c (Part.Stop (StopPart.Site cause left path)) (branch_phrase b)) (more_is (Part.Stop (StopPart.Site cause left (path ++ b ∷ []))) next e) (
+        (h.0, (h.1.0, All-push (IsNamedBranch model) path b h.1.1 k)),
+        ap (λ l. Phrase.Stop (opening cause) ∷ settle_phrase ∷ (map without_phrase left ++ l)) (map-append branch_phrase path (b ∷ []))
+            ∙ ap (λ l. Phrase.Stop (opening cause) ∷ settle_phrase ∷ l) (sym (append_assoc (map without_phrase left) (map branch_phrase path) (branch_phrase b ∷ []))),
+      )
+  stop_taken c (StopPart.Site StopCause.Wide left path) (Phrase.Stop (StopPhrase.Step n)) next h k e =
+      subst (Took c (Part.Stop (StopPart.Site StopCause.Wide left path)) (Phrase.Stop (StopPhrase.Step n))) (more_is (Part.Stop (StopPart.Step left path n)) next e) ((h.0, (h.1, k)), refl)
+  stop_taken c (StopPart.Site StopCause.Spent left path) Phrase.End next h k e = absurd (cc)
+  stop_taken c (StopPart.Site StopCause.Nodes left path) Phrase.End next h k e = absurd (cc)
+  stop_taken c (StopPart.Step left path n) (Phrase.Stop (StopPhrase.Operation o)) next h k e =
+      subst (Took c (Part.Stop (StopPart.Step left path n)) (Phrase.Stop (StopPhrase.Operation o))) (more_is (Part.Stop (StopPart.Operation left path n o)) next e)
+      ((h.0, (h.1.0, (h.1.1, k))), sym (append_assoc (begun_phrases StopCause.Wide left path) (Phrase.Stop (StopPhrase.Step n) ∷ []) (Phrase.Stop (StopPhrase.Operation o) ∷ [])))
+  stop_taken c (StopPart.Operation left path n o) Phrase.End next h k e = absurd (cc)
   stop_taken c part p next h k e = absurd (cc)
+
+  -- the nodes of a proof, and a phrase
+  no_more : (found : Found) (nodes : List Node) (b : Bool) (next : Part) → only_if b (Next.Whole (answer_of model found nodes)) ≡ Some (Next.More next) → ⊥
+  no_more found nodes b next e = let t = only_told b (Next.Whole (answer_of model found nodes)) (Next.More next) e in let s : Next.Whole (answer_of model found nodes) ≡ Next.More next = t.1 in cc
+
+  nodes_taken : (c : Command) (found : Found) (nodes : List Node) (due : ℕ) (p : Phrase) (next : Part) → IsFound model c found → AreNodes model nodes due → IsPhraseFor model p
+      → proof_with model found nodes due p ≡ Some (Next.More next) → IsPartFor model c next × (part_phrases next ≡ nodes_phrases found nodes ++ p ∷ [])
+  nodes_taken c found nodes due (Phrase.Split j k) next f h named e =
+      let more = Part.Proof found (nodes ++ Split j k ∷ []) (due + 1) in
+      let t = only_told (nat_lt 0 due) (Next.More more) (Next.More next) e in
+      subst (λ q. IsPartFor model c q × (part_phrases q ≡ nodes_phrases found nodes ++ Phrase.Split j k ∷ [])) (same_more more next t.1) (
+        (f, split_due model nodes due j k h named (ltb-true 0 due t.0)),
+        ap (λ l. found_phrases found ++ Phrase.Proof ∷ l) (flat_map-append node_phrases nodes (Split j k ∷ []))
+            ∙ sym (append_assoc (found_phrases found) (Phrase.Proof ∷ flat_map node_phrases nodes) (Phrase.Split j k ∷ [])),
+      )
+  nodes_taken c found nodes due Phrase.Leaf next f h named e =
+      let more = Part.Leaf found nodes (due - 1) [] in
+      let t = only_told (nat_lt 0 due) (Next.More more) (Next.More next) e in
+      let some : 0 < due = ltb-true 0 due t.0 in
+      subst (λ q. IsPartFor model c q × (part_phrases q ≡ nodes_phrases found nodes ++ Phrase.Leaf ∷ [])) (same_more more next t.1)
+      ((f, (subst (AreNodes model nodes) (let e : due ≡ (due - 1) + 1 = omega arith in e) h, no_uses)), refl)
+  nodes_taken c found nodes due Phrase.End next f h named e = absurd (no_more found nodes (due == 0) next e)
+  nodes_taken c found nodes due _ next f h named e = absurd (cc)
+
+  -- a leaf behind the nodes
+  leaf_said : (found : Found) (nodes : List Node) (shares : List Share) → nodes_phrases found (nodes ++ leaf_of shares ∷ []) ≡ nodes_phrases found nodes ++ Phrase.Leaf ∷ map Phrase.Use shares
+  leaf_said found nodes shares =
+      ap (λ l. found_phrases found ++ Phrase.Proof ∷ l) (flat_map-append node_phrases nodes (leaf_of shares ∷ []) ∙ ap (λ l. flat_map node_phrases nodes ++ Phrase.Leaf ∷ l) (append-nil (map Phrase.Use shares)))
+      ∙ sym (append_assoc (found_phrases found) (Phrase.Proof ∷ flat_map node_phrases nodes) (Phrase.Leaf ∷ map Phrase.Use shares))
 
   more_taken : (c : Command) (part : Part) (p : Phrase) (next : Part) → IsPartFor model c part → IsPhraseFor model p → extended model c part p ≡ Some (Next.More next) → Took c part p next
   unfolding Took
@@ -312,6 +368,7 @@ module _ (model : Program) where
   more_taken Check Part.Nothing (Phrase.Stop s) next h k e = begun_taken Check s next tt e
   more_taken (Iis method) Part.Nothing (Phrase.Stop s) next h k e = begun_taken (Iis method) s next tt e
   more_taken (Pivots n) Part.Nothing Phrase.Done next h k e = absurd (cc)
+  more_taken (Nodes n) Part.Nothing Phrase.Done next h k e = absurd (cc)
   more_taken c (Part.Stop part) p next h k e = stop_taken c part p next h k e
   more_taken Check Part.Nothing Phrase.Infeasible next h k e = subst (Took Check Part.Nothing Phrase.Infeasible) (more_is (Part.Listed (Found.Members [])) next e) (no_members, refl)
   more_taken (Iis method) Part.Nothing Phrase.Irreducible next h k e = subst (Took (Iis method) Part.Nothing Phrase.Irreducible) (more_is (Part.Listed (Found.Witnessed [] [])) next e) ((no_members, no_witnesses), refl)
@@ -324,7 +381,8 @@ module _ (model : Program) where
       (λ t. (member_taken members m h k t, ap (λ l. Phrase.Infeasible ∷ l) (map_push Phrase.Member members m))) e
   more_taken (Iis method) (Part.Listed (Found.Members members)) p next h k e = absurd h
   more_taken (Pivots n) (Part.Listed (Found.Members members)) p next h k e = absurd h
-  more_taken c (Part.Listed (Found.Members members)) Phrase.Proof next h k e = subst (Took c (Part.Listed (Found.Members members)) Phrase.Proof) (more_is (Part.Proof (Found.Members members)) next e) (h, refl)
+  more_taken (Nodes n) (Part.Listed (Found.Members members)) p next h k e = absurd h
+  more_taken c (Part.Listed (Found.Members members)) Phrase.Proof next h k e = subst (Took c (Part.Listed (Found.Members members)) Phrase.Proof) (more_is (Part.Proof (Found.Members members) [] 1) next e) ((h, whole_due model), refl)
   more_taken c (Part.Listed (Found.Witnessed members witnesses)) p next h k e = witnessed_taken c members witnesses p next h k e
   more_taken c (Part.Member members witnesses m) Phrase.Point next h k e =
       subst (Took c (Part.Member members witnesses m) Phrase.Point) (more_is (Part.Witness members witnesses m []) next e)
@@ -339,15 +397,17 @@ module _ (model : Program) where
   more_taken c (Part.Witness members witnesses m values) p next h k e =
       let t = witnessed_taken c (members ++ m ∷ []) (witnesses ++ point_of model values ∷ []) p next (one_more_found c members witnesses m values h.0 h.1) k e in
       (t.0, t.1 ∙ ap (λ l. l ++ p ∷ []) (witnessed_said members witnesses m values (one_more_each c members witnesses m h.0)))
-  more_taken c (Part.Proof found) Phrase.Leaf next h k e =
-      subst (Took c (Part.Proof found) Phrase.Leaf) (more_is (Part.Leaf found []) next e) ((h, no_uses), sym (append_assoc (found_phrases found) (Phrase.Proof ∷ []) (Phrase.Leaf ∷ [])))
-  more_taken c (Part.Leaf found shares) (Phrase.Use s) next h k e =
-      let front = found_phrases found in
-      list_taken c (Part.Leaf found shares) (Phrase.Use s) (λ ss. Part.Leaf found ss) (list_all (λ u. source_before u.source s.source) shares) (shares ++ s ∷ []) next
+  more_taken c (Part.Proof found nodes due) p next h k e = nodes_taken c found nodes due p next h.0 h.1 k e
+  more_taken c (Part.Leaf found nodes due shares) (Phrase.Use s) next h k e =
+      let front = nodes_phrases found nodes in
+      list_taken c (Part.Leaf found nodes due shares) (Phrase.Use s) (λ ss. Part.Leaf found nodes due ss) (list_all (λ u. source_before u.source s.source) shares) (shares ++ s ∷ []) next
       (λ t. (
-        (h.0, share_taken shares s h.1 k t),
-        ap (λ l. front ++ Phrase.Proof ∷ Phrase.Leaf ∷ l) (map_push Phrase.Use shares s) ∙ sym (append_assoc front (Phrase.Proof ∷ Phrase.Leaf ∷ map Phrase.Use shares) (Phrase.Use s ∷ [])),
+        (h.0, (h.1.0, share_taken shares s h.1.1 k t)),
+        ap (λ l. front ++ Phrase.Leaf ∷ l) (map_push Phrase.Use shares s) ∙ sym (append_assoc front (Phrase.Leaf ∷ map Phrase.Use shares) (Phrase.Use s ∷ [])),
       )) e
+  more_taken c (Part.Leaf found nodes due shares) p next h k e =
+      let t = nodes_taken c found (nodes ++ leaf_of shares ∷ []) due p next h.0 (leaf_due model nodes due shares h.1.0 h.1.1) k e in
+      (t.0, t.1 ∙ ap (λ l. l ++ p ∷ []) (leaf_said found nodes shares))
   more_taken c part p next h k e = absurd (cc)
 
   -- ---- answers
@@ -364,27 +424,23 @@ module _ (model : Program) where
   listed_taken : (members : List Member) → AreMembers model members → IsListed model (set_of model members)
   listed_taken members h = record { of_model = record { rows = refl; columns = refl }; named = h.named; in_order = h.in_order }
 
-  leaf_taken : (shares : List Share) → AreUses model shares → IsOneLeaf model (leaf_of shares)
-  leaf_taken shares h = record { combo = record { shares = shares }; one = refl; uses = h }
-
-  leaf_said : (front : List Phrase) (shares : List Share) → front ++ proof_phrases (leaf_of shares) ≡ front ++ Phrase.Proof ∷ Phrase.Leaf ∷ map Phrase.Use shares
-  leaf_said front shares = ap (λ l. front ++ Phrase.Proof ∷ Phrase.Leaf ∷ l) (append-nil (map Phrase.Use shares))
-
-  leaf_ends : (c : Command) (found : Found) (shares : List Share) → IsFound model c found → AreUses model shares → Ends c (Part.Leaf found shares) Phrase.End (answer_of model found shares)
-  leaf_ends Check (Found.Members members) shares h k =
-      record { ended = refl; kind = refl; form = (listed_taken members h, leaf_taken shares k); said = leaf_said (found_phrases (Found.Members members)) shares }
-  leaf_ends (Iis method) (Found.Witnessed members witnesses) shares h k =
-      record { ended = refl; kind = refl; form = record { members = listed_taken members h.0; each = h.1.each; points = h.1.points; proof = leaf_taken shares k; rounds = refl; price = refl }; said = leaf_said (found_phrases (Found.Witnessed members witnesses)) shares }
-  leaf_ends c found shares h k = absurd h
+  proof_ends : (c : Command) (found : Found) (nodes : List Node) → IsFound model c found → AreNodes model nodes 0
+      → (can_answer c (answer_of model found nodes) ≡ true) × (IsAnswerFor model (answer_of model found nodes) × ((answer_front model (answer_of model found nodes) ≡ nodes_phrases found nodes) × (answer_end (answer_of model found nodes) ≡ Phrase.End)))
+  proof_ends Check (Found.Members members) nodes h k = (refl, ((listed_taken members h, none_due model nodes k), (refl, refl)))
+  proof_ends (Iis method) (Found.Witnessed members witnesses) nodes h k =
+      (refl, (record { members = listed_taken members h.0; each = h.1.each; points = h.1.points; proof = none_due model nodes k; rounds = refl; price = refl }, (refl, refl)))
+  proof_ends c found nodes h k = absurd h
 
   point_ends : (c : Command) (values : List ℚ) → IsPartFor model c (Part.Point values) → Ends c (Part.Point values) Phrase.End (Answer.Feasible (point_of model values))
   point_ends Check values h = record { ended = refl; kind = refl; form = point_taken values h.1; said = ap (λ l. Phrase.Feasible ∷ l) (point_said values) }
   point_ends (Iis method) values h = record { ended = refl; kind = refl; form = point_taken values h.1; said = ap (λ l. Phrase.Feasible ∷ l) (point_said values) }
   point_ends (Pivots n) values h = absurd h.0
+  point_ends (Nodes n) values h = absurd h.0
 
   begun_ends : (s : StopPhrase) (a : Answer) → stop_begun s ≡ Some (Next.Whole a) → ⊥
   begun_ends StopPhrase.Wide a e = cc
   begun_ends StopPhrase.Spent a e = cc
+  begun_ends StopPhrase.Nodes a e = cc
   begun_ends _ a e = cc
 
   not_whole : {X : Type 0} (make : X → Next) (b : Bool) (x : X) (a : Answer) → ((y : X) → Next.Whole a ≢ make y) → option_map make (only_if b x) ≡ Some (Next.Whole a) → ⊥
@@ -395,30 +451,38 @@ module _ (model : Program) where
   can_stop Check stop h = refl
   can_stop (Iis method) stop h = refl
   can_stop (Pivots n) stop h = absurd h
+  can_stop (Nodes n) stop h = absurd h
 
   -- the site of a stop is no more than what is read of it
-  site_said : (cause : StopCause) (left : List Member) (rest : List Phrase) → AreLeftOut model left → Phrase.Stop (opening cause) ∷ (site_phrases model (site_without model left) ++ rest) ≡ begun_phrases cause left ++ rest
-  site_said cause left rest h = ap (λ (l : List Member). Phrase.Stop (opening cause) ∷ settle_phrase ∷ (map without_phrase l ++ rest)) (left_twice model left h)
+  site_said : (cause : StopCause) (left : List Member) (path : List Branch) → IsTold model left path → Phrase.Stop (opening cause) ∷ site_phrases model (site_without model left path) ≡ begun_phrases cause left path
+  site_said cause left path h = ap (λ (l : List Member). begun_phrases cause l path) (left_twice model left h.0)
+
+  wide_ends : (c : Command) (left : List Member) (path : List Branch) (k : ℕ) (o : Operation) → Asks c × IsStopPart model (StopPart.Operation left path k o)
+      → Ends c (Part.Stop (StopPart.Operation left path k o)) Phrase.End (Answer.Stopped (TooWide (site_without model left path) k o))
+  wide_ends c left path k o h = record {
+    ended = refl;
+    kind = can_stop c (TooWide (site_without model left path) k o) h.0;
+    form = (site_in_form model left path h.1.0, h.1.1);
+    said = ap (λ l. l ++ Phrase.Stop (StopPhrase.Step k) ∷ Phrase.Stop (StopPhrase.Operation o) ∷ []) (site_said StopCause.Wide left path h.1.0);
+  }
 
   stop_ends : (c : Command) (part : StopPart) (p : Phrase) (a : Answer) → Asks c × IsStopPart model part → stop_with model part p ≡ Some (Next.Whole a) → Ends c (Part.Stop part) p a
-  stop_ends c (StopPart.Operation left k o) Phrase.End a h e =
-      let stop = TooWide (site_without model left) k o in
-      subst (Ends c (Part.Stop (StopPart.Operation left k o)) Phrase.End) (whole_is (Answer.Stopped stop) a e)
-      (record {
-        ended = refl;
-        kind = can_stop c stop h.0;
-        form = (site_in_form model left h.1.0, h.1.1);
-        said = site_said StopCause.Wide left (Phrase.Stop (StopPhrase.Step k) ∷ Phrase.Stop (StopPhrase.Operation o) ∷ []) h.1.0;
-      })
-  stop_ends c (StopPart.Site StopCause.Spent left) Phrase.End a h e =
-      let stop = Spent (site_without model left) in
-      subst (Ends c (Part.Stop (StopPart.Site StopCause.Spent left)) Phrase.End) (whole_is (Answer.Stopped stop) a e)
-      (record { ended = refl; kind = can_stop c stop h.0; form = site_in_form model left h.1; said = ap (λ (l : List Member). begun_phrases StopCause.Spent l) (left_twice model left h.1) })
-  stop_ends c (StopPart.Site cause left) (Phrase.Stop (StopPhrase.Without m)) a h e =
-      absurd (not_whole (λ members. Next.More (Part.Stop (StopPart.Site cause members))) (is_active model m && list_all (λ n. comes_before n m) left) (left ++ m ∷ []) a (λ y s. cc) e)
-  stop_ends c (StopPart.Site StopCause.Wide left) (Phrase.Stop (StopPhrase.Step n)) a h e = absurd (cc)
+  stop_ends c (StopPart.Operation left path k o) Phrase.End a h e =
+      subst (Ends c (Part.Stop (StopPart.Operation left path k o)) Phrase.End) (whole_is (Answer.Stopped (TooWide (site_without model left path) k o)) a e) (wide_ends c left path k o h)
+  stop_ends c (StopPart.Site StopCause.Spent left path) Phrase.End a h e =
+      let stop = Spent (site_without model left path) in
+      subst (Ends c (Part.Stop (StopPart.Site StopCause.Spent left path)) Phrase.End) (whole_is (Answer.Stopped stop) a e)
+      (record { ended = refl; kind = can_stop c stop h.0; form = site_in_form model left path h.1; said = site_said StopCause.Spent left path h.1 })
+  stop_ends c (StopPart.Site StopCause.Nodes left path) Phrase.End a h e =
+      let stop = NodesSpent (site_without model left path) in
+      subst (Ends c (Part.Stop (StopPart.Site StopCause.Nodes left path)) Phrase.End) (whole_is (Answer.Stopped stop) a e)
+      (record { ended = refl; kind = can_stop c stop h.0; form = site_in_form model left path h.1; said = site_said StopCause.Nodes left path h.1 })
+  stop_ends c (StopPart.Site cause left path) (Phrase.Stop (StopPhrase.Without m)) a h e =
+      absurd (not_whole (λ members. Next.More (Part.Stop (StopPart.Site cause members path))) (((length path == 0) && is_active model m) && list_all (λ n. comes_before n m) left) (left ++ m ∷ []) a (λ y s. cc) e)
+  stop_ends c (StopPart.Site cause left path) (Phrase.Stop (StopPhrase.Branch b)) a h e = absurd (cc)
+  stop_ends c (StopPart.Site StopCause.Wide left path) (Phrase.Stop (StopPhrase.Step n)) a h e = absurd (cc)
   stop_ends c (StopPart.Begun cause) (Phrase.Stop (StopPhrase.Site Settle)) a h e = absurd (cc)
-  stop_ends c (StopPart.Step left n) (Phrase.Stop (StopPhrase.Operation o)) a h e = absurd (cc)
+  stop_ends c (StopPart.Step left path n) (Phrase.Stop (StopPhrase.Operation o)) a h e = absurd (cc)
   stop_ends c part p a h e = absurd (cc)
 
   no_answer : (members : List Member) (witnesses : List Point) (p : Phrase) (a : Answer) → witnessed_with members witnesses p ≡ Some (Next.Whole a) → ⊥
@@ -427,12 +491,28 @@ module _ (model : Program) where
       let s : Next.More (Part.Member members witnesses m) ≡ Next.Whole a = t.1 in cc
   no_answer members witnesses _ a e = cc
 
+  -- the nodes of a proof that end with a phrase
+  nodes_end : (c : Command) (found : Found) (nodes : List Node) (due : ℕ) (part : Part) (p : Phrase) (a : Answer) → part_phrases part ≡ nodes_phrases found nodes → IsFound model c found → AreNodes model nodes due
+      → proof_with model found nodes due p ≡ Some (Next.Whole a) → Ends c part p a
+  nodes_end c found nodes due part Phrase.End a same h k e =
+      let t = only_told (due == 0) (Next.Whole (answer_of model found nodes)) (Next.Whole a) e in
+      let none : due ≡ 0 = eqb-true due 0 t.0 in
+      let r = proof_ends c found nodes h (subst (AreNodes model nodes) none k) in
+      subst (Ends c part Phrase.End) (whole_is (answer_of model found nodes) a (ap Some t.1)) (record { ended = sym r.1.1.1; kind = r.0; form = r.1.0; said = r.1.1.0 ∙ sym same })
+  nodes_end c found nodes due part (Phrase.Split j n) a same h k e =
+      absurd (let t = only_told (nat_lt 0 due) (Next.More (Part.Proof found (nodes ++ Split j n ∷ []) (due + 1))) (Next.Whole a) e in let s : Next.More (Part.Proof found (nodes ++ Split j n ∷ []) (due + 1)) ≡ Next.Whole a = t.1 in cc)
+  nodes_end c found nodes due part Phrase.Leaf a same h k e =
+      absurd (let t = only_told (nat_lt 0 due) (Next.More (Part.Leaf found nodes (due - 1) [])) (Next.Whole a) e in let s : Next.More (Part.Leaf found nodes (due - 1) []) ≡ Next.Whole a = t.1 in cc)
+  nodes_end c found nodes due part _ a same h k e = absurd (cc)
+
   whole_taken : (c : Command) (part : Part) (p : Phrase) (a : Answer) → IsPartFor model c part → extended model c part p ≡ Some (Next.Whole a) → Ends c part p a
   whole_taken c (Part.Point values) Phrase.End a h e = subst (Ends c (Part.Point values) Phrase.End) (whole_is (Answer.Feasible (point_of model values)) a e) (point_ends c values h)
-  whole_taken c (Part.Leaf found shares) Phrase.End a h e = subst (Ends c (Part.Leaf found shares) Phrase.End) (whole_is (answer_of model found shares) a e) (leaf_ends c found shares h.0 h.1)
   whole_taken c (Part.Point values) (Phrase.Value j v) a h e = absurd (not_whole (λ vs. Next.More (Part.Point vs)) (nat_le (length values) j) (filled j values ++ v ∷ []) a (λ y s. cc) e)
-  whole_taken c (Part.Leaf found shares) (Phrase.Use s) a h e =
-      absurd (not_whole (λ ss. Next.More (Part.Leaf found ss)) (list_all (λ u. source_before u.source s.source) shares) (shares ++ s ∷ []) a (λ y s. cc) e)
+  whole_taken c (Part.Proof found nodes due) p a h e = nodes_end c found nodes due (Part.Proof found nodes due) p a refl h.0 h.1 e
+  whole_taken c (Part.Leaf found nodes due shares) (Phrase.Use s) a h e =
+      absurd (not_whole (λ ss. Next.More (Part.Leaf found nodes due ss)) (list_all (λ u. source_before u.source s.source) shares) (shares ++ s ∷ []) a (λ y s. cc) e)
+  whole_taken c (Part.Leaf found nodes due shares) p a h e =
+      nodes_end c found (nodes ++ leaf_of shares ∷ []) due (Part.Leaf found nodes due shares) p a (sym (leaf_said found nodes shares)) h.0 (leaf_due model nodes due shares h.1.0 h.1.1) e
   whole_taken c (Part.Listed (Found.Members members)) (Phrase.Member m) a h e =
       absurd (not_whole (λ ms. Next.More (Part.Listed (Found.Members ms))) (list_all (λ n. comes_before n m) members) (members ++ m ∷ []) a (λ y s. cc) e)
   whole_taken c (Part.Listed (Found.Witnessed members witnesses)) p a h e = absurd (no_answer members witnesses p a e)
@@ -441,13 +521,13 @@ module _ (model : Program) where
   whole_taken c (Part.Witness members witnesses m values) p a h e = absurd (no_answer (members ++ m ∷ []) (witnesses ++ point_of model values ∷ []) p a e)
   whole_taken c (Part.Stop part) p a h e = stop_ends c part p a h e
   whole_taken (Pivots n) Part.Nothing Phrase.Done a h e = subst (Ends (Pivots n) Part.Nothing Phrase.Done) (whole_is Answer.Done a e) (record { ended = refl; kind = refl; form = tt; said = refl })
+  whole_taken (Nodes n) Part.Nothing Phrase.Done a h e = subst (Ends (Nodes n) Part.Nothing Phrase.Done) (whole_is Answer.Done a e) (record { ended = refl; kind = refl; form = tt; said = refl })
   whole_taken Check Part.Nothing (Phrase.Stop s) a h e = absurd (begun_ends s a e)
   whole_taken (Iis method) Part.Nothing (Phrase.Stop s) a h e = absurd (begun_ends s a e)
   whole_taken Check Part.Nothing Phrase.Feasible a h e = absurd (cc)
   whole_taken (Iis method) Part.Nothing Phrase.Feasible a h e = absurd (cc)
   whole_taken c Part.Feasible Phrase.Point a h e = absurd (cc)
   whole_taken c (Part.Member members witnesses m) Phrase.Point a h e = absurd (cc)
-  whole_taken c (Part.Proof found) Phrase.Leaf a h e = absurd (cc)
   whole_taken c part p a h e = absurd (cc)
 
   -- ---- drafts

@@ -4,6 +4,7 @@ use Rattle.std.specs.Prelude.{All, Contains, IsTrue}
 use Rattle.std.proofs.lemmas.Bool.{and_parts}
 use Rattle.std.proofs.lemmas.List.{take_more}
 use Rattle.std.proofs.lemmas.List.Elements.{All-nil, All-contains, All-weaker, All-contains_itself}
+use Rattle.certs.specs.Combination.{IsFitting}
 use Rattle.std.proofs.lemmas.List.Kept.{AllPairs-filter}
 use Rattle.lp_model.specs.declared.members.Member.{Member}
 use Rattle.lp_model.specs.Program.{Program}
@@ -11,10 +12,12 @@ use Rattle.lp_model.specs.Members.{comes_before, is_same, has, is_active, active
 use Rattle.lp_model.specs.MemberSets.{set_without, active_set, empty_set}
 use Rattle.lp_model.proofs.Sets.{same_members, contains_of_has, has_of_contains, members_law}
 use Rattle.lp_model.proofs.Marked.{is_what_it_has}
+use Rattle.certs.specs.declared.evidence.Branch.{Branch}
 use Rattle.certs.specs.declared.solving.SiteKind.TheVariants.{Settle}
 use Rattle.report_text.specs.Grammar.{left_out}
-use Rattle.report_text.specs.Form.{IsNamedMember, IsSiteFor}
-use Rattle.report_reader.specs.Drafts.{set_of, site_without, AreLeftOut}
+use Rattle.report_text.specs.Form.{IsNamedColumn, IsNamedMember, IsSiteFor}
+use Rattle.report_reader.specs.Phrases.{IsNamedBranch}
+use Rattle.report_reader.specs.Drafts.{set_of, site_without, AreLeftOut, IsTold}
 use Rattle.report_text.proofs.Filters.{filter_twice}
 use Rattle.report_reader.proofs.Listed.{one_list, has_push, same_flip}
 
@@ -117,20 +120,31 @@ module _ (model : Program) where
       twice set (subst IsInOrder (sym e) (AllPairs-filter (λ m n. IsTrue (comes_before m n)) (has set) (active_members model) (members_law model).0))
       (λ m h. (and_parts (has (active_members model) m) (has set m) (sym (ap (λ l. has l m) e ∙ has_kept (has set) (active_members model) m) ∙ h)).0)
 
-  -- the settle run of the active members but these
-  pub site_in_form : (left : List Member) → AreLeftOut model left → IsSiteFor model (site_without model left)
-  site_in_form left h = record {
-    settle = record { kind = refl; of_model = record { rows = refl; columns = refl }; active = is_what_it_has (λ m. not (has left m)) (active_members model); enforced_is = refl; path_is = refl };
-    named = subst (All (IsNamedMember model)) (sym (left_twice left h)) h.members.named;
+  -- the settle run of the active members but these, on a path
+  pub site_in_form : (left : List Member) (path : List Branch) → IsTold model left path → IsSiteFor model (site_without model left path)
+  site_in_form left path h = record {
+    settle = record {
+      kind = refl;
+      of_model = record { rows = refl; columns = refl };
+      active = is_what_it_has (λ m. not (has left m)) (active_members model);
+      enforced_is = refl;
+      known = All-weaker (IsNamedBranch model) (λ b. b.column < length model.columns) (λ b k. k.named.known) path h.1;
+      fits = All-weaker (IsNamedBranch model) IsFitting (λ b k. k.fits) path h.1;
+    };
+    named = subst (All (IsNamedMember model)) (sym (left_twice left h.0)) h.0.members.named;
+    path = All-weaker (IsNamedBranch model) (λ b. IsNamedColumn model b.column) (λ b k. k.named) path h.1;
   }
 
   -- ---- where nothing is left out
   pub none_left : AreLeftOut model []
   none_left = record { members = record { named = All-nil (IsNamedMember model); in_order = λ i j d l m. absurd (omega arith) }; active = All-nil (λ m. IsTrue (is_active model m)) }
 
+  pub none_told : IsTold model [] []
+  none_told = (none_left, All-nil (IsNamedBranch model))
+
   -- the settle run of all active members
   pub whole_in_form : IsSiteFor model (record { kind = Settle; set = active_set model; enforced = empty_set model; path = [] })
-  whole_in_form = subst (λ (l : List Member). IsSiteFor model (record { kind = Settle; set = set_of model l; enforced = empty_set model; path = [] })) all_left (site_in_form [] none_left)
+  whole_in_form = subst (λ (l : List Member). IsSiteFor model (record { kind = Settle; set = set_of model l; enforced = empty_set model; path = [] })) all_left (site_in_form [] [] none_told)
 
   pub none_missing : left_out model (active_members model) ≡ []
   none_missing = ap (left_out model) (sym all_left) ∙ left_twice [] none_left

@@ -1,17 +1,21 @@
 -- What the words of a value are, and what the words of a line are.
-use Rattle.std.proofs.Common.{◌≡◌, ◌≢◌, refl, sym, ap, ◌∙◌, ℕ, List, [], ◌∷◌, Option, Some, None}
-use Rattle.std.specs.Prelude.{IfSome}
+use Rattle.std.proofs.Common.{◌≡◌, ◌≢◌, refl, sym, ap, ◌∙◌, ℕ, Bool, true, false, List, [], ◌∷◌, Option, Some, None}
+use Rattle.std.specs.Prelude.{IfSome, All}
+use Rattle.std.specs.Str.{bytes_eq}
+use Rattle.std.proofs.lemmas.List.Elements.{All-nil, All-cons}
+use Rattle.lp_model.specs.declared.parts.Note.TheVariants.{LowerRemoved, LowerKept}
+use Rattle.report_text.specs.declared.report.Command.TheVariants.{Check}
 use Rattle.report_reader.specs.Parts.{parts}
 use Rattle.rational.specs.Rational.{ℚ, zero_ℚ}
 use Rattle.lp_model.specs.Program.{Program}
 use Rattle.report_text.specs.declared.phrases.Keyword.{Keyword}
 use Rattle.report_text.specs.declared.phrases.Phrase.{Phrase}
 use Rattle.report_text.specs.declared.phrases.StopPhrase.{StopPhrase}
-use Rattle.report_text.specs.Grammar.{keyword_text, keyword_of, details}
-use Rattle.report_reader.specs.Phrases.{Says}
-use Rattle.report_reader.specs.Words.{IsSpelled, IsColumnSaid, IsFractionSaid, Finds, leading_keywords, leading_said}
-use Rattle.report_reader.proofs.Named.{found_spelled}
-use Rattle.report_reader.proofs.Spelling.{some_parts, words_of_line, line_of_words}
+use Rattle.report_text.specs.Grammar.{keyword_text, keyword_of, branch_keyword, details}
+use Rattle.report_reader.specs.Phrases.{IsPhraseFor, Says}
+use Rattle.report_reader.specs.Words.{IsSpelled, IsColumnSaid, IsFractionSaid, Finds, lone_phrases, lone_said, leading_keywords, leading_said}
+use Rattle.report_reader.proofs.Named.{found_has, found_spelled}
+use Rattle.report_reader.proofs.Spelling.{no_side, some_parts, words_of_line, line_of_words}
 
 -- the column and the value that two words say
 pub record ValueSaid (model : Program) (name number : List ℕ) (p : Phrase) : Type 0 where
@@ -24,7 +28,7 @@ pub record ValueSaid (model : Program) (name number : List ℕ) (p : Phrase) : T
 
 pub value_said : (model : Program) (name number : List ℕ) (p : Phrase) → IsSpelled model Keyword.Value (name ∷ number ∷ []) p → ValueSaid model name number p
 value_said model name number (Phrase.Value j v) h = record { column = j; value = v; is = refl; named = (h.form.0, (let e = h.behind in cc)); printed = (h.form.1.0, (let e = h.behind in cc)); apart = h.form.1.1 }
-value_said model name number (Phrase.Stop StopPhrase.Wide) h = absurd (let e = h.keyword in cc)
+value_said model name number (Phrase.Stop (StopPhrase.Branch b)) h = absurd (no_side b.upper Keyword.Value h.keyword refl)
 value_said model name number _ h = absurd (let e = h.keyword in cc)
 
 -- ---- the keyword of a line
@@ -40,6 +44,11 @@ leads model (Phrase.Stop (StopPhrase.Large size)) h = refl
 leads model (Phrase.Split j k) h = refl
 leads model (Phrase.Stop (StopPhrase.Site kind)) h = refl
 leads model (Phrase.Stop (StopPhrase.Without m)) h = refl
+leads model (Phrase.Stop (StopPhrase.Branch b)) h = by b.upper
+  where
+    by : (upper : Bool) → leading_said (keyword_text (branch_keyword upper)) ≡ Some (branch_keyword upper)
+    by true = refl
+    by false = refl
 leads model (Phrase.Stop (StopPhrase.Step k)) h = refl
 leads model (Phrase.Stop (StopPhrase.Operation o)) h = refl
 leads model (Phrase.Value j v) h = refl
@@ -47,6 +56,56 @@ leads model (Phrase.Member m) h = refl
 leads model (Phrase.Use s) h = refl
 leads model Phrase.Foot h = refl
 leads model _ h = absurd (h refl)
+
+-- ---- lines of one word
+-- a phrase without words behind its keyword is said by that alone
+lone_is : (model : Program) (p : Phrase) → details model p ≡ [] → lone_said (keyword_text (keyword_of p)) ≡ Some p
+lone_is model Phrase.Feasible e = refl
+lone_is model Phrase.Infeasible e = refl
+lone_is model Phrase.Irreducible e = refl
+lone_is model Phrase.Done e = refl
+lone_is model Phrase.Point e = refl
+lone_is model Phrase.Proof e = refl
+lone_is model Phrase.Leaf e = refl
+lone_is model Phrase.End e = refl
+lone_is model (Phrase.Note (LowerRemoved j)) e = absurd (cc)
+lone_is model (Phrase.Note (LowerKept j)) e = absurd (cc)
+lone_is model (Phrase.Command Check) e = absurd (cc)
+lone_is model (Phrase.Command c) e = absurd (cc)
+lone_is model (Phrase.Stop StopPhrase.Wide) e = absurd (cc)
+lone_is model p e = absurd (cc)
+
+-- the phrases of one word have no words behind it
+abbrev IsLone : Program → Phrase → Type 0
+IsLone model p = IsPhraseFor model p × (details model p ≡ [])
+
+lone_each : (model : Program) → All (IsLone model) lone_phrases
+lone_each model =
+    more Phrase.Feasible (Phrase.Infeasible ∷ Phrase.Irreducible ∷ Phrase.Done ∷ Phrase.Point ∷ Phrase.Proof ∷ Phrase.Leaf ∷ Phrase.End ∷ []) (tt, refl)
+    (more Phrase.Infeasible (Phrase.Irreducible ∷ Phrase.Done ∷ Phrase.Point ∷ Phrase.Proof ∷ Phrase.Leaf ∷ Phrase.End ∷ []) (tt, refl)
+    (more Phrase.Irreducible (Phrase.Done ∷ Phrase.Point ∷ Phrase.Proof ∷ Phrase.Leaf ∷ Phrase.End ∷ []) (tt, refl)
+    (more Phrase.Done (Phrase.Point ∷ Phrase.Proof ∷ Phrase.Leaf ∷ Phrase.End ∷ []) (tt, refl)
+    (more Phrase.Point (Phrase.Proof ∷ Phrase.Leaf ∷ Phrase.End ∷ []) (tt, refl)
+    (more Phrase.Proof (Phrase.Leaf ∷ Phrase.End ∷ []) (tt, refl)
+    (more Phrase.Leaf (Phrase.End ∷ []) (tt, refl)
+    (more Phrase.End [] (tt, refl)
+    (All-nil (IsLone model)))))))))
+  where
+    more : (p : Phrase) (ps : List Phrase) → IsPhraseFor model p × (details model p ≡ []) → All (IsLone model) ps → All (IsLone model) (p ∷ ps)
+    more p ps h rest = All-cons (IsLone model) p ps h rest
+
+-- what a line of one word says
+pub lone_so : (model : Program) (line : List ℕ) → parts 32 line ≡ line ∷ [] → Finds (Says model line) (lone_said line)
+lone_so model line cut = record { found = by (lone_said line) refl; all = λ p h. (let e : line ∷ [] ≡ keyword_text (keyword_of p) ∷ details model p = sym cut ∙ words_of_line model line p h in said p e) }
+  where
+    by : (o : Option Phrase) → lone_said line ≡ o → IfSome o (Says model line)
+    by None e = tt
+    by (Some p) e =
+        let lone = found_has (IsLone model) (λ q. bytes_eq line (keyword_text (keyword_of q))) lone_phrases p (lone_each model) e in
+        line_of_words model line p lone.0 (cut ∙ ap (λ w. w ∷ []) (found_spelled (λ q. keyword_text (keyword_of q)) lone_phrases line p e) ∙ ap (λ ws. keyword_text (keyword_of p) ∷ ws) (sym lone.1))
+
+    said : (p : Phrase) → line ∷ [] ≡ keyword_text (keyword_of p) ∷ details model p → lone_said line ≡ Some p
+    said p e = let word : line ≡ keyword_text (keyword_of p) = cc in let none : details model p ≡ [] = cc in ap lone_said word ∙ lone_is model p none
 
 module _ (model : Program) (line first rest : List ℕ) (cut : parts 32 line ≡ first ∷ parts 32 rest) where
   -- what is said behind the keyword

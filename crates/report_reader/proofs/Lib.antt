@@ -1,4 +1,6 @@
 pub mod Cuts
+pub mod DueTrees
+pub mod Wholes
 pub mod Endings
 pub mod Spelling
 pub mod OneEnding

@@ -1,6 +1,6 @@
 -- Where a name stands among names that differ, and what single words say.
 use Rattle.std.proofs.Common.{◌≡◌, ◌≢◌, refl, sym, ap, subst, ◌∙◌, ℕ, zero, suc, ◌<◌, ◌≤◌, Bool, true, false, true≢false, cond, ltb, List, [], ◌∷◌, length, get_or, Option, Some, None, arith, position, ◌⊎◌, inl, inr}
-use Rattle.std.specs.Prelude.{map, find, option_map, AllPairs, Result, Ok, Err}
+use Rattle.std.specs.Prelude.{map, find, option_map, All, AllPairs, Result, Ok, Err}
 use Rattle.std.specs.Option.{ok_or}
 use Rattle.std.specs.List.{position_or_len}
 use Rattle.std.specs.Str.{bytes_eq}
@@ -8,6 +8,7 @@ use Rattle.std.proofs.lemmas.Bool.{ltb-true, ltb-false}
 use Rattle.std.proofs.lemmas.Option.{same_Some}
 use Rattle.std.proofs.lemmas.List.{get_or-map, length-map}
 use Rattle.std.proofs.lemmas.List.Sums.{fails_before_first, passes_at_first}
+use Rattle.std.proofs.lemmas.List.Elements.{All-head, All-tail}
 use Rattle.std.proofs.lemmas.Slice.Eq.{bytes_eq-Decides}
 use Rattle.lp_model.specs.declared.models.ModelStop.{ModelStop}
 use Rattle.lp_model.specs.declared.models.ModelStop.TheVariants.{UnknownName}
@@ -33,6 +34,15 @@ found_spelled text (l ∷ ks) word k e = by (bytes_eq word (text l)) refl (found
     by : (b : Bool) → bytes_eq word (text l) ≡ b → (find (λ m. bytes_eq word (text m)) ks ≡ Some k → word ≡ text k) → cond b (Some l) (find (λ m. bytes_eq word (text m)) ks) ≡ Some k → word ≡ text k
     by true t rest e = (bytes_eq-Decides word (text l)).0 t ∙ ap text (same_Some l k e)
     by false t rest e = rest e
+
+-- what holds of all holds of the one that is found
+pub found_has : {K : Type 0} (P : K → Type 0) (test : K → Bool) (ks : List K) (k : K) → All P ks → find test ks ≡ Some k → P k
+found_has P test [] k h e = absurd (let s : None ≡ Some k = e in cc)
+found_has P test (l ∷ ks) k h e = by (test l) (found_has P test ks k (All-tail P l ks h)) e
+  where
+    by : (b : Bool) → (find test ks ≡ Some k → P k) → cond b (Some l) (find test ks) ≡ Some k → P k
+    by true rest f = subst P (same_Some l k f) (All-head P l ks h)
+    by false rest f = rest f
 
 module _ {X : Type 0} (called : X → List ℕ) (items : List X) (past : X) where
   names : List (List ℕ)

@@ -1,5 +1,5 @@
 -- Bytes are those of one report: a line says one thing, and a list of phrases leads to one report.
-use Rattle.std.proofs.Common.{◌≡◌, refl, sym, ap, subst, ◌∙◌, ℕ, suc, ℤ, pos, negsuc, ◌≤◌, ◌<◌, ◌==◌, false, true≢false, List, [], ◌∷◌, decimal, unsigned_abs, Option, Some, arith, inl, inr, length}
+use Rattle.std.proofs.Common.{◌≡◌, refl, sym, ap, subst, ◌∙◌, ℕ, suc, ℤ, pos, negsuc, ◌≤◌, ◌<◌, ◌==◌, Bool, true, false, true≢false, List, [], ◌∷◌, decimal, unsigned_abs, Option, Some, arith, inl, inr, length}
 use Rattle.std.specs.Prelude.{map, All, nat_lt, codes}
 use Rattle.std.specs.Fmt.{signed_decimal}
 use Rattle.std.specs.List.{position_or_len}
@@ -25,6 +25,7 @@ use Rattle.lp_model.specs.declared.parts.Note.{Note}
 use Rattle.lp_model.specs.declared.parts.Note.TheVariants.{LowerRemoved, LowerKept}
 use Rattle.lp_model.specs.declared.members.Member.{Member}
 use Rattle.lp_model.specs.declared.members.Member.TheVariants.{RowLo, RowUp, Lower, Upper, Whole}
+use Rattle.certs.specs.declared.evidence.Branch.{Branch}
 use Rattle.certs.specs.declared.evidence.Source.{Source}
 use Rattle.certs.specs.declared.evidence.Source.TheVariants.{Member as Of, Below, Above}
 use Rattle.certs.specs.declared.evidence.Share.{Share}
@@ -38,15 +39,15 @@ use Rattle.report_text.specs.declared.phrases.Keyword.{Keyword}
 use Rattle.report_text.specs.declared.phrases.Phrase.{Phrase}
 use Rattle.report_text.specs.declared.phrases.StopPhrase.{StopPhrase}
 use Rattle.report_text.specs.Form.{IsNamedColumn, IsNamedMember, IsNamedSource, IsWithinLimit, IsUse, IsCommand, IsOperation}
-use Rattle.report_text.specs.Grammar.{Line, column_name, name_of, kind_word, source_word, source_name, site_word, op_word, report_lines, keyword_text, keyword_of, stop_keyword, stop_details, details, phrase_line, report_phrases}
+use Rattle.report_text.specs.Grammar.{Line, column_name, name_of, kind_word, source_word, source_name, site_word, op_word, report_lines, keyword_text, keyword_of, branch_keyword, stop_keyword, stop_details, details, phrase_line, report_phrases}
 use Rattle.report_reader.specs.Commands.{command_said}
 use Rattle.report_reader.specs.Reading.{OneReportLaw}
-use Rattle.report_reader.specs.Phrases.{IsStopPhrase, IsPhraseFor, Says}
+use Rattle.report_reader.specs.Phrases.{IsNamedBranch, IsStopPhrase, IsPhraseFor, Says}
 use Rattle.report_reader.specs.Words.{leading_said, lone_said}
 use Rattle.report_reader.specs.Drafts.{nothing_read}
 use Rattle.report_reader.specs.declared.drafts.Draft.{Draft}
 use Rattle.report_reader.proofs.Said.{report_for}
-use Rattle.report_reader.proofs.Spelling.{words_of_line, parts_of_read}
+use Rattle.report_reader.proofs.Spelling.{no_side, split_fits, words_of_line, parts_of_read}
 use Rattle.report_reader.proofs.Named.{one_place}
 use Rattle.report_reader.proofs.Scripted.{own_words}
 use Rattle.report_reader.proofs.Runs.{run, done, report_read}
@@ -140,18 +141,36 @@ module _ (model : Program) (f : IsWellFormed model) where
   member_one (Whole i) (Whole j) h k w e = ap Whole (one_place (λ (c : NamedColumn). c.name) model.columns empty_column f.column_names i j h.known k.known e)
   member_one m n h k w e = absurd (apart (kind_word m) (kind_word n) refl w)
 
+  -- branches
+  branch_is : (a b : Branch) → a.column ≡ b.column → a.upper ≡ b.upper → a.at ≡ b.at → a ≡ b
+  branch_is a b e f g = ap (λ j. record { column = j; upper = a.upper; at = a.at }) e ∙ ap (λ u. record { column = b.column; upper = u; at = a.at }) f ∙ ap (λ k. record { column = b.column; upper = b.upper; at = k }) g
+
+  branch_one : (a b : Branch) → IsNamedBranch model a → IsNamedBranch model b → branch_keyword a.upper ≡ branch_keyword b.upper → stop_details model (StopPhrase.Branch a) ≡ stop_details model (StopPhrase.Branch b) → a ≡ b
+  branch_one a b h k e d =
+      let names : column_name model a.column ≡ column_name model b.column = cc in
+      let numbers : signed_decimal a.at ≡ signed_decimal b.at = cc in
+      branch_is a b (column_one a.column b.column h.named k.named names) (side_one a.upper b.upper e) (signed_one a.at b.at h.fits k.fits numbers)
+    where
+      side_one : (u v : Bool) → branch_keyword u ≡ branch_keyword v → u ≡ v
+      side_one true true e = refl
+      side_one false false e = refl
+      side_one true false e = absurd (cc)
+      side_one false true e = absurd (cc)
+
   -- what is said of a stop
   stop_one : (a b : StopPhrase) → IsStopPhrase model a → IsStopPhrase model b → stop_keyword a ≡ stop_keyword b → stop_details model a ≡ stop_details model b → a ≡ b
   stop_one StopPhrase.Wide StopPhrase.Wide h k e d = refl
   stop_one StopPhrase.Spent StopPhrase.Spent h k e d = refl
+  stop_one StopPhrase.Nodes StopPhrase.Nodes h k e d = refl
+  stop_one (StopPhrase.Branch a) (StopPhrase.Branch b) h k e d = ap StopPhrase.Branch (branch_one a b h k e d)
   stop_one (StopPhrase.Site a) (StopPhrase.Site b) h k e d = let words : site_word a ≡ site_word b = cc in ap StopPhrase.Site (site_one a b words)
   stop_one (StopPhrase.Without m) (StopPhrase.Without n) h k e d = let kinds : kind_word m ≡ kind_word n = cc in let names : name_of model m ≡ name_of model n = cc in ap StopPhrase.Without (member_one m n h k kinds names)
   stop_one (StopPhrase.Step m) (StopPhrase.Step n) h k e d = let words : decimal m ≡ decimal n = cc in ap StopPhrase.Step (decimal_injective m n h k words)
   stop_one (StopPhrase.Operation a) (StopPhrase.Operation b) h k e d = ap StopPhrase.Operation (operation_one model a b h k d)
-  stop_one StopPhrase.Nodes b h k e d = absurd h
   stop_one (StopPhrase.Large m) b h k e d = absurd h
-  stop_one a StopPhrase.Nodes h k e d = absurd k
   stop_one a (StopPhrase.Large n) h k e d = absurd k
+  stop_one (StopPhrase.Branch a) b h k e d = absurd (no_side a.upper (stop_keyword b) e refl)
+  stop_one a (StopPhrase.Branch b) h k e d = absurd (no_side b.upper (stop_keyword a) (sym e) refl)
   stop_one a b h k e d = absurd (cc)
 
   -- ---- shares
@@ -207,8 +226,12 @@ module _ (model : Program) (f : IsWellFormed model) where
   behind_one (Phrase.Value i v) (Phrase.Value j w) h k e d = let names : column_name model i ≡ column_name model j = cc in let numbers : printed v ≡ printed w = cc in ap (λ n. Phrase.Value n v) (column_one i j h.0 k.0 names) ∙ ap (λ x. Phrase.Value j x) (fraction_one v w h.1.0 k.1.0 numbers)
   behind_one (Phrase.Member m) (Phrase.Member n) h k e d = let kinds : kind_word m ≡ kind_word n = cc in let names : name_of model m ≡ name_of model n = cc in ap Phrase.Member (member_one m n h k kinds names)
   behind_one (Phrase.Use a) (Phrase.Use b) h k e d = ap Phrase.Use (use_one a b h k d)
-  behind_one (Phrase.Split i n) q h k e d = absurd h
-  behind_one p (Phrase.Split j n) h k e d = absurd k
+  behind_one (Phrase.Split i m) (Phrase.Split j n) h k e d =
+      let names : column_name model i ≡ column_name model j = cc in
+      let numbers : signed_decimal m ≡ signed_decimal n = cc in
+      ap (λ l. Phrase.Split l m) (column_one i j h.0 k.0 names) ∙ ap (λ l. Phrase.Split j l) (signed_one m n (split_fits m h.1.0 h.1.1) (split_fits n k.1.0 k.1.1) numbers)
+  behind_one (Phrase.Stop (StopPhrase.Branch b)) q h k e d = absurd (no_side b.upper (keyword_of q) e refl)
+  behind_one p (Phrase.Stop (StopPhrase.Branch b)) h k e d = absurd (no_side b.upper (keyword_of p) (sym e) refl)
   behind_one p (Phrase.Stop StopPhrase.Wide) h k e d = absurd (cc)
   behind_one (Phrase.Stop StopPhrase.Wide) q h k e d = absurd (cc)
   behind_one p q h k e d = absurd (cc)

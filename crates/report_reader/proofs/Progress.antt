@@ -1,5 +1,5 @@
 -- What the lines so far have led to, and what one line more, or the end, makes of it.
-use Rattle.std.proofs.Common.{◌≡◌, ◌≢◌, ◌<◌, ◌≤◌, refl, sym, ap, subst, ◌∙◌, ℕ, suc, ◌+◌, List, [], ◌∷◌, ◌++◌, length, append_assoc, append-nil, Some, None, arith, inl, inr}
+use Rattle.std.proofs.Common.{◌≡◌, ◌≢◌, ◌<◌, ◌≤◌, refl, sym, ap, subst, ◌∙◌, ℕ, zero, suc, ◌+◌, List, [], ◌∷◌, ◌++◌, length, append_assoc, append-nil, Some, None, arith, inl, inr}
 use Rattle.std.specs.Prelude.{map, All, option_and_then, option_map, Result, Ok, Err}
 use Rattle.std.proofs.lemmas.List.{length-append, length-map, map-append, append_cancel_left, append_cancel_right}
 use Rattle.std.proofs.lemmas.List.Elements.{All-nil, All-cons, All-head, All-tail}
@@ -7,16 +7,18 @@ use Rattle.report_reader.specs.Parts.{parts}
 use Rattle.lp_model.specs.Program.{Program}
 use Rattle.lp_model.specs.declared.parts.Note.{Note}
 use Rattle.lp_model.specs.declared.members.Member.{Member}
+use Rattle.certs.specs.declared.evidence.Branch.{Branch}
 use Rattle.certs.specs.declared.evidence.Share.{Share}
+use Rattle.certs.specs.declared.evidence.Node.{Node}
 use Rattle.certs.specs.declared.evidence.Point.{Point}
 use Rattle.certs.specs.declared.solving.SiteKind.TheVariants.{Settle}
-use Rattle.certs.specs.declared.solving.Stop.TheVariants.{Wide as TooWide, Pivots as Spent}
+use Rattle.certs.specs.declared.solving.Stop.TheVariants.{Wide as TooWide, Pivots as Spent, Nodes as NodesSpent}
 use Rattle.frac128.specs.declared.Op.TheVariants.{Plus}
 use Rattle.frac128.specs.declared.Wide.{Wide as Operation}
 use Rattle.algebra.specs.Gcd.{gcd, gcd_within}
 use Rattle.rational.specs.Rational.{ℚ, frac, zero_ℚ}
 use Rattle.report_text.specs.declared.report.Command.{Command}
-use Rattle.report_text.specs.declared.report.Command.TheVariants.{Check, Iis, Pivots}
+use Rattle.report_text.specs.declared.report.Command.TheVariants.{Check, Iis, Pivots, Nodes}
 use Rattle.report_text.specs.declared.report.Answer.{Answer}
 use Rattle.report_text.specs.declared.report.Entry.{Entry}
 use Rattle.report_text.specs.declared.report.Report.{Report}
@@ -34,10 +36,10 @@ use Rattle.report_text.specs.Grammar.{Line, text_of, report_lines, phrase_line, 
 use Rattle.report_text.specs.Form.{IsReportFor, IsOperation}
 use Rattle.report_reader.specs.Reading.{Reads, IsFront, IsWhole, IsBadLine, IsTruncated, IsReportStop}
 use Rattle.report_reader.specs.Phrases.{IsPhraseFor, Says}
-use Rattle.report_reader.specs.Drafts.{point_of, answer_of, site_without, extended, placed, advanced, nothing_read, Takes, IsLineStop, ended, IsDraftFor}
+use Rattle.report_reader.specs.Drafts.{point_of, leaf_of, answer_of, site_without, extended, placed, advanced, nothing_read, Takes, IsLineStop, ended, IsDraftFor}
 use Rattle.report_reader.proofs.Said.{report_for}
 use Rattle.report_reader.proofs.Spelling.{some_parts, parts_of_read, text_of_parts}
-use Rattle.report_reader.proofs.Runs.{run, run_append, run_step, done, report_read}
+use Rattle.report_reader.proofs.Runs.{run, run_append, run_step, leaf_opens, done, report_read}
 use Rattle.report_reader.proofs.Fronts.{draft_phrases, taken}
 use Rattle.report_reader.specs.declared.reader.ReportStop.{ReportStop}
 use Rattle.report_reader.specs.declared.reader.ReportStop.TheVariants.{BadLine, Truncated, Memory}
@@ -108,16 +110,24 @@ module _ (model : Program) where
     front_point : (values : List ℚ) → Within (Part.Point values)
     front_point values = end_back (Part.Point values) (Answer.Feasible (point_of model values)) refl
 
-    front_leaf : (found : Found) (shares : List Share) → Within (Part.Leaf found shares)
-    front_leaf found shares = end_back (Part.Leaf found shares) (answer_of model found shares) refl
+    -- where subtrees are due, a leaf may stand for each
+    front_leaf : (found : Found) (nodes : List Node) (due : ℕ) (shares : List Share) → Within (Part.Leaf found nodes due shares)
+    front_leaf found nodes zero shares = end_back (Part.Leaf found nodes 0 shares) (answer_of model found (nodes ++ leaf_of shares ∷ [])) refl
+    front_leaf found nodes (suc due) shares =
+        more_back (Part.Leaf found nodes (suc due) shares) (Part.Leaf found (nodes ++ leaf_of shares ∷ []) due []) Phrase.Leaf tt
+        (leaf_opens model found (nodes ++ leaf_of shares ∷ []) (suc due) due (omega arith)) (front_leaf found (nodes ++ leaf_of shares ∷ []) due [])
 
-    front_proof : (found : Found) → Within (Part.Proof found)
-    front_proof found = more_back (Part.Proof found) (Part.Leaf found []) Phrase.Leaf tt refl (front_leaf found [])
+    front_nodes : (found : Found) (nodes : List Node) (due : ℕ) → Within (Part.Proof found nodes due)
+    front_nodes found nodes zero = end_back (Part.Proof found nodes 0) (answer_of model found nodes) refl
+    front_nodes found nodes (suc due) = more_back (Part.Proof found nodes (suc due)) (Part.Leaf found nodes due []) Phrase.Leaf tt (leaf_opens model found nodes (suc due) due (omega arith)) (front_leaf found nodes due [])
+
+    front_proof : (found : Found) → Within (Part.Proof found [] 1)
+    front_proof found = front_nodes found [] 1
 
     front_witness : (members : List Member) (witnesses : List Point) (m : Member) (values : List ℚ) → Within (Part.Witness members witnesses m values)
     front_witness members witnesses m values =
         let found = Found.Witnessed (members ++ m ∷ []) (witnesses ++ point_of model values ∷ []) in
-        more_back (Part.Witness members witnesses m values) (Part.Proof found) Phrase.Proof tt refl (front_proof found)
+        more_back (Part.Witness members witnesses m values) (Part.Proof found [] 1) Phrase.Proof tt refl (front_proof found)
 
     front_feasible : Within Part.Feasible
     front_feasible = more_back Part.Feasible (Part.Point []) Phrase.Point tt refl (front_point [])
@@ -127,34 +137,36 @@ module _ (model : Program) where
     front_nothing Check e = more_back Part.Nothing Part.Feasible Phrase.Feasible tt (ap (λ d. extended model d Part.Nothing Phrase.Feasible) e) front_feasible
     front_nothing (Iis method) e = more_back Part.Nothing Part.Feasible Phrase.Feasible tt (ap (λ d. extended model d Part.Nothing Phrase.Feasible) e) front_feasible
     front_nothing (Pivots n) e = last_back Part.Nothing Phrase.Done Answer.Done tt (ap (λ d. extended model d Part.Nothing Phrase.Done) e)
+    front_nothing (Nodes n) e = last_back Part.Nothing Phrase.Done Answer.Done tt (ap (λ d. extended model d Part.Nothing Phrase.Done) e)
 
-    front_operation : (left : List Member) (k : ℕ) (o : Operation) → Within (Part.Stop (StopPart.Operation left k o))
-    front_operation left k o = end_back (Part.Stop (StopPart.Operation left k o)) (Answer.Stopped (TooWide (site_without model left) k o)) refl
+    front_operation : (left : List Member) (path : List Branch) (k : ℕ) (o : Operation) → Within (Part.Stop (StopPart.Operation left path k o))
+    front_operation left path k o = end_back (Part.Stop (StopPart.Operation left path k o)) (Answer.Stopped (TooWide (site_without model left path) k o)) refl
 
-    front_step : (left : List Member) (k : ℕ) → Within (Part.Stop (StopPart.Step left k))
-    front_step left k = more_back (Part.Stop (StopPart.Step left k)) (Part.Stop (StopPart.Operation left k zeros)) (Phrase.Stop (StopPhrase.Operation zeros)) zeros_fit refl (front_operation left k zeros)
+    front_step : (left : List Member) (path : List Branch) (k : ℕ) → Within (Part.Stop (StopPart.Step left path k))
+    front_step left path k = more_back (Part.Stop (StopPart.Step left path k)) (Part.Stop (StopPart.Operation left path k zeros)) (Phrase.Stop (StopPhrase.Operation zeros)) zeros_fit refl (front_operation left path k zeros)
 
-    front_site : (cause : StopCause) (left : List Member) → Within (Part.Stop (StopPart.Site cause left))
-    front_site StopCause.Wide left = more_back (Part.Stop (StopPart.Site StopCause.Wide left)) (Part.Stop (StopPart.Step left 0)) (Phrase.Stop (StopPhrase.Step 0)) (omega arith) refl (front_step left 0)
-    front_site StopCause.Spent left = end_back (Part.Stop (StopPart.Site StopCause.Spent left)) (Answer.Stopped (Spent (site_without model left))) refl
+    front_site : (cause : StopCause) (left : List Member) (path : List Branch) → Within (Part.Stop (StopPart.Site cause left path))
+    front_site StopCause.Wide left path = more_back (Part.Stop (StopPart.Site StopCause.Wide left path)) (Part.Stop (StopPart.Step left path 0)) (Phrase.Stop (StopPhrase.Step 0)) (omega arith) refl (front_step left path 0)
+    front_site StopCause.Spent left path = end_back (Part.Stop (StopPart.Site StopCause.Spent left path)) (Answer.Stopped (Spent (site_without model left path))) refl
+    front_site StopCause.Nodes left path = end_back (Part.Stop (StopPart.Site StopCause.Nodes left path)) (Answer.Stopped (NodesSpent (site_without model left path))) refl
 
     front_stop : (part : StopPart) → Within (Part.Stop part)
-    front_stop (StopPart.Begun cause) = more_back (Part.Stop (StopPart.Begun cause)) (Part.Stop (StopPart.Site cause [])) (Phrase.Stop (StopPhrase.Site Settle)) tt refl (front_site cause [])
-    front_stop (StopPart.Site cause left) = front_site cause left
-    front_stop (StopPart.Step left k) = front_step left k
-    front_stop (StopPart.Operation left k o) = front_operation left k o
+    front_stop (StopPart.Begun cause) = more_back (Part.Stop (StopPart.Begun cause)) (Part.Stop (StopPart.Site cause [] [])) (Phrase.Stop (StopPhrase.Site Settle)) tt refl (front_site cause [] [])
+    front_stop (StopPart.Site cause left path) = front_site cause left path
+    front_stop (StopPart.Step left path k) = front_step left path k
+    front_stop (StopPart.Operation left path k o) = front_operation left path k o
 
     front_part : (part : Part) → Within part
     front_part Part.Nothing = front_nothing question.command refl
     front_part Part.Feasible = front_feasible
     front_part (Part.Stop part) = front_stop part
     front_part (Part.Point values) = front_point values
-    front_part (Part.Listed (Found.Members members)) = more_back (Part.Listed (Found.Members members)) (Part.Proof (Found.Members members)) Phrase.Proof tt refl (front_proof (Found.Members members))
-    front_part (Part.Listed (Found.Witnessed members witnesses)) = more_back (Part.Listed (Found.Witnessed members witnesses)) (Part.Proof (Found.Witnessed members witnesses)) Phrase.Proof tt refl (front_proof (Found.Witnessed members witnesses))
+    front_part (Part.Listed (Found.Members members)) = more_back (Part.Listed (Found.Members members)) (Part.Proof (Found.Members members) [] 1) Phrase.Proof tt refl (front_proof (Found.Members members))
+    front_part (Part.Listed (Found.Witnessed members witnesses)) = more_back (Part.Listed (Found.Witnessed members witnesses)) (Part.Proof (Found.Witnessed members witnesses) [] 1) Phrase.Proof tt refl (front_proof (Found.Witnessed members witnesses))
     front_part (Part.Member members witnesses m) = more_back (Part.Member members witnesses m) (Part.Witness members witnesses m []) Phrase.Point tt refl (front_witness members witnesses m [])
     front_part (Part.Witness members witnesses m values) = front_witness members witnesses m values
-    front_part (Part.Proof found) = front_proof found
-    front_part (Part.Leaf found shares) = front_leaf found shares
+    front_part (Part.Proof found nodes due) = front_nodes found nodes due
+    front_part (Part.Leaf found nodes due shares) = front_leaf found nodes due shares
 
   front_draft : (notes : List Note) (entries : List Entry) (stage : Stage) → IsDraftFor model (draft_of notes entries stage) → Front (draft_of notes entries stage)
   unfolding Within

@@ -1,10 +1,11 @@
 -- The phrases of a report lead from nothing to the whole report.
-use Rattle.std.proofs.Common.{◌≡◌, ◌≤◌, refl, sym, ap, subst, ◌∙◌, ℕ, suc, ◌+◌, ◌-◌, Bool, true, false, true≢false, cond, ◌&&◌, List, [], ◌∷◌, ◌++◌, length, append_assoc, append-nil, Option, Some, None, arith}
-use Rattle.std.specs.Prelude.{map, flat_map, zip, replicate, option_and_then, option_map, All, AllPairs, nat_le}
+use Rattle.std.proofs.Common.{◌≡◌, ◌≤◌, refl, sym, ap, subst, ◌∙◌, ℕ, suc, ◌+◌, ◌-◌, ◌<◌, ℤ, Bool, true, false, true≢false, cond, ◌&&◌, List, [], ◌∷◌, ◌++◌, length, append_assoc, append-nil, Option, Some, None, arith}
+use Rattle.std.specs.Prelude.{map, flat_map, zip, replicate, option_and_then, option_map, All, AllPairs, nat_lt, nat_le}
 use Rattle.std.specs.List.{list_all}
 use Rattle.std.proofs.lemmas.List.{replicate_more, length-append, length-map}
 use Rattle.std.proofs.lemmas.List.Elements.{All-head, All-tail, All-contains, Contains-append_right}
-use Rattle.std.proofs.lemmas.Bool.{and_from, le-leb}
+use Rattle.std.proofs.lemmas.List.Concat.{flat_map-append}
+use Rattle.std.proofs.lemmas.Bool.{and_from, le-leb, lt-ltb}
 use Rattle.rational.proofs.Compare.{eq-Decides}
 use Rattle.std.specs.Prelude.{IsTrue}
 use Rattle.rational.specs.Rational.{ℚ, zero_ℚ, eq_ℚ}
@@ -13,15 +14,20 @@ use Rattle.lp_model.specs.declared.parts.Note.{Note}
 use Rattle.lp_model.specs.declared.members.Member.{Member}
 use Rattle.lp_model.specs.Members.{comes_before, is_active, IsInOrder}
 use Rattle.certs.specs.declared.evidence.Point.{Point}
+use Rattle.certs.specs.declared.evidence.Share.{Share}
+use Rattle.certs.specs.declared.evidence.Node.{Node}
+use Rattle.certs.specs.declared.evidence.Node.TheVariants.{Split}
 use Rattle.certs.specs.declared.evidence.Proof.{Proof}
+use Rattle.certs.specs.Proof.{Tree, Tip, Fork, preorder}
+use Rattle.certs.proofs.Lists.{all_front, all_back}
 use Rattle.certs.specs.declared.evidence.Branch.{Branch}
 use Rattle.certs.specs.declared.solving.SiteKind.{SiteKind}
 use Rattle.certs.specs.declared.solving.SiteKind.TheVariants.{Settle}
 use Rattle.certs.specs.declared.solving.Site.{Site}
 use Rattle.certs.specs.declared.solving.Stop.{Stop}
-use Rattle.certs.specs.declared.solving.Stop.TheVariants.{Wide as TooWide, Pivots as Spent}
+use Rattle.certs.specs.declared.solving.Stop.TheVariants.{Wide as TooWide, Pivots as Spent, Nodes as NodesSpent}
 use Rattle.report_text.specs.declared.report.Command.{Command}
-use Rattle.report_text.specs.declared.report.Command.TheVariants.{Check, Iis, Pivots}
+use Rattle.report_text.specs.declared.report.Command.TheVariants.{Check, Iis, Pivots, Nodes}
 use Rattle.report_text.specs.declared.report.Answer.{Answer}
 use Rattle.report_text.specs.declared.report.Answer.TheVariants.{Feasible, Infeasible, Irreducible, Done, Stopped}
 use Rattle.report_text.specs.declared.report.Entry.{Entry}
@@ -37,10 +43,10 @@ use Rattle.report_reader.specs.declared.drafts.Next.{Next}
 use Rattle.report_reader.specs.declared.drafts.Stage.{Stage}
 use Rattle.report_reader.specs.declared.drafts.Draft.{Draft}
 use Rattle.lp_model.specs.MemberSets.{SetValue, empty_set}
-use Rattle.report_text.specs.Grammar.{left_out, value_phrases, point_phrases, node_phrases, proof_phrases, witness_phrases, without_phrase, site_phrases, answer_front, answer_end, entry_phrases, entries_phrases, report_phrases}
+use Rattle.report_text.specs.Grammar.{left_out, value_phrases, point_phrases, node_phrases, proof_phrases, witness_phrases, without_phrase, branch_phrase, site_phrases, answer_front, answer_end, entry_phrases, entries_phrases, report_phrases}
 use Rattle.certs.specs.Order.{source_before}
-use Rattle.report_text.specs.Form.{IsListed, IsOneLeaf, IsPointFor, IsSettleSite, IsStopFor, IsAnswerFor, IsEntryFor, AreEntriesFor, AreNumbered, IsReportFor, can_answer}
-use Rattle.report_reader.specs.Drafts.{filled, point_of, leaf_of, set_of, only_if, with_value, with_next, witnessed_with, site_without, stop_begun, stop_with, extended, placed, advanced, nothing_read}
+use Rattle.report_text.specs.Form.{AreUses, IsListed, IsNodeFor, IsProofFor, IsPointFor, IsSettleSite, IsStopFor, IsAnswerFor, IsEntryFor, AreEntriesFor, AreNumbered, IsReportFor, can_answer}
+use Rattle.report_reader.specs.Drafts.{filled, point_of, leaf_of, set_of, answer_of, only_if, with_value, with_next, proof_begun, proof_with, witnessed_with, site_without, stop_begun, stop_with, extended, placed, advanced, nothing_read}
 use Rattle.report_reader.proofs.LeftOut.{left_in_order, left_active, set_twice}
 
 -- ---- runs
@@ -236,29 +242,76 @@ module _ (model : Program) (c : Command) where
         ),
       )
 
+-- ---- proofs
+-- a part that takes a node, or the end of the proof, as these nodes with so many subtrees due do
+record TakesNodes (model : Program) (c : Command) (part : Part) (found : Found) (nodes : List Node) (due : ℕ) : Type 0 where
+  split : (j : ℕ) (k : ℤ) → extended model c part (Phrase.Split j k) ≡ proof_with model found nodes due (Phrase.Split j k)
+  leaf : extended model c part Phrase.Leaf ≡ proof_with model found nodes due Phrase.Leaf
+  end : extended model c part Phrase.End ≡ proof_with model found nodes due Phrase.End
+
+-- a node where a subtree is due
+split_opens : (model : Program) (found : Found) (nodes : List Node) (due : ℕ) (j : ℕ) (k : ℤ) → 0 < due → proof_with model found nodes due (Phrase.Split j k) ≡ Some (Next.More (Part.Proof found (nodes ++ Split j k ∷ []) (due + 1)))
+split_opens model found nodes due j k h = only_true (nat_lt 0 due) (Next.More (Part.Proof found (nodes ++ Split j k ∷ []) (due + 1))) (lt-ltb 0 due h)
+
+pub leaf_opens : (model : Program) (found : Found) (nodes : List Node) (due behind : ℕ) → due ≡ behind + 1 → proof_with model found nodes due Phrase.Leaf ≡ Some (Next.More (Part.Leaf found nodes behind []))
+leaf_opens model found nodes due behind e =
+    only_true (nat_lt 0 due) (Next.More (Part.Leaf found nodes (due - 1) [])) (lt-ltb 0 due (omega arith)) ∙ ap (λ n. Some (Next.More (Part.Leaf found nodes n []))) (let less : due - 1 ≡ behind = omega arith in less)
+
+module _ (model : Program) (c : Command) (found : Found) where
+  -- the part of these nodes
+  own_part : (nodes : List Node) (due : ℕ) → TakesNodes model c (Part.Proof found nodes due) found nodes due
+  own_part nodes due = record { split = λ j k. refl; leaf = refl; end = refl }
+
+  -- a leaf, where a subtree is due
+  leaf_read : (part : Part) (nodes : List Node) (due : ℕ) (shares : List Share) → TakesNodes model c part found nodes (due + 1) → AreUses model shares
+      → grown model c part (Phrase.Leaf ∷ (map Phrase.Use shares ++ [])) ≡ Some (Part.Leaf found nodes due shares)
+  leaf_read part nodes due shares takes uses =
+      grown_step model c part (Part.Leaf found nodes due []) Phrase.Leaf (map Phrase.Use shares ++ []) (takes.leaf ∙ leaf_opens model found nodes (due + 1) due refl)
+      ∙ ap (grown model c (Part.Leaf found nodes due [])) (append-nil (map Phrase.Use shares))
+      ∙ list_read model c (λ s. true) (λ s t. source_before s.source t.source) (λ ss. Part.Leaf found nodes due ss) Phrase.Use (λ ss s. refl) [] shares uses.in_order (λ k d l. refl)
+
+  -- what the nodes of a tree lead to, where a subtree is due: they stand behind the others, and one subtree less is due
+  abbrev TreeRead : Part → List Node → ℕ → List Node → Type 0
+  TreeRead part nodes due tree = (end : Part) × ((grown model c part (flat_map node_phrases tree) ≡ Some end) × TakesNodes model c end found (nodes ++ tree) due)
+
+  tree_read : (tree : Tree) (part : Part) (nodes : List Node) (due : ℕ) → TakesNodes model c part found nodes (due + 1) → All (IsNodeFor model) (preorder tree) → TreeRead part nodes due (preorder tree)
+  tree_read (Tip shares) part nodes due takes h =
+      (Part.Leaf found nodes due shares, (leaf_read part nodes due shares takes (All-head (IsNodeFor model) (leaf_of shares) [] h), record { split = λ j k. refl; leaf = refl; end = refl }))
+  tree_read (Fork j k lower upper) part nodes due takes h =
+      let more : List Node = nodes ++ Split j k ∷ [] in
+      let start = Part.Proof found more ((due + 1) + 1) in
+      let below = preorder lower in
+      let above = preorder upper in
+      let rest = All-tail (IsNodeFor model) (Split j k) (below ++ above) h in
+      let first = tree_read lower start more (due + 1) (own_part more ((due + 1) + 1)) (all_front (IsNodeFor model) below above rest) in
+      let second = tree_read upper first.0 (more ++ below) due first.1.1 (all_back (IsNodeFor model) below above rest) in
+      let opened = takes.split j k ∙ split_opens model found nodes (due + 1) j k (omega arith) in (
+        second.0,
+        (
+          grown_step model c part start (Phrase.Split j k) (flat_map node_phrases (below ++ above)) opened
+              ∙ ap (grown model c start) (flat_map-append node_phrases below above)
+              ∙ grown_append model c start first.0 (flat_map node_phrases below) (flat_map node_phrases above) first.1.0
+              ∙ second.1.0,
+          subst (λ (l : List Node). TakesNodes model c second.0 found l due) (append_assoc more below above ∙ append_assoc nodes (Split j k ∷ []) (below ++ above)) second.1.1,
+        ),
+      )
+
+  -- the lines of a proof lead to a part that the end makes the answer
+  proof_read : (part : Part) (proof : Proof) → IsProofFor model proof → extended model c part Phrase.Proof ≡ Some (proof_begun found)
+      → (end : Part) × ((grown model c part (proof_phrases proof) ≡ Some end) × (extended model c end Phrase.End ≡ Some (Next.Whole (answer_of model found proof.nodes))))
+  proof_read part proof h e =
+      let start = Part.Proof found [] 1 in
+      let r = subst (TreeRead start [] 0) h.one.listed (tree_read h.one.tree start [] 0 (own_part [] 1) (subst (All (IsNodeFor model)) (sym h.one.listed) h.each)) in
+      (r.0, (grown_step model c part start Phrase.Proof (flat_map node_phrases proof.nodes) e ∙ r.1.0, r.1.1.end))
+
 -- ---- answers
--- the shares of a leaf, and before them its two lines
-leaf_read : (model : Program) (c : Command) (part : Part) (found : Found) (proof : Proof) (h : IsOneLeaf model proof) → extended model c part Phrase.Proof ≡ Some (Next.More (Part.Proof found))
-    → grown model c part (proof_phrases proof) ≡ Some (Part.Leaf found h.combo.shares)
-leaf_read model c part found proof h e =
-    let shares = h.combo.shares in
-    ap (λ nodes. grown model c part (Phrase.Proof ∷ flat_map node_phrases nodes)) h.one
-    ∙ grown_step model c part (Part.Proof found) Phrase.Proof (Phrase.Leaf ∷ (map Phrase.Use shares ++ [])) e
-    ∙ grown_step model c (Part.Proof found) (Part.Leaf found []) Phrase.Leaf (map Phrase.Use shares ++ []) refl
-    ∙ ap (grown model c (Part.Leaf found [])) (append-nil (map Phrase.Use shares))
-    ∙ list_read model c (λ s. true) (λ s t. source_before s.source t.source) (λ ss. Part.Leaf found ss) Phrase.Use (λ ss s. refl) [] shares h.uses.in_order (λ k d l. refl)
-
--- the proof that stands there
-same_proof : (model : Program) (proof : Proof) (h : IsOneLeaf model proof) → leaf_of h.combo.shares ≡ proof
-same_proof model proof h = ap (λ nodes. record { nodes = nodes }) (sym h.one)
-
--- and the set
+-- the set that stands there
 same_set : (model : Program) (set : SetValue) → IsListed model set → set_of model set.members ≡ set
 same_set model set h = ap (λ r. record { rows = r; columns = length model.columns; members = set.members }) (sym h.of_model.rows) ∙ ap (λ c. record { rows = set.rows; columns = c; members = set.members }) (sym h.of_model.columns)
 
 -- the site of a stop
-same_site : (model : Program) (site : Site) → IsSettleSite model site → site_without model (left_out model site.set.members) ≡ site
-same_site model site h = by site.kind site.set site.enforced site.path h.kind set_is h.enforced_is h.path_is
+same_site : (model : Program) (site : Site) → IsSettleSite model site → site_without model (left_out model site.set.members) site.path ≡ site
+same_site model site h = by site.kind site.set site.enforced h.kind set_is h.enforced_is
   where
     members_of : left_out model (left_out model site.set.members) ≡ site.set.members
     members_of = set_twice model site.set.members h.active
@@ -269,49 +322,68 @@ same_site model site h = by site.kind site.set site.enforced site.path h.kind se
         ∙ ap (λ c. record { rows = length model.rows; columns = c; members = site.set.members }) h.of_model.columns
         ∙ ap (set_of model) (sym members_of)
 
-    by : (kind : SiteKind) (set enforced : SetValue) (path : List Branch) → kind ≡ Settle → set ≡ set_of model (left_out model (left_out model site.set.members)) → enforced ≡ empty_set model → path ≡ []
-        → site_without model (left_out model site.set.members) ≡ record { kind = kind; set = set; enforced = enforced; path = path }
-    by kind set enforced path k s e p =
+    by : (kind : SiteKind) (set enforced : SetValue) → kind ≡ Settle → set ≡ set_of model (left_out model (left_out model site.set.members)) → enforced ≡ empty_set model
+        → site_without model (left_out model site.set.members) site.path ≡ record { kind = kind; set = set; enforced = enforced; path = site.path }
+    by kind set enforced k s e =
         let own = set_of model (left_out model (left_out model site.set.members)) in
-        ap (λ x. record { kind = x; set = own; enforced = empty_set model; path = [] }) (sym k)
-        ∙ ap (λ x. record { kind = kind; set = x; enforced = empty_set model; path = [] }) (sym s)
-        ∙ ap (λ x. record { kind = kind; set = set; enforced = x; path = [] }) (sym e)
-        ∙ ap (λ x. record { kind = kind; set = set; enforced = enforced; path = x }) (sym p)
+        ap (λ x. record { kind = x; set = own; enforced = empty_set model; path = site.path }) (sym k)
+        ∙ ap (λ x. record { kind = kind; set = x; enforced = empty_set model; path = site.path }) (sym s)
+        ∙ ap (λ x. record { kind = kind; set = set; enforced = x; path = site.path }) (sym e)
 
 -- an answer's front leads to a part that its last line makes the answer
 AnswerRead : Program → Command → Answer → Type 0
 AnswerRead model c a = (end : Part) × ((grown model c Part.Nothing (answer_front model a) ≡ Some end) × (extended model c end (answer_end a) ≡ Some (Next.Whole a)))
 
+-- the branches of a site
+path_read : (model : Program) (c : Command) (cause : StopCause) (left : List Member) (path rest : List Branch)
+    → grown model c (Part.Stop (StopPart.Site cause left path)) (map branch_phrase rest) ≡ Some (Part.Stop (StopPart.Site cause left (path ++ rest)))
+path_read model c cause left path [] = ap (λ p. Some (Part.Stop (StopPart.Site cause left p))) (sym (append-nil path))
+path_read model c cause left path (b ∷ rest) =
+    grown_step model c (Part.Stop (StopPart.Site cause left path)) (Part.Stop (StopPart.Site cause left (path ++ b ∷ []))) (branch_phrase b) (map branch_phrase rest) refl
+    ∙ path_read model c cause left (path ++ b ∷ []) rest
+    ∙ ap (λ p. Some (Part.Stop (StopPart.Site cause left p))) (append_assoc path (b ∷ []) rest)
+
 -- the lines of a site
-site_read : (model : Program) (c : Command) (cause : StopCause) (site : Site) → IsSettleSite model site → grown model c (Part.Stop (StopPart.Begun cause)) (site_phrases model site) ≡ Some (Part.Stop (StopPart.Site cause (left_out model site.set.members)))
+site_read : (model : Program) (c : Command) (cause : StopCause) (site : Site) → IsSettleSite model site
+    → grown model c (Part.Stop (StopPart.Begun cause)) (site_phrases model site) ≡ Some (Part.Stop (StopPart.Site cause (left_out model site.set.members) site.path))
 site_read model c cause site h =
     let left = left_out model site.set.members in
-    grown_step model c (Part.Stop (StopPart.Begun cause)) (Part.Stop (StopPart.Site cause [])) (Phrase.Stop (StopPhrase.Site site.kind)) (map without_phrase left)
+    grown_step model c (Part.Stop (StopPart.Begun cause)) (Part.Stop (StopPart.Site cause [] [])) (Phrase.Stop (StopPhrase.Site site.kind)) (map without_phrase left ++ map branch_phrase site.path)
     (ap (λ x. stop_with model (StopPart.Begun cause) (Phrase.Stop (StopPhrase.Site x))) h.kind)
-    ∙ list_read model c (is_active model) comes_before (λ ms. Part.Stop (StopPart.Site cause ms)) without_phrase (λ ms m. refl) [] left (left_in_order model site.set.members) (left_active model site.set.members)
+    ∙ grown_append model c (Part.Stop (StopPart.Site cause [] [])) (Part.Stop (StopPart.Site cause left [])) (map without_phrase left) (map branch_phrase site.path)
+    (list_read model c (is_active model) comes_before (λ ms. Part.Stop (StopPart.Site cause ms [])) without_phrase (λ ms m. refl) [] left (left_in_order model site.set.members) (left_active model site.set.members))
+    ∙ path_read model c cause left [] site.path
 
 -- a stop
 stop_read : (model : Program) (c : Command) (stop : Stop) → IsStopFor model stop → ((s : StopPhrase) → extended model c Part.Nothing (Phrase.Stop s) ≡ stop_begun s) → AnswerRead model c (Stopped stop)
 unfolding AnswerRead
 stop_read model c (TooWide site k o) h begins =
     let left = left_out model site.set.members in
+    let path = site.path in
     let start = Part.Stop (StopPart.Begun StopCause.Wide) in
-    let read = Part.Stop (StopPart.Site StopCause.Wide left) in
+    let read = Part.Stop (StopPart.Site StopCause.Wide left path) in
     let rest = Phrase.Stop (StopPhrase.Step k) ∷ Phrase.Stop (StopPhrase.Operation o) ∷ [] in (
-      Part.Stop (StopPart.Operation left k o),
+      Part.Stop (StopPart.Operation left path k o),
       (
         grown_step model c Part.Nothing start (Phrase.Stop StopPhrase.Wide) (site_phrases model site ++ rest) (begins StopPhrase.Wide)
             ∙ grown_append model c start read (site_phrases model site) rest (site_read model c StopCause.Wide site h.0.settle)
-            ∙ grown_step model c read (Part.Stop (StopPart.Step left k)) (Phrase.Stop (StopPhrase.Step k)) (Phrase.Stop (StopPhrase.Operation o) ∷ []) refl
-            ∙ grown_step model c (Part.Stop (StopPart.Step left k)) (Part.Stop (StopPart.Operation left k o)) (Phrase.Stop (StopPhrase.Operation o)) [] refl,
+            ∙ grown_step model c read (Part.Stop (StopPart.Step left path k)) (Phrase.Stop (StopPhrase.Step k)) (Phrase.Stop (StopPhrase.Operation o) ∷ []) refl
+            ∙ grown_step model c (Part.Stop (StopPart.Step left path k)) (Part.Stop (StopPart.Operation left path k o)) (Phrase.Stop (StopPhrase.Operation o)) [] refl,
         ap (λ s. Some (Next.Whole (Stopped (TooWide s k o)))) (same_site model site h.0.settle),
       ),
     )
 stop_read model c (Spent site) h begins = (
-  Part.Stop (StopPart.Site StopCause.Spent (left_out model site.set.members)),
+  Part.Stop (StopPart.Site StopCause.Spent (left_out model site.set.members) site.path),
   (
     grown_step model c Part.Nothing (Part.Stop (StopPart.Begun StopCause.Spent)) (Phrase.Stop StopPhrase.Spent) (site_phrases model site) (begins StopPhrase.Spent) ∙ site_read model c StopCause.Spent site h.settle,
     ap (λ s. Some (Next.Whole (Stopped (Spent s)))) (same_site model site h.settle),
+  ),
+)
+stop_read model c (NodesSpent site) h begins = (
+  Part.Stop (StopPart.Site StopCause.Nodes (left_out model site.set.members) site.path),
+  (
+    grown_step model c Part.Nothing (Part.Stop (StopPart.Begun StopCause.Nodes)) (Phrase.Stop StopPhrase.Nodes) (site_phrases model site) (begins StopPhrase.Nodes) ∙ site_read model c StopCause.Nodes site h.settle,
+    ap (λ s. Some (Next.Whole (Stopped (NodesSpent s)))) (same_site model site h.settle),
   ),
 )
 stop_read model c stop h begins = absurd h
@@ -333,31 +405,34 @@ unfolding AnswerRead
 answer_read model Check (Feasible p) can h = feasible_read model Check p h refl
 answer_read model (Iis method) (Feasible p) can h = feasible_read model (Iis method) p h refl
 answer_read model (Pivots n) Done can h = (Part.Nothing, (refl, refl))
+answer_read model (Nodes n) Done can h = (Part.Nothing, (refl, refl))
 answer_read model Check (Stopped stop) can h = stop_read model Check stop h (λ s. refl)
 answer_read model (Iis method) (Stopped stop) can h = stop_read model (Iis method) stop h (λ s. refl)
 answer_read model Check (Infeasible set proof) can h =
     let members = set.members in
     let found = Found.Members members in
-    let listed = list_read model Check (λ m. true) comes_before (λ ms. Part.Listed (Found.Members ms)) Phrase.Member (λ ms m. refl) [] members h.0.in_order (λ k d l. refl) in (
-      Part.Leaf found h.1.combo.shares,
+    let listed = list_read model Check (λ m. true) comes_before (λ ms. Part.Listed (Found.Members ms)) Phrase.Member (λ ms m. refl) [] members h.0.in_order (λ k d l. refl) in
+    let proved = proof_read model Check found (Part.Listed found) proof h.1 refl in (
+      proved.0,
       (
         grown_step model Check Part.Nothing (Part.Listed (Found.Members [])) Phrase.Infeasible (map Phrase.Member members ++ proof_phrases proof) refl
             ∙ grown_append model Check (Part.Listed (Found.Members [])) (Part.Listed found) (map Phrase.Member members) (proof_phrases proof) listed
-            ∙ leaf_read model Check (Part.Listed found) found proof h.1 refl,
-        ap (λ s. Some (Next.Whole (Infeasible s (leaf_of h.1.combo.shares)))) (same_set model set h.0) ∙ ap (λ q. Some (Next.Whole (Infeasible set q))) (same_proof model proof h.1),
+            ∙ proved.1.0,
+        proved.1.1 ∙ ap (λ s. Some (Next.Whole (Infeasible s proof))) (same_set model set h.0),
       ),
     )
 answer_read model (Iis method) (Irreducible core) can h =
     let members = core.members.members in
     let found = Found.Witnessed members core.witnesses in
-    let w = witnesses_read model (Iis method) (Part.Listed (Found.Witnessed [] [])) [] members [] core.witnesses ((λ m. refl), refl) h.members.in_order h.each h.points in (
-      Part.Leaf found h.proof.combo.shares,
+    let w = witnesses_read model (Iis method) (Part.Listed (Found.Witnessed [] [])) [] members [] core.witnesses ((λ m. refl), refl) h.members.in_order h.each h.points in
+    let proved = proof_read model (Iis method) found w.0 core.proof h.proof w.1.1.1 in (
+      proved.0,
       (
         grown_step model (Iis method) Part.Nothing (Part.Listed (Found.Witnessed [] [])) Phrase.Irreducible (flat_map witness_phrases (zip members core.witnesses) ++ proof_phrases core.proof) refl
             ∙ grown_append model (Iis method) (Part.Listed (Found.Witnessed [] [])) w.0 (flat_map witness_phrases (zip members core.witnesses)) (proof_phrases core.proof) w.1.0
-            ∙ leaf_read model (Iis method) w.0 found core.proof h.proof w.1.1.1,
-        ap (λ s. Some (Next.Whole (Irreducible (record { members = s; witnesses = core.witnesses; proof = leaf_of h.proof.combo.shares; rounds = None; price = None })))) (same_set model core.members h.members)
-            ∙ ap (λ q. Some (Next.Whole (Irreducible (record { members = core.members; witnesses = core.witnesses; proof = q; rounds = None; price = None })))) (same_proof model core.proof h.proof)
+            ∙ proved.1.0,
+        proved.1.1
+            ∙ ap (λ s. Some (Next.Whole (Irreducible (record { members = s; witnesses = core.witnesses; proof = core.proof; rounds = None; price = None })))) (same_set model core.members h.members)
             ∙ ap (λ r. Some (Next.Whole (Irreducible (record { members = core.members; witnesses = core.witnesses; proof = core.proof; rounds = r; price = None })))) (sym h.rounds)
             ∙ ap (λ r. Some (Next.Whole (Irreducible (record { members = core.members; witnesses = core.witnesses; proof = core.proof; rounds = core.rounds; price = r })))) (sym h.price),
       ),

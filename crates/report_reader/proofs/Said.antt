@@ -1,5 +1,5 @@
 -- Each phrase of a report is one for the program, and only the last is the foot.
-use Rattle.std.proofs.Common.{◌≡◌, ◌≢◌, ◌<◌, refl, sym, subst, ℕ, zero, suc, ◌+◌, Bool, true, false, cond, List, [], ◌∷◌, ◌++◌, length, arith}
+use Rattle.std.proofs.Common.{◌≡◌, ◌≢◌, ◌<◌, refl, subst, ℕ, zero, suc, ◌+◌, Bool, true, false, cond, List, [], ◌∷◌, ◌++◌, length, arith}
 use Rattle.std.specs.Prelude.{map, flat_map, zip, All}
 use Rattle.std.proofs.lemmas.Bool.Decides.{not_from_Decides}
 use Rattle.std.proofs.lemmas.List.Elements.{All-head, All-tail, All-nil, All-cons, All-append, All-push, All-weaker}
@@ -7,11 +7,15 @@ use Rattle.rational.specs.Rational.{ℚ, zero_ℚ, eq_ℚ}
 use Rattle.rational.proofs.Compare.{eq-Decides}
 use Rattle.lp_model.specs.Program.{Program, noted_column}
 use Rattle.lp_model.specs.declared.members.Member.{Member}
+use Rattle.certs.specs.declared.evidence.Branch.{Branch}
 use Rattle.certs.specs.declared.evidence.Point.{Point}
+use Rattle.certs.specs.declared.evidence.Node.{Node}
+use Rattle.certs.specs.declared.evidence.Node.TheVariants.{Split, Leaf}
+use Rattle.certs.specs.Combination.{IsFitting}
 use Rattle.certs.specs.declared.evidence.Proof.{Proof}
 use Rattle.certs.specs.declared.solving.Site.{Site}
 use Rattle.certs.specs.declared.solving.Stop.{Stop}
-use Rattle.certs.specs.declared.solving.Stop.TheVariants.{Wide as TooWide, Pivots as Spent}
+use Rattle.certs.specs.declared.solving.Stop.TheVariants.{Wide as TooWide, Pivots as Spent, Nodes as NodesSpent}
 use Rattle.report_text.specs.declared.report.Command.{Command}
 use Rattle.report_text.specs.declared.report.Answer.{Answer}
 use Rattle.report_text.specs.declared.report.Answer.TheVariants.{Feasible, Infeasible, Irreducible, Done, Stopped}
@@ -20,9 +24,9 @@ use Rattle.report_text.specs.declared.report.Report.{Report}
 use Rattle.report_text.specs.declared.phrases.Phrase.{Phrase}
 use Rattle.report_text.specs.declared.phrases.StopPhrase.{StopPhrase}
 use Rattle.lp_model.specs.Satisfaction.{values_at}
-use Rattle.report_text.specs.Form.{is_word, IsWithinLimit, IsNamedColumn, IsNamedMember, IsUse, IsOneLeaf, IsPointFor, IsSiteFor, IsStopFor, IsAnswerFor, IsEntryFor, AreEntriesFor, IsReportFor}
-use Rattle.report_text.specs.Grammar.{column_name, left_out, value_phrases, point_phrases, node_phrases, proof_phrases, witness_phrases, without_phrase, site_phrases, stop_phrases, answer_front, answer_end, entry_phrases, entries_phrases, body_phrases, report_phrases}
-use Rattle.report_reader.specs.Phrases.{IsPhraseFor}
+use Rattle.report_text.specs.Form.{is_word, IsWithinLimit, IsNamedColumn, IsNamedMember, IsUse, IsNodeFor, IsProofFor, IsPointFor, IsSiteFor, IsStopFor, IsAnswerFor, IsEntryFor, AreEntriesFor, IsReportFor}
+use Rattle.report_text.specs.Grammar.{column_name, left_out, value_phrases, point_phrases, node_phrases, proof_phrases, witness_phrases, without_phrase, branch_phrase, site_phrases, stop_phrases, answer_front, answer_end, entry_phrases, entries_phrases, body_phrases, report_phrases}
+use Rattle.report_reader.specs.Phrases.{IsNamedBranch, IsPhraseFor}
 
 -- ---- each phrase of a report is one for the program
 abbrev pub is_foot : Phrase → Bool
@@ -75,11 +79,14 @@ module _ (model : Program) where
   flat_for Q say f [] h = All-nil For
   flat_for Q say f (x ∷ xs) h = All-append For (say x) (flat_map say xs) (f x (All-head Q x xs h)) (flat_for Q say f xs (All-tail Q x xs h))
 
-  proof_for : (proof : Proof) → IsOneLeaf model proof → All For (proof_phrases proof)
+  node_for : (node : Node) → IsNodeFor model node → All For (node_phrases node)
   unfolding For
-  proof_for proof h = All-cons For Phrase.Proof (flat_map node_phrases proof.nodes) (own Phrase.Proof tt refl)
-      (subst (λ nodes. All For (flat_map node_phrases nodes)) (sym h.one)
-      (All-append For (Phrase.Leaf ∷ map Phrase.Use h.combo.shares) [] (All-cons For Phrase.Leaf (map Phrase.Use h.combo.shares) (own Phrase.Leaf tt refl) (each_for (IsUse model) Phrase.Use (λ s u. own (Phrase.Use s) u refl) h.combo.shares h.uses.each)) (All-nil For)))
+  node_for (Split j k) h = All-cons For (Phrase.Split j k) [] (own (Phrase.Split j k) h refl) (All-nil For)
+  node_for (Leaf combo) h = All-cons For Phrase.Leaf (map Phrase.Use combo.shares) (own Phrase.Leaf tt refl) (each_for (IsUse model) Phrase.Use (λ s u. own (Phrase.Use s) u refl) combo.shares h.each)
+
+  proof_for : (proof : Proof) → IsProofFor model proof → All For (proof_phrases proof)
+  unfolding For
+  proof_for proof h = All-cons For Phrase.Proof (flat_map node_phrases proof.nodes) (own Phrase.Proof tt refl) (flat_for (IsNodeFor model) node_phrases node_for proof.nodes h.each)
 
   witness_for : (w : Member × Point) → IsNamedMember model w.0 × IsPointFor model w.1 → All For (witness_phrases w)
   unfolding For
@@ -92,11 +99,17 @@ module _ (model : Program) where
       All-cons (λ w. IsNamedMember model w.0 × IsPointFor model w.1) (m, p) (zip members witnesses) (All-head (IsNamedMember model) m members q, All-head (IsPointFor model) p witnesses r)
       (zipped members witnesses (All-tail (IsNamedMember model) m members q) (All-tail (IsPointFor model) p witnesses r))
 
+  path_named : (path : List Branch) → All (λ b. IsNamedColumn model b.column) path → All IsFitting path → All (IsNamedBranch model) path
+  path_named path h k i d l = record { named = h i d l; fits = k i d l }
+
   site_for : (site : Site) → IsSiteFor model site → All For (site_phrases model site)
   unfolding For
   site_for site h =
-      All-cons For (Phrase.Stop (StopPhrase.Site site.kind)) (map without_phrase (left_out model site.set.members)) (own (Phrase.Stop (StopPhrase.Site site.kind)) tt refl)
-      (each_for (IsNamedMember model) without_phrase (λ m k. own (without_phrase m) k refl) (left_out model site.set.members) h.named)
+      let left = map without_phrase (left_out model site.set.members) in
+      let path = map branch_phrase site.path in
+      All-cons For (Phrase.Stop (StopPhrase.Site site.kind)) (left ++ path) (own (Phrase.Stop (StopPhrase.Site site.kind)) tt refl)
+      (All-append For left path (each_for (IsNamedMember model) without_phrase (λ m k. own (without_phrase m) k refl) (left_out model site.set.members) h.named)
+      (each_for (IsNamedBranch model) branch_phrase (λ b k. own (branch_phrase b) k refl) site.path (path_named site.path h.path h.settle.fits)))
 
   stop_for : (stop : Stop) → IsStopFor model stop → All For (stop_phrases model stop)
   unfolding For
@@ -106,6 +119,7 @@ module _ (model : Program) where
       All-cons For (Phrase.Stop StopPhrase.Wide) (site_phrases model site ++ step ∷ operation ∷ []) (own (Phrase.Stop StopPhrase.Wide) tt refl)
       (All-append For (site_phrases model site) (step ∷ operation ∷ []) (site_for site h.0) (All-cons For step (operation ∷ []) (own step h.1.0 refl) (All-cons For operation [] (own operation h.1.1 refl) (All-nil For))))
   stop_for (Spent site) h = All-cons For (Phrase.Stop StopPhrase.Spent) (site_phrases model site) (own (Phrase.Stop StopPhrase.Spent) tt refl) (site_for site h)
+  stop_for (NodesSpent site) h = All-cons For (Phrase.Stop StopPhrase.Nodes) (site_phrases model site) (own (Phrase.Stop StopPhrase.Nodes) tt refl) (site_for site h)
   stop_for stop h = absurd h
 
   end_for : (a : Answer) → For (answer_end a)

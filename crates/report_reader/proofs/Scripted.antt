@@ -22,20 +22,21 @@ use Rattle.text_fields.specs.declared.faults.TextKind.TheVariants.{LongLine, For
 use Rattle.text_fields.specs.Fields.{is_filled, fields_of, field_fault, is_long, is_comment}
 use Rattle.text_fields.proofs.FieldLists.{fields_of-first}
 use Rattle.report_text.specs.declared.report.Command.{Command}
-use Rattle.report_text.specs.declared.report.Command.TheVariants.{Check, Iis, Pivots}
+use Rattle.report_text.specs.declared.report.Command.TheVariants.{Check, Iis, Pivots, Nodes}
 use Rattle.report_text.specs.declared.report.Method.{Method}
 use Rattle.report_text.specs.declared.report.Method.TheVariants.{Deletion, Additive, Sensitivity}
-use Rattle.report_text.specs.Form.{most_pivots, IsCommand}
+use Rattle.report_text.specs.Form.{most_budget, IsCommand}
 use Rattle.report_text.specs.Grammar.{method_word, command_words, command_text}
 use Rattle.lp_model.specs.Program.{Program}
 use Rattle.report_text.specs.declared.phrases.Keyword.{Keyword}
 use Rattle.report_text.specs.declared.phrases.Phrase.{Phrase}
 use Rattle.report_text.specs.declared.phrases.StopPhrase.{StopPhrase}
-use Rattle.report_reader.specs.Commands.{is_numeral, pivots_of, lone_command, method_of, iis_command, budget_command, command_said, unless_fault, command_of}
-use Rattle.report_reader.specs.Words.{Finds, IsSpelled, IsPlain}
+use Rattle.report_reader.specs.Commands.{is_numeral, budget_of, lone_command, method_of, iis_command, budget_behind, budget_command, command_said, unless_fault, command_of}
+use Rattle.report_reader.specs.Words.{Finds, IsSpelled, IsCountSaid, IsPlain}
 use Rattle.report_reader.proofs.Named.{told, told_if, found_spelled}
+use Rattle.report_reader.proofs.Spelling.{no_side}
 
--- ---- the number of pivots
+-- ---- the number of a budget
 pub own : IsNumeralModel (λ ds. list_all is_dec ds ≡ true) (number_after 0)
 unfolding number_after
 own = numerals_by_fold _ (search rules) number_after (search rules)
@@ -48,24 +49,24 @@ by_tests : (a b c : Bool) (n : ℕ) → a ≡ true → b ≡ true → c ≡ true
 by_tests a b c n e f g = rw (e, f, g) refl
 
 -- no digits, or too many
-pub no_pivots : (word : List ℕ) → (0 < length word → number_of word ≤ most_pivots → ⊥) → pivots_of word ≡ None
-no_pivots word h = by (nat_lt 0 (length word)) (list_all is_dec word) (nat_le (number_of word) most_pivots) refl refl
+pub no_budget : (word : List ℕ) → (0 < length word → number_of word ≤ most_budget → ⊥) → budget_of word ≡ None
+no_budget word h = by (nat_lt 0 (length word)) (list_all is_dec word) (nat_le (number_of word) most_budget) refl refl
   where
-    by : (a b c : Bool) → nat_lt 0 (length word) ≡ a → nat_le (number_of word) most_pivots ≡ c → cond ((a && b) && c) (Some (number_of word)) None ≡ None
+    by : (a b c : Bool) → nat_lt 0 (length word) ≡ a → nat_le (number_of word) most_budget ≡ c → cond ((a && b) && c) (Some (number_of word)) None ≡ None
     by true true true e f = absurd (h (grind (arith, nat_tests)) (grind (arith, nat_tests)))
     by true true false e f = refl
     by true false c e f = refl
     by false b c e f = refl
 
 -- as many as digits write
-pub some_pivots : (word : List ℕ) (n : ℕ) → length word ≢ 0 → list_all is_dec word ≡ true → number_of word ≡ n → n ≤ most_pivots → pivots_of word ≡ Some n
-some_pivots word n some digits e h =
-    by_tests (nat_lt 0 (length word)) (list_all is_dec word) (nat_le (number_of word) most_pivots) (number_of word) (grind (arith, nat_tests)) digits (grind (arith, nat_tests)) ∙ ap Some e
+pub some_budget : (word : List ℕ) (n : ℕ) → length word ≢ 0 → list_all is_dec word ≡ true → number_of word ≡ n → n ≤ most_budget → budget_of word ≡ Some n
+some_budget word n some digits e h =
+    by_tests (nat_lt 0 (length word)) (list_all is_dec word) (nat_le (number_of word) most_budget) (number_of word) (grind (arith, nat_tests)) digits (grind (arith, nat_tests)) ∙ ap Some e
 
-pivots_within : (word : List ℕ) (n : ℕ) → pivots_of word ≡ Some n → n ≤ most_pivots
-pivots_within word n e =
-    let t = told_if (is_numeral word && nat_le (number_of word) most_pivots) (Some (number_of word)) n e in
-    let within = (and_parts (is_numeral word) (nat_le (number_of word) most_pivots) t.0).1 in
+budget_within : (word : List ℕ) (n : ℕ) → budget_of word ≡ Some n → n ≤ most_budget
+budget_within word n e =
+    let t = told_if (is_numeral word && nat_le (number_of word) most_budget) (Some (number_of word)) n e in
+    let within = (and_parts (is_numeral word) (nat_le (number_of word) most_budget) t.0).1 in
     let same : number_of word ≡ n = same_Some (number_of word) n t.1 in
     grind (arith, nat_tests)
 
@@ -74,7 +75,8 @@ pivots_within word n e =
 AreSaid : List (List ℕ) → Command → Type 0
 AreSaid words Check = words ≡ codes "check" ∷ []
 AreSaid words (Iis method) = words ≡ codes "iis" ∷ method_word method ∷ []
-AreSaid words (Pivots n) = (number : List ℕ) × ((words ≡ codes "budget" ∷ codes "pivots" ∷ number ∷ []) × (pivots_of number ≡ Some n))
+AreSaid words (Pivots n) = (number : List ℕ) × ((words ≡ codes "budget" ∷ codes "pivots" ∷ number ∷ []) × (budget_of number ≡ Some n))
+AreSaid words (Nodes n) = (number : List ℕ) × ((words ≡ codes "budget" ∷ codes "nodes" ∷ number ∷ []) × (budget_of number ≡ Some n))
 
 lone_said : (a : List ℕ) (c : Command) → lone_command a ≡ Some c → AreSaid (a ∷ []) c
 unfolding AreSaid
@@ -90,14 +92,26 @@ search_said a b c e =
     subst (AreSaid (a ∷ b ∷ [])) m.1.1
     (ap (λ w. w ∷ b ∷ []) ((bytes_eq-Decides a (codes "iis")).0 t.0) ∙ ap (λ w. codes "iis" ∷ w ∷ []) (found_spelled method_word (Deletion ∷ Additive ∷ Sensitivity ∷ []) b m.0 m.1.0))
 
-budget_said : (a b number : List ℕ) (c : Command) → budget_command a b number ≡ Some c → AreSaid (a ∷ b ∷ number ∷ []) c
+-- what stands behind `budget`
+behind_said : (b number : List ℕ) (c : Command) → budget_behind b number ≡ Some c → AreSaid (codes "budget" ∷ b ∷ number ∷ []) c
 unfolding AreSaid
+behind_said b number c e = by (bytes_eq b (codes "pivots")) refl e
+  where
+    spelled : (word : List ℕ) → bytes_eq b word ≡ true → codes "budget" ∷ b ∷ number ∷ [] ≡ codes "budget" ∷ word ∷ number ∷ []
+    spelled word t = ap (λ w. codes "budget" ∷ w ∷ number ∷ []) ((bytes_eq-Decides b word).0 t)
+
+    by : (p : Bool) → bytes_eq b (codes "pivots") ≡ p → cond p (option_map Pivots (budget_of number)) (cond (bytes_eq b (codes "nodes")) (option_map Nodes (budget_of number)) None) ≡ Some c
+        → AreSaid (codes "budget" ∷ b ∷ number ∷ []) c
+    by true t e = let n = told Pivots (budget_of number) c e in subst (AreSaid (codes "budget" ∷ b ∷ number ∷ [])) n.1.1 (number, (spelled (codes "pivots") t, n.1.0))
+    by false f e =
+        let t = told_if (bytes_eq b (codes "nodes")) (option_map Nodes (budget_of number)) c e in
+        let n = told Nodes (budget_of number) c t.1 in
+        subst (AreSaid (codes "budget" ∷ b ∷ number ∷ [])) n.1.1 (number, (spelled (codes "nodes") t.0, n.1.0))
+
+budget_said : (a b number : List ℕ) (c : Command) → budget_command a b number ≡ Some c → AreSaid (a ∷ b ∷ number ∷ []) c
 budget_said a b number c e =
-    let t = told_if (bytes_eq a (codes "budget") && bytes_eq b (codes "pivots")) (option_map Pivots (pivots_of number)) c e in
-    let both = and_parts (bytes_eq a (codes "budget")) (bytes_eq b (codes "pivots")) t.0 in
-    let n = told Pivots (pivots_of number) c t.1 in
-    let words = ap (λ w. w ∷ b ∷ number ∷ []) ((bytes_eq-Decides a (codes "budget")).0 both.0) ∙ ap (λ w. codes "budget" ∷ w ∷ number ∷ []) ((bytes_eq-Decides b (codes "pivots")).0 both.1) in
-    subst (AreSaid (a ∷ b ∷ number ∷ [])) n.1.1 (number, (words, n.1.0))
+    let t = told_if (bytes_eq a (codes "budget")) (budget_behind b number) c e in
+    subst (λ w. AreSaid (w ∷ b ∷ number ∷ []) c) (sym ((bytes_eq-Decides a (codes "budget")).0 t.0)) (behind_said b number c t.1)
 
 words_said : (words : List (List ℕ)) (c : Command) → command_said words ≡ Some c → AreSaid words c
 words_said [] c e = absurd (let s : None ≡ Some c = e in cc)
@@ -117,7 +131,8 @@ said_built : (words : List (List ℕ)) (c : Command) → command_said words ≡ 
 unfolding AreSaid
 said_built words Check e = tt
 said_built words (Iis method) e = tt
-said_built words (Pivots n) e = let s = words_said words (Pivots n) e in pivots_within s.0 n s.1.1
+said_built words (Pivots n) e = let s = words_said words (Pivots n) e in budget_within s.0 n s.1.1
+said_built words (Nodes n) e = let s = words_said words (Nodes n) e in budget_within s.0 n s.1.1
 
 pub line_built : (line : List ℕ) (c : Command) → command_of line ≡ Some c → IsCommand c
 line_built line c e = by (field_fault line) e
@@ -127,11 +142,11 @@ line_built line c e = by (field_fault line) e
     by (Some fault) g = absurd (let s : None ≡ Some c = g in cc)
 
 -- a command's own words
-own_number : (n : ℕ) → n ≤ most_pivots → pivots_of (decimal n) ≡ Some n
+own_number : (n : ℕ) → n ≤ most_budget → budget_of (decimal n) ≡ Some n
 own_number n h =
     let small : n < 2 ^ 64 = omega arith in
     let some : 0 < length (decimal n) = decimal_nonempty n small in
-    some_pivots (decimal n) n (λ e. omega arith) (digits_decimal own n small) (digits_value-decimal own n small) h
+    some_budget (decimal n) n (λ e. omega arith) (digits_decimal own n small) (digits_value-decimal own n small) h
 
 pub own_words : (c : Command) → IsCommand c → command_said (command_words c) ≡ Some c
 own_words Check h = refl
@@ -139,24 +154,33 @@ own_words (Iis Deletion) h = refl
 own_words (Iis Additive) h = refl
 own_words (Iis Sensitivity) h = refl
 own_words (Pivots n) h = ap (option_map Pivots) (own_number n h)
+own_words (Nodes n) h = ap (option_map Nodes) (own_number n h)
 
 -- ---- commands in reports
 -- words are those of the command that they are, where its number is printed so
+-- a number that is printed so is that of its digits
+plain_number : (number : List ℕ) (n : ℕ) → (m : ℕ) × IsCountSaid number m → budget_of number ≡ Some n → number ≡ decimal n
+plain_number number n p e =
+    let t = told_if (is_numeral number && nat_le (number_of number) most_budget) (Some (number_of number)) n e in
+    let same : p.0 ≡ n = sym (ap number_of p.1.1 ∙ digits_value-decimal own p.0 p.1.0) ∙ same_Some (number_of number) n t.1 in
+    p.1.1 ∙ ap decimal same
+
 plain_words : (words : List (List ℕ)) (c : Command) → IsPlain words → command_said words ≡ Some c → words ≡ command_words c
 unfolding AreSaid
 plain_words words Check plain e = words_said words Check e
 plain_words words (Iis method) plain e = words_said words (Iis method) e
 plain_words words (Pivots n) plain e =
     let s = words_said words (Pivots n) e in
-    let p : IsPlain (codes "budget" ∷ codes "pivots" ∷ s.0 ∷ []) = subst IsPlain s.1.0 plain in
-    let t = told_if (is_numeral s.0 && nat_le (number_of s.0) most_pivots) (Some (number_of s.0)) n s.1.1 in
-    let same : p.0 ≡ n = sym (ap number_of p.1.1 ∙ digits_value-decimal own p.0 p.1.0) ∙ same_Some (number_of s.0) n t.1 in
-    s.1.0 ∙ ap (λ w. codes "budget" ∷ codes "pivots" ∷ w ∷ []) (p.1.1 ∙ ap decimal same)
+    s.1.0 ∙ ap (λ w. codes "budget" ∷ codes "pivots" ∷ w ∷ []) (plain_number s.0 n (subst IsPlain s.1.0 plain) s.1.1)
+plain_words words (Nodes n) plain e =
+    let s = words_said words (Nodes n) e in
+    s.1.0 ∙ ap (λ w. codes "budget" ∷ codes "nodes" ∷ w ∷ []) (plain_number s.0 n (subst IsPlain s.1.0 plain) s.1.1)
 
 own_plain : (c : Command) → IsCommand c → IsPlain (command_words c)
 own_plain Check h = tt
 own_plain (Iis method) h = tt
 own_plain (Pivots n) h = (n, (omega arith, refl))
+own_plain (Nodes n) h = (n, (omega arith, refl))
 
 -- what words behind `command` say
 pub record CommandBehind (words : List (List ℕ)) (p : Phrase) : Type 0 where
@@ -167,7 +191,7 @@ pub record CommandBehind (words : List (List ℕ)) (p : Phrase) : Type 0 where
 
 pub command_behind : (model : Program) (words : List (List ℕ)) (p : Phrase) → IsSpelled model Keyword.Command words p → CommandBehind words p
 command_behind model words (Phrase.Command c) h = record { command = c; is = refl; plain = subst IsPlain (sym h.behind) (own_plain c h.form); said = ap command_said h.behind ∙ own_words c h.form }
-command_behind model words (Phrase.Stop StopPhrase.Wide) h = absurd (let e = h.keyword in cc)
+command_behind model words (Phrase.Stop (StopPhrase.Branch b)) h = absurd (no_side b.upper Keyword.Command h.keyword refl)
 command_behind model words _ h = absurd (let e = h.keyword in cc)
 
 pub command_found : (model : Program) (words : List (List ℕ)) (c : Command) → IsPlain words → command_said words ≡ Some c → Finds (IsSpelled model Keyword.Command words) (Some (Phrase.Command c))
@@ -252,17 +276,25 @@ unfolding fields_of
 word_alone word some h = ap (filter is_filled) (slice_split_none is_blank word h) ∙ ap (λ (t : Bool). cond t (word ∷ []) []) (lt-ltb 0 (length word) some)
 
 -- the fields of a budget's text
-budget_fields : (rest : List ℕ) → fields_of (codes "budget" ++ 32 ∷ (codes "pivots" ++ 32 ∷ rest)) ≡ codes "budget" ∷ codes "pivots" ∷ fields_of rest
+pivots_fields : (rest : List ℕ) → fields_of (codes "budget" ++ 32 ∷ (codes "pivots" ++ 32 ∷ rest)) ≡ codes "budget" ∷ codes "pivots" ∷ fields_of rest
 unfolding fields_of
-budget_fields rest = refl
+pivots_fields rest = refl
+
+nodes_fields : (rest : List ℕ) → fields_of (codes "budget" ++ 32 ∷ (codes "nodes" ++ 32 ∷ rest)) ≡ codes "budget" ∷ codes "nodes" ∷ fields_of rest
+unfolding fields_of
+nodes_fields rest = refl
 
 -- a budget's text has no fault
-budget_faultless : (rest : List ℕ) → length rest ≤ 7 → list_any is_foreign rest ≡ false → field_fault (codes "budget" ++ 32 ∷ (codes "pivots" ++ 32 ∷ rest)) ≡ None
+no_fault : (t b : Bool) → t ≡ false → b ≡ false → cond t (Some LongLine) (cond b (Some ForeignByte) None) ≡ None
+no_fault t b f g = rw (f, g) refl
+
+pivots_faultless : (rest : List ℕ) → length rest ≤ 7 → list_any is_foreign rest ≡ false → field_fault (codes "budget" ++ 32 ∷ (codes "pivots" ++ 32 ∷ rest)) ≡ None
 unfolding field_fault
-budget_faultless rest short e = by (is_long (codes "budget" ++ 32 ∷ (codes "pivots" ++ 32 ∷ rest))) (list_any is_foreign rest) (grind (arith, nat_tests)) e
-  where
-    by : (t b : Bool) → t ≡ false → b ≡ false → cond t (Some LongLine) (cond b (Some ForeignByte) None) ≡ None
-    by t b f g = rw (f, g) refl
+pivots_faultless rest short e = no_fault (is_long (codes "budget" ++ 32 ∷ (codes "pivots" ++ 32 ∷ rest))) (list_any is_foreign rest) (grind (arith, nat_tests)) e
+
+nodes_faultless : (rest : List ℕ) → length rest ≤ 7 → list_any is_foreign rest ≡ false → field_fault (codes "budget" ++ 32 ∷ (codes "nodes" ++ 32 ∷ rest)) ≡ None
+unfolding field_fault
+nodes_faultless rest short e = no_fault (is_long (codes "budget" ++ 32 ∷ (codes "nodes" ++ 32 ∷ rest))) (list_any is_foreign rest) (grind (arith, nat_tests)) e
 
 text_said : (c : Command) (line : List ℕ) → IsCommand c → field_fault line ≡ None → fields_of line ≡ command_words c → command_of line ≡ Some c
 text_said c line h none fields = ap (λ (f : Option TextKind). unless_fault f (command_said (fields_of line))) none ∙ ap command_said fields ∙ own_words c h
@@ -277,13 +309,28 @@ search_text Deletion = refl
 search_text Additive = refl
 search_text Sensitivity = refl
 
+-- the text of a budget's number
+record IsNumberText (text : List ℕ) : Type 0 where
+  short : length text ≤ 7
+  known : list_any is_foreign text ≡ false
+  alone : fields_of text ≡ text ∷ []
+
+number_text : (n : ℕ) → n ≤ most_budget → IsNumberText (decimal n)
+number_text n h =
+    let small : n < 2 ^ 64 = omega arith in
+    let digits = (decimal_is_IsNumeral n small).0.1 in
+    record {
+      short = length-decimal-le 7 n (omega arith) (omega arith) small;
+      known = digits-no_foreign (decimal n) digits;
+      alone = word_alone (decimal n) (decimal_nonempty n small) (digits-no_blank (decimal n) digits);
+    }
+
 pub own_text : (c : Command) → IsCommand c → command_of (command_text c) ≡ Some c
 own_text Check h = check_text
 own_text (Iis method) h = search_text method
 own_text (Pivots n) h =
-    let small : n < 2 ^ 64 = omega arith in
-    let digits = (decimal_is_IsNumeral n small).0.1 in
-    let alone = word_alone (decimal n) (decimal_nonempty n small) (digits-no_blank (decimal n) digits) in
-    text_said (Pivots n) (command_text (Pivots n)) h
-    (budget_faultless (decimal n) (length-decimal-le 7 n (omega arith) (omega arith) small) (digits-no_foreign (decimal n) digits))
-    (budget_fields (decimal n) ∙ ap (λ (l : List (List ℕ)). codes "budget" ∷ codes "pivots" ∷ l) alone)
+    let d = number_text n h in
+    text_said (Pivots n) (command_text (Pivots n)) h (pivots_faultless (decimal n) d.short d.known) (pivots_fields (decimal n) ∙ ap (λ (l : List (List ℕ)). codes "budget" ∷ codes "pivots" ∷ l) d.alone)
+own_text (Nodes n) h =
+    let d = number_text n h in
+    text_said (Nodes n) (command_text (Nodes n)) h (nodes_faultless (decimal n) d.short d.known) (nodes_fields (decimal n) ∙ ap (λ (l : List (List ℕ)). codes "budget" ∷ codes "nodes" ∷ l) d.alone)

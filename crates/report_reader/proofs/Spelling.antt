@@ -1,8 +1,9 @@
 -- The words of a line: each has shown bytes alone, so the parts of a line are its words, and those of a text its lines.
-use Rattle.std.proofs.Common.{◌≡◌, ◌≢◌, refl, sym, ap, ◌∙◌, ℕ, suc, ◌+◌, ◌^◌, ◌<◌, ◌≤◌, ◌==◌, true, false, true≢false, List, [], ◌∷◌, ◌++◌, append_assoc, append-nil, arith, eqb-true, ltb-false, length}
-use Rattle.std.specs.Prelude.{All, map, count_by, codes, decimal, nat_lt, unsigned_abs}
+use Rattle.std.proofs.Common.{◌≡◌, ◌≢◌, refl, sym, ap, ◌∙◌, ℕ, suc, ◌+◌, ◌^◌, ◌<◌, ◌≤◌, ◌==◌, Bool, true, false, true≢false, List, [], ◌∷◌, ◌++◌, append_assoc, append-nil, arith, eqb-true, ltb-false, length}
+use Rattle.std.specs.Prelude.{All, map, count_by, codes, decimal, nat_lt, unsigned_abs, neg_ℤ, ◌≤ℤ◌, ◌<ℤ◌}
 use Rattle.std.specs.List.{list_all, join_with_byte}
-use Rattle.std.proofs.lemmas.Bool.{and_parts, or_parts, cond_both, false_from_ne_true}
+use Rattle.std.proofs.lemmas.Bool.{and_parts, or_parts, cond_both, false_from_ne_true, le-ltb}
+use Rattle.std.proofs.lemmas.Int.{ints}
 use Rattle.std.proofs.lemmas.Bool.Decides.{nat_tests}
 use Rattle.std.proofs.lemmas.Fmt.{decimal_is_IsNumeral, decimal_is_IsNumeral_wide}
 use Rattle.std.proofs.lemmas.List.Elements.{All-nil, All-cons, All-head, All-tail, All-append, All-weaker}
@@ -27,14 +28,14 @@ use Rattle.certs.specs.declared.solving.SiteKind.{SiteKind}
 use Rattle.certs.specs.declared.solving.SiteKind.TheVariants.{Settle}
 use Rattle.frac128.specs.declared.Op.{Op}
 use Rattle.frac128.specs.declared.Op.TheVariants.{Plus}
-use Rattle.report_text.specs.declared.report.Command.TheVariants.{Check, Iis, Pivots}
+use Rattle.report_text.specs.declared.report.Command.TheVariants.{Check, Iis, Pivots, Nodes}
 use Rattle.report_text.specs.declared.report.Method.TheVariants.{Deletion}
 use Rattle.report_text.specs.declared.report.Report.{Report}
 use Rattle.report_text.specs.declared.phrases.Keyword.{Keyword}
 use Rattle.report_text.specs.declared.phrases.Phrase.{Phrase}
 use Rattle.report_text.specs.declared.phrases.StopPhrase.{StopPhrase}
 use Rattle.report_text.specs.Form.{is_word, IsNamedSource}
-use Rattle.report_text.specs.Grammar.{Line, ◌then◌, text_of, column_name, name_of, kind_word, source_word, source_name, method_word, site_word, op_word, report_lines, keyword_text, keyword_of, stop_details, details, spelled, phrase_line, report_phrases}
+use Rattle.report_text.specs.Grammar.{Line, ◌then◌, text_of, column_name, name_of, kind_word, source_word, source_name, method_word, site_word, op_word, report_lines, keyword_text, keyword_of, branch_keyword, stop_details, details, spelled, phrase_line, report_phrases}
 use Rattle.report_reader.specs.Reading.{Reads}
 use Rattle.report_reader.specs.Phrases.{IsStopPhrase, IsPhraseFor, Says}
 use Rattle.report_reader.proofs.Said.{report_for}
@@ -75,6 +76,14 @@ signed_shown : (z : ℤ) → nat_lt limit (unsigned_abs z) ≡ false → Shown (
 signed_shown (pos n) h = decimal_shown n h
 signed_shown (negsuc n) h = All-cons (λ b. is_shown b ≡ true) 45 (decimal (suc n)) refl (decimal_shown (suc n) h)
 
+fitting_shown : (z : ℤ) → unsigned_abs z ≤ limit → Shown (signed_decimal z)
+fitting_shown z h = signed_shown z (le-ltb limit (unsigned_abs z) h)
+
+-- the number of a split fits
+pub split_fits : (k : ℤ) → neg_ℤ (pos limit) ≤ℤ k → k <ℤ pos limit → unsigned_abs k ≤ limit
+split_fits (pos n) h k = let l : n < limit = omega (arith, ints, k) in omega arith
+split_fits (negsuc n) h k = omega (arith, ints, h)
+
 -- a count
 count_shown : (n : ℕ) → n < 2 ^ 64 → Shown (decimal n)
 count_shown n h = digits_shown (decimal n) (decimal_is_IsNumeral n h).0.1
@@ -93,6 +102,20 @@ word_shown name h = plain name (and_parts (nat_lt 0 (length name)) (list_all is_
 keyword_shown : (k : Keyword) → Shown (keyword_text k)
 keyword_shown Keyword.Iisan = plain (codes "iisan") refl
 keyword_shown k = plain (keyword_text k) refl
+
+-- ---- the keywords of branches
+abbrev is_side : Keyword → Bool
+is_side Keyword.BranchBelow = true
+is_side Keyword.BranchAbove = true
+is_side k = false
+
+-- a branch has no other keyword
+pub no_side : (upper : Bool) (k : Keyword) → branch_keyword upper ≡ k → is_side k ≡ false → ⊥
+no_side upper k e other = true≢false (sym (own upper) ∙ ap is_side e ∙ other)
+  where
+    own : (upper : Bool) → is_side (branch_keyword upper) ≡ true
+    own true = refl
+    own false = refl
 
 -- lists of one, two and more words
 none_shown : All Shown []
@@ -118,10 +141,11 @@ module _ (model : Program) where
   stop_shown : (s : StopPhrase) → IsStopPhrase model s → All Shown (stop_details model s)
   stop_shown StopPhrase.Wide h = and_shown (codes "wide") [] (plain (codes "wide") refl) none_shown
   stop_shown StopPhrase.Spent h = and_shown (codes "spent") [] (plain (codes "spent") refl) none_shown
-  stop_shown StopPhrase.Nodes h = absurd h
+  stop_shown StopPhrase.Nodes h = and_shown (codes "spent") [] (plain (codes "spent") refl) none_shown
   stop_shown (StopPhrase.Large size) h = absurd h
   stop_shown (StopPhrase.Site kind) h = and_shown (site_word kind) [] (site_shown kind) none_shown
   stop_shown (StopPhrase.Without m) h = and_shown (kind_word m) (name_of model m ∷ []) (kind_shown m) (and_shown (name_of model m) [] (word_shown (name_of model m) h.word) none_shown)
+  stop_shown (StopPhrase.Branch b) h = and_shown (column_name model b.column) (signed_decimal b.at ∷ []) (word_shown (column_name model b.column) h.named.word) (and_shown (signed_decimal b.at) [] (fitting_shown b.at h.fits) none_shown)
   stop_shown (StopPhrase.Step k) h = and_shown (decimal k) [] (count_shown k h) none_shown
   stop_shown (StopPhrase.Operation o) h =
       and_shown (op_word o.op) (printed o.left ∷ printed o.right ∷ []) (op_shown o.op)
@@ -144,13 +168,14 @@ module _ (model : Program) where
   details_shown (Phrase.Command (Iis Deletion)) h = two_shown (codes "iis") (codes "deletion") (plain (codes "iis") refl) (plain (codes "deletion") refl)
   details_shown (Phrase.Command (Iis method)) h = two_shown (codes "iis") (method_word method) (plain (codes "iis") refl) (plain (method_word method) refl)
   details_shown (Phrase.Command (Pivots n)) h = and_shown (codes "budget") (codes "pivots" ∷ decimal n ∷ []) (plain (codes "budget") refl) (two_shown (codes "pivots") (decimal n) (plain (codes "pivots") refl) (count_shown n (let l : n ≤ 1000000 = h in omega arith)))
+  details_shown (Phrase.Command (Nodes n)) h = and_shown (codes "budget") (codes "nodes" ∷ decimal n ∷ []) (plain (codes "budget") refl) (two_shown (codes "nodes") (decimal n) (plain (codes "nodes") refl) (count_shown n (let l : n ≤ 1000000 = h in omega arith)))
   details_shown (Phrase.Stop s) h = stop_shown s h
   details_shown (Phrase.Value j v) h = two_shown (column_name model j) (printed v) (word_shown (column_name model j) h.0.word) (printed_shown v h.1.0)
   details_shown (Phrase.Member m) h = two_shown (kind_word m) (name_of model m) (kind_shown m) (word_shown (name_of model m) h.word)
   details_shown (Phrase.Use s) h =
       let source = source_shown s.source h.named in
       and_shown (source_word s.source) (source_name model s.source ∷ printed s.weight ∷ []) source.0 (two_shown (source_name model s.source) (printed s.weight) source.1 (printed_shown s.weight h.fits))
-  details_shown (Phrase.Split j k) h = absurd h
+  details_shown (Phrase.Split j k) h = two_shown (column_name model j) (signed_decimal k) (word_shown (column_name model j) h.0.word) (fitting_shown k (split_fits k h.1.0 h.1.1))
   details_shown Phrase.Foot h = and_shown (codes "end") [] (plain (codes "end") refl) none_shown
   details_shown p h = none_shown
 

@@ -9,22 +9,22 @@ use Rattle.text_fields.specs.declared.faults.FieldStop.{FieldStop}
 use Rattle.text_fields.specs.declared.faults.FieldStop.TheVariants.{Text as FieldText, Memory as FieldMemory}
 use Rattle.text_fields.specs.Fields.{fields_of, field_fault}
 use Rattle.report_text.specs.declared.report.Command.{Command}
-use Rattle.report_text.specs.declared.report.Command.TheVariants.{Check, Iis, Pivots}
+use Rattle.report_text.specs.declared.report.Command.TheVariants.{Check, Iis, Pivots, Nodes}
 use Rattle.report_text.specs.declared.report.Method.{Method}
 use Rattle.report_text.specs.declared.report.Method.TheVariants.{Deletion, Additive, Sensitivity}
 use Rattle.report_reader.specs.declared.commands.CommandStop.{CommandStop}
 use Rattle.report_reader.specs.declared.commands.CommandStop.TheVariants.{Bad, Memory}
 use Rattle.report_text.specs.Grammar.{method_word, command_text}
-use Rattle.report_text.specs.Form.{most_pivots, IsCommand}
+use Rattle.report_text.specs.Form.{most_budget, IsCommand}
 
 -- ---- the words that are a command
 -- one digit or more
 abbrev pub is_numeral : List ℕ → Bool
 is_numeral word = nat_lt 0 (length word) && list_all is_dec word
 
--- the number of pivots that a word writes, where it is digits and the number is not too great
-abbrev pub pivots_of : List ℕ → Option ℕ
-pivots_of word = cond (is_numeral word && nat_le (number_of word) most_pivots) (Some (number_of word)) None
+-- the budget that a word writes, where it is digits and the number is not too great
+abbrev pub budget_of : List ℕ → Option ℕ
+budget_of word = cond (is_numeral word && nat_le (number_of word) most_budget) (Some (number_of word)) None
 
 -- what one word says
 abbrev pub lone_command : List ℕ → Option Command
@@ -38,9 +38,15 @@ method_of word = find (λ m. bytes_eq word (method_word m)) (Deletion ∷ Additi
 abbrev pub iis_command : List ℕ → List ℕ → Option Command
 iis_command first second = cond (bytes_eq first (codes "iis")) (option_map Iis (method_of second)) None
 
+-- what two words behind `budget` say: of what it is, and how many
+abbrev pub budget_behind : List ℕ → List ℕ → Option Command
+budget_behind second third =
+    cond (bytes_eq second (codes "pivots")) (option_map Pivots (budget_of third))
+    (cond (bytes_eq second (codes "nodes")) (option_map Nodes (budget_of third)) None)
+
 -- what three words say
 abbrev pub budget_command : List ℕ → List ℕ → List ℕ → Option Command
-budget_command first second third = cond (bytes_eq first (codes "budget") && bytes_eq second (codes "pivots")) (option_map Pivots (pivots_of third)) None
+budget_command first second third = cond (bytes_eq first (codes "budget")) (budget_behind second third) None
 
 -- the command that words are, where they are one: the fields of a script's line, and what stands behind `command` in a report's
 abbrev pub command_said : List (List ℕ) → Option Command

@@ -1,5 +1,5 @@
 -- What may follow in a report, line by line: the draft that a phrase makes of a draft.
-use Rattle.std.specs.Prelude.{◌≡◌, ◌≢◌, ⊤, ℕ, ◌+◌, ◌-◌, ◌≤◌, nat_le, Bool, true, false, ◌&&◌, IsTrue, List, [], ◌∷◌, ◌++◌, length, replicate, Option, Some, None, option_map, Result, Ok, Err, All}
+use Rattle.std.specs.Prelude.{◌≡◌, ◌≢◌, ⊤, ℕ, ◌+◌, ◌-◌, ◌≤◌, ◌==◌, nat_lt, nat_le, Bool, true, false, ◌&&◌, IsTrue, List, [], ◌∷◌, ◌++◌, length, replicate, Option, Some, None, option_map, Result, Ok, Err, flat_map, All}
 use Rattle.std.specs.List.{list_all}
 use Rattle.rational.specs.Rational.{ℚ, zero_ℚ}
 use Rattle.lp_model.specs.Program.{Program, noted_column}
@@ -8,15 +8,17 @@ use Rattle.lp_model.specs.Members.{comes_before, is_active, IsInOrder}
 use Rattle.lp_model.specs.MemberSets.{SetValue, empty_set}
 use Rattle.lp_model.specs.Satisfaction.{values_at}
 use Rattle.lp_model.specs.declared.parts.Note.{Note}
+use Rattle.certs.specs.declared.evidence.Branch.{Branch}
 use Rattle.certs.specs.declared.evidence.Share.{Share}
 use Rattle.certs.specs.declared.evidence.Point.{Point}
-use Rattle.certs.specs.declared.evidence.Node.TheVariants.{Leaf}
-use Rattle.certs.specs.declared.evidence.Proof.{Proof}
+use Rattle.certs.specs.declared.evidence.Node.{Node}
+use Rattle.certs.specs.declared.evidence.Node.TheVariants.{Split, Leaf}
+use Rattle.certs.specs.Proof.{Tree, preorder}
 use Rattle.certs.specs.declared.solving.SiteKind.TheVariants.{Settle}
 use Rattle.certs.specs.declared.solving.Site.{Site}
 use Rattle.certs.specs.declared.solving.Stop.{Stop}
 use Rattle.report_text.specs.declared.report.Command.{Command}
-use Rattle.report_text.specs.declared.report.Command.TheVariants.{Check, Iis, Pivots}
+use Rattle.report_text.specs.declared.report.Command.TheVariants.{Check, Iis, Pivots, Nodes}
 use Rattle.report_text.specs.declared.report.Answer.{Answer}
 use Rattle.report_text.specs.declared.report.Entry.{Entry}
 use Rattle.report_text.specs.declared.phrases.Phrase.{Phrase}
@@ -32,11 +34,11 @@ use Rattle.report_reader.specs.declared.drafts.Draft.{Draft}
 use Rattle.report_text.specs.declared.report.Report.{Report}
 use Rattle.report_reader.specs.declared.reader.ReportStop.{ReportStop}
 use Rattle.report_reader.specs.declared.reader.ReportStop.TheVariants.{BadLine, Truncated, Memory}
-use Rattle.report_reader.specs.Phrases.{Says}
+use Rattle.report_reader.specs.Phrases.{IsNamedBranch, Says}
 use Rattle.report_text.specs.Turns.{after, entry_commands}
 use Rattle.report_text.specs.Grammar.{Line, column_name, left_out, entries_phrases}
 use Rattle.certs.specs.Order.{source_before}
-use Rattle.report_text.specs.Form.{is_word, IsNamedColumn, IsNamedMember, IsWithinLimit, IsPointFor, AreEntriesFor, IsCommand, IsCount, IsOperation, AreUses, AreNumbered}
+use Rattle.report_text.specs.Form.{is_word, IsNamedColumn, IsNamedMember, IsWithinLimit, IsPointFor, AreEntriesFor, IsCommand, IsCount, IsOperation, AreUses, IsNodeFor, IsOneTree, AreNumbered}
 
 -- values with zeros behind them, up to so many
 abbrev pub filled : ℕ → List ℚ → List ℚ
@@ -50,20 +52,20 @@ point_of model values = record { values = filled (length model.columns) values }
 abbrev pub set_of : Program → List Member → SetValue
 set_of model members = record { rows = length model.rows; columns = length model.columns; members = members }
 
--- the proof of one leaf
-abbrev pub leaf_of : List Share → Proof
-leaf_of shares = record { nodes = Leaf (record { shares = shares }) ∷ [] }
+-- the leaf of these shares
+abbrev pub leaf_of : List Share → Node
+leaf_of shares = Leaf (record { shares = shares })
 
 -- the members that are found
 abbrev pub members_of : Found → List Member
 members_of (Found.Members members) = members
 members_of (Found.Witnessed members witnesses) = members
 
--- the answer that a set with its leaf is
-abbrev pub answer_of : Program → Found → List Share → Answer
-answer_of model (Found.Members members) shares = Answer.Infeasible (set_of model members) (leaf_of shares)
-answer_of model (Found.Witnessed members witnesses) shares =
-    Answer.Irreducible (record { members = set_of model members; witnesses = witnesses; proof = leaf_of shares; rounds = None; price = None })
+-- the answer that a set with the nodes of its proof is
+abbrev pub answer_of : Program → Found → List Node → Answer
+answer_of model (Found.Members members) nodes = Answer.Infeasible (set_of model members) (record { nodes = nodes })
+answer_of model (Found.Witnessed members witnesses) nodes =
+    Answer.Irreducible (record { members = set_of model members; witnesses = witnesses; proof = record { nodes = nodes }; rounds = None; price = None })
 
 -- so far, if it may be
 abbrev pub only_if : {X : Type 0} → Bool → X → Option X
@@ -87,35 +89,49 @@ with_member members m = with_next (λ n. true) comes_before members m
 abbrev pub with_share : List Share → Share → Option (List Share)
 with_share shares s = with_next (λ t. true) (λ t u. source_before t.source u.source) shares s
 
--- active members that are left out
-abbrev pub with_left_out : Program → List Member → Member → Option (List Member)
-with_left_out model left m = with_next (is_active model) comes_before left m
+-- active members that are left out, which stand before the branches of a path
+abbrev pub with_left_out : Program → List Branch → List Member → Member → Option (List Member)
+with_left_out model path left m = with_next (λ n. (length path == 0) && is_active model n) comes_before left m
 
 -- ---- answers
+-- a proof without nodes: one subtree is due, the whole tree
+abbrev pub proof_begun : Found → Next
+proof_begun found = Next.More (Part.Proof found [] 1)
+
+-- What the nodes of a proof, behind which so many subtrees are due, are with one phrase more. Where one is due a node is its root, and a split puts two in its place, a leaf none. Where none is due the proof ends.
+abbrev pub proof_with : Program → Found → List Node → ℕ → Phrase → Option Next
+proof_with model found nodes due (Phrase.Split j k) = only_if (nat_lt 0 due) (Next.More (Part.Proof found (nodes ++ Split j k ∷ []) (due + 1)))
+proof_with model found nodes due Phrase.Leaf = only_if (nat_lt 0 due) (Next.More (Part.Leaf found nodes (due - 1) []))
+proof_with model found nodes due Phrase.End = only_if (due == 0) (Next.Whole (answer_of model found nodes))
+proof_with model found nodes due _ = None
+
 -- what a list with witnesses is with one phrase more: a member, or the start of the proof
 abbrev pub witnessed_with : List Member → List Point → Phrase → Option Next
 witnessed_with members witnesses (Phrase.Member m) = only_if (list_all (λ n. comes_before n m) members) (Next.More (Part.Member members witnesses m))
-witnessed_with members witnesses Phrase.Proof = Some (Next.More (Part.Proof (Found.Witnessed members witnesses)))
+witnessed_with members witnesses Phrase.Proof = Some (proof_begun (Found.Witnessed members witnesses))
 witnessed_with members witnesses _ = None
 
--- the settle run of the active members but these
-abbrev pub site_without : Program → List Member → Site
-site_without model left = record { kind = Settle; set = set_of model (left_out model left); enforced = empty_set model; path = [] }
+-- the settle run of the active members but these, on a path
+abbrev pub site_without : Program → List Member → List Branch → Site
+site_without model left path = record { kind = Settle; set = set_of model (left_out model left); enforced = empty_set model; path = path }
 
 -- how a stop begins
 abbrev pub stop_begun : StopPhrase → Option Next
 stop_begun StopPhrase.Wide = Some (Next.More (Part.Stop (StopPart.Begun StopCause.Wide)))
 stop_begun StopPhrase.Spent = Some (Next.More (Part.Stop (StopPart.Begun StopCause.Spent)))
+stop_begun StopPhrase.Nodes = Some (Next.More (Part.Stop (StopPart.Begun StopCause.Nodes)))
 stop_begun _ = None
 
 -- what a part of a stop is with one phrase more; only the settle run stops as yet
 abbrev pub stop_with : Program → StopPart → Phrase → Option Next
-stop_with model (StopPart.Begun cause) (Phrase.Stop (StopPhrase.Site Settle)) = Some (Next.More (Part.Stop (StopPart.Site cause [])))
-stop_with model (StopPart.Site cause left) (Phrase.Stop (StopPhrase.Without m)) = option_map (λ members. Next.More (Part.Stop (StopPart.Site cause members))) (with_left_out model left m)
-stop_with model (StopPart.Site StopCause.Wide left) (Phrase.Stop (StopPhrase.Step k)) = Some (Next.More (Part.Stop (StopPart.Step left k)))
-stop_with model (StopPart.Site StopCause.Spent left) Phrase.End = Some (Next.Whole (Answer.Stopped (Stop.Pivots (site_without model left))))
-stop_with model (StopPart.Step left k) (Phrase.Stop (StopPhrase.Operation o)) = Some (Next.More (Part.Stop (StopPart.Operation left k o)))
-stop_with model (StopPart.Operation left k o) Phrase.End = Some (Next.Whole (Answer.Stopped (Stop.Wide (site_without model left) k o)))
+stop_with model (StopPart.Begun cause) (Phrase.Stop (StopPhrase.Site Settle)) = Some (Next.More (Part.Stop (StopPart.Site cause [] [])))
+stop_with model (StopPart.Site cause left path) (Phrase.Stop (StopPhrase.Without m)) = option_map (λ members. Next.More (Part.Stop (StopPart.Site cause members path))) (with_left_out model path left m)
+stop_with model (StopPart.Site cause left path) (Phrase.Stop (StopPhrase.Branch b)) = Some (Next.More (Part.Stop (StopPart.Site cause left (path ++ b ∷ []))))
+stop_with model (StopPart.Site StopCause.Wide left path) (Phrase.Stop (StopPhrase.Step k)) = Some (Next.More (Part.Stop (StopPart.Step left path k)))
+stop_with model (StopPart.Site StopCause.Spent left path) Phrase.End = Some (Next.Whole (Answer.Stopped (Stop.Pivots (site_without model left path))))
+stop_with model (StopPart.Site StopCause.Nodes left path) Phrase.End = Some (Next.Whole (Answer.Stopped (Stop.Nodes (site_without model left path))))
+stop_with model (StopPart.Step left path k) (Phrase.Stop (StopPhrase.Operation o)) = Some (Next.More (Part.Stop (StopPart.Operation left path k o)))
+stop_with model (StopPart.Operation left path k o) Phrase.End = Some (Next.Whole (Answer.Stopped (Stop.Wide (site_without model left path) k o)))
 stop_with model _ _ = None
 
 -- the answer that a part of one becomes by a phrase, if it may follow
@@ -128,17 +144,18 @@ extended model (Iis method) Part.Nothing Phrase.Irreducible = Some (Next.More (P
 extended model Check Part.Nothing (Phrase.Stop s) = stop_begun s
 extended model (Iis method) Part.Nothing (Phrase.Stop s) = stop_begun s
 extended model (Pivots n) Part.Nothing Phrase.Done = Some (Next.Whole Answer.Done)
+extended model (Nodes n) Part.Nothing Phrase.Done = Some (Next.Whole Answer.Done)
 extended model command (Part.Point values) (Phrase.Value j v) = option_map (λ vs. Next.More (Part.Point vs)) (with_value values j v)
 extended model command (Part.Point values) Phrase.End = Some (Next.Whole (Answer.Feasible (point_of model values)))
 extended model command (Part.Listed (Found.Members members)) (Phrase.Member m) = option_map (λ ms. Next.More (Part.Listed (Found.Members ms))) (with_member members m)
-extended model command (Part.Listed (Found.Members members)) Phrase.Proof = Some (Next.More (Part.Proof (Found.Members members)))
+extended model command (Part.Listed (Found.Members members)) Phrase.Proof = Some (proof_begun (Found.Members members))
 extended model command (Part.Listed (Found.Witnessed members witnesses)) p = witnessed_with members witnesses p
 extended model command (Part.Member members witnesses m) Phrase.Point = Some (Next.More (Part.Witness members witnesses m []))
 extended model command (Part.Witness members witnesses m values) (Phrase.Value j v) = option_map (λ vs. Next.More (Part.Witness members witnesses m vs)) (with_value values j v)
 extended model command (Part.Witness members witnesses m values) p = witnessed_with (members ++ m ∷ []) (witnesses ++ point_of model values ∷ []) p
-extended model command (Part.Proof found) Phrase.Leaf = Some (Next.More (Part.Leaf found []))
-extended model command (Part.Leaf found shares) (Phrase.Use s) = option_map (λ ss. Next.More (Part.Leaf found ss)) (with_share shares s)
-extended model command (Part.Leaf found shares) Phrase.End = Some (Next.Whole (answer_of model found shares))
+extended model command (Part.Proof found nodes due) p = proof_with model found nodes due p
+extended model command (Part.Leaf found nodes due shares) (Phrase.Use s) = option_map (λ ss. Next.More (Part.Leaf found nodes due ss)) (with_share shares s)
+extended model command (Part.Leaf found nodes due shares) p = proof_with model found (nodes ++ leaf_of shares ∷ []) due p
 extended model command (Part.Stop part) p = stop_with model part p
 extended model command _ _ = None
 
@@ -227,6 +244,7 @@ IsFound model command _ = ⊥
 abbrev pub IsOneMore : Program → Command → List Member → List Point → Member → Type 0
 IsOneMore model Check members witnesses m = ⊥
 IsOneMore model (Pivots n) members witnesses m = ⊥
+IsOneMore model (Nodes n) members witnesses m = ⊥
 IsOneMore model (Iis method) members witnesses m = AreMembers model (members ++ m ∷ []) × AreWitnesses model members witnesses
 
 -- active members in order, with words for names
@@ -234,16 +252,27 @@ pub record AreLeftOut (model : Program) (left : List Member) : Type 0 where
   pub members : AreMembers model left
   pub active : All (λ m. IsTrue (is_active model m)) left
 
+-- what a site is told by: such members, and branches
+abbrev pub IsTold : Program → List Member → List Branch → Type 0
+IsTold model left path = AreLeftOut model left × All (IsNamedBranch model) path
+
 -- a part of a stop
 abbrev pub IsStopPart : Program → StopPart → Type 0
 IsStopPart model (StopPart.Begun cause) = ⊤
-IsStopPart model (StopPart.Site cause left) = AreLeftOut model left
-IsStopPart model (StopPart.Step left k) = AreLeftOut model left × IsCount k
-IsStopPart model (StopPart.Operation left k o) = AreLeftOut model left × (IsCount k × IsOperation o)
+IsStopPart model (StopPart.Site cause left path) = IsTold model left path
+IsStopPart model (StopPart.Step left path k) = IsTold model left path × IsCount k
+IsStopPart model (StopPart.Operation left path k o) = IsTold model left path × (IsCount k × IsOperation o)
+
+-- The nodes are the front of a proof, and so many subtrees are due: with any such trees behind them they are one tree.
+pub record AreNodes (model : Program) (nodes : List Node) (due : ℕ) : Type 0 where
+  pub each : All (IsNodeFor model) nodes
+  pub one : (trees : List Tree) → length trees ≡ due → IsOneTree (nodes ++ flat_map preorder trees)
+  pub few : due ≤ length nodes + 1
 
 -- only a check, or the search for an irreducible set, is answered by more than one line
 abbrev pub Asks : Command → Type 0
 Asks (Pivots n) = ⊥
+Asks (Nodes n) = ⊥
 Asks command = ⊤
 
 -- a part of an answer to the command
@@ -254,8 +283,8 @@ IsPartFor model command (Part.Point values) = Asks command × AreValues model va
 IsPartFor model command (Part.Listed found) = IsFound model command found
 IsPartFor model command (Part.Member members witnesses m) = IsOneMore model command members witnesses m
 IsPartFor model command (Part.Witness members witnesses m values) = IsOneMore model command members witnesses m × AreValues model values
-IsPartFor model command (Part.Proof found) = IsFound model command found
-IsPartFor model command (Part.Leaf found shares) = IsFound model command found × AreUses model shares
+IsPartFor model command (Part.Proof found nodes due) = IsFound model command found × AreNodes model nodes due
+IsPartFor model command (Part.Leaf found nodes due shares) = IsFound model command found × (AreNodes model nodes (due + 1) × AreUses model shares)
 IsPartFor model command (Part.Stop part) = Asks command × IsStopPart model part
 
 -- nothing is read at the start; a command stands on the line after what is read before it

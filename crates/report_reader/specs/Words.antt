@@ -1,9 +1,11 @@
 -- What a word says, if it says something: the first of a list that is spelled so.
-use Rattle.std.specs.Prelude.{◌≡◌, ⊤, ℕ, List, [], ◌∷◌, Option, Some, find, IfSome, decimal}
+use Rattle.std.specs.Prelude.{◌≡◌, ⊤, ℕ, ◌≤◌, ℤ, unsigned_abs, List, [], ◌∷◌, Option, Some, find, IfSome, decimal}
+use Rattle.std.specs.Fmt.{signed_decimal}
 use Rattle.std.specs.Str.{bytes_eq}
 use Rattle.report_text.specs.declared.phrases.Keyword.{Keyword}
 use Rattle.report_text.specs.declared.phrases.Phrase.{Phrase}
 use Rattle.rational.specs.Rational.{ℚ}
+use Rattle.frac128.specs.Limit.{limit}
 use Rattle.frac128.specs.Printed.{printed}
 use Rattle.lp_model.specs.Program.{Program, row_at}
 use Rattle.lp_model.specs.declared.members.Member.{Member}
@@ -22,7 +24,7 @@ lone_said word = find (λ p. bytes_eq word (keyword_text (keyword_of p))) lone_p
 
 -- the keywords with words behind them
 abbrev pub leading_keywords : List Keyword
-leading_keywords = Keyword.Value ∷ Keyword.Use ∷ Keyword.Member ∷ Keyword.Command ∷ Keyword.Too ∷ Keyword.Pivots ∷ Keyword.Site ∷ Keyword.Without ∷ Keyword.Step ∷ Keyword.Operation ∷ Keyword.Note ∷ Keyword.Split ∷ Keyword.Nodes ∷ Keyword.Iisan ∷ Keyword.Report ∷ []
+leading_keywords = Keyword.Value ∷ Keyword.Use ∷ Keyword.Member ∷ Keyword.Command ∷ Keyword.Too ∷ Keyword.Pivots ∷ Keyword.Site ∷ Keyword.Without ∷ Keyword.Step ∷ Keyword.Operation ∷ Keyword.Note ∷ Keyword.Split ∷ Keyword.Nodes ∷ Keyword.BranchBelow ∷ Keyword.BranchAbove ∷ Keyword.Iisan ∷ Keyword.Report ∷ []
 
 -- the keyword among these that a word is
 abbrev pub leading_said : List ℕ → Option Keyword
@@ -63,6 +65,10 @@ IsColumnSaid model name j = IsNamedColumn model j × (name ≡ column_name model
 -- the fraction is printed so
 abbrev pub IsFractionSaid : List ℕ → ℚ → Type 0
 IsFractionSaid text q = IsWithinLimit q × (text ≡ printed q)
+
+-- The whole number is printed so, in decimal without leading zeros, with a `-` where it is negative. Its magnitude is that of a fraction's part.
+abbrev pub IsWholeSaid : List ℕ → ℤ → Type 0
+IsWholeSaid text k = (unsigned_abs k ≤ limit) × (text ≡ signed_decimal k)
 
 -- the count is printed so, in decimal without leading zeros
 abbrev pub IsCountSaid : List ℕ → ℕ → Type 0

@@ -1,5 +1,5 @@
 //! Lists with one element more, and the points, sets, proofs and answers that they are.
-ghost use Rattle.std.specs.Prelude.{◌≡◌, ◌≤◌, IfOk, All, length};
+ghost use Rattle.std.specs.Prelude.{◌≡◌, ◌≤◌, ◌++◌, ◌∷◌, [], IfOk, All, length};
 ghost use Rattle.lp_model.specs.Members.{IsInOrder};
 ghost use Rattle.lp_model.specs.MemberSets.{IsMemberFor};
 ghost use Rattle.report_text.specs.Grammar.{left_out};
@@ -9,7 +9,9 @@ ghost use Rattle.report_reader.specs.Drafts.{filled, point_of, leaf_of, set_of, 
 
 use crate::drafts::{Found, Members};
 use crate::ordering::{member_follows, source_follows};
-use certs::{Combo, Node, Nodes, Path, Point, Proof, Share, Shares, Site, SiteKind, Values};
+use certs::{
+    Branch, Combo, Node, Nodes, Path, Point, Proof, Share, Shares, Site, SiteKind, Values,
+};
 use frac128::Frac;
 use lp_model::{Member, MemberSet, Model};
 use report_text::{Answer, Command, Core};
@@ -67,20 +69,34 @@ pub(crate) fn add_member(members: Members, member: Member) -> Result<Option<Memb
     Ok(Some(Members::new(items)))
 }
 
-/// The active members that are left out with one more, where it is active and comes after all of them.
+/// The active members that are left out with one more, where no branch stands yet, and it is active and comes after all of
+/// them.
 pub(crate) fn add_left_out(
     model: &Model,
+    path: &[Branch],
     left: Members,
     member: Member,
 ) -> Result<Option<Members>, AllocError>
     requires named { IsNamedMember model.now member }
     requires in_order { IsInOrder left }
-    ensures { IfOk result (λ m. m ≡ with_left_out model.now left member) }
+    ensures { IfOk result (λ m. m ≡ with_left_out model.now path.now left member) }
 {
+    if !path.is_empty() {
+        return Ok(None);
+    }
     if !model.is_active(member) {
         return Ok(None);
     }
     add_member(left, member)
+}
+
+/// The branches with one more.
+pub(crate) fn add_branch(path: Path, branch: Branch) -> Result<Path, AllocError>
+    ensures { IfOk result (λ p. p ≡ path ++ branch ∷ []) }
+{
+    let mut items = path.into_vec();
+    items.push(branch)?;
+    Ok(Path::new(items))
 }
 
 /// The shares with one more, where it comes after all of them.
@@ -109,29 +125,36 @@ fn make_set(alloc: Global, model: &Model, members: &[Member]) -> Result<MemberSe
     Ok(set)
 }
 
-// The proof of one leaf.
-fn make_leaf(alloc: Global, shares: Shares) -> Result<Proof, AllocError>
-    ensures { IfOk result (λ p. p ≡ leaf_of shares) }
+/// The nodes with a split more.
+pub(crate) fn add_split(nodes: Nodes, column: u32, at: i128) -> Result<Nodes, AllocError>
+    ensures { IfOk result (λ n. n ≡ nodes ++ Node.Split column at ∷ []) }
 {
-    let mut nodes = Vec::new(alloc);
-    nodes.push(Node::Leaf(Combo { shares }))?;
-    Ok(Proof {
-        nodes: Nodes::new(nodes),
-    })
+    let mut items = nodes.into_vec();
+    items.push(Node::Split { column, at })?;
+    Ok(Nodes::new(items))
 }
 
-/// The answer that a set with its leaf is.
+/// The nodes with a leaf more.
+pub(crate) fn add_leaf(nodes: Nodes, shares: Shares) -> Result<Nodes, AllocError>
+    ensures { IfOk result (λ n. n ≡ nodes ++ leaf_of shares ∷ []) }
+{
+    let mut items = nodes.into_vec();
+    items.push(Node::Leaf(Combo { shares }))?;
+    Ok(Nodes::new(items))
+}
+
+/// The answer that a set with the nodes of its proof is.
 pub(crate) fn make_answer(
     alloc: Global,
     model: &Model,
     command: &Command,
     found: Found,
-    shares: Shares,
+    nodes: Nodes,
 ) -> Result<Answer, AllocError>
     requires { IsFound model.now command.now found }
-    ensures { IfOk result (λ a. a ≡ answer_of model.now found shares) }
+    ensures { IfOk result (λ a. a ≡ answer_of model.now found nodes) }
 {
-    let proof = make_leaf(alloc, shares)?;
+    let proof = Proof { nodes };
     match found {
         Found::Members(members) => {
             let set = make_set(alloc, model, members.as_slice())?;
@@ -162,10 +185,15 @@ fn make_others(alloc: Global, model: &Model, left: &[Member]) -> Result<MemberSe
     Ok(set)
 }
 
-/// The settle run of the active members but these.
-pub(crate) fn make_site(alloc: Global, model: &Model, left: &Members) -> Result<Site, AllocError>
+/// The settle run of the active members but these, on a path.
+pub(crate) fn make_site(
+    alloc: Global,
+    model: &Model,
+    left: &Members,
+    path: Path,
+) -> Result<Site, AllocError>
     requires { AreLeftOut model.now left.now }
-    ensures { IfOk result (λ s. s ≡ site_without model.now left.now) }
+    ensures { IfOk result (λ s. s ≡ site_without model.now left.now path) }
 {
     let set = make_others(alloc, model, left.as_slice())?;
     let enforced = MemberSet::empty(alloc, model)?;
@@ -173,6 +201,6 @@ pub(crate) fn make_site(alloc: Global, model: &Model, left: &Members) -> Result<
         kind: SiteKind::Settle,
         set,
         enforced,
-        path: Path::new(Vec::new(alloc)),
+        path,
     })
 }

@@ -5,8 +5,8 @@ ghost use Rattle.frac128.specs.Literal.{is_dec};
 ghost use Rattle.text_fields.specs.Lines.{text_of};
 ghost use Rattle.text_fields.specs.Fields.{IsInside};
 ghost use Rattle.report_reader.specs.Parts.{AreWords};
-ghost use Rattle.report_text.specs.Form.{most_pivots, IsCommand};
-ghost use Rattle.report_reader.specs.Commands.{pivots_of, lone_command, method_of, iis_command, budget_command, command_said, command_of, command_stop, IsCommandStop, CommandLaw};
+ghost use Rattle.report_text.specs.Form.{most_budget, IsCommand};
+ghost use Rattle.report_reader.specs.Commands.{budget_of, lone_command, method_of, iis_command, budget_behind, budget_command, command_said, command_of, command_stop, IsCommandStop, CommandLaw};
 ghost use Rattle.report_reader.specs.declared.commands.CommandStop.{CommandStop};
 
 use crate::parts::Words;
@@ -15,8 +15,8 @@ use std::alloc::Global;
 use text_fields::{FieldStop, Line, Span, fields};
 use thiserror::Error;
 
-// The most pivots that a budget may be.
-const MOST_PIVOTS: u64 = 1_000_000;
+// The most that a budget may be.
+const MOST_BUDGET: u64 = 1_000_000;
 
 /// Why a line was not read as a command: it is none, or memory was refused.
 #[derive(Clone, Copy, PartialEq, Eq, Debug, Error)]
@@ -45,9 +45,9 @@ fn all_digits(word: &[u8]) -> bool
     word.iter().all(|b| *b >= b'0' && *b <= b'9')
 }
 
-// The number of pivots that digits write.
-fn number_of_pivots(word: &[u8]) -> Option<u64>
-    ensures { result ≡ pivots_of word.now }
+// The budget that digits write.
+fn budget_in(word: &[u8]) -> Option<u64>
+    ensures { result ≡ budget_of word.now }
 {
     if !all_digits(word) {
         return None;
@@ -55,13 +55,13 @@ fn number_of_pivots(word: &[u8]) -> Option<u64>
     let Ok(digits) = str::from_utf8(word) else {
         return None;
     };
-    let Ok(pivots) = digits.parse::<u64>() else {
+    let Ok(most) = digits.parse::<u64>() else {
         return None;
     };
-    if pivots > MOST_PIVOTS {
+    if most > MOST_BUDGET {
         return None;
     }
-    Some(pivots)
+    Some(most)
 }
 
 // `check`.
@@ -93,21 +93,31 @@ fn read_search(first: &[u8], second: &[u8]) -> Option<Command>
     Some(Command::Iis(read_method(second)?))
 }
 
-// `budget pivots`, and a number.
+// `pivots` or `nodes`, and a number.
+fn read_behind(second: &[u8], third: &[u8]) -> Option<Command>
+    ensures { result ≡ budget_behind second.now third.now }
+{
+    if second == b"pivots".as_slice() {
+        return Some(Command::Pivots(budget_in(third)?));
+    }
+    if second == b"nodes".as_slice() {
+        return Some(Command::Nodes(budget_in(third)?));
+    }
+    None
+}
+
+// `budget`, what it is of, and a number.
 fn read_budget(first: &[u8], second: &[u8], third: &[u8]) -> Option<Command>
     ensures { result ≡ budget_command first.now second.now third.now }
 {
     if first != b"budget".as_slice() {
         return None;
     }
-    if second != b"pivots".as_slice() {
-        return None;
-    }
-    Some(Command::Pivots(number_of_pivots(third)?))
+    read_behind(second, third)
 }
 
-/// The command that words are: `check`; or `iis` and `deletion`, `additive` or `sensitivity`; or `budget`, `pivots` and a
-/// number of at most 1,000,000 in one digit or more.
+/// The command that words are: `check`; or `iis` and `deletion`, `additive` or `sensitivity`; or `budget`, `pivots` or
+/// `nodes`, and a number of at most 1,000,000 in one digit or more.
 pub(crate) fn command_in(words: Words<'_>) -> Option<Command>
     ensures { (ws : List (List ℕ)) → AreWords words.entry ws → result ≡ command_said ws }
 {
@@ -139,8 +149,8 @@ fn read_fields(text: &[u8], spans: &[Span]) -> Option<Command>
 /// The command that a line is, which stands without its end.
 ///
 /// Its fields, which blanks (32, 9 and 13) part, are `check`; or `iis` and `deletion`, `additive` or `sensitivity`; or
-/// `budget`, `pivots` and a number of at most 1,000,000 in one digit or more. Everything else is `Bad`, and so is a line
-/// of more than 65,536 bytes. `Memory` comes where memory was refused.
+/// `budget`, `pivots` or `nodes`, and a number of at most 1,000,000 in one digit or more. Everything else is `Bad`, and so
+/// is a line of more than 65,536 bytes. `Memory` comes where memory was refused.
 pub fn read_command(alloc: Global, text: &[u8]) -> Result<Command, CommandStop>
     // The line is the command.
     ensures command { IfOk result (λ command. command_of text.now ≡ Some command) }

@@ -1,7 +1,7 @@
 //! How far a report is read.
 ghost use Rattle.std.specs.Prelude.{◌≡◌};
 
-use certs::{Shares, Values};
+use certs::{Nodes, Path, Shares, Values};
 use frac128::Wide;
 use lp_model::Member;
 use report_text::{Answer, Command, Entries, Notes, Witnesses};
@@ -59,11 +59,12 @@ pub(crate) struct Question {
     pub(crate) line: u32,
 }
 
-/// What the first line of a stop tells: `too wide`, or `pivots spent`.
+/// What the first line of a stop tells: `too wide`, `pivots spent` or `nodes spent`.
 #[derive(Clone, Copy, PartialEq, Eq, Debug)]
 pub(crate) enum StopCause {
     Wide,
     Spent,
+    Nodes,
 }
 
 /// How far a stop is read.
@@ -71,12 +72,12 @@ pub(crate) enum StopCause {
 pub(crate) enum StopPart {
     /// The first line.
     Begun(StopCause),
-    /// The same, the site, and the active members so far that are not in its set.
-    Site(StopCause, Members),
+    /// The same, the site, the active members so far that are not in its set, and the branches so far of its path.
+    Site(StopCause, Members, Path),
     /// `too wide`, the site, and the number of the turn.
-    Step(Members, u64),
+    Step(Members, Path, u64),
     /// The same, and the operation.
-    Operation(Members, u64, Wide),
+    Operation(Members, Path, u64, Wide),
 }
 
 /// How far an answer is read.
@@ -94,10 +95,10 @@ pub(crate) enum Part {
     Member(Members, Witnesses, Member),
     /// The same, and a part of the last member's witness.
     Witness(Members, Witnesses, Member, Values),
-    /// `proof`.
-    Proof(Found),
-    /// A leaf and its shares so far.
-    Leaf(Found, Shares),
+    /// `proof`, its nodes so far, and how many subtrees are due behind them.
+    Proof(Found, Nodes, u64),
+    /// The same, a leaf, and its shares so far; the count is of the subtrees that are due behind the leaf.
+    Leaf(Found, Nodes, u64, Shares),
     /// A stop.
     Stop(StopPart),
 }

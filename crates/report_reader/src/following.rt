@@ -1,18 +1,20 @@
 //! What a phrase makes of a part of an answer.
-ghost use Rattle.std.specs.Prelude.{◌≡◌, ℕ, ◌≤◌, ◌++◌, ◌∷◌, [], IfOk, length};
+ghost use Rattle.std.specs.Prelude.{◌≡◌, ℕ, ◌+◌, ◌≤◌, ◌++◌, ◌∷◌, [], IfOk, length};
 ghost use Rattle.certs.specs.Order.{AreSharesInOrder};
 ghost use Rattle.lp_model.specs.Members.{IsInOrder};
 ghost use Rattle.report_reader.specs.Phrases.{IsPhraseFor};
-ghost use Rattle.report_reader.specs.Drafts.{members_of, point_of, witnessed_with, extended, IsFound, IsPartFor};
+ghost use Rattle.report_reader.specs.Drafts.{members_of, point_of, proof_begun, proof_with, witnessed_with, extended, IsFound, IsPartFor};
 ghost use Rattle.lp_model.specs.Program.{Program};
 ghost use Rattle.report_text.specs.declared.report.Method.{Method};
-ghost use Rattle.report_text.specs.declared.report.Command.TheVariants.{Check, Iis, Pivots};
+ghost use Rattle.report_text.specs.declared.report.Command.TheVariants.{Check, Iis, Pivots, Nodes};
 
-use crate::building::{add_member, add_share, add_value, make_answer, make_point};
+use crate::building::{
+    add_leaf, add_member, add_share, add_split, add_value, make_answer, make_point,
+};
 use crate::drafts::{Found, Members, Next, Part};
 use crate::ordering::member_follows;
 use crate::stopping::{begin_stop, follow_stop};
-use certs::{Shares, Values};
+use certs::{Nodes, Shares, Values};
 use lp_model::{Member, Model};
 use report_text::{Answer, Command, Phrase, Witnesses};
 use std::alloc::{AllocError, Global};
@@ -50,7 +52,8 @@ fn follow_search(alloc: Global, phrase: Phrase) -> Option<Next>
 
 // What may follow `command budget`.
 fn follow_budget(phrase: Phrase) -> Option<Next>
-    ensures { (model : Program) (pivots : ℕ) → result ≡ extended model (Pivots pivots) Part.Nothing phrase }
+    ensures pivots { (model : Program) (most : ℕ) → result ≡ extended model (Pivots most) Part.Nothing phrase }
+    ensures nodes { (model : Program) (most : ℕ) → result ≡ extended model (Nodes most) Part.Nothing phrase }
 {
     match phrase {
         Phrase::Done => Some(Next::Whole(Answer::Done)),
@@ -66,6 +69,7 @@ fn follow_command(alloc: Global, command: &Command, phrase: Phrase) -> Option<Ne
         Command::Check => follow_check(alloc, phrase),
         Command::Iis(_) => follow_search(alloc, phrase),
         Command::Pivots(_) => follow_budget(phrase),
+        Command::Nodes(_) => follow_budget(phrase),
     }
 }
 
@@ -97,8 +101,19 @@ fn follow_point(model: &Model, values: Values, phrase: Phrase) -> Result<Option<
     }
 }
 
+// A proof without nodes.
+fn begin_proof(alloc: Global, found: Found) -> Next
+    ensures { result ≡ proof_begun found }
+{
+    Next::More(Part::Proof(found, Nodes::new(Vec::new(alloc)), 1))
+}
+
 // What may follow members.
-fn follow_members(members: Members, phrase: Phrase) -> Result<Option<Next>, AllocError>
+fn follow_members(
+    alloc: Global,
+    members: Members,
+    phrase: Phrase,
+) -> Result<Option<Next>, AllocError>
     requires { IsInOrder members }
     ensures { (model : Program) (command : Command) → IfOk result (λ n. n ≡ extended model command (Part.Listed (Found.Members members)) phrase) }
 {
@@ -107,13 +122,18 @@ fn follow_members(members: Members, phrase: Phrase) -> Result<Option<Next>, Allo
             let members = add_member(members, member)?;
             Ok(members.map(|members| Next::More(Part::Listed(Found::Members(members)))))
         }
-        Phrase::Proof => Ok(Some(Next::More(Part::Proof(Found::Members(members))))),
+        Phrase::Proof => Ok(Some(begin_proof(alloc, Found::Members(members)))),
         _ => Ok(None),
     }
 }
 
 // What may follow members with witnesses.
-fn follow_witnessed(members: Members, witnesses: Witnesses, phrase: Phrase) -> Option<Next>
+fn follow_witnessed(
+    alloc: Global,
+    members: Members,
+    witnesses: Witnesses,
+    phrase: Phrase,
+) -> Option<Next>
     requires { IsInOrder members }
     ensures { result ≡ witnessed_with members witnesses phrase }
 {
@@ -124,19 +144,21 @@ fn follow_witnessed(members: Members, witnesses: Witnesses, phrase: Phrase) -> O
             }
             Some(Next::More(Part::Member(members, witnesses, member)))
         }
-        Phrase::Proof => Some(Next::More(Part::Proof(Found::Witnessed(members, witnesses)))),
+        Phrase::Proof => Some(begin_proof(alloc, Found::Witnessed(members, witnesses))),
         _ => None,
     }
 }
 
 // What may follow a list.
-fn follow_list(found: Found, phrase: Phrase) -> Result<Option<Next>, AllocError>
+fn follow_list(alloc: Global, found: Found, phrase: Phrase) -> Result<Option<Next>, AllocError>
     requires { IsInOrder (members_of found) }
     ensures { (model : Program) (command : Command) → IfOk result (λ n. n ≡ extended model command (Part.Listed found) phrase) }
 {
     match found {
-        Found::Members(members) => follow_members(members, phrase),
-        Found::Witnessed(members, witnesses) => { Ok(follow_witnessed(members, witnesses, phrase)) }
+        Found::Members(members) => follow_members(alloc, members, phrase),
+        Found::Witnessed(members, witnesses) => {
+            Ok(follow_witnessed(alloc, members, witnesses, phrase))
+        }
     }
 }
 
@@ -180,6 +202,7 @@ fn close_witness(
 
 // What may follow a part of a witness.
 fn follow_witness(
+    alloc: Global,
     model: &Model,
     members: Members,
     witnesses: Witnesses,
@@ -198,19 +221,77 @@ fn follow_witness(
         ))));
     }
     let (members, witnesses) = close_witness(model, members, witnesses, member, values)?;
-    Ok(follow_witnessed(members, witnesses, phrase))
+    Ok(follow_witnessed(alloc, members, witnesses, phrase))
 }
 
-// What may follow `proof`.
-fn follow_proof(alloc: Global, found: Found, phrase: Phrase) -> Option<Next>
-    ensures { (model : Program) (command : Command) → result ≡ extended model command (Part.Proof found) phrase }
+// A split in the place of a subtree that is due.
+fn open_split(
+    found: Found,
+    nodes: Nodes,
+    due: u64,
+    column: u32,
+    at: i128,
+) -> Result<Option<Next>, AllocError>
+    requires { due ≤ length nodes + 1 }
+    ensures { (model : Program) → IfOk result (λ n. n ≡ proof_with model found nodes due (Phrase.Split column at)) }
+{
+    if due == 0 {
+        return Ok(None);
+    }
+    let nodes = add_split(nodes, column, at)?;
+    Ok(Some(Next::More(Part::Proof(found, nodes, due + 1))))
+}
+
+// A leaf in the place of a subtree that is due.
+fn open_leaf(alloc: Global, found: Found, nodes: Nodes, due: u64) -> Option<Next>
+    ensures { (model : Program) → result ≡ proof_with model found nodes due Phrase.Leaf }
+{
+    if due == 0 {
+        return None;
+    }
+    let shares = Shares::new(Vec::new(alloc));
+    Some(Next::More(Part::Leaf(found, nodes, due - 1, shares)))
+}
+
+// The answer of a proof in which no subtree is due.
+fn close_proof(
+    alloc: Global,
+    model: &Model,
+    command: &Command,
+    found: Found,
+    nodes: Nodes,
+    due: u64,
+) -> Result<Option<Next>, AllocError>
+    requires { IsFound model.now command.now found }
+    ensures { IfOk result (λ n. n ≡ proof_with model.now found nodes due Phrase.End) }
+{
+    if due != 0 {
+        return Ok(None);
+    }
+    let answer = make_answer(alloc, model, command, found, nodes)?;
+    Ok(Some(Next::Whole(answer)))
+}
+
+// What may follow the nodes of a proof.
+fn follow_nodes(
+    alloc: Global,
+    model: &Model,
+    command: &Command,
+    found: Found,
+    nodes: Nodes,
+    due: u64,
+    phrase: Phrase,
+) -> Result<Option<Next>, AllocError>
+    requires found { IsFound model.now command.now found }
+    requires few { due ≤ length nodes + 1 }
+    requires phrase { IsPhraseFor model.now phrase }
+    ensures { IfOk result (λ n. n ≡ proof_with model.now found nodes due phrase) }
 {
     match phrase {
-        Phrase::Leaf => {
-            let shares = Shares::new(Vec::new(alloc));
-            Some(Next::More(Part::Leaf(found, shares)))
-        }
-        _ => None,
+        Phrase::Split(column, at) => open_split(found, nodes, due, column, at),
+        Phrase::Leaf => Ok(open_leaf(alloc, found, nodes, due)),
+        Phrase::End => close_proof(alloc, model, command, found, nodes, due),
+        _ => Ok(None),
     }
 }
 
@@ -220,24 +301,23 @@ fn follow_leaf(
     model: &Model,
     command: &Command,
     found: Found,
+    nodes: Nodes,
+    due: u64,
     shares: Shares,
     phrase: Phrase,
 ) -> Result<Option<Next>, AllocError>
     requires found { IsFound model.now command.now found }
+    requires few { due ≤ length nodes }
     requires in_order { AreSharesInOrder shares }
-    ensures { IfOk result (λ n. n ≡ extended model.now command.now (Part.Leaf found shares) phrase) }
+    requires phrase { IsPhraseFor model.now phrase }
+    ensures { IfOk result (λ n. n ≡ extended model.now command.now (Part.Leaf found nodes due shares) phrase) }
 {
-    match phrase {
-        Phrase::Use(share) => {
-            let shares = add_share(shares, share)?;
-            Ok(shares.map(|shares| Next::More(Part::Leaf(found, shares))))
-        }
-        Phrase::End => {
-            let answer = make_answer(alloc, model, command, found, shares)?;
-            Ok(Some(Next::Whole(answer)))
-        }
-        _ => Ok(None),
+    if let Phrase::Use(share) = phrase {
+        let shares = add_share(shares, share)?;
+        return Ok(shares.map(|shares| Next::More(Part::Leaf(found, nodes, due, shares))));
     }
+    let nodes = add_leaf(nodes, shares)?;
+    follow_nodes(alloc, model, command, found, nodes, due, phrase)
 }
 
 /// What a phrase makes of a part of an answer to the command, if it may follow.
@@ -256,15 +336,19 @@ pub(crate) fn follow(
         Part::Nothing => Ok(follow_command(alloc, command, phrase)),
         Part::Feasible => Ok(follow_feasible(alloc, phrase)),
         Part::Point(values) => follow_point(model, values, phrase),
-        Part::Listed(found) => follow_list(found, phrase),
+        Part::Listed(found) => follow_list(alloc, found, phrase),
         Part::Member(members, witnesses, member) => {
             Ok(follow_member(alloc, members, witnesses, member, phrase))
         }
         Part::Witness(members, witnesses, member, values) => {
-            follow_witness(model, members, witnesses, member, values, phrase)
+            follow_witness(alloc, model, members, witnesses, member, values, phrase)
         }
-        Part::Proof(found) => Ok(follow_proof(alloc, found, phrase)),
-        Part::Leaf(found, shares) => follow_leaf(alloc, model, command, found, shares, phrase),
+        Part::Proof(found, nodes, due) => {
+            follow_nodes(alloc, model, command, found, nodes, due, phrase)
+        }
+        Part::Leaf(found, nodes, due, shares) => {
+            follow_leaf(alloc, model, command, found, nodes, due, shares, phrase)
+        }
         Part::Stop(part) => follow_stop(alloc, model, part, phrase),
     }
 }

@@ -39,6 +39,8 @@ pub(crate) fn leading_keyword(word: &[u8]) -> Option<Keyword>
         _ if word == b"note".as_slice() => Some(Keyword::Note),
         _ if word == b"split".as_slice() => Some(Keyword::Split),
         _ if word == b"nodes".as_slice() => Some(Keyword::Nodes),
+        _ if word == b"below".as_slice() => Some(Keyword::BranchBelow),
+        _ if word == b"above".as_slice() => Some(Keyword::BranchAbove),
         _ if word == b"iisan".as_slice() => Some(Keyword::Iisan),
         _ if word == b"report".as_slice() => Some(Keyword::Report),
         _ => None,

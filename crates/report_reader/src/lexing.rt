@@ -1,17 +1,19 @@
 //! What a line says.
-ghost use Rattle.std.specs.Prelude.{◌≡◌, List, [], ◌∷◌, ℕ};
+ghost use Rattle.std.specs.Prelude.{◌≡◌, List, [], ◌∷◌, ℕ, pos, ◌<ℤ◌};
 ghost use Rattle.report_reader.specs.Parts.{parts, AreWords};
 ghost use Rattle.rational.specs.Rational.{zero_ℚ, ◌<ℚ◌};
+ghost use Rattle.frac128.specs.Limit.{limit};
 ghost use Rattle.lp_model.specs.Program.{Program};
 ghost use Rattle.report_reader.specs.Phrases.{Says};
-ghost use Rattle.report_reader.specs.Words.{Finds, IsSpelled, IsFractionSaid, IsPlain};
+ghost use Rattle.report_reader.specs.Words.{Finds, IsSpelled, IsFractionSaid, IsWholeSaid, IsPlain};
 
 use crate::commands::command_in;
 use crate::keywords::{leading_keyword, lone_phrase};
-use crate::naming::{column_of, count_of, fraction_of, member_of, source_of};
+use crate::naming::{column_of, count_of, fraction_of, member_of, source_of, whole_of};
 use crate::parts::{Words, cut, split_words};
 use crate::stop_words::{
-    read_operation, read_pivots, read_site, read_step, read_too, read_without,
+    read_branch, read_nodes, read_operation, read_pivots, read_site, read_step, read_too,
+    read_without,
 };
 use certs::Share;
 use frac128::Frac;
@@ -47,6 +49,7 @@ fn read_one(keyword: Keyword, word: &[u8]) -> Option<Phrase>
         Keyword::Command => read_command(Words::One(word)),
         Keyword::Too => read_too(word),
         Keyword::Pivots => read_pivots(word),
+        Keyword::Nodes => read_nodes(word),
         Keyword::Site => read_site(word),
         Keyword::Step => read_step(word),
         _ => None,
@@ -82,6 +85,26 @@ fn read_member(model: &Model, kind: &[u8], name: &[u8]) -> Option<Phrase>
     Some(Phrase::Member(member_of(model, kind, name)?))
 }
 
+// The number of a split: the upper child's, which is one more, fits too.
+fn split_of(text: &[u8]) -> Option<i128>
+    ensures { Finds (λ k. IsWholeSaid text.now k × (k <ℤ pos limit)) result }
+{
+    let at = whole_of(text)?;
+    if at == i128::MAX {
+        return None;
+    }
+    Some(at)
+}
+
+// A split of a column.
+fn read_split(model: &Model, name: &[u8], number: &[u8]) -> Option<Phrase>
+    ensures { Finds (IsSpelled model.now Keyword.Split (name.now ∷ number.now ∷ [])) result }
+{
+    let column = column_of(model, name)?;
+    let at = split_of(number)?;
+    Some(Phrase::Split(column, at))
+}
+
 // What two words say behind a keyword.
 fn read_two(model: &Model, keyword: Keyword, first: &[u8], second: &[u8]) -> Option<Phrase>
     ensures { Finds (IsSpelled model.now keyword (first.now ∷ second.now ∷ [])) result }
@@ -92,6 +115,9 @@ fn read_two(model: &Model, keyword: Keyword, first: &[u8], second: &[u8]) -> Opt
         Keyword::Value => read_value(model, first, second),
         Keyword::Member => read_member(model, first, second),
         Keyword::Without => read_without(model, first, second),
+        Keyword::Split => read_split(model, first, second),
+        Keyword::BranchBelow => read_branch(model, true, first, second),
+        Keyword::BranchAbove => read_branch(model, false, first, second),
         _ => None,
     }
 }

@@ -1,9 +1,9 @@
-//! Names, fractions and counts of single words.
+//! Names, fractions, whole numbers and counts of single words.
 ghost use Rattle.std.specs.Prelude.{◌≡◌, ◌<◌, ◌^◌, ℕ, Some, decimal};
 ghost use Rattle.std.specs.List.{list_all};
 ghost use Rattle.report_text.specs.Names.{is_shown};
 ghost use Rattle.report_text.specs.Form.{is_word};
-ghost use Rattle.report_reader.specs.Words.{Finds, IsColumnSaid, IsCountSaid, IsMemberSaid, IsFractionSaid, IsRowSaid, IsSourceSaid};
+ghost use Rattle.report_reader.specs.Words.{Finds, IsColumnSaid, IsCountSaid, IsMemberSaid, IsFractionSaid, IsRowSaid, IsSourceSaid, IsWholeSaid};
 
 use certs::Source;
 use frac128::{Exact, Frac, read_fraction};
@@ -97,6 +97,17 @@ pub(crate) fn fraction_of(text: &[u8]) -> Option<Frac>
     // That the fraction fits is told with its widening.
     let value = value.widen();
     Some(value)
+}
+
+/// The whole number that is printed so.
+pub(crate) fn whole_of(text: &[u8]) -> Option<i128>
+    ensures { Finds (IsWholeSaid text.now) result }
+{
+    let value = fraction_of(text)?;
+    if !value.is_whole() {
+        return None;
+    }
+    Some(value.num())
 }
 
 // The count that the text may be the printed form of: the only one, where it is that of any.

@@ -1,11 +1,11 @@
 //! What the words of a stop say.
 ghost use Rattle.std.specs.Prelude.{◌≡◌, [], ◌∷◌};
 ghost use Rattle.lp_model.specs.Program.{Program};
-ghost use Rattle.report_text.specs.Grammar.{op_word, site_word};
+ghost use Rattle.report_text.specs.Grammar.{branch_keyword, op_word, site_word};
 ghost use Rattle.report_reader.specs.Words.{Finds, IsSpelled};
 
-use crate::naming::{count_of, fraction_of, member_of};
-use certs::SiteKind;
+use crate::naming::{column_of, count_of, fraction_of, member_of, whole_of};
+use certs::{Branch, SiteKind};
 use frac128::{Op, Wide};
 use lp_model::Model;
 use report_text::{Keyword, Phrase, StopPhrase};
@@ -51,6 +51,13 @@ pub(crate) fn read_pivots(word: &[u8]) -> Option<Phrase>
     (word == b"spent".as_slice()).then_some(Phrase::Stop(StopPhrase::Spent))
 }
 
+/// `nodes spent`.
+pub(crate) fn read_nodes(word: &[u8]) -> Option<Phrase>
+    ensures { (model : Program) → Finds (IsSpelled model Keyword.Nodes (word.now ∷ [])) result }
+{
+    (word == b"spent".as_slice()).then_some(Phrase::Stop(StopPhrase::Nodes))
+}
+
 /// The site of a stop.
 pub(crate) fn read_site(word: &[u8]) -> Option<Phrase>
     ensures { (model : Program) → Finds (IsSpelled model Keyword.Site (word.now ∷ [])) result }
@@ -63,6 +70,15 @@ pub(crate) fn read_without(model: &Model, kind: &[u8], name: &[u8]) -> Option<Ph
     ensures { Finds (IsSpelled model.now Keyword.Without (kind.now ∷ name.now ∷ [])) result }
 {
     Some(Phrase::Stop(StopPhrase::Without(member_of(model, kind, name)?)))
+}
+
+/// A branch on the path of the site, which says at most where it is an upper one.
+pub(crate) fn read_branch(model: &Model, upper: bool, name: &[u8], number: &[u8]) -> Option<Phrase>
+    ensures { Finds (IsSpelled model.now (branch_keyword upper) (name.now ∷ number.now ∷ [])) result }
+{
+    let column = column_of(model, name)?;
+    let at = whole_of(number)?;
+    Some(Phrase::Stop(StopPhrase::Branch(Branch { column, upper, at })))
 }
 
 /// The number of a turn.

@@ -1,7 +1,7 @@
 //! The program that reports are read for.
 //!
-//! It has the columns x, y and z from 0 to 3, and the rows c1, x at most 1; c2, x at least 2; and c3, x at most 5, whose
-//! side is dropped.
+//! It has the columns x, y and z from 0 to 3, of which z is to be whole, and the rows c1, x at most 1; c2, x at least 2;
+//! and c3, x at most 5, whose side is dropped.
 ghost use Rattle.std.specs.Prelude.{◌≡◌, ◌<◌, ℕ, List, IfOk};
 ghost use Rattle.lp_model.specs.Program.{IsForm, IsWellFormedColumn, IsWellFormedRow};
 ghost use Rattle.lp_model.specs.Shown.{named_column, named_row};
@@ -10,16 +10,21 @@ use frac128::Frac;
 use lp_model::{Column, Model, ModelStop, Note, Row, Term, Terms, Weight};
 use std::alloc::{AllocError, Global};
 
-// A column from 0 to 3.
-fn box_column() -> Column
+// A column from 0 to 3, which may be to be whole.
+fn box_column(is_whole: bool) -> Column
     ensures { (name : List ℕ) → IsWellFormedColumn (named_column name result) }
 {
-    Column::new(Some(Frac::whole(0)), Some(Frac::whole(3)), false)
+    Column::new(Some(Frac::whole(0)), Some(Frac::whole(3)), is_whole)
 }
 
 // Puts a column last.
-fn add_box(model: &mut Model, alloc: Global, name: &[u8]) -> Result<u32, ModelStop> {
-    model.add_column(alloc, name, box_column())
+fn add_box(
+    model: &mut Model,
+    alloc: Global,
+    name: &[u8],
+    is_whole: bool,
+) -> Result<u32, ModelStop> {
+    model.add_column(alloc, name, box_column(is_whole))
 }
 
 // The first column, once.
@@ -82,9 +87,9 @@ fn add_row(model: &mut Model, alloc: Global, name: &[u8], limit: Limit) -> Resul
 // The program without notes.
 fn plain_model(alloc: Global) -> Result<Model, ModelStop> {
     let mut model = Model::new(alloc, false);
-    add_box(&mut model, alloc, b"x")?;
-    add_box(&mut model, alloc, b"y")?;
-    add_box(&mut model, alloc, b"z")?;
+    add_box(&mut model, alloc, b"x", false)?;
+    add_box(&mut model, alloc, b"y", false)?;
+    add_box(&mut model, alloc, b"z", true)?;
     add_row(&mut model, alloc, b"c1", Limit::AtMost(Frac::whole(1)))?;
     add_row(&mut model, alloc, b"c2", Limit::AtLeast(Frac::whole(2)))?;
     add_row(&mut model, alloc, b"c3", Limit::Dropped(Frac::whole(5)))?;

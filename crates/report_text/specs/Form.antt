@@ -14,18 +14,20 @@ use Rattle.certs.specs.declared.evidence.Source.{Source}
 use Rattle.certs.specs.declared.evidence.Source.TheVariants.{Member as Of, Below, Above}
 use Rattle.certs.specs.declared.evidence.Share.{Share}
 use Rattle.certs.specs.declared.evidence.Point.{Point}
-use Rattle.certs.specs.declared.evidence.Combo.{Combo}
-use Rattle.certs.specs.declared.evidence.Node.TheVariants.{Leaf}
+use Rattle.certs.specs.declared.evidence.Node.{Node}
+use Rattle.certs.specs.declared.evidence.Node.TheVariants.{Split, Leaf}
 use Rattle.certs.specs.declared.evidence.Proof.{Proof}
 use Rattle.certs.specs.Checks.{IsSetOf}
+use Rattle.certs.specs.Combination.{IsFitting}
+use Rattle.certs.specs.Proof.{Tree, preorder, IsFittingNode}
 use Rattle.certs.specs.Order.{AreSharesInOrder}
 use Rattle.certs.specs.declared.solving.SiteKind.TheVariants.{Settle}
 use Rattle.certs.specs.declared.solving.Site.{Site}
 use Rattle.certs.specs.declared.solving.Stop.{Stop}
-use Rattle.certs.specs.declared.solving.Stop.TheVariants.{Wide as TooWide, Pivots as Spent, Nodes, Large, Memory}
+use Rattle.certs.specs.declared.solving.Stop.TheVariants.{Wide as TooWide, Pivots as Spent, Nodes as NodesSpent, Large, Memory}
 use Rattle.frac128.specs.declared.Wide.{Wide as Operation}
 use Rattle.report_text.specs.declared.report.Command.{Command}
-use Rattle.report_text.specs.declared.report.Command.TheVariants.{Check, Iis, Pivots}
+use Rattle.report_text.specs.declared.report.Command.TheVariants.{Check, Iis, Pivots, Nodes}
 use Rattle.report_text.specs.declared.report.Core.{Core}
 use Rattle.report_text.specs.declared.report.Answer.{Answer}
 use Rattle.report_text.specs.declared.report.Answer.TheVariants.{Feasible, Infeasible, Irreducible, Done, Stopped}
@@ -89,25 +91,36 @@ pub record AreUses (model : Program) (shares : List Share) : Type 0 where
   pub each : All (IsUse model) shares
   pub in_order : AreSharesInOrder shares
 
--- a proof of one leaf
-pub record IsOneLeaf (model : Program) (proof : Proof) : Type 0 where
-  pub combo : Combo
-  pub one : proof.nodes ≡ Leaf combo ∷ []
-  pub uses : AreUses model combo.shares
+-- a split of a named column, at a number that fits; or the shares of a leaf
+abbrev pub IsNodeFor : Program → Node → Type 0
+IsNodeFor model (Split j k) = IsNamedColumn model j × IsFittingNode (Split j k)
+IsNodeFor model (Leaf combo) = AreUses model combo.shares
+
+-- the nodes are those of one tree
+pub record IsOneTree (nodes : List Node) : Type 0 where
+  pub tree : Tree
+  pub listed : preorder tree ≡ nodes
+
+-- a proof of one tree
+pub record IsProofFor (model : Program) (proof : Proof) : Type 0 where
+  pub one : IsOneTree proof.nodes
+  pub each : All (IsNodeFor model) proof.nodes
 
 -- ---- stops
--- the settle run of active members in member order, with no enforced part and no branches
+-- the settle run of active members in member order on a path of columns that there are, with no enforced part
 pub record IsSettleSite (model : Program) (site : Site) : Type 0 where
   pub kind : site.kind ≡ Settle
   pub of_model : IsSetOf model site.set
   pub active : site.set.members ≡ filter (has site.set.members) (active_members model)
   pub enforced_is : site.enforced ≡ empty_set model
-  pub path_is : site.path ≡ []
+  pub known : All (λ b. b.column < length model.columns) site.path
+  pub fits : All IsFitting site.path
 
--- such a site, where each active member that is not in its set has a word for a name
+-- such a site, where each active member that is not in its set has a word for a name, and so has each column of its path
 pub record IsSiteFor (model : Program) (site : Site) : Type 0 where
   pub settle : IsSettleSite model site
   pub named : All (IsNamedMember model) (left_out model site.set.members)
+  pub path : All (λ b. IsNamedColumn model b.column) site.path
 
 -- an operation on numbers within the limit
 pub record IsOperation (o : Operation) : Type 0 where
@@ -118,11 +131,11 @@ pub record IsOperation (o : Operation) : Type 0 where
 abbrev pub IsCount : ℕ → Type 0
 IsCount n = n < 2 ^ 64
 
--- Two kinds of stop are printed as yet: an operation too wide, and no pivot left.
+-- Three kinds of stop are printed as yet: an operation too wide, no pivot left, and no node left.
 abbrev pub IsStopFor : Program → Stop → Type 0
 IsStopFor model (TooWide site k o) = IsSiteFor model site × (IsCount k × IsOperation o)
 IsStopFor model (Spent site) = IsSiteFor model site
-IsStopFor model (Nodes site) = ⊥
+IsStopFor model (NodesSpent site) = IsSiteFor model site
 IsStopFor model (Large size) = ⊥
 IsStopFor model Memory = ⊥
 
@@ -132,27 +145,28 @@ pub record IsCoreFor (model : Program) (core : Core) : Type 0 where
   pub members : IsListed model core.members
   pub each : length core.witnesses ≡ length core.members.members
   pub points : All (IsPointFor model) core.witnesses
-  pub proof : IsOneLeaf model core.proof
+  pub proof : IsProofFor model core.proof
   pub rounds : core.rounds ≡ None
   pub price : core.price ≡ None
 
 -- what is asked of each answer
 abbrev pub IsAnswerFor : Program → Answer → Type 0
 IsAnswerFor model (Feasible p) = IsPointFor model p
-IsAnswerFor model (Infeasible set proof) = IsListed model set × IsOneLeaf model proof
+IsAnswerFor model (Infeasible set proof) = IsListed model set × IsProofFor model proof
 IsAnswerFor model (Irreducible core) = IsCoreFor model core
 IsAnswerFor model Done = Unit {0}
 IsAnswerFor model (Stopped stop) = IsStopFor model stop
 
--- the most pivots that a budget may be
-abbrev pub most_pivots : ℕ
-most_pivots = 1000000
+-- the most that a budget may be
+abbrev pub most_budget : ℕ
+most_budget = 1000000
 
 -- a budget is within its bound
 abbrev pub IsCommand : Command → Type 0
 IsCommand Check = Unit {0}
 IsCommand (Iis method) = Unit {0}
-IsCommand (Pivots n) = n ≤ most_pivots
+IsCommand (Pivots n) = n ≤ most_budget
+IsCommand (Nodes n) = n ≤ most_budget
 
 -- whether the answer is of a kind that the command may have
 abbrev pub can_answer : Command → Answer → Bool
@@ -163,6 +177,7 @@ can_answer (Iis method) (Feasible p) = true
 can_answer (Iis method) (Irreducible core) = true
 can_answer (Iis method) (Stopped stop) = true
 can_answer (Pivots n) Done = true
+can_answer (Nodes n) Done = true
 can_answer _ _ = false
 
 -- ---- reports

@@ -1,5 +1,5 @@
 -- What a report says, phrase by phrase. A phrase is one line, which stands here without the byte 10 that ends it.
-use Rattle.std.specs.Prelude.{ℕ, suc, ◌++◌, cond, not, List, [], ◌∷◌, map, flat_map, filter, zip, codes, decimal}
+use Rattle.std.specs.Prelude.{ℕ, suc, ◌++◌, Bool, true, false, cond, not, List, [], ◌∷◌, map, flat_map, filter, zip, codes, decimal}
 use Rattle.std.specs.Fmt.{signed_decimal}
 use Rattle.frac128.specs.declared.Op.{Op}
 use Rattle.frac128.specs.declared.Op.TheVariants.{Plus, Minus, Times, Over}
@@ -8,7 +8,7 @@ use Rattle.certs.specs.declared.solving.SiteKind.{SiteKind}
 use Rattle.certs.specs.declared.solving.SiteKind.TheVariants.{Settle, Improve, Stretch, Relax, Alternative}
 use Rattle.certs.specs.declared.solving.Site.{Site}
 use Rattle.certs.specs.declared.solving.Stop.{Stop}
-use Rattle.certs.specs.declared.solving.Stop.TheVariants.{Wide as TooWide, Pivots as Spent, Nodes, Large, Memory}
+use Rattle.certs.specs.declared.solving.Stop.TheVariants.{Wide as TooWide, Pivots as Spent, Nodes as NodesSpent, Large, Memory}
 use Rattle.rational.specs.Rational.{ℚ, zero_ℚ, eq_ℚ}
 use Rattle.frac128.specs.Printed.{printed}
 use Rattle.lp_model.specs.declared.parts.Note.{Note}
@@ -17,6 +17,7 @@ use Rattle.lp_model.specs.Program.{Program, row_at, column_at}
 use Rattle.lp_model.specs.declared.members.Member.{Member}
 use Rattle.lp_model.specs.declared.members.Member.TheVariants.{RowLo, RowUp, Lower, Upper, Whole}
 use Rattle.lp_model.specs.Members.{has, active_members}
+use Rattle.certs.specs.declared.evidence.Branch.{Branch}
 use Rattle.certs.specs.declared.evidence.Source.{Source}
 use Rattle.certs.specs.declared.evidence.Source.TheVariants.{Member as Of, Below, Above}
 use Rattle.certs.specs.declared.evidence.Share.{Share}
@@ -27,7 +28,7 @@ use Rattle.certs.specs.declared.evidence.Proof.{Proof}
 use Rattle.report_text.specs.declared.report.Method.{Method}
 use Rattle.report_text.specs.declared.report.Method.TheVariants.{Deletion, Additive, Sensitivity}
 use Rattle.report_text.specs.declared.report.Command.{Command}
-use Rattle.report_text.specs.declared.report.Command.TheVariants.{Check, Iis, Pivots}
+use Rattle.report_text.specs.declared.report.Command.TheVariants.{Check, Iis, Pivots, Nodes}
 use Rattle.report_text.specs.declared.report.Answer.{Answer}
 use Rattle.report_text.specs.declared.report.Answer.TheVariants.{Feasible, Infeasible, Irreducible, Done, Stopped}
 use Rattle.report_text.specs.declared.report.Entry.{Entry}
@@ -106,6 +107,7 @@ abbrev pub command_words : Command → List (List ℕ)
 command_words Check = codes "check" ∷ []
 command_words (Iis method) = codes "iis" ∷ method_word method ∷ []
 command_words (Pivots n) = codes "budget" ∷ codes "pivots" ∷ decimal n ∷ []
+command_words (Nodes n) = codes "budget" ∷ codes "nodes" ∷ decimal n ∷ []
 
 -- how a keyword is spelled
 abbrev pub keyword_text : Keyword → List ℕ
@@ -128,10 +130,17 @@ keyword_text Keyword.Pivots = codes "pivots"
 keyword_text Keyword.Nodes = codes "nodes"
 keyword_text Keyword.Site = codes "site"
 keyword_text Keyword.Without = codes "without"
+keyword_text Keyword.BranchBelow = codes "below"
+keyword_text Keyword.BranchAbove = codes "above"
 keyword_text Keyword.Step = codes "step"
 keyword_text Keyword.Operation = codes "operation"
 keyword_text Keyword.End = codes "end"
 keyword_text Keyword.Report = codes "report"
+
+-- the keyword of a branch, by whether it says at most
+abbrev pub branch_keyword : Bool → Keyword
+branch_keyword true = Keyword.BranchBelow
+branch_keyword false = Keyword.BranchAbove
 
 -- the keyword of what is said of a stop
 abbrev pub stop_keyword : StopPhrase → Keyword
@@ -141,6 +150,7 @@ stop_keyword StopPhrase.Nodes = Keyword.Nodes
 stop_keyword (StopPhrase.Large size) = Keyword.Too
 stop_keyword (StopPhrase.Site kind) = Keyword.Site
 stop_keyword (StopPhrase.Without m) = Keyword.Without
+stop_keyword (StopPhrase.Branch b) = branch_keyword b.upper
 stop_keyword (StopPhrase.Step k) = Keyword.Step
 stop_keyword (StopPhrase.Operation o) = Keyword.Operation
 
@@ -172,6 +182,7 @@ stop_details model StopPhrase.Nodes = codes "spent" ∷ []
 stop_details model (StopPhrase.Large size) = codes "large" ∷ decimal size ∷ []
 stop_details model (StopPhrase.Site kind) = site_word kind ∷ []
 stop_details model (StopPhrase.Without m) = kind_word m ∷ name_of model m ∷ []
+stop_details model (StopPhrase.Branch b) = column_name model b.column ∷ signed_decimal b.at ∷ []
 stop_details model (StopPhrase.Step k) = decimal k ∷ []
 stop_details model (StopPhrase.Operation o) = op_word o.op ∷ printed o.left ∷ printed o.right ∷ []
 
@@ -245,15 +256,19 @@ left_out model set = filter (λ m. not (has set m)) (active_members model)
 abbrev pub without_phrase : Member → Phrase
 without_phrase m = Phrase.Stop (StopPhrase.Without m)
 
--- a site: its kind, and the active members that are not in its set
+-- a branch of the path of a site
+abbrev pub branch_phrase : Branch → Phrase
+branch_phrase b = Phrase.Stop (StopPhrase.Branch b)
+
+-- a site: its kind, the active members that are not in its set, and the branches on the way to its node
 abbrev pub site_phrases : Program → Site → List Phrase
-site_phrases model site = Phrase.Stop (StopPhrase.Site site.kind) ∷ map without_phrase (left_out model site.set.members)
+site_phrases model site = Phrase.Stop (StopPhrase.Site site.kind) ∷ (map without_phrase (left_out model site.set.members) ++ map branch_phrase site.path)
 
 -- a stop without its end; want of memory is never printed
 abbrev pub stop_phrases : Program → Stop → List Phrase
 stop_phrases model (TooWide site k o) = Phrase.Stop StopPhrase.Wide ∷ (site_phrases model site ++ Phrase.Stop (StopPhrase.Step k) ∷ Phrase.Stop (StopPhrase.Operation o) ∷ [])
 stop_phrases model (Spent site) = Phrase.Stop StopPhrase.Spent ∷ site_phrases model site
-stop_phrases model (Nodes site) = Phrase.Stop StopPhrase.Nodes ∷ site_phrases model site
+stop_phrases model (NodesSpent site) = Phrase.Stop StopPhrase.Nodes ∷ site_phrases model site
 stop_phrases model (Large size) = Phrase.Stop (StopPhrase.Large size) ∷ []
 stop_phrases model Memory = []
 

@@ -1,7 +1,7 @@
 //! What single lines of a report say.
 
 use crate::report::Command;
-use certs::{Share, SiteKind};
+use certs::{Branch, Share, SiteKind};
 use frac128::{Frac, Wide};
 use lp_model::{Member, Note};
 
@@ -27,6 +27,8 @@ pub enum Keyword {
     Nodes,
     Site,
     Without,
+    BranchBelow,
+    BranchAbove,
     Step,
     Operation,
     End,
@@ -42,6 +44,7 @@ pub enum StopPhrase {
     Large(u64),
     Site(SiteKind),
     Without(Member),
+    Branch(Branch),
     Step(u64),
     Operation(Wide),
 }

@@ -15,12 +15,14 @@ pub enum Method {
 }
 
 /// What is asked of a program: whether some point satisfies its active members, or which of them no point satisfies
-/// though each part of them has one. Or how many pivots each later solve may make, up to 1,000,000.
+/// though each part of them has one. Or how many pivots each later run may make, or how many nodes each later tree may
+/// have, up to 1,000,000.
 #[derive(Drop)]
 pub enum Command {
     Check,
     Iis(Method),
     Pivots(u64),
+    Nodes(u64),
 }
 
 /// The commands of a script in order, as a list.
@@ -55,7 +57,6 @@ pub struct Core {
 
 /// What a report answers to a command: a point, members with a proof that no point satisfies them, or an irreducible
 /// set; that a command is done; or why a solve stopped, which is never for want of memory. Members are the printed ones.
-/// In a report that was read, a proof is one leaf.
 #[derive(Drop)]
 pub enum Answer {
     Feasible(Point),

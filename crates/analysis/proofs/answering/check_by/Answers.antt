@@ -1,52 +1,79 @@
-use Rattle.std.proofs.Common.{◌≡◌, sym, subst, true, Ok}
-use Rattle.lp_model.specs.Members.{active_members}
-use Rattle.lp_model.specs.MemberSets.{SetValue}
+use Rattle.std.proofs.Common.{◌≡◌, subst, true, Ok, Err}
 use Rattle.certs.specs.declared.solving.Verdict.{Verdict}
 use Rattle.certs.specs.declared.solving.Verdict.TheVariants.{Feasible, Infeasible}
-use Rattle.certs.specs.Answers.{is_linear}
-use Rattle.certs.proofs.PlainAnswers.{linear_of}
-use Rattle.linear_oracle.specs.Value.{state_of}
+use Rattle.quick_oracle.specs.Alone.{stands_alone}
+use Rattle.quick_oracle.specs.Answers.{IsAsked}
+use Rattle.analysis.specs.Answers.{budgets_of}
 use Rattle.analysis.specs.Right.{IsWhole}
-use Rattle.analysis.proofs.Asked.{QuickAnswers, asked_holds, asked_run, proof_ordered}
+use Rattle.analysis.proofs.Asked.{InnerAnswers, QuickAnswers, all_served, asked_holds, asked_run, proof_fits, proof_ordered}
+use Rattle.analysis.proofs.Searched.{branch_state, fresh_answer, fresh_tree}
 use Rattle.analysis.proofs.Stopping.{checked_stop, run_answer}
 use Rattle.analysis.proofs.answering.check_by.Goals as goal
 
 pub ask-requires-clause-served : goal.ask-requires-clause-served
-ask-requires-clause-served c = subst (λ (s : SetValue). is_linear s.members ≡ true) (sym c.requires.whole) (linear_of (active_members c.args.model.now) c.requires.linear)
+ask-requires-clause-served c = all_served c.args.set.now.members
 
 pub refuted-requires-clause-proof : goal.refuted-requires-clause-proof
 refuted-requires-clause-proof c =
+    let model = c.args.model.now in
+    let budgets = budgets_of c.args.budgets in
     let inner = c.args.oracle.now.inner in
     let set = c.args.set.now in
-    let answered = subst (λ (v : Verdict). QuickAnswers inner.model (state_of inner).budgets set.members (Ok v)) c.in-Ok-Infeasible.field-0-is c.in-Ok-Infeasible.ensures.answered in
-    asked_holds c.args.model.now set inner c.requires.program c.requires.whole (Infeasible c.in-Ok-Infeasible.proof) answered
+    let answered = subst (λ (v : Verdict). QuickAnswers (branch_state inner).model (branch_state inner).budgets set.members (Ok v)) c.in-Ok-Infeasible.field-0-is c.in-Ok-Infeasible.ensures.answered in
+    asked_holds model budgets set (Infeasible c.in-Ok-Infeasible.proof) c.requires.whole (fresh_answer model budgets inner c.requires.fresh set (Ok (Infeasible c.in-Ok-Infeasible.proof)) answered)
 
 pub refuted-requires-clause-ordered : goal.refuted-requires-clause-ordered
 refuted-requires-clause-ordered c =
     let inner = c.args.oracle.now.inner in
     let set = c.args.set.now in
-    let answered = subst (λ (v : Verdict). QuickAnswers inner.model (state_of inner).budgets set.members (Ok v)) c.in-Ok-Infeasible.field-0-is c.in-Ok-Infeasible.ensures.answered in
-    proof_ordered inner.model (state_of inner).budgets set.members c.in-Ok-Infeasible.proof answered
+    let answered = subst (λ (v : Verdict). QuickAnswers (branch_state inner).model (branch_state inner).budgets set.members (Ok v)) c.in-Ok-Infeasible.field-0-is c.in-Ok-Infeasible.ensures.answered in
+    proof_ordered (branch_state inner).model (branch_state inner).budgets set.members c.in-Ok-Infeasible.proof answered
 
-pub returns-in-Ok-Feasible-clause-right : goal.returns-in-Ok-Feasible-clause-right
-returns-in-Ok-Feasible-clause-right c = λ budgets pivots.
+pub refuted-requires-clause-fits : goal.refuted-requires-clause-fits
+refuted-requires-clause-fits c =
     let inner = c.args.oracle.now.inner in
     let set = c.args.set.now in
-    let answered = subst (λ (v : Verdict). QuickAnswers inner.model (state_of inner).budgets set.members (Ok v)) c.in-Ok-Feasible.field-0-is c.in-Ok-Feasible.ensures.answered in
-    asked_holds c.args.model.now set inner c.requires.program c.requires.whole (Feasible c.in-Ok-Feasible.point) answered
+    let answered = subst (λ (v : Verdict). QuickAnswers (branch_state inner).model (branch_state inner).budgets set.members (Ok v)) c.in-Ok-Infeasible.field-0-is c.in-Ok-Infeasible.ensures.answered in
+    proof_fits (branch_state inner).model (branch_state inner).budgets set.members c.in-Ok-Infeasible.proof answered
+
+pub returns-in-Ok-Feasible-clause-right : goal.returns-in-Ok-Feasible-clause-right
+returns-in-Ok-Feasible-clause-right c =
+    let model = c.args.model.now in
+    let budgets = budgets_of c.args.budgets in
+    let inner = c.args.oracle.now.inner in
+    let after = branch_state c.ask.new.self.inner in
+    let set = c.args.set.now in
+    let verdict = Feasible c.in-Ok-Feasible.point in
+    let answered = subst (λ (v : Verdict). QuickAnswers (branch_state inner).model (branch_state inner).budgets set.members (Ok v)) c.in-Ok-Feasible.field-0-is c.in-Ok-Feasible.ensures.answered in
+    let alone = subst (λ (v : Verdict). stands_alone (branch_state inner).model set.members ≡ true → IsAsked InnerAnswers (branch_state inner) after set.members (Ok v)) c.in-Ok-Feasible.field-0-is c.in-Ok-Feasible.ensures.alone in (
+      asked_holds model budgets set verdict c.requires.whole (fresh_answer model budgets inner c.requires.fresh set (Ok verdict) answered),
+      λ marked. (fresh_tree model budgets inner c.requires.fresh set verdict after c.requires.whole marked alone).ends,
+    )
 
 pub returns-in-Ok-Feasible-clause-known : goal.returns-in-Ok-Feasible-clause-known
 returns-in-Ok-Feasible-clause-known c =
+    let model = c.args.model.now in
+    let budgets = budgets_of c.args.budgets in
     let inner = c.args.oracle.now.inner in
     let set = c.args.set.now in
-    let answered = subst (λ (v : Verdict). QuickAnswers inner.model (state_of inner).budgets set.members (Ok v)) c.in-Ok-Feasible.field-0-is c.in-Ok-Feasible.ensures.answered in
-    (asked_holds c.args.model.now set inner c.requires.program c.requires.whole (Feasible c.in-Ok-Feasible.point) answered).each_column
+    let verdict = Feasible c.in-Ok-Feasible.point in
+    let answered = subst (λ (v : Verdict). QuickAnswers (branch_state inner).model (branch_state inner).budgets set.members (Ok v)) c.in-Ok-Feasible.field-0-is c.in-Ok-Feasible.ensures.answered in
+    (asked_holds model budgets set verdict c.requires.whole (fresh_answer model budgets inner c.requires.fresh set (Ok verdict) answered)).each_column
 
 pub returns-in-Ok-Infeasible-clause-right : goal.returns-in-Ok-Infeasible-clause-right
-returns-in-Ok-Infeasible-clause-right c = λ budgets pivots. c.refuted.ensures.right budgets
+returns-in-Ok-Infeasible-clause-right c =
+    let model = c.args.model.now in
+    let budgets = budgets_of c.args.budgets in
+    let inner = c.args.oracle.now.inner in
+    let after = branch_state c.ask.new.self.inner in
+    let set = c.args.set.now in
+    let verdict = Infeasible c.in-Ok-Infeasible.proof in
+    let alone = subst (λ (v : Verdict). stands_alone (branch_state inner).model set.members ≡ true → IsAsked InnerAnswers (branch_state inner) after set.members (Ok v)) c.in-Ok-Infeasible.field-0-is c.in-Ok-Infeasible.ensures.alone in
+    c.refuted.ensures.right budgets (λ marked. (fresh_tree model budgets inner c.requires.fresh set verdict after c.requires.whole marked alone).ends.0)
 
 pub returns-in-Err-clause-right : goal.returns-in-Err-clause-right
-returns-in-Err-clause-right c = λ budgets pivots.
+returns-in-Err-clause-right c =
     let model = c.args.model.now in
-    let run = asked_run model c.args.set.now c.args.oracle.now.inner c.requires.program c.requires.whole budgets c.in-Err.stop pivots c.in-Err.ensures.answered in
+    let budgets = budgets_of c.args.budgets in
+    let run = asked_run model budgets c.args.set.now c.in-Err.stop c.requires.whole (fresh_answer model budgets c.args.oracle.now.inner c.requires.fresh c.args.set.now (Err c.in-Err.stop) c.in-Err.ensures.answered) in
     checked_stop model budgets c.stopped.result (run_answer (IsWhole model) model budgets c.in-Err.stop c.stopped.result run c.stopped.ensures)

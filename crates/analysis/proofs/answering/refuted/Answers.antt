@@ -15,12 +15,12 @@ members_used-requires c =
     (subst (λ (s : SetValue). IsProof c.args.model.now s.members c.args.proof.nodes) (sym c.requires.whole) c.requires.proof)
 
 pub returns-clause-right : goal.returns-clause-right
-returns-clause-right c = λ budgets. refutes c.args.model.now c.args.proof c.in_ok-used.used c.requires.proof c.requires.ordered (subst (λ s. c.in_ok-used.used ≡ used_set s c.args.proof.nodes) c.requires.whole c.in_ok-used.ensures)
+returns-clause-right c = λ budgets closes. (refutes c.args.model.now c.args.proof c.in_ok-used.used c.requires.proof c.requires.ordered c.requires.fits (subst (λ s. c.in_ok-used.used ≡ used_set s c.args.proof.nodes) c.requires.whole c.in_ok-used.ensures), closes)
 
 pub returns-clause-known : goal.returns-clause-known
 returns-clause-known c =
     let model = c.args.model.now in
     let active = active_members model in (
       used_of_model model c.args.set.now c.args.proof.nodes c.in_ok-used.used c.requires.whole c.in_ok-used.ensures,
-      known_proof model active c.args.proof (All-contains_itself active) c.requires.linear c.requires.proof,
+      known_proof model active c.args.proof (All-contains_itself active) c.requires.proof,
     )

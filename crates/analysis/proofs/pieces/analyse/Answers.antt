@@ -10,19 +10,19 @@ use Rattle.analysis.proofs.pieces.analyse.Goals as goal
 pub returns-in-Ok : goal.returns-in-Ok
 returns-in-Ok g c =
     whole_is g.W.Sink.faults g.W.Sink.taken c.args.out.now c.args.model.now c.args.script.now c.put_report.new.out c.in-Ok.stopped c.status.result
-    (all_in_grammar c.args.model.now c.args.script.now c.row_count-rows.ensures.well_formed c.requires.linear c.requires.built) c.status.ensures
+    (all_in_grammar c.args.model.now c.args.script.now c.row_count-rows.ensures.well_formed c.requires.built) c.status.ensures
     (subst (λ (cs : List Command). ReportPut g.W.Sink.faults g.W.Sink.taken c.args.out.now c.put_report.new.out c.args.model.now cs (Ok c.in-Ok.stopped)) (c.as_slice.ensures.value ∙ c.script.view_is) c.in-Ok.ensures)
 
 pub returns-in-Err-Fault : goal.returns-in-Err-Fault
 returns-in-Err-Fault g c =
     fault_is g.W.Sink.faults g.W.Sink.taken c.args.out.now c.args.model.now c.args.script.now c.put_report.new.out
-    (all_in_grammar c.args.model.now c.args.script.now c.row_count-rows.ensures.well_formed c.requires.linear c.requires.built)
+    (all_in_grammar c.args.model.now c.args.script.now c.row_count-rows.ensures.well_formed c.requires.built)
     (subst (λ (cs : List Command). ReportPut g.W.Sink.faults g.W.Sink.taken c.args.out.now c.put_report.new.out c.args.model.now cs (Err Fault)) (c.as_slice.ensures.value ∙ c.script.view_is)
     (subst (λ (w : Want). ReportPut g.W.Sink.faults g.W.Sink.taken c.args.out.now c.put_report.new.out c.args.model.now c.as_slice.result.now (Err w)) c.in-Err-Fault.field-0-is c.in-Err-Fault.ensures))
 
 pub returns-in-Err-Memory : goal.returns-in-Err-Memory
 returns-in-Err-Memory g c =
     want_is g.W.Sink.faults g.W.Sink.taken c.args.out.now c.args.model.now c.args.script.now c.put_report.new.out
-    (all_in_grammar c.args.model.now c.args.script.now c.row_count-rows.ensures.well_formed c.requires.linear c.requires.built)
+    (all_in_grammar c.args.model.now c.args.script.now c.row_count-rows.ensures.well_formed c.requires.built)
     (subst (λ (cs : List Command). ReportPut g.W.Sink.faults g.W.Sink.taken c.args.out.now c.put_report.new.out c.args.model.now cs (Err Memory)) (c.as_slice.ensures.value ∙ c.script.view_is)
     (subst (λ (w : Want). ReportPut g.W.Sink.faults g.W.Sink.taken c.args.out.now c.put_report.new.out c.args.model.now c.as_slice.result.now (Err w)) c.in-Err-Memory.field-0-is c.in-Err-Memory.ensures))

@@ -4,7 +4,8 @@ use Rattle.certs.specs.declared.evidence.Checked.{Checked}
 use Rattle.certs.specs.declared.evidence.Checked.TheVariants.{Yes as Passes, No as Fails, Wide as TooWide}
 use Rattle.certs.specs.declared.evidence.Node.{Node}
 use Rattle.branch_proof.specs.declared.checks.Judged.TheVariants.{Yes, No, Wide}
-use Rattle.branch_proof.specs.Walk.{child_paths, judgement, node_check, unless_failed, walk}
+use Rattle.certs.specs.Trees.{child_paths}
+use Rattle.branch_proof.specs.Walk.{judgement, node_check, unless_failed, walk}
 use Rattle.branch_proof.specs.Pending.{pending}
 use Rattle.branch_proof.proofs.Nodes.{passes_known}
 use Rattle.branch_proof.proofs.Judgements.{at_node, told, ends_whole, ends_early, ends_open}

@@ -5,7 +5,7 @@ use mir.Syntax.{w128}
 use Rattle.certs.specs.declared.evidence.Branch.{Branch}
 use Rattle.certs.specs.declared.evidence.Node.{Node}
 use Rattle.certs.specs.Proof.{at_most}
-use Rattle.branch_proof.specs.Walk.{child_paths}
+use Rattle.certs.specs.Trees.{child_paths}
 use Rattle.branch_proof.specs.Pending.{pending}
 use Rattle.branch_proof.proofs.Turns.{pending-lower}
 use Rattle.branch_proof.proofs.paths.go_on.Goals as goal

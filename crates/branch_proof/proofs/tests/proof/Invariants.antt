@@ -1,5 +1,5 @@
 use Rattle.std.specs.Prelude.{All}
-use Rattle.branch_proof.specs.Walk.{IsFittingNode}
+use Rattle.certs.specs.Proof.{IsFittingNode}
 use Rattle.branch_proof.proofs.tests.proof.Given as goal
 
 abbrev pub invariant-loop : goal.invariant-loop

@@ -1,11 +1,9 @@
-use Rattle.std.proofs.Common.{◌≡◌, ◌+◌, sym, ◌∙◌, ap, List, [], None, zip, flat_map, length, arith}
+use Rattle.std.proofs.Common.{◌≡◌, ◌+◌, sym, ◌∙◌, ap, List, zip, flat_map, length, arith}
 use Rattle.std.proofs.lemmas.Result.{err_from_is_err_and}
-use Rattle.certs.specs.declared.evidence.Share.{Share}
 use Rattle.certs.specs.declared.evidence.Point.{Point}
-use Rattle.certs.specs.Checks.{outcome, combination_steps}
 use Rattle.report_text.specs.Grammar.{witness_phrases}
-use Rattle.cert_check.specs.Trials.{witness_trials, witnesses_of}
-use Rattle.cert_check.specs.Stops.{first_stop, stop_or}
+use Rattle.cert_check.specs.Trials.{proof_trials, witness_trials, witnesses_of}
+use Rattle.cert_check.specs.Stops.{first_stop}
 use Rattle.cert_check.proofs.Firsts.{stop_first, stop_of, says_second, says_of}
 use Rattle.cert_check.proofs.entries.check_core.Goals as goal
 
@@ -28,9 +26,5 @@ returns c =
     let passes = sym (ap (λ (l : List Point). first_stop (witness_trials model set (c.args.line + 2) (zip set l))) c.as_slice-witnesses.ensures) ∙ both.0 in
     let end = both.1 ∙ ap (λ (l : List Point). c.args.line + 2 + length (flat_map witness_phrases (zip set l))) c.as_slice-witnesses.ensures in
     let place : c.in_ok-end.end + 1 ≡ c.args.line + (3 + length (flat_map witness_phrases (witnesses_of core))) = omega (arith, end) in
-    let found = c.check_combo.ensures.said ∙ ap (λ (l : List Share). outcome (combination_steps model set [] l)) c.leaf_of-combo.ensures in
-    says_second (witness_trials model set (c.args.line + 2) (witnesses_of core)) _ c.settle.result passes
-    (says_of _ _ c.settle.result
-    (ap (λ k. stop_or k c.check_combo.result None) place
-    ∙ ap (λ f. stop_or (c.args.line + (3 + length (flat_map witness_phrases (witnesses_of core)))) f None) found)
-    c.settle.ensures)
+    says_second (witness_trials model set (c.args.line + 2) (witnesses_of core)) _ c.check_tree.result passes
+    (says_of _ _ c.check_tree.result (ap (λ k. first_stop (proof_trials model set k core.proof)) place) c.check_tree.ensures)

@@ -1,10 +1,9 @@
 use Rattle.std.proofs.Common.{◌≡◌, ◌+◌, sym, ◌∙◌, ap, subst, true≢false, Option, List, length, suc, arith}
 use Rattle.std.specs.Iterator.{YieldsFirst}
 use Rattle.std.specs.Prelude.{All}
-use Rattle.std.proofs.lemmas.List.Elements.{All-head, All-tail, All-weaker}
+use Rattle.std.proofs.lemmas.List.Elements.{All-head, All-tail}
 use Rattle.lp_model.specs.declared.members.Member.{Member}
 use Rattle.lp_model.specs.Evaluation.{IsInRange}
-use Rattle.lp_model.specs.MemberSets.{IsMemberFor}
 use Rattle.certs.proofs.Possible.{members_for_model}
 use Rattle.cert_check.specs.Trials.{paired_trials, is_active_use}
 use Rattle.cert_check.specs.Stops.{first_stop}

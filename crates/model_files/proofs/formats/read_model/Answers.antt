@@ -1,16 +1,20 @@
-use Rattle.std.proofs.Common.{sym, ◌∙◌}
-use Rattle.model_files.proofs.Marks.{markless}
-use Rattle.model_files.proofs.Meaning.{refused, marked, declared}
+use Rattle.std.proofs.Common.{◌≡◌, List, ℕ, None, Result, Ok, Err}
+use Rattle.std.specs.Prelude.{IfErr, IfOk, MatchResult}
+use Rattle.lp_model.specs.Program.{Program}
+use Rattle.text_fields.specs.declared.faults.ReadFault.{ReadFault}
+use Rattle.text_fields.specs.Faults.{IsFaultOf}
+use Rattle.model_files.specs.Formats.{Declares, Format, IsRefusal, format_of, format_program, model_fault}
+use Rattle.model_files.proofs.Meaning.{refused, declared}
 use Rattle.model_files.proofs.formats.read_model.Goals as goal
 
-pub returns-in-Err-clause-refused : goal.returns-in-Err-clause-refused
-returns-in-Err-clause-refused c = refused c.args.name.now c.args.bytes.now c.format_named.result c.format_named.ensures c.in-Err.fault c.in-Err.ensures
+-- what is read in the format of its name is what the file declares
+of_file : (name bytes : List ℕ) (format : Format) → format ≡ format_of name → (result : Result Program ReadFault)
+    → MatchResult result (λ p. (model_fault format bytes ≡ None) × (p ≡ format_program format bytes)) (IsFaultOf (model_fault format bytes))
+    → IfOk result (Declares name bytes) × IfErr result (IsRefusal name bytes)
+of_file name bytes format named (Ok p) h = (declared name bytes format named p h.0 h.1, tt)
+of_file name bytes format named (Err fault) h = (tt, refused name bytes format named fault h)
 
-pub returns-then-is_marked-clause-refused : goal.returns-then-is_marked-clause-refused
-returns-then-is_marked-clause-refused c = marked c.args.name.now c.args.bytes.now c.format_named.result c.format_named.ensures c.in-Ok.model c.in-Ok.ensures.0 c.in-Ok.ensures.1 (sym c.is_marked.ensures ∙ c.if-is_marked.true)
-
-pub returns-clause-declared : goal.returns-clause-declared
-returns-clause-declared c = declared c.args.name.now c.args.bytes.now c.format_named.result c.format_named.ensures c.in-Ok.model c.in-Ok.ensures.0 c.in-Ok.ensures.1 (sym c.is_marked.ensures ∙ c.if-is_marked.false)
-
-pub returns-clause-markless : goal.returns-clause-markless
-returns-clause-markless c = markless c.in-Ok.model (sym c.is_marked.ensures ∙ c.if-is_marked.false)
+pub returns : goal.returns
+returns c =
+    let both = of_file c.args.name.now c.args.bytes.now c.format_named.result c.format_named.ensures c.read_format.result c.read_format.ensures in
+    record { declared = both.0; refused = both.1 }

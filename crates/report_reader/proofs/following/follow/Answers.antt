@@ -23,4 +23,4 @@ pub returns-in-Witness : goal.returns-in-Witness
 returns-in-Witness c = subst (λ (p : Part). IfOk c.follow_witness.result (λ n. n ≡ extended c.args.model.now c.args.command.now p c.args.phrase)) (sym c.in-Witness.is) (c.follow_witness.ensures c.args.command.now)
 
 pub returns-in-Proof : goal.returns-in-Proof
-returns-in-Proof c = c.follow_proof.ensures c.args.model.now c.args.command.now ∙ ap (λ p. extended c.args.model.now c.args.command.now p c.args.phrase) (sym c.in-Proof.is)
+returns-in-Proof c = subst (λ (p : Part). IfOk c.follow_nodes.result (λ n. n ≡ extended c.args.model.now c.args.command.now p c.args.phrase)) (sym c.in-Proof.is) c.follow_nodes.ensures

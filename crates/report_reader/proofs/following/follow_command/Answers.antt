@@ -11,4 +11,7 @@ pub returns-in-Iis : goal.returns-in-Iis
 returns-in-Iis c = λ model. c.follow_search.ensures model c.in-Iis.field-0 ∙ ap (λ (d : Command). extended model d Part.Nothing c.args.phrase) (sym c.in-Iis.is)
 
 pub returns-in-Pivots : goal.returns-in-Pivots
-returns-in-Pivots c = λ model. c.follow_budget.ensures model c.in-Pivots.field-0 ∙ ap (λ (d : Command). extended model d Part.Nothing c.args.phrase) (sym c.in-Pivots.is)
+returns-in-Pivots c = λ model. c.follow_budget.ensures.pivots model c.in-Pivots.field-0 ∙ ap (λ (d : Command). extended model d Part.Nothing c.args.phrase) (sym c.in-Pivots.is)
+
+pub returns-in-Nodes : goal.returns-in-Nodes
+returns-in-Nodes c = λ model. c.follow_budget-in-Nodes.ensures.nodes model c.in-Nodes.field-0 ∙ ap (λ (d : Command). extended model d Part.Nothing c.args.phrase) (sym c.in-Nodes.is)

@@ -1,8 +1,13 @@
-use Rattle.std.proofs.Common.{sym, ◌∙◌}
+use Rattle.std.proofs.Common.{sym, subst, ◌∙◌}
 use Rattle.report_reader.specs.Parts.{parts}
 use Rattle.report_text.specs.Grammar.{keyword_of}
-use Rattle.report_reader.proofs.Lexed.{keyword_is, found_so}
+use Rattle.report_reader.proofs.Lexed.{lone_so, keyword_is, found_so}
+use Rattle.report_reader.specs.Phrases.{Says}
+use Rattle.report_reader.specs.Words.{Finds}
 use Rattle.report_reader.proofs.lexing.read_phrase.Goals as goal
+
+pub returns-in_default : goal.returns-in_default
+returns-in_default c = subst (Finds (Says c.args.model.now c.args.line.now)) (sym c.lone_phrase.ensures) (lone_so c.args.model.now c.args.line.now c.in_default.ensures.parts)
 
 pub returns-in_default-leading_keyword : goal.returns-in_default-leading_keyword
 returns-in_default-leading_keyword c = record {

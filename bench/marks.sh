@@ -1,0 +1,97 @@
+#!/bin/sh
+# Makes models that only the marks of their columns contradict: boxes and knapsacks whose even weights are to come to an odd
+# total, and shift plans of growing size. For each it prints the nodes of the proof that `check` gives, its processor
+# seconds and megabytes, the bytes of the report, and the seconds of `verify` of it; besides those of `glpsol` and `cbc`,
+# where they are there. It wants GNU time (Debian's package `time`). A word is taken as the program; without one it is the
+# one that ./iisan proves and builds. A benchmark, no test.
+set -eu
+
+top=$(CDPATH='' cd -- "$(dirname -- "$0")/.." && pwd)
+program=${1:-}
+if [ -z "$program" ]; then
+    "$top/iisan" >/dev/null 2>&1 || true
+    program=$top/.build/iisan
+fi
+work=$(mktemp -d)
+trap 'rm -rf "$work"' EXIT
+cd "$work"
+# shellcheck source=bench/timing.sh
+. "$top/bench/timing.sh"
+
+# So many columns from 0 to 1, each twice, come to an odd number.
+box() {
+    awk -v n="$1" 'BEGIN {
+        printf "Minimize\nSubject To\nc:"
+        for (j = 1; j <= n; j++) printf " + 2 x%d", j
+        print " = " (n % 2 ? n : n - 1) "\nBounds"
+        for (j = 1; j <= n; j++) print "x" j " <= 1"
+        print "General"
+        for (j = 1; j <= n; j++) print "x" j
+        print "End"
+    }'
+}
+
+# So many columns from 0 to 3 with even weights come to an odd number.
+knapsack() {
+    awk -v n="$1" 'BEGIN {
+        printf "Minimize\nSubject To\nc:"
+        for (j = 1; j <= n; j++) printf " + %d x%d", 2 * (3 + (j * 5) % 7), j
+        print " = " (8 * n + 1) "\nBounds"
+        for (j = 1; j <= n; j++) print "x" j " <= 3"
+        print "General"
+        for (j = 1; j <= n; j++) print "x" j
+        print "End"
+    }'
+}
+
+# A week in which each shift works on five days in a row, and a crew that only parts of people would make large enough; in so
+# many places with a crew each.
+shifts() {
+    awk -v n="$1" 'BEGIN {
+        split("17 13 15 19 14 16 11", need, " ")
+        print "Minimize\nSubject To"
+        for (p = 1; p <= n; p++) {
+            for (d = 0; d < 7; d++) {
+                printf "p%dd%d:", p, d
+                for (k = 0; k < 5; k++) printf " + s%d_%d", p, (d + 7 - k) % 7
+                print " >= " need[d + 1]
+            }
+            printf "p%dcrew:", p
+            for (d = 0; d < 7; d++) printf " + s%d_%d", p, d
+            print " <= " (p == n ? 22.5 : 23)
+        }
+        print "Bounds"
+        for (p = 1; p <= n; p++) for (d = 0; d < 7; d++) print "s" p "_" d " <= 20"
+        print "General"
+        for (p = 1; p <= n; p++) for (d = 0; d < 7; d++) print "s" p "_" d
+        print "End"
+    }'
+}
+
+printf 'budget pivots 1000000\nbudget nodes 100000\ncheck\n' >script
+echo "model nodes seconds megabytes bytes verify glpsol cbc"
+for model in "box 5" "box 9" "box 11" "box 13" "knapsack 3" "knapsack 5" "knapsack 6" "shifts 1" "shifts 2"; do
+    # The two words are the kind and the size.
+    # shellcheck disable=SC2086
+    $model >model.lp
+    timed 120 "$program" analyse model.lp script
+    cp said report
+    nodes=$(grep -c -E '^(split|leaf)' report || true)
+    seconds=$(cat seconds)
+    megabytes=$(cat megabytes)
+    bytes=$(wc -c <report)
+    timed 120 "$program" verify model.lp report
+    verify=$(cat seconds)
+    grep -q '^accepted settled' said || verify="$(head -n 1 said)"
+    others=""
+    for other in "glpsol --lp model.lp" "cbc model.lp solve quit"; do
+        if command -v "${other%% *}" >/dev/null 2>&1; then
+            # shellcheck disable=SC2086
+            timed 120 $other
+            others="$others $(tr ' ' '_' <seconds)"
+        else
+            others="$others -"
+        fi
+    done
+    echo "$model $nodes $seconds $megabytes $bytes $verify$others"
+done

@@ -1,0 +1,32 @@
+-- Over runs of plain systems an oracle by trees answers what the reference does.
+use Rattle.std.proofs.Common.{◌≡◌, true, false, not, sym, subst, List, Err, inl, inr}
+use Rattle.std.specs.Prelude.{Result, ◌⊎◌}
+use Rattle.std.proofs.lemmas.Bool.{not-true}
+use Rattle.std.proofs.lemmas.List.Elements.{All-weaker, filter_passes}
+use Rattle.lp_model.specs.declared.members.Member.{Member}
+use Rattle.lp_model.specs.Members.{is_mark}
+use Rattle.lp_model.specs.Program.{Program}
+use Rattle.certs.specs.declared.solving.Stop.{Stop}
+use Rattle.certs.specs.declared.solving.Stop.TheVariants.{Memory}
+use Rattle.certs.specs.declared.solving.Verdict.{Verdict}
+use Rattle.certs.specs.Answers.{IsPlainAnswer, IsPlainVerdict, is_linear}
+use Rattle.certs.specs.Bound.{without_marks}
+use Rattle.certs.specs.Sites.{Budgets}
+use Rattle.certs.proofs.PlainAnswers.{linear_of}
+use Rattle.branch_oracle.specs.Answers.{ReferenceLaw}
+
+-- an answer that is passed on, or want of memory for it
+passed_on : (model : Program) (budgets : Budgets) (set : List Member) (result answer : Result Verdict Stop) → IsPlainAnswer model budgets.pivots set answer → (result ≡ answer) ⊎ (result ≡ Err Memory)
+    → IsPlainAnswer model budgets.pivots set result
+passed_on model budgets set result answer h (inl e) = subst (IsPlainAnswer model budgets.pivots set) (sym e) h
+passed_on model budgets set result answer h (inr e) = record { asked = h.asked; ends = subst (IsPlainVerdict model set budgets.pivots) (sym e) tt }
+
+pub reference_answer : ReferenceLaw
+reference_answer model budgets set result (inl h) = inl (passed_on model budgets set result h.answer h.answered h.given)
+reference_answer model budgets set result (inr h) = inr h
+
+-- and it serves every set
+pub plain_served : (set : List Member) → is_linear (without_marks set) ≡ true
+plain_served set =
+    linear_of (without_marks set)
+    (All-weaker (λ m. not (is_mark m) ≡ true) (λ m. is_mark m ≡ false) (λ m e. not-true (is_mark m) e) (without_marks set) (filter_passes (λ m. not (is_mark m)) set))

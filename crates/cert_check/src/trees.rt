@@ -1,0 +1,61 @@
+//! Whether the proofs of a report hold.
+ghost use Rattle.std.specs.Prelude.{◌≡◌, ◌+◌, ◌≤◌, ◌<◌, length, flat_map, take};
+ghost use Rattle.certs.specs.Checks.{IsSetOf};
+ghost use Rattle.report_text.specs.Form.{IsProofFor};
+ghost use Rattle.report_text.specs.Grammar.{node_phrases};
+ghost use Rattle.cert_check.specs.Trials.{node_line, proof_trials};
+ghost use Rattle.cert_check.specs.Stops.{first_stop, Says};
+
+use crate::outcome::Stop;
+use branch_proof::{Judged, check_proof};
+use certs::{Node, Proof};
+use lp_model::{MemberSet, Model};
+use std::alloc::Global;
+
+/// Checks a proof against members. Its first node stands on the given line.
+pub(crate) fn check_tree(
+    alloc: Global,
+    model: &Model,
+    set: &MemberSet,
+    proof: &Proof,
+    line: u32,
+) -> Result<(), Stop>
+    requires same { IsSetOf model.now set.now }
+    requires form { IsProofFor model.now proof.now }
+    requires short { line + length (flat_map node_phrases proof.now.nodes) < 4294967296 }
+    ensures { Says (first_stop (proof_trials model.now set.now.members line proof.now)) result }
+{
+    let Ok(judged) = check_proof(alloc, model, set, proof) else {
+        return Err(Stop::Memory);
+    };
+    let nodes = proof.nodes.as_slice();
+    match judged {
+        Judged::Yes => Ok(()),
+        Judged::No(n) => Err(Stop::Rejected(line_of(nodes, n, line))),
+        Judged::Wide(n, wide) => Err(Stop::Wide(line_of(nodes, n, line), wide)),
+    }
+}
+
+// The line of node number n, where the first stands on the given line.
+fn line_of(nodes: &[Node], n: usize, first: u32) -> u32
+    requires there { n ≤ length nodes.now }
+    requires short { first + length (flat_map node_phrases nodes.now) < 4294967296 }
+    ensures { result ≡ node_line first nodes.now n }
+{
+    let mut line = first;
+    for node in &nodes[..n] {
+        line += node_length(node);
+    }
+    line
+}
+
+// How many lines a node has.
+fn node_length(node: &Node) -> u32
+    requires { length (node_phrases node.now) < 4294967296 }
+    ensures { result ≡ length (node_phrases node.now) }
+{
+    match node {
+        Node::Split { .. } => 1,
+        Node::Leaf(combo) => 1 + combo.shares.as_slice().len() as u32,
+    }
+}

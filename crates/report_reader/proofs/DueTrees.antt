@@ -1,0 +1,60 @@
+-- Nodes of a proof, and how many subtrees are due behind them.
+use Rattle.std.proofs.Common.{◌≡◌, ◌<◌, refl, sym, ap, subst, ◌∙◌, ℕ, ◌+◌, ℤ, List, [], ◌∷◌, ◌++◌, length, append_assoc, append-nil, arith}
+use Rattle.std.specs.Prelude.{flat_map}
+use Rattle.std.proofs.lemmas.List.{length-append}
+use Rattle.std.proofs.lemmas.List.Elements.{All-nil, All-push}
+use Rattle.lp_model.specs.Program.{Program}
+use Rattle.certs.specs.declared.evidence.Share.{Share}
+use Rattle.certs.specs.declared.evidence.Node.{Node}
+use Rattle.certs.specs.declared.evidence.Node.TheVariants.{Split}
+use Rattle.certs.specs.Proof.{Tree, Tip, Fork, preorder}
+use Rattle.report_text.specs.Form.{AreUses, IsNodeFor, IsOneTree, IsProofFor}
+use Rattle.report_reader.specs.Drafts.{leaf_of, AreNodes}
+
+module _ (nodes : List Node) where
+  -- whatever so many trees stand behind the nodes, they are one tree with them
+  abbrev pub AreCut : ℕ → Type 0
+  AreCut due = (trees : List Tree) → length trees ≡ due → IsOneTree (nodes ++ flat_map preorder trees)
+
+  -- a split takes the place of one subtree, and two are due in it
+  split_cut : (j : ℕ) (k : ℤ) (due : ℕ) → 0 < due → AreCut due → (trees : List Tree) → length trees ≡ due + 1 → IsOneTree ((nodes ++ Split j k ∷ []) ++ flat_map preorder trees)
+  split_cut j k due some cut [] e = absurd (omega arith)
+  split_cut j k due some cut (lower ∷ []) e = absurd (omega arith)
+  split_cut j k due some cut (lower ∷ upper ∷ trees) e =
+      let whole = cut (Fork j k lower upper ∷ trees) (omega arith) in
+      subst IsOneTree
+      (ap (λ (l : List Node). nodes ++ Split j k ∷ l) (append_assoc (preorder lower) (preorder upper) (flat_map preorder trees))
+      ∙ sym (append_assoc nodes (Split j k ∷ []) (preorder lower ++ (preorder upper ++ flat_map preorder trees))))
+      whole
+
+  -- a leaf takes it alone
+  leaf_cut : (shares : List Share) (due : ℕ) → AreCut (due + 1) → (trees : List Tree) → length trees ≡ due → IsOneTree ((nodes ++ leaf_of shares ∷ []) ++ flat_map preorder trees)
+  leaf_cut shares due cut trees e = subst IsOneTree (sym (append_assoc nodes (leaf_of shares ∷ []) (flat_map preorder trees))) (cut (Tip shares ∷ trees) (omega arith))
+
+module _ (model : Program) where
+  -- before the first node one subtree is due, the whole tree
+  pub whole_due : AreNodes model [] 1
+  whole_due = record { each = All-nil (IsNodeFor model); one = λ trees e. one_tree trees e; few = omega arith }
+    where
+      one_tree : (trees : List Tree) → length trees ≡ 1 → IsOneTree (flat_map preorder trees)
+      one_tree [] e = absurd (omega arith)
+      one_tree (tree ∷ []) e = record { tree = tree; listed = sym (append-nil (preorder tree)) }
+      one_tree (tree ∷ next ∷ trees) e = absurd (omega arith)
+
+  pub split_due : (nodes : List Node) (due : ℕ) (j : ℕ) (k : ℤ) → AreNodes model nodes due → IsNodeFor model (Split j k) → 0 < due → AreNodes model (nodes ++ Split j k ∷ []) (due + 1)
+  split_due nodes due j k h named some = record {
+    each = All-push (IsNodeFor model) nodes (Split j k) h.each named;
+    one = split_cut nodes j k due some h.one;
+    few = (let l : length (nodes ++ Split j k ∷ []) ≡ length nodes + 1 = length-append nodes (Split j k ∷ []) in let f = h.few in omega arith);
+  }
+
+  pub leaf_due : (nodes : List Node) (due : ℕ) (shares : List Share) → AreNodes model nodes (due + 1) → AreUses model shares → AreNodes model (nodes ++ leaf_of shares ∷ []) due
+  leaf_due nodes due shares h uses = record {
+    each = All-push (IsNodeFor model) nodes (leaf_of shares) h.each uses;
+    one = leaf_cut nodes shares due h.one;
+    few = (let l : length (nodes ++ leaf_of shares ∷ []) ≡ length nodes + 1 = length-append nodes (leaf_of shares ∷ []) in let f = h.few in omega arith);
+  }
+
+  -- where none is due the nodes are a proof
+  pub none_due : (nodes : List Node) → AreNodes model nodes 0 → IsProofFor model (record { nodes = nodes })
+  none_due nodes h = record { one = subst IsOneTree (append-nil nodes) (h.one [] refl); each = h.each }

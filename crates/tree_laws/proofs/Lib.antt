@@ -1,0 +1,4 @@
+mod Cuts
+mod Outcomes
+mod Ends
+pub mod Boxes
