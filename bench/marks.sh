@@ -21,7 +21,7 @@ cd "$work"
 # So many columns from 0 to 1, each twice, come to an odd number.
 box() {
     awk -v n="$1" 'BEGIN {
-        printf "Minimize\nSubject To\nc:"
+        printf "Minimize\nobj: x1\nSubject To\nc:"
         for (j = 1; j <= n; j++) printf " + 2 x%d", j
         print " = " (n % 2 ? n : n - 1) "\nBounds"
         for (j = 1; j <= n; j++) print "x" j " <= 1"
@@ -34,7 +34,7 @@ box() {
 # So many columns from 0 to 3 with even weights come to an odd number.
 knapsack() {
     awk -v n="$1" 'BEGIN {
-        printf "Minimize\nSubject To\nc:"
+        printf "Minimize\nobj: x1\nSubject To\nc:"
         for (j = 1; j <= n; j++) printf " + %d x%d", 2 * (3 + (j * 5) % 7), j
         print " = " (8 * n + 1) "\nBounds"
         for (j = 1; j <= n; j++) print "x" j " <= 3"
@@ -49,7 +49,7 @@ knapsack() {
 shifts() {
     awk -v n="$1" 'BEGIN {
         split("17 13 15 19 14 16 11", need, " ")
-        print "Minimize\nSubject To"
+        print "Minimize\nobj: s1_0\nSubject To"
         for (p = 1; p <= n; p++) {
             for (d = 0; d < 7; d++) {
                 printf "p%dd%d:", p, d
