@@ -14,7 +14,9 @@ use Rattle.lp_model.specs.declared.parts.Weight.TheVariants.{Soft}
 use Rattle.lp_model.specs.Program.{Program, NamedRow, NamedColumn}
 use Rattle.lp_model.specs.Members.{active_members}
 use Rattle.lp_model.specs.Satisfaction.{Point, coordinate, Holds, IsUnsatisfiable}
-use Rattle.lp_model.specs.Edits.{edited, OneMember, Weigh}
+use Rattle.lp_model.specs.declared.edits.Target.TheVariants.{OneMember}
+use Rattle.lp_model.specs.declared.edits.Edit.TheVariants.{Weigh}
+use Rattle.lp_model.specs.Edits.{edited}
 use Rattle.certs.specs.declared.evidence.Source.TheVariants.{Member as Of, Below, Above}
 use Rattle.certs.specs.declared.evidence.Share.{Share}
 use Rattle.certs.specs.Combination.{KeepsBranch, column_sum, right_side, IsCombination}

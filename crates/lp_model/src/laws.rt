@@ -1,5 +1,5 @@
 //! Laws of members, points and edits.
-ghost use Rattle.lp_model.specs.Edits.{EditLaw};
+ghost use Rattle.lp_model.specs.Edits.{BackLaw, EditLaw};
 ghost use Rattle.lp_model.specs.Members.{HasLaw, MembersLaw, ValueLaw};
 ghost use Rattle.lp_model.specs.Satisfaction.{CommonDenominatorLaw, PartLaw, WholeLaw, WithoutLaw};
 
@@ -31,6 +31,11 @@ pub fn members_in_order()
 /// An edit keeps a program well formed.
 pub fn edit_keeps()
     ensures { EditLaw }
+{}
+
+/// What an edit changes, put back after it, gives the program before it.
+pub fn edit_goes_back()
+    ensures { BackLaw }
 {}
 
 /// What satisfies a set satisfies each part of it.

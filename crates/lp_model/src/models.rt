@@ -6,6 +6,7 @@ ghost use Rattle.frac128.specs.Limit.{limit};
 ghost use Rattle.frac128.specs.Calculation.{first_wide};
 ghost use Rattle.rational.specs.Linear.{form_value};
 ghost use Rattle.lp_model.specs.Program.{row_at, column_at, noted_column, IsForm, IsWellFormedRow, IsWellFormedColumn, IsWellFormed};
+ghost use Rattle.lp_model.specs.Edits.{with_column, with_row, with_sides};
 ghost use Rattle.lp_model.specs.Members.{exists as is_there, is_active as is_in_force};
 ghost use Rattle.lp_model.specs.Satisfaction.{Holds, values_at};
 ghost use Rattle.lp_model.specs.Shown.{named_row, named_column, empty_program, row_names, column_names, with_more_row, with_more_column, most_rows, most_columns, CanAdd};
@@ -13,6 +14,7 @@ ghost use Rattle.lp_model.specs.Refusals.{IsAddRefusal};
 ghost use Rattle.lp_model.specs.Evaluation.{value_operations, member_operations, IsInRange};
 
 use crate::additions::add_named;
+use crate::edits::Part;
 use crate::evaluation::{is_at_least, is_at_most, value_of};
 use crate::limits::{MOST_COLUMNS, MOST_ROWS};
 use crate::members::Member;
@@ -131,6 +133,40 @@ impl Model {
     {
         self.notes.push(note)?;
         Ok(())
+    }
+
+    /// Puts these sides in the place of those of a row. It takes no memory.
+    pub(crate) fn put_sides(&mut self, index: u32, lower: Part, upper: Part)
+        requires within { index < length self.old.rows }
+        requires fitting { IsWellFormedRow (length self.old.columns) (with_sides (row_at self.old index) lower upper) }
+        ensures { self.new ≡ with_row self.old index (with_sides (row_at self.old index) lower upper) }
+    {
+        let no_terms = Terms::new(Vec::new(*self.notes.allocator()));
+        let former = self
+            .rows
+            .replace(index as usize, Row::new(no_terms, None, None));
+        let row = Row {
+            terms: former.terms,
+            lo: lower.number,
+            up: upper.number,
+            lo_active: lower.active,
+            up_active: upper.active,
+            lo_weight: lower.weight,
+            up_weight: upper.weight,
+        };
+        self.rows.replace(index as usize, row);
+    }
+
+    /// Puts a column in the place of the one with the number, under its name. It takes no memory.
+    pub(crate) fn put_column(&mut self, index: u32, column: Column)
+        requires within { index < length self.old.columns }
+        requires fitting { IsWellFormedColumn (named_column (column_at self.old index).name column) }
+        ensures { self.new ≡ with_column self.old index (named_column (column_at self.old index).name column) }
+    {
+        // The check wants the types of the column's parts named here.
+        let _lower = column.lo;
+        let _weight = column.lower_weight;
+        self.columns.replace(index as usize, column);
     }
 
     /// The number of the row that has the name, in no time that grows with the program and with no memory.

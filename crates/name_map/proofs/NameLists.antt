@@ -1,5 +1,5 @@
 -- Lists of names that differ: where a name stands, and what one more name gives.
-use Rattle.std.proofs.Common.{◌≡◌, ◌≢◌, suc, eq-eqb, ℕ, ◌+◌, ◌<◌, ◌≤◌, Bool, true, false, cond, ltb, eqb, not, ◌||◌, List, [], ◌∷◌, ◌++◌, Option, Some, None, MatchOption, is_some, length, map, get_or, refl, sym, ap, ◌∙◌, subst, arith, position, true≢false}
+use Rattle.std.proofs.Common.{◌≡◌, ◌≢◌, zero, suc, eq-eqb, ℕ, ◌+◌, ◌<◌, ◌≤◌, Bool, true, false, cond, ltb, eqb, not, ◌||◌, List, [], ◌∷◌, ◌++◌, Option, Some, None, MatchOption, is_some, length, map, get_or, refl, sym, ap, ◌∙◌, subst, arith, position, true≢false}
 use Rattle.std.specs.List.{position_or_len, prefix_len, list_any, All, AllByRecursion, IsDistinct}
 use Rattle.std.proofs.lemmas.List.Sums.{fails_before_first, passes_at_first}
 use Rattle.std.proofs.lemmas.List.Folds.{list_any_none, list_any-from_Any, list_any_at}
@@ -9,7 +9,7 @@ use Rattle.std.proofs.lemmas.Bool.{ltb-true, ltb-false}
 use Rattle.std.proofs.lemmas.Bool.Decides.{nat_tests}
 use Rattle.std.specs.Str.{bytes_eq}
 use Rattle.std.proofs.lemmas.Slice.Eq.{bytes_eq-Decides}
-use Rattle.indexmap.specs.IndexMap.{insert_entry}
+use Rattle.indexmap.specs.IndexMap.{insert_entry, set_value_at}
 use Rattle.name_map.specs.Names.{StandsAt, name_at}
 
 pub length_map : {X Y : Type 0} (f : X → Y) (xs : List X) → length (map f xs) ≡ length xs
@@ -147,3 +147,9 @@ position_any name names = by (ltb (position_or_len (bytes_eq name) names) (lengt
     by false e =
         let h : length names ≤ position_or_len (bytes_eq name) names = ltb-false _ _ e in
         sym (list_any_none (bytes_eq name) names (λ k d lt. fails_before_first (bytes_eq name) names k d (omega arith)))
+
+-- another value at an index shows as one
+pub value_shown : {K V : Type 0} (f : K → List ℕ) (es : List (K × V)) (i : ℕ) (v : V) → map (λ (e : K × V). (f e.0, e.1)) (set_value_at es i v) ≡ set_value_at (map (λ (e : K × V). (f e.0, e.1)) es) i v
+value_shown f [] i v = refl
+value_shown f (e ∷ es) zero v = refl
+value_shown f (e ∷ es) (suc i) v = ap (λ rest. (f e.0, e.1) ∷ rest) (value_shown f es i v)

@@ -5,10 +5,12 @@ ghost use Rattle.std.specs.Prelude.{◌≡◌, ◌==◌, ◌<◌, List, [], ◌�
 ghost use Rattle.std.specs.List.{list_any, IsDistinct};
 ghost use Rattle.std.specs.Str.{bytes_eq};
 ghost use Rattle.name_map.specs.Names.{names_of, values_of};
+ghost use Rattle.indexmap.specs.IndexMap.{set_value_at};
 
 use indexmap::IndexMap;
 use std::alloc::{AllocError, Global};
 use std::marker::Model;
+use std::mem;
 
 /// Values by name. Contracts see the list of the pairs of a name's bytes and its value.
 #[derive(Drop)]
@@ -95,6 +97,18 @@ impl<V: Drop> NameMap<V> {
         let key = Vec::from_slice(alloc, name)?;
         self.held.insert(key, value)?;
         Ok(())
+    }
+
+    /// Puts a value in the place of the one at an index, which it gives back. It takes no memory.
+    pub fn replace(&mut self, index: usize, value: V) -> V
+        requires { index < length self.old }
+        ensures put { self.new ≡ set_value_at self.old index value }
+        ensures given { slice_get (values_of self.old) index ≡ Some result }
+    {
+        let Some(held) = self.held.get_index_mut(index) else {
+            return value;
+        };
+        mem::replace(held, value)
     }
 }
 
