@@ -24,9 +24,3 @@ passed_on model budgets set result answer h (inr e) = record { asked = h.asked; 
 pub reference_answer : ReferenceLaw
 reference_answer model budgets set result (inl h) = inl (passed_on model budgets set result h.answer h.answered h.given)
 reference_answer model budgets set result (inr h) = inr h
-
--- and it serves every set
-pub plain_served : (set : List Member) → is_linear (without_marks set) ≡ true
-plain_served set =
-    linear_of (without_marks set)
-    (All-weaker (λ m. not (is_mark m) ≡ true) (λ m. is_mark m ≡ false) (λ m e. not-true (is_mark m) e) (without_marks set) (filter_passes (λ m. not (is_mark m)) set))

@@ -13,6 +13,3 @@ pub use oracle::BranchOracle;
 pub fn reference_answers()
     ensures { ReferenceLaw }
 {}
-
-#[cfg(test)]
-mod tests;

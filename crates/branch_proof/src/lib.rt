@@ -6,6 +6,3 @@ mod paths;
 
 pub use checks::{Judged, check_proof, is_marked};
 pub use paths::go_on;
-
-#[cfg(test)]
-mod tests;

@@ -13,7 +13,6 @@ pub mod PathNumbers
 pub mod Combined
 pub mod Sound
 pub mod Walk
-pub mod Forms
 pub mod Tableaus
 pub mod Starts
 pub mod Feasible

@@ -20,7 +20,7 @@ use Rattle.certs.specs.Solves.{BlocksWith, CrossesWith}
 use Rattle.certs.specs.PlainLaws.{PlainCutLaw}
 use Rattle.certs.proofs.Blocked.{blocked_law}
 use Rattle.certs.proofs.Choices.{found_is}
-use Rattle.certs.proofs.Forms.{both_hold}
+use Rattle.certs.proofs.Lists.{both_hold}
 use Rattle.certs.proofs.PlainForms.{plain_formed}
 use Rattle.certs.proofs.Translated.{length_mapped, length_numbers, number_at, translation}
 

@@ -27,6 +27,3 @@ pub use points::check_point;
 pub use solving::{Irreducible, NodeEnd, Path, Site, SiteKind, Stop, Stretched, Verdict};
 pub use systems::{Limits, System};
 pub use tales::{CoreRecord, StopRecord, Tale};
-
-#[cfg(test)]
-mod tests;

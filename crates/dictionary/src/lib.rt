@@ -12,6 +12,3 @@ mod table;
 
 pub use dictionaries::{Dictionary, PivotStop};
 pub use forming::is_formed;
-
-#[cfg(test)]
-mod tests;

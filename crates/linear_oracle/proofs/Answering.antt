@@ -12,11 +12,6 @@ use Rattle.certs.specs.Answers.{IsPlainAnswer, IsPlainSet, IsPlainVerdict, is_li
 use Rattle.certs.specs.Tales.{IsKnownVerdict}
 use Rattle.certs.proofs.PlainAnswers.{linear_of, plain_holds, unmarked}
 use Rattle.certs.proofs.Possible.{known_verdict}
-use Rattle.linear_oracle.proofs.Members.{with_unmarked}
-
--- with a member that is no mark the set has none
-pub with_linear : (set : SetValue) (m : Member) → is_linear set.members ≡ true → is_mark m ≡ false → is_linear (set_with set m).members ≡ true
-with_linear set m h e = linear_of (set_with set m).members (with_unmarked set m (unmarked set.members h) e)
 
 -- a proof that is answered names members that the set may have
 pub known_answer : (model : Program) (set : SetValue) (pivots : ℕ) (answer : Result Verdict Stop) → set.members ≡ filter (has set.members) (possible_in set) → IsPlainSet model set.members

@@ -1,5 +1,4 @@
 pub mod Firsts
 mod Shares
 mod Runs
-mod Members
 mod Answering

@@ -8,6 +8,3 @@ mod solve;
 
 pub use ends::settle_site;
 pub use oracle::LinearOracle;
-
-#[cfg(test)]
-mod tests;

@@ -10,8 +10,6 @@ mod columns;
 mod numbers;
 mod reader;
 mod rows;
-#[cfg(test)]
-mod tests;
 
 use crate::building::make_model;
 use crate::reader::read_statements;

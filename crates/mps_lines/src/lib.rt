@@ -12,6 +12,3 @@ pub use contexts::Context;
 pub use lines::{Said, read_line};
 pub use sections::Section;
 pub use shapes::{BoundKind, Bounded, Figure, RowKind};
-
-#[cfg(test)]
-mod tests;

@@ -2,6 +2,8 @@
 use Rattle.std.specs.Prelude.{◌≡◌, ℕ, ◌<◌, nat_eq, true, List, [], map, length, slice_index_or}
 use Rattle.std.specs.List.{list_any}
 use Rattle.std.specs.Str.{bytes_eq}
+-- the entries with another value at an index
+pub use Rattle.indexmap.specs.IndexMap.{set_value_at}
 
 -- the names
 abbrev pub names_of : {V : Type 0} → List (List ℕ × V) → List (List ℕ)

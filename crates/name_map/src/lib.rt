@@ -4,8 +4,7 @@
 ghost use Rattle.std.specs.Prelude.{◌≡◌, ◌==◌, ◌<◌, List, [], ◌∷◌, ◌++◌, false, Some, length, position, IfSome, OnOk, OnErr, slice_get};
 ghost use Rattle.std.specs.List.{list_any, IsDistinct};
 ghost use Rattle.std.specs.Str.{bytes_eq};
-ghost use Rattle.name_map.specs.Names.{names_of, values_of};
-ghost use Rattle.indexmap.specs.IndexMap.{set_value_at};
+ghost use Rattle.name_map.specs.Names.{names_of, set_value_at, values_of};
 
 use indexmap::IndexMap;
 use std::alloc::{AllocError, Global};

@@ -9,6 +9,3 @@ mod settling;
 pub use combinations::{combo_of, limit_share};
 pub use points::point_of;
 pub use settling::{RunStop, Settled, settle};
-
-#[cfg(test)]
-mod tests;

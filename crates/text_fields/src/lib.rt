@@ -17,6 +17,3 @@ pub use numbers::{bound, fitting, is_huge, is_wide_limit, number};
 pub use pieces::TokenKind;
 pub use spans::{Line, Span, after_line, next_line};
 pub use tokens::{Place, Token, next_token};
-
-#[cfg(test)]
-mod tests;
