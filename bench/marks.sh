@@ -2,8 +2,10 @@
 # Makes models that only the marks of their columns contradict: boxes and knapsacks whose even weights are to come to an odd
 # total, and shift plans of growing size. For each it prints the nodes of the proof that `check` gives, its processor
 # seconds and megabytes, the bytes of the report, and the seconds of `verify` of it; besides those of `glpsol` and `cbc`,
-# where they are there. It wants GNU time (Debian's package `time`). A word is taken as the program; without one it is the
-# one that ./iisan proves and builds. A benchmark, no test.
+# where they are there. Then it runs the deletion filter on some of these models and on odd cycles, with quick trees and by
+# the reference trees alone, and prints for each the asks, those of them that the reference was asked, the nodes and pivots of all
+# trees, the seconds, and the size of the set or how it ended. It wants GNU time (Debian's package `time`). A word is taken as
+# the program; without one it is the one that ./iisan proves and builds. A benchmark, no test.
 set -eu
 
 top=$(CDPATH='' cd -- "$(dirname -- "$0")/.." && pwd)
@@ -44,7 +46,23 @@ knapsack() {
     }'
 }
 
-# A week in which each shift works on five days in a row, and a crew that only parts of people would make large enough; in so
+# So many cycles of so many columns each, an odd number: of two that follow one another one is to be taken, and of all together
+# not as many as that takes.
+cycles() {
+    awk -v n="$1" -v columns="$2" 'BEGIN {
+        print "Minimize\nobj: x1_1\nSubject To"
+        for (c = 1; c <= n; c++) for (j = 1; j <= columns; j++)
+            printf "e%d_%d: x%d_%d + x%d_%d >= 1\n", c, j, c, j, c, j % columns + 1
+        printf "all:"
+        for (c = 1; c <= n; c++) for (j = 1; j <= columns; j++) printf " + x%d_%d", c, j
+        print " <= " (n * (columns + 1) / 2 - 0.5)
+        print "General"
+        for (c = 1; c <= n; c++) for (j = 1; j <= columns; j++) print "x" c "_" j
+        print "End"
+    }'
+}
+
+# A week in which each shift works on five days in a row, and a crew that only parts of people would make large enough, in so
 # many places with a crew each.
 shifts() {
     awk -v n="$1" 'BEGIN {
@@ -94,4 +112,31 @@ for model in "box 5" "box 9" "box 11" "box 13" "knapsack 3" "knapsack 5" "knapsa
         fi
     done
     echo "$model $nodes $seconds $megabytes $bytes $verify$others"
+done
+
+(cd "$top/crates/iis_bench" && rt run) >log 2>&1 </dev/null || {
+    tail -n 5 log >&2
+    exit 1
+}
+
+# One line of the table of filters.
+filter() {
+    timed 120 "$top/crates/iis_bench/out/iis_bench" model.lp deletion "$2"
+    awk -v name="$1" -v trees="$2" -v seconds="$(cat seconds)" '
+        { for (k = 1; k < NF; k += 2) told[$k] = $(k + 1) }
+        function of(word) { return word in told ? told[word] : "-" }
+        END {
+            found = of("end") == "set" ? of("size") : of("end")
+            print name, trees, of("asks"), of("reference"), of("nodes"), of("pivots"), seconds, found
+        }' said
+}
+
+echo
+echo "model trees asks reference nodes pivots seconds found"
+for model in "box 9" "knapsack 5" "shifts 2" "cycles 3 11" "cycles 5 7" "cycles 6 7" "cycles 8 5" "cycles 9 5"; do
+    # The words are the kind and the sizes.
+    # shellcheck disable=SC2086
+    $model >model.lp
+    filter "$model" quick
+    filter "$model" reference
 done

@@ -1,5 +1,5 @@
 -- What the quick oracle answers over the reference.
-use Rattle.std.proofs.Common.{◌≡◌, refl, sym, ◌∙◌, ap, subst, Bool, true, false, true≢false, not, ◌||◌, List, [], Ok, Err, inl, inr}
+use Rattle.std.proofs.Common.{◌≡◌, ℕ, refl, sym, ◌∙◌, ap, subst, Bool, true, false, true≢false, not, ◌||◌, ◌&&◌, ◌==◌, eq-eqb, List, [], Ok, Err, inl, inr}
 use Rattle.std.specs.Prelude.{All, Result, ◌⊎◌}
 use Rattle.std.proofs.lemmas.Bool.{or_right}
 use Rattle.std.proofs.lemmas.List.Elements.{All-cons, All-contains_itself, All-nil, All-weaker, filter_passes}
@@ -24,7 +24,7 @@ use Rattle.certs.proofs.PlainAnswers.{linear_of, plain_holds, plain_ordered}
 use Rattle.branch_proof.proofs.TreeAnswers.{tree_holds, tree_ordered}
 use Rattle.branch_oracle.specs.Answers.{IsBranchAnswer}
 use Rattle.branch_oracle.proofs.Reference.{reference_answer}
-use Rattle.quick_oracle.specs.Alone.{has_crossing, is_small, stands_alone}
+use Rattle.quick_oracle.specs.Alone.{has_crossing, is_small, stands_alone, wants_nodes}
 use Rattle.quick_oracle.specs.Answers.{IsAsked, IsQuickAnswer, quick_holds, quick_ordered}
 use Rattle.analysis.specs.Right.{IsWhole}
 use Rattle.analysis.proofs.Stopping.{IsRunOf}
@@ -115,10 +115,11 @@ asked_run model budgets set stop whole h = record {
 }
 
 -- ---- where there is a mark
--- a set with a mark stands alone
-pub marked_alone : (model : Program) (set : List Member) → has_mark set ≡ true → stands_alone model set ≡ true
-marked_alone model set e =
-    or_right (is_small model set) (has_crossing model set || not (is_linear set)) (or_right (has_crossing model set) (not (is_linear set)) (ap (λ b. not (not b)) e))
+-- a set with a mark stands alone where quick trees may have no nodes
+pub marked_alone : (model : Program) (set : List Member) (nodes : ℕ) → nodes ≡ 0 → has_mark set ≡ true → stands_alone model set nodes ≡ true
+marked_alone model set nodes none e =
+    or_right (is_small model set) (has_crossing model set || wants_nodes set nodes)
+    (or_right (has_crossing model set) (wants_nodes set nodes) (ap (λ b. not (not b) && (nodes == 0)) e ∙ eq-eqb nodes 0 none))
 
 -- what the inner oracle was asked for it is its tree
 pub by_tree : (model : Program) (budgets : Budgets) (set : List Member) (verdict : Verdict) (before after : OracleState) → before.model ≡ model → before.budgets ≡ budgets → has_mark set ≡ true → IsAsked InnerAnswers before after set (Ok verdict)

@@ -1,5 +1,5 @@
 -- What filters give that ask the quick oracle, as answers.
-use Rattle.std.proofs.Common.{◌≡◌, sym, ap, subst, true, List, Ok, Err, inl, inr}
+use Rattle.std.proofs.Common.{◌≡◌, ℕ, sym, ap, subst, true, List, Ok, Err, inl, inr}
 use Rattle.std.specs.Prelude.{All, IfErr, IfOk, Option, Result}
 use Rattle.std.proofs.lemmas.List.Elements.{All-contains_itself}
 use Rattle.lp_model.specs.declared.members.Member.{Member}
@@ -49,13 +49,13 @@ module _ (model : Program) (budgets : Budgets) (inner : BranchValue OracleValue)
   fresh_answer result h = subst (λ (o : BranchValue OracleValue). QuickAnswers (branch_state o).model (branch_state o).budgets set.members result) fresh h
 
   -- and where there is a mark the tree's
-  pub fresh_tree : (verdict : Verdict) (after : OracleState) → set ≡ active_set model → has_mark (active_members model) ≡ true
-      → (stands_alone (branch_state inner).model set.members ≡ true → IsAsked InnerAnswers (branch_state inner) after set.members (Ok verdict)) → IsTreeAnswer model budgets (active_members model) (Ok verdict)
-  fresh_tree verdict after whole marked alone =
+  pub fresh_tree : (nodes : ℕ) (verdict : Verdict) (after : OracleState) → nodes ≡ 0 → set ≡ active_set model → has_mark (active_members model) ≡ true
+      → (stands_alone (branch_state inner).model set.members nodes ≡ true → IsAsked InnerAnswers (branch_state inner) after set.members (Ok verdict)) → IsTreeAnswer model budgets (active_members model) (Ok verdict)
+  fresh_tree nodes verdict after none whole marked alone =
       let here : has_mark set.members ≡ true = subst (λ (s : SetValue). has_mark s.members ≡ true) (sym whole) marked in
       subst (λ (s : SetValue). IsTreeAnswer model budgets s.members (Ok verdict)) whole
       (by_tree model budgets set.members verdict (branch_state inner) after (ap (λ (o : BranchValue OracleValue). (branch_state o).model) fresh) (ap (λ (o : BranchValue OracleValue). (branch_state o).budgets) fresh) here
-      (alone (marked_alone (branch_state inner).model set.members here)))
+      (alone (marked_alone (branch_state inner).model set.members nodes none here)))
 
 -- ---- one oracle
 filter_stop : (IsTest : Program → List Member → List Member → Type 0) (IsRight : List Member → Type 0) (model : Program) (budgets : Budgets) (tale : TaleValue) (after : OracleState)

@@ -87,13 +87,14 @@ fn check(
     // That the program is well formed is told with its count of rows.
     let _rows = model.row_count();
     let set = model.members(alloc)?;
-    let mut oracle = quick_oracle(alloc, model, budgets, kept);
+    let mut oracle = quick_oracle(alloc, model, budgets, 0, kept);
     let answer = check_by(alloc, model, budgets, &mut oracle, &set);
     *kept = oracle.into_kept();
     answer
 }
 
-// Whether some point satisfies the active members, by a quick oracle.
+// Whether some point satisfies the active members, by a quick oracle. Its quick trees may take no nodes: where there is a mark
+// the answer is that of the reference tree, so that a stop comes just where that one stops.
 fn check_by(
     alloc: Global,
     model: &Model,
@@ -103,6 +104,7 @@ fn check_by(
 ) -> Result<Answer, AllocError>
     requires whole { set.now ≡ active_set model.now }
     requires fresh { oracle.old.inner ≡ fresh_oracle model.now (budgets_of budgets) }
+    requires no_trees { oracle.old.nodes ≡ 0 }
     ensures right { IfOk result (IsChecked model.now (budgets_of budgets)) }
     ensures known { IfOk result (IsKnownAnswer model.now) }
 {

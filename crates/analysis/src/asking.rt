@@ -27,20 +27,22 @@ pub(crate) fn reference_oracle<'a>(
     BranchOracle::new(alloc, model, inner, budgets.nodes)
 }
 
-/// A quick oracle over the reference. It takes what is kept of the program.
+/// A quick oracle over the reference, whose quick trees may take so many nodes. It takes what is kept of the program.
 pub(crate) fn quick_oracle<'a>(
     alloc: Global,
     model: &'a Model,
     budgets: Budgets,
+    nodes: u64,
     kept: &mut Kept,
 ) -> QuickOracle<'a, Reference<'a>>
     requires { budgets.pivots < 2 ^ 63 }
     ensures inner { result.inner ≡ fresh_oracle model.now (budgets_of budgets) }
     ensures pivots { result.pivots ≡ budgets.pivots }
-    ensures made { result.made ≡ kept.old }
+    ensures nodes { result.nodes ≡ nodes }
+    ensures made { result.made ≡ kept.old.made }
     ensures tale { result.tale ≡ no_tale }
 {
     let inner = reference_oracle(alloc, model, budgets);
     let kept = mem::replace(kept, Kept::new());
-    QuickOracle::new(alloc, model, kept, inner, budgets.pivots)
+    QuickOracle::new(alloc, model, kept, inner, budgets.pivots, nodes)
 }

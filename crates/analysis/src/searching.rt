@@ -28,7 +28,7 @@ pub(crate) fn search(
     ensures known { IfOk result (IsKnownAnswer model.now) }
 {
     let set = model.members(alloc)?;
-    let mut oracle = quick_oracle(alloc, model, budgets, kept);
+    let mut oracle = quick_oracle(alloc, model, budgets, budgets.nodes, kept);
     let answer = search_by(alloc, model, budgets, method, &mut oracle, &set);
     *kept = oracle.into_kept();
     answer

@@ -1,17 +1,18 @@
-//! Asks whether a point satisfies a model, or looks for an irreducible set of it by a filter, with quick runs or by the
-//! reference runs alone: what `bench/iis.sh`, `bench/quick.sh`, `bench/alone.sh` and `bench/memory.sh` measure.
+//! Asks whether a point satisfies a model, or looks for an irreducible set of it by a filter, with quick runs and trees of them
+//! or by the reference runs and trees alone: what `bench/iis.sh`, `bench/quick.sh`, `bench/alone.sh`, `bench/memory.sh` and
+//! `bench/marks.sh` measure.
 #![tactic(auto)]
 
 ghost use Rattle.std.specs.Prelude.{◌≡◌, true, None, IfOk};
-ghost use Rattle.lp_model.specs.Members.{is_mark};
 ghost use Rattle.certs.specs.Checks.{IsSetOf};
-ghost use Rattle.certs.specs.Answers.{is_linear};
+ghost use Rattle.certs.specs.Tales.{no_tale};
+ghost use Rattle.linear_oracle.specs.Value.{OracleValue};
 
+use branch_oracle::BranchOracle;
 use certs::{Irreducible, MemberSet, Oracle, Stop, Verdict};
-use filter_steps::listed;
 use iis_edge::{HostShelf, Shelf};
 use linear_oracle::LinearOracle;
-use lp_model::{Member, Model};
+use lp_model::Model;
 use model_files::read_model;
 use quick_oracle::{Kept, QuickOracle};
 use std::alloc::{AllocError, Global};
@@ -26,6 +27,12 @@ const MOST: usize = 16_777_216;
 
 // What a run may spend.
 const PIVOTS: u64 = 100_000;
+
+// What a tree may take.
+const NODES: u64 = 10_000;
+
+// What makes the reference runs and trees.
+type Reference<'a> = BranchOracle<'a, LinearOracle<'a>>;
 
 // What is asked: nothing, whether there is a point, or for a set by a filter.
 #[derive(Clone, Copy)]
@@ -85,33 +92,15 @@ impl End {
     }
 }
 
-// What a question came to, and what it took: the asks, those of them that the reference run was asked for, and the pivots
-// of all runs.
+// What a question came to, and what it took: the asks, those of them that the reference was asked for, the pivots of all runs,
+// and the nodes of all trees.
 #[derive(Clone, Copy)]
 struct Told {
     asks: u64,
     reference: u64,
     pivots: u64,
+    nodes: u64,
     end: End,
-}
-
-// Whether a member is a mark.
-fn is_whole(member: Member) -> bool
-    ensures { result ≡ is_mark member }
-{
-    matches!(member, Member::Whole(_))
-}
-
-// Whether none of the members is a mark.
-fn are_unmarked(members: &[Member]) -> bool
-    ensures { result ≡ is_linear members.now }
-{
-    for member in members {
-        if is_whole(*member) {
-            return false;
-        }
-    }
-    true
 }
 
 // What a question comes to by one oracle.
@@ -165,18 +154,25 @@ fn active(alloc: Global, model: &Model) -> Result<MemberSet, AllocError>
     model.members(alloc)
 }
 
-// A question of the active members, by reference runs alone.
+// The reference of a model, which was asked nothing yet.
+fn reference_of<'a>(alloc: Global, model: &'a Model) -> Reference<'a>
+    ensures program { result.inner.model ≡ model.now }
+    ensures fresh { result.tale ≡ no_tale }
+{
+    let inner = LinearOracle::new(alloc, model, PIVOTS);
+    BranchOracle::new(alloc, model, inner, NODES)
+}
+
+// A question of the active members, by the reference alone.
 fn ask_alone(alloc: Global, model: &Model, question: Question) -> Result<Told, AllocError> {
     let set = active(alloc, model)?;
-    if !are_unmarked(listed(alloc, &set)?.as_slice()) {
-        return Err(AllocError);
-    }
-    let mut oracle = LinearOracle::new(alloc, model, PIVOTS);
+    let mut oracle = reference_of(alloc, model);
     let end = asked(alloc, question, &mut oracle, &set);
     Ok(Told {
         asks: oracle.tale().asks(),
         reference: oracle.tale().asks(),
-        pivots: oracle.pivots_made(),
+        pivots: oracle.inner().pivots_made(),
+        nodes: oracle.nodes_taken(),
         end,
     })
 }
@@ -184,12 +180,9 @@ fn ask_alone(alloc: Global, model: &Model, question: Question) -> Result<Told, A
 // A question of the active members, with quick runs.
 fn ask_quick(alloc: Global, model: &Model, question: Question) -> Result<Told, AllocError> {
     let set = active(alloc, model)?;
-    if !are_unmarked(listed(alloc, &set)?.as_slice()) {
-        return Err(AllocError);
-    }
-    let inner = LinearOracle::new(alloc, model, PIVOTS);
-    let mut quick = QuickOracle::new(alloc, model, Kept::new(), inner, PIVOTS);
-    let mut first = LinearOracle::new(alloc, model, PIVOTS);
+    let inner = reference_of(alloc, model);
+    let mut quick = QuickOracle::new(alloc, model, Kept::new(), inner, PIVOTS, NODES);
+    let mut first = reference_of(alloc, model);
     let end = match question {
         Question::Sensitivity => {
             let given = sensitivity_filter::isolate_with(alloc, &mut first, &mut quick, &set);
@@ -202,9 +195,14 @@ fn ask_quick(alloc: Global, model: &Model, question: Question) -> Result<Told, A
         asks: first.tale().asks().saturating_add(quick.tale().asks()),
         reference: first.tale().asks().saturating_add(reference.tale().asks()),
         pivots: first
+            .inner()
             .pivots_made()
-            .saturating_add(reference.pivots_made())
+            .saturating_add(reference.inner().pivots_made())
             .saturating_add(quick.pivots_made()),
+        nodes: first
+            .nodes_taken()
+            .saturating_add(reference.nodes_taken())
+            .saturating_add(quick.nodes_taken()),
         end,
     })
 }
@@ -277,11 +275,12 @@ fn main(rt: HostRuntime) -> io::Result<()> {
         return println!(rt; "the model is not read");
     };
     println!(rt;
-        "asks {} reference {} pivots {} end {} size {}",
+        "asks {} reference {} pivots {} end {} size {} nodes {}",
         told.asks,
         told.reference,
         told.pivots,
         told.end.word(),
-        told.end.size()
+        told.end.size(),
+        told.nodes
     )
 }

@@ -1,5 +1,5 @@
 -- Sets that no quick run is made of: the inner oracle alone is asked for them.
-use Rattle.std.specs.Prelude.{ℕ, ◌*◌, nat_le, Bool, ◌||◌, not, List, length}
+use Rattle.std.specs.Prelude.{ℕ, ◌*◌, ◌==◌, nat_le, Bool, ◌||◌, ◌&&◌, not, List, length}
 use Rattle.std.specs.List.{list_any}
 use Rattle.lp_model.specs.declared.members.Member.{Member}
 use Rattle.lp_model.specs.declared.members.Member.TheVariants.{RowLo, RowUp, Lower, Upper}
@@ -26,6 +26,10 @@ has_crossing model set =
     list_any (is_column_crossed model set) (numbers_from 0 (length model.columns))
     || list_any (is_row_crossed model set) (numbers_from 0 (length model.rows))
 
--- the set is small, or limits cross, or it has a mark
-abbrev pub stands_alone : Program → List Member → Bool
-stands_alone model set = is_small model set || (has_crossing model set || not (is_linear set))
+-- the set has a mark, and a quick tree may have no nodes
+abbrev pub wants_nodes : List Member → ℕ → Bool
+wants_nodes set nodes = not (is_linear set) && (nodes == 0)
+
+-- the set is small, or limits cross, or it has a mark and a quick tree may have no nodes
+abbrev pub stands_alone : Program → List Member → ℕ → Bool
+stands_alone model set nodes = is_small model set || (has_crossing model set || wants_nodes set nodes)

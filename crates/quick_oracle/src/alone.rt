@@ -6,7 +6,7 @@ ghost use Rattle.certs.specs.Answers.{is_linear};
 ghost use Rattle.certs.specs.Checks.{IsSetOf};
 ghost use Rattle.certs.specs.Ended.{numbers_from};
 ghost use Rattle.certs.specs.Plain.{are_crossed as crossed, has_row as has_side, number_in as number_within, rows_in};
-ghost use Rattle.quick_oracle.specs.Alone.{has_crossing as limits_cross, is_column_crossed, is_row_crossed, is_small as has_few_rows, stands_alone as is_alone};
+ghost use Rattle.quick_oracle.specs.Alone.{has_crossing as limits_cross, is_column_crossed, is_row_crossed, is_small as has_few_rows, stands_alone as is_alone, wants_nodes as has_no_nodes};
 
 use certs::{Member, MemberSet};
 use frac128::Frac;
@@ -15,12 +15,21 @@ use lp_model::Model;
 // A set is small where its rows times the columns are at most this.
 const SMALL: u64 = 1_000;
 
-/// Whether no quick run is to be made of a set: it is small, or limits cross, or it has a mark.
-pub(crate) fn stands_alone(model: &Model, set: &MemberSet) -> bool
+/// Whether no quick run is to be made of a set: it is small, or limits cross, or it has a mark and a quick tree may have no
+/// nodes.
+pub(crate) fn stands_alone(model: &Model, set: &MemberSet, nodes: u64) -> bool
     requires { IsSetOf model.now set.now }
-    ensures { result ≡ is_alone model.now set.now.members }
+    ensures { result ≡ is_alone model.now set.now.members nodes }
 {
-    is_small(model, set) || has_crossing(model, set) || has_mark(set, model.column_count())
+    is_small(model, set) || has_crossing(model, set) || wants_nodes(model, set, nodes)
+}
+
+// Whether the set has a mark, and a quick tree may have no nodes.
+fn wants_nodes(model: &Model, set: &MemberSet, nodes: u64) -> bool
+    requires { IsSetOf model.now set.now }
+    ensures { result ≡ has_no_nodes set.now.members nodes }
+{
+    has_mark(set, model.column_count()) && nodes == 0
 }
 
 // Whether the rows of which the set has a side, times the columns, are at most 1,000.
@@ -125,8 +134,8 @@ fn are_crossed(lower: Option<Frac>, upper: Option<Frac>) -> bool
     greatest.cmp(&least).is_lt()
 }
 
-// Whether the set has the mark of one of the columns.
-fn has_mark(set: &MemberSet, columns: u32) -> bool
+/// Whether the set has the mark of one of the columns.
+pub(crate) fn has_mark(set: &MemberSet, columns: u32) -> bool
     requires { columns ≡ set.now.columns }
     ensures { result ≡ not (is_linear set.now.members) }
 {

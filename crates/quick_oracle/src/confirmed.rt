@@ -1,16 +1,18 @@
-//! Points and combinations that are confirmed by their checks, and copies of them.
-ghost use Rattle.std.specs.Prelude.{◌≡◌, ◌∷◌, [], IfOk, IfSome, List, true};
+//! Points, combinations and proofs that are confirmed by their checks, and copies of them.
+ghost use Rattle.std.specs.Prelude.{◌≡◌, ◌<◌, ◌∷◌, [], All, IfOk, IfSome, List, length, true};
 ghost use Rattle.lp_model.specs.declared.members.Member.{Member as OneMember};
 ghost use Rattle.lp_model.specs.Program.{Program};
 ghost use Rattle.certs.specs.Checks.{IsSetOf};
-ghost use Rattle.certs.specs.Combination.{IsCombination};
-ghost use Rattle.certs.specs.Order.{AreSharesInOrder};
+ghost use Rattle.certs.specs.Combination.{IsCombination, IsFitting};
+ghost use Rattle.certs.specs.Order.{AreLeavesInOrder, AreSharesInOrder, IsNodeInOrder};
+ghost use Rattle.certs.specs.Proof.{IsFittingNode};
 ghost use Rattle.certs.specs.Tales.{IsPointOf};
 ghost use Rattle.quick_oracle.specs.Answers.{IsConfirmed};
 
+use branch_proof::{Judged, check_proof};
 use certs::{
-    Checked, Combo, MemberSet, Node, Nodes, Point, Proof, Shares, Values, Verdict, are_in_order,
-    check_combo, check_point,
+    Branch, Checked, Combo, MemberSet, Node, Nodes, Point, Proof, Shares, Values, Verdict,
+    are_in_order, check_combo, check_point,
 };
 use frac128::Frac;
 use lp_model::Model;
@@ -26,11 +28,19 @@ pub(crate) fn is_point(model: &Model, set: &MemberSet, point: &Point) -> bool
     is_yes(check_point(model, set, point))
 }
 
-/// Whether the shares of a combination stand in order, and its check says that no point satisfies the set. Where memory is
-/// refused, it does not.
-pub(crate) fn is_combo(alloc: Global, model: &Model, set: &MemberSet, combo: &Combo) -> bool
-    requires { IsSetOf model.now set.now }
-    ensures { result ≡ true → IsCombination model.now set.now.members [] combo.now.shares
+/// Whether the shares of a combination stand in order, and its check says that no point on a path satisfies the set. Where
+/// memory is refused, it does not.
+pub(crate) fn is_combo(
+    alloc: Global,
+    model: &Model,
+    set: &MemberSet,
+    path: &[Branch],
+    combo: &Combo,
+) -> bool
+    requires same { IsSetOf model.now set.now }
+    requires known { All (λ b. b.column < length model.now.columns) path.now }
+    requires fitting { All IsFitting path.now }
+    ensures { result ≡ true → IsCombination model.now set.now.members path.now combo.now.shares
         × AreSharesInOrder combo.now.shares }
 {
     if !are_in_order(combo.shares.as_slice()) {
@@ -41,7 +51,7 @@ pub(crate) fn is_combo(alloc: Global, model: &Model, set: &MemberSet, combo: &Co
     let Ok(mut sums) = vec![in alloc; Frac::whole(0); model.column_count() as usize] else {
         return false;
     };
-    is_yes(check_combo(model, set, &[], combo, sums.as_mut_slice()))
+    is_yes(check_combo(model, set, path, combo, sums.as_mut_slice()))
 }
 
 // Whether a check says yes.
@@ -73,6 +83,59 @@ fn leaf_proof(alloc: Global, combo: Combo) -> Result<Proof, AllocError>
     })
 }
 
+/// The verdict of a proof, where its check says that it proves the set, and the shares of each leaf stand in order. Where
+/// memory is refused, there is none.
+pub(crate) fn proof_verdict(
+    alloc: Global,
+    model: &Model,
+    set: &MemberSet,
+    proof: Proof,
+) -> Option<Verdict>
+    requires same { IsSetOf model.now set.now }
+    requires fitting { All IsFittingNode proof.nodes }
+    ensures { IfSome result (IsConfirmed model.now set.now.members) }
+{
+    if !are_leaves_in_order(proof.nodes.as_slice()) {
+        return None;
+    }
+    let Ok(judged) = check_proof(alloc, model, set, &proof) else {
+        return None;
+    };
+    if !is_proved(judged) {
+        return None;
+    }
+    Some(Verdict::Infeasible(proof))
+}
+
+// Whether the check of a proof says yes.
+fn is_proved(judged: Judged) -> bool
+    ensures { result ≡ true → judged ≡ Judged.Yes }
+{
+    matches!(judged, Judged::Yes)
+}
+
+// Whether the shares of each leaf stand in order.
+fn are_leaves_in_order(nodes: &[Node]) -> bool
+    ensures { result ≡ true → AreLeavesInOrder nodes.now }
+{
+    for node in nodes {
+        if !is_node_in_order(node) {
+            return false;
+        }
+    }
+    true
+}
+
+// Whether those of a node do, where it is a leaf.
+fn is_node_in_order(node: &Node) -> bool
+    ensures { result ≡ true → IsNodeInOrder node.now }
+{
+    match node {
+        Node::Split { .. } => true,
+        Node::Leaf(combo) => are_in_order(combo.shares.as_slice()),
+    }
+}
+
 /// The same point once more.
 pub(crate) fn copied_point(alloc: Global, point: &Point) -> Result<Point, AllocError>
     ensures { IfOk result (λ copy. copy ≡ point.now) }
@@ -89,4 +152,30 @@ pub(crate) fn copied_combo(alloc: Global, combo: &Combo) -> Result<Combo, AllocE
     Ok(Combo {
         shares: Shares::new(Vec::from_slice(alloc, combo.shares.as_slice())?),
     })
+}
+
+/// The same proof once more.
+pub(crate) fn copied_proof(alloc: Global, proof: &Proof) -> Result<Proof, AllocError>
+    ensures { IfOk result (λ copy. copy ≡ proof.now) }
+{
+    let mut nodes = Vec::new(alloc);
+    for node in proof.nodes.as_slice() {
+        nodes.push(copied_node(alloc, node)?)?;
+    }
+    Ok(Proof {
+        nodes: Nodes::new(nodes),
+    })
+}
+
+// The same node once more.
+fn copied_node(alloc: Global, node: &Node) -> Result<Node, AllocError>
+    ensures { IfOk result (λ copy. copy ≡ node.now) }
+{
+    match node {
+        Node::Split { column, at } => Ok(Node::Split {
+            column: *column,
+            at: *at,
+        }),
+        Node::Leaf(combo) => Ok(Node::Leaf(copied_combo(alloc, combo)?)),
+    }
 }

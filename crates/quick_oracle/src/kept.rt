@@ -1,12 +1,16 @@
 //! What is kept from ask to ask, and what it gives.
-ghost use Rattle.std.specs.Prelude.{◌≡◌, ◌+◌, ◌≤◌, IfSome, None, true};
+ghost use Rattle.std.specs.Prelude.{◌≡◌, ◌+◌, ◌*◌, ◌≤◌, IfSome, None, true};
 ghost use Rattle.certs.specs.Checks.{IsSetOf};
 ghost use Rattle.quick_oracle.specs.Alone.{stands_alone as is_alone};
 ghost use Rattle.quick_oracle.specs.Answers.{IsConfirmed};
+ghost use Rattle.quick_oracle.specs.Value.{most_pivots};
 
-use crate::alone::stands_alone;
-use crate::confirmed::{copied_combo, copied_point, is_combo, is_point, leaf_verdict};
-use certs::{Combo, MemberSet, Point, Verdict};
+use crate::alone::{has_mark, stands_alone};
+use crate::confirmed::{
+    copied_combo, copied_point, copied_proof, is_combo, is_point, leaf_verdict,
+};
+use crate::trees::quick_tree;
+use certs::{Combo, MemberSet, Node, Point, Proof, Verdict};
 use lp_model::Model;
 use quick_run::{QuickRun, Suggest, Suggestion};
 use std::alloc::Global;
@@ -17,28 +21,40 @@ mod tests;
 // After so many asks in a row that gave nothing, no quick run is made.
 const MOST_FAILURES: u32 = 2;
 
+/// What the quick runs of an ask may take: so many pivots, or where the set has a mark so many for each node, and so many
+/// nodes.
+#[derive(Clone, Copy)]
+pub(crate) struct Budget {
+    pub pivots: u64,
+    pub nodes: u64,
+}
+
 /// What is kept from ask to ask, and from one oracle to the next, on one program: what suggests, as the table of the quick
-/// runs, and the last point and the last combination that were confirmed. Contracts see how many pivots the quick runs made.
+/// runs, and the last point, the last combination and the last proof by a tree that were confirmed. Contracts see how many
+/// pivots the quick runs made, and how many nodes the trees took.
 #[derive(Drop)]
 pub struct Kept<S: Suggest = QuickRun> {
     run: S,
     point: Option<Point>,
     combo: Option<Combo>,
+    proof: Option<Proof>,
     failures: u32,
+    tree_failures: u32,
+    taken: u64,
 }
 
 impl<S: Suggest> std::marker::Model for Kept<S> {
-    ghost use Rattle.std.specs.Prelude.{ℕ};
+    ghost use Rattle.quick_oracle.specs.Value.{KeptValue};
 
-    ghost Value = { ℕ };
+    ghost Value = { KeptValue };
 
-    ghost view = { λ k. S.made k.run };
+    ghost view = { λ k. record { made = S.made k.run; taken = k.taken } };
 }
 
 impl Kept<QuickRun> {
     /// Nothing was run and nothing confirmed yet.
     pub fn new() -> Kept<QuickRun>
-        ensures { result ≡ 0 }
+        ensures { result ≡ record { made = 0; taken = 0 } }
     {
         Kept::with_run(QuickRun::new())
     }
@@ -47,26 +63,128 @@ impl Kept<QuickRun> {
 impl<S: Suggest> Kept<S> {
     /// Suggestions are asked of this, and nothing was confirmed yet.
     pub fn with_run(run: S) -> Kept<S>
-        ensures { result ≡ S.made run }
+        ensures { result ≡ record { made = S.made run; taken = 0 } }
     {
         Kept {
             run,
             point: None,
             combo: None,
+            proof: None,
             failures: 0,
+            tree_failures: 0,
+            taken: 0,
         }
     }
 
     /// How many pivots the quick runs made so far; it stays at its greatest value once there.
     pub fn pivots_made(&self) -> u64
-        ensures { result ≡ self.now }
+        ensures { result ≡ self.now.made }
     {
         self.run.pivots_made()
     }
 
-    /// A confirmed verdict for a set, by what is kept where it is the first ask, or else by a quick run of so many
-    /// pivots. None where nothing was confirmed, where the set stands alone, and once two asks in a row gave nothing.
+    /// How many nodes quick trees took so far; it stays at its greatest value once there.
+    pub fn nodes_taken(&self) -> u64
+        ensures { result ≡ self.now.taken }
+    {
+        self.taken
+    }
+
+    /// A confirmed verdict for a set, by what is kept where it is the first ask, or else by quick runs: one for a set without
+    /// marks, and a tree of them for one with a mark. None where nothing was confirmed, where the set stands alone, and once
+    /// two asks in a row for sets of its kind gave nothing.
     pub(crate) fn verdict(
+        &mut self,
+        alloc: Global,
+        model: &Model,
+        set: &MemberSet,
+        budget: Budget,
+        is_first: bool,
+    ) -> Option<Verdict>
+        requires { IsSetOf model.now set.now }
+        ensures confirmed { IfSome result (IsConfirmed model.now set.now.members) }
+        ensures alone { is_alone model.now set.now.members budget.nodes ≡ true → result ≡ None }
+        ensures counted { self.old.made ≤ self.new.made }
+        ensures spent { self.new.made ≤ self.old.made
+            + most_pivots budget.pivots budget.nodes set.now.members }
+        ensures added { self.old.taken ≤ self.new.taken }
+        ensures taken { self.new.taken ≤ self.old.taken + budget.nodes }
+    {
+        if stands_alone(model, set, budget.nodes) {
+            return None;
+        }
+        if has_mark(set, model.column_count()) {
+            return self.marked_verdict(alloc, model, set, budget, is_first);
+        }
+        self.plain_verdict(alloc, model, set, budget.pivots, is_first)
+    }
+
+    // That for a set with a mark, by a quick tree.
+    fn marked_verdict(
+        &mut self,
+        alloc: Global,
+        model: &Model,
+        set: &MemberSet,
+        budget: Budget,
+        is_first: bool,
+    ) -> Option<Verdict>
+        requires { IsSetOf model.now set.now }
+        ensures confirmed { IfSome result (IsConfirmed model.now set.now.members) }
+        ensures counted { self.old.made ≤ self.new.made }
+        ensures spent { self.new.made ≤ self.old.made + budget.pivots * budget.nodes }
+        ensures added { self.old.taken ≤ self.new.taken }
+        ensures taken { self.new.taken ≤ self.old.taken + budget.nodes }
+    {
+        if self.tree_failures >= MOST_FAILURES {
+            return None;
+        }
+        let found = self.found_by_tree(alloc, model, set, budget, is_first);
+        self.tree_failures = match found {
+            Some(_) => 0,
+            None => self.tree_failures.saturating_add(1),
+        };
+        found
+    }
+
+    // A confirmed verdict by what is kept where it is the first ask, or else by a quick tree.
+    fn found_by_tree(
+        &mut self,
+        alloc: Global,
+        model: &Model,
+        set: &MemberSet,
+        budget: Budget,
+        is_first: bool,
+    ) -> Option<Verdict>
+        requires { IsSetOf model.now set.now }
+        ensures confirmed { IfSome result (IsConfirmed model.now set.now.members) }
+        ensures counted { self.old.made ≤ self.new.made }
+        ensures spent { self.new.made ≤ self.old.made + budget.pivots * budget.nodes }
+        ensures added { self.old.taken ≤ self.new.taken }
+        ensures taken { self.new.taken ≤ self.old.taken + budget.nodes }
+    {
+        if is_first && let Some(verdict) = self.remembered(alloc, model, set) {
+            return Some(verdict);
+        }
+        let last = nodes_of(&self.proof);
+        let mut left = budget.nodes;
+        let found = quick_tree(
+            alloc,
+            model,
+            set,
+            &mut self.run,
+            last,
+            budget.pivots,
+            &mut left,
+        );
+        let taken = budget.nodes.saturating_sub(left);
+        self.taken = self.taken.saturating_add(taken);
+        let verdict = found?;
+        keep(alloc, &verdict, &mut self.point, &mut self.proof);
+        Some(verdict)
+    }
+
+    // That for a set without marks, by a quick run of so many pivots.
+    fn plain_verdict(
         &mut self,
         alloc: Global,
         model: &Model,
@@ -76,11 +194,11 @@ impl<S: Suggest> Kept<S> {
     ) -> Option<Verdict>
         requires { IsSetOf model.now set.now }
         ensures confirmed { IfSome result (IsConfirmed model.now set.now.members) }
-        ensures alone { is_alone model.now set.now.members ≡ true → result ≡ None }
-        ensures counted { self.old ≤ self.new }
-        ensures spent { self.new ≤ self.old + pivots }
+        ensures counted { self.old.made ≤ self.new.made }
+        ensures spent { self.new.made ≤ self.old.made + pivots }
+        ensures taken { self.new.taken ≡ self.old.taken }
     {
-        if self.failures >= MOST_FAILURES || stands_alone(model, set) {
+        if self.failures >= MOST_FAILURES {
             return None;
         }
         let found = self.found(alloc, model, set, pivots, is_first);
@@ -102,8 +220,9 @@ impl<S: Suggest> Kept<S> {
     ) -> Option<Verdict>
         requires { IsSetOf model.now set.now }
         ensures confirmed { IfSome result (IsConfirmed model.now set.now.members) }
-        ensures counted { self.old ≤ self.new }
-        ensures spent { self.new ≤ self.old + pivots }
+        ensures counted { self.old.made ≤ self.new.made }
+        ensures spent { self.new.made ≤ self.old.made + pivots }
+        ensures taken { self.new.taken ≡ self.old.taken }
     {
         if is_first && let Some(verdict) = self.remembered(alloc, model, set) {
             return Some(verdict);
@@ -134,8 +253,9 @@ impl<S: Suggest> Kept<S> {
     ) -> Option<Verdict>
         requires { IsSetOf model.now set.now }
         ensures confirmed { IfSome result (IsConfirmed model.now set.now.members) }
-        ensures counted { self.old ≤ self.new }
-        ensures spent { self.new ≤ self.old + pivots }
+        ensures counted { self.old.made ≤ self.new.made }
+        ensures spent { self.new.made ≤ self.old.made + pivots }
+        ensures taken { self.new.taken ≡ self.old.taken }
     {
         let before = self.run.pivots_made();
         if let Some(verdict) = self.run_once(alloc, model, set, pivots) {
@@ -158,13 +278,30 @@ impl<S: Suggest> Kept<S> {
     ) -> Option<Verdict>
         requires { IsSetOf model.now set.now }
         ensures confirmed { IfSome result (IsConfirmed model.now set.now.members) }
-        ensures counted { self.old ≤ self.new }
-        ensures spent { self.new ≤ self.old + pivots }
+        ensures counted { self.old.made ≤ self.new.made }
+        ensures spent { self.new.made ≤ self.old.made + pivots }
+        ensures taken { self.new.taken ≡ self.old.taken }
     {
-        match self.run.suggest(alloc, model, set, pivots)? {
+        match self.run.suggest(alloc, model, set, &[], pivots)? {
             Suggestion::Point(point) => satisfied(alloc, model, set, point, &mut self.point),
             Suggestion::Combo(combo) => refuted(alloc, model, set, combo, &mut self.combo),
         }
+    }
+}
+
+// The nodes of the proof that was kept, or none.
+fn nodes_of(kept: &Option<Proof>) -> &[Node] {
+    match kept {
+        Some(proof) => proof.nodes.as_slice(),
+        None => &[],
+    }
+}
+
+// Keeps a copy of the verdict's point or proof, where memory allows.
+fn keep(alloc: Global, verdict: &Verdict, point: &mut Option<Point>, proof: &mut Option<Proof>) {
+    match verdict {
+        Verdict::Feasible(found) => *point = copied_point(alloc, found).ok(),
+        Verdict::Infeasible(found) => *proof = copied_proof(alloc, found).ok(),
     }
 }
 
@@ -196,7 +333,7 @@ fn refuted(
     requires { IsSetOf model.now set.now }
     ensures { IfSome result (IsConfirmed model.now set.now.members) }
 {
-    if !is_combo(alloc, model, set, &combo) {
+    if !is_combo(alloc, model, set, &[], &combo) {
         return None;
     }
     *kept = copied_combo(alloc, &combo).ok();
@@ -219,7 +356,7 @@ fn refuted_again(alloc: Global, model: &Model, set: &MemberSet, kept: &Combo) ->
     requires { IsSetOf model.now set.now }
     ensures { IfSome result (IsConfirmed model.now set.now.members) }
 {
-    if !is_combo(alloc, model, set, kept) {
+    if !is_combo(alloc, model, set, &[], kept) {
         return None;
     }
     let Ok(combo) = copied_combo(alloc, kept) else {

@@ -3,8 +3,11 @@
 
 mod alone;
 mod confirmed;
+mod guides;
 mod kept;
 mod oracle;
+mod splits;
+mod trees;
 
 pub use kept::Kept;
 pub use oracle::QuickOracle;

@@ -4,9 +4,9 @@ ghost use Rattle.certs.specs.Checks.{IsSetOf};
 ghost use Rattle.certs.specs.Tales.{asked_after, no_tale};
 ghost use Rattle.quick_oracle.specs.Alone.{stands_alone};
 ghost use Rattle.quick_oracle.specs.Answers.{Came, IsAsked, IsQuickAnswer, quick_holds, quick_ordered, quick_within};
-ghost use Rattle.quick_oracle.specs.Value.{QuickValue, state_with};
+ghost use Rattle.quick_oracle.specs.Value.{QuickValue, most_pivots, state_with};
 
-use crate::kept::Kept;
+use crate::kept::{Budget, Kept};
 use certs::{MemberSet, Oracle, Stop, Tale, Verdict};
 use lp_model::Model;
 use quick_run::{QuickRun, Suggest};
@@ -19,6 +19,7 @@ pub struct QuickOracle<'a, O: Oracle, S: Suggest = QuickRun> {
     kept: Kept<S>,
     inner: O,
     pivots: u64,
+    nodes: u64,
     tale: Tale,
 }
 
@@ -28,29 +29,38 @@ impl<'a, O: Oracle, S: Suggest> std::marker::Model for QuickOracle<'a, O, S> {
 
     ghost Value = { QuickValue O };
 
-    ghost view = { λ o. record { inner = o.inner; pivots = o.pivots; made = o.kept; tale = o.tale } };
+    ghost view = { λ o. record { inner = o.inner; pivots = o.pivots; nodes = o.nodes; made = o.kept.made; taken = o.kept.taken; tale = o.tale } };
 
     ghost invariant = { λ o. (O.state o.inner).model ≡ o.model.now };
 }
 
 impl<'a, O: Oracle, S: Suggest> QuickOracle<'a, O, S> {
-    /// An oracle for a program, with what was kept of it, that makes quick runs of so many pivots an ask. It was asked
-    /// nothing yet.
+    /// An oracle for a program, with what was kept of it, that makes quick runs of so many pivots an ask, or where the set has
+    /// a mark of so many pivots a node, in a quick tree of at most so many nodes. It was asked nothing yet.
     pub fn new(
         alloc: Global,
         model: &'a Model,
         kept: Kept<S>,
         inner: O,
         pivots: u64,
+        nodes: u64,
     ) -> QuickOracle<'a, O, S>
         requires { (O.state inner).model ≡ model.now }
-        ensures { result ≡ record { inner = inner; pivots = pivots; made = kept; tale = no_tale } }
+        ensures { result ≡ record {
+          inner = inner;
+          pivots = pivots;
+          nodes = nodes;
+          made = kept.made;
+          taken = kept.taken;
+          tale = no_tale;
+        } }
     {
         QuickOracle {
             model,
             kept,
             inner,
             pivots,
+            nodes,
             tale: Tale::new(alloc),
         }
     }
@@ -75,12 +85,19 @@ impl<'a, O: Oracle, S: Suggest> QuickOracle<'a, O, S> {
     {
         self.kept.pivots_made()
     }
+
+    /// How many nodes the quick trees took so far, for measurements; it stays at its greatest value once there.
+    pub fn nodes_taken(&self) -> u64
+        ensures { result ≡ self.now.taken }
+    {
+        self.kept.nodes_taken()
+    }
 }
 
 impl<'a, O: Oracle + Drop, S: Suggest> QuickOracle<'a, O, S> {
     /// What is kept of the program, for the next oracle.
     pub fn into_kept(self) -> Kept<S>
-        ensures { result ≡ self.entry.made }
+        ensures { result ≡ record { made = self.entry.made; taken = self.entry.taken } }
     {
         self.kept
     }
@@ -109,14 +126,21 @@ impl<O: Oracle, S: Suggest> Oracle for QuickOracle<'_, O, S> {
         // A confirmed verdict comes without an ask of the inner oracle; all else is what it answers to this one.
         ensures came { Came O.answers (O.state self.old.inner) (O.state self.new.inner)
             set.now.members result }
-        // Where the set is small, where limits cross, and where it has a mark, the inner oracle is asked.
-        ensures alone { stands_alone (O.state self.old.inner).model set.now.members ≡ true
+        // Where the set is small, where limits cross, and where it has a mark and quick trees may have no nodes, the inner
+        // oracle is asked.
+        ensures alone { stands_alone (O.state self.old.inner).model set.now.members self.old.nodes ≡ true
             → IsAsked O.answers (O.state self.old.inner) (O.state self.new.inner)
             set.now.members result }
-        // The quick runs' count never falls, and so many pivots are left to those of one ask.
+        // The quick runs' count never falls, and so many pivots are left to those of one ask: for each node, where the set
+        // has a mark.
         ensures counted { self.old.made ≤ self.new.made }
-        ensures spent { self.new.made ≤ self.old.made + self.old.pivots }
+        ensures spent { self.new.made ≤ self.old.made
+            + most_pivots self.old.pivots self.old.nodes set.now.members }
+        // The quick trees' count of nodes never falls, and so many are left to the trees of one ask.
+        ensures added { self.old.taken ≤ self.new.taken }
+        ensures taken { self.new.taken ≤ self.old.taken + self.old.nodes }
         ensures budget { self.new.pivots ≡ self.old.pivots }
+        ensures nodes { self.new.nodes ≡ self.old.nodes }
     {
         set.stands_in_order();
         let is_first = self.tale.asks() == 0;
@@ -126,33 +150,39 @@ impl<O: Oracle, S: Suggest> Oracle for QuickOracle<'_, O, S> {
             &mut self.kept,
             &mut self.inner,
             set,
-            self.pivots,
+            Budget {
+                pivots: self.pivots,
+                nodes: self.nodes,
+            },
             is_first,
         );
         self.tale.tell(alloc, set, answer)
     }
 }
 
-// A confirmed verdict by a quick run, or else what the inner oracle answers.
+// A confirmed verdict by quick runs, or else what the inner oracle answers.
 fn answered<O: Oracle, S: Suggest>(
     alloc: Global,
     model: &Model,
     kept: &mut Kept<S>,
     inner: &mut O,
     set: &MemberSet,
-    pivots: u64,
+    budget: Budget,
     is_first: bool,
 ) -> Result<Verdict, Stop>
     requires same { IsSetOf model.now set.now }
     requires program { (O.state inner.old).model ≡ model.now }
     requires served { (O.state inner.old).serves set.now.members ≡ true }
     ensures came { Came O.answers (O.state inner.old) (O.state inner.new) set.now.members result }
-    ensures alone { stands_alone model.now set.now.members ≡ true
+    ensures alone { stands_alone model.now set.now.members budget.nodes ≡ true
         → IsAsked O.answers (O.state inner.old) (O.state inner.new) set.now.members result }
-    ensures counted { kept.old ≤ kept.new }
-    ensures spent { kept.new ≤ kept.old + pivots }
+    ensures counted { kept.old.made ≤ kept.new.made }
+    ensures spent { kept.new.made ≤ kept.old.made
+        + most_pivots budget.pivots budget.nodes set.now.members }
+    ensures added { kept.old.taken ≤ kept.new.taken }
+    ensures taken { kept.new.taken ≤ kept.old.taken + budget.nodes }
 {
-    if let Some(verdict) = kept.verdict(alloc, model, set, pivots, is_first) {
+    if let Some(verdict) = kept.verdict(alloc, model, set, budget, is_first) {
         return Ok(verdict);
     }
     inner.ask(alloc, set)

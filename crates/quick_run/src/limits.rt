@@ -46,6 +46,14 @@ pub(crate) fn limit_on(limits: Limits, side: Side) -> Option<Frac> {
     }
 }
 
+/// Whether the lower limit is above the upper one.
+pub(crate) fn are_crossed(limits: Limits) -> bool {
+    let Some(lo) = limits.lo else {
+        return false;
+    };
+    limits.up.is_some_and(|up| lo > up)
+}
+
 /// The other side.
 pub(crate) fn opposite(side: Side) -> Side {
     match side {

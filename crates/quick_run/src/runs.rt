@@ -4,13 +4,13 @@ ghost use Rattle.certs.specs.Checks.{IsSetOf};
 ghost use Rattle.quick_run.specs.Shape.{IsSuggestion};
 ghost use Rattle.quick_run.specs.Value.{RunValue};
 
-use crate::combinations::combo;
+use crate::combinations::{combo, crossing};
 use crate::pivots::{Turn, choose, make_pivot, most_pivots};
 use crate::points::{point, read_off};
 use crate::starts::start;
 use crate::suggestions::{Suggest, Suggestion};
 use crate::tables::Table;
-use certs::MemberSet;
+use certs::{Branch, MemberSet};
 use lp_model::Model;
 use std::alloc::Global;
 
@@ -54,14 +54,15 @@ impl QuickRun {
 impl Suggest for QuickRun {
     ghost made = { λ r. r.made };
 
-    /// A point or a combination that may show whether the set's members, marks left out, can be satisfied, found with at
-    /// most so many pivots; none where a number does not fit, too many pivots or entries are wanted, or memory is refused.
-    /// Nothing is promised of it but its shape, so what it shows is to be checked: a point with a value for each column, or
-    /// shares of members of the set in order, with weights above 0.
+    /// A point or a combination that may show whether some point on a path satisfies the set's members, marks left out, found
+    /// with at most so many pivots; none where a number does not fit, too many pivots or entries are wanted, memory is
+    /// refused, or a branch is on no column. Nothing is promised of it but its shape, so what it shows is to be checked: a
+    /// point with a value for each column, or shares of members of the set and of branches in order, with weights above 0.
     ///
     /// The run is the general simplex (Dutertre and de Moura, *A fast linear-arithmetic solver for DPLL(T)*, 2006) in whole
     /// numbers, over all rows of the program. It begins at the table at which the last run on the same program ended, with
-    /// the limits of this set; where the last ask ended infeasible and one of its limits is gone, the point is first looked
+    /// the limits of this set, which the branches narrow. Where a branch makes those of a column cross, they are the
+    /// combination. Where the last ask ended infeasible and one of its limits is gone, the point is first looked
     /// for by moving that variable alone. Of the variables that miss a limit the one with the shortest row leaves, after as
     /// many pivots as there are rows the least one, and after twenty times as many the least one also enters (Bland, *New
     /// finite pivoting rules for the simplex method*, 1977). Where none is returned the table is thrown away.
@@ -70,10 +71,11 @@ impl Suggest for QuickRun {
         alloc: Global,
         model: &Model,
         set: &MemberSet,
+        path: &[Branch],
         pivots: u64,
     ) -> Option<Suggestion>
         requires same { IsSetOf model.now set.now }
-        ensures shape { IfSome result (IsSuggestion model.now set.now.members) }
+        ensures shape { IfSome result (IsSuggestion model.now set.now.members path.now) }
         ensures counted { self.old.made ≤ self.new.made }
         ensures spent { self.new.made ≤ self.old.made + pivots }
         ensures kept { self.new.has_table ≡ is_some result }
@@ -85,8 +87,8 @@ impl Suggest for QuickRun {
             Some(table) => table,
             None => start(alloc, model, set)?,
         };
-        table.limit(model, set)?;
-        let suggestion = found(alloc, model, set, &mut table, pivots, &mut self.made)?;
+        table.limit(model, set, path)?;
+        let suggestion = suggested(alloc, model, set, path, &mut table, pivots, &mut self.made)?;
         self.table = Some(table);
         Some(suggestion)
     }
@@ -113,16 +115,39 @@ impl Suggest for QuickRun {
     }
 }
 
-// What the table shows under its limits: without a pivot where that can be read off, and else at the end of a run.
-fn found(
+// What the table shows under its limits: where those of a column cross, and else by what can be read off or a run.
+fn suggested(
     alloc: Global,
     model: &Model,
     set: &MemberSet,
+    path: &[Branch],
     table: &mut Table,
     pivots: u64,
     made: &mut u64,
 ) -> Option<Suggestion>
-    ensures shape { IfSome result (IsSuggestion model.now set.now.members) }
+    requires same { IsSetOf model.now set.now }
+    ensures shape { IfSome result (IsSuggestion model.now set.now.members path.now) }
+    ensures counted { made.old ≤ made.new }
+    ensures spent { made.new ≤ made.old + pivots }
+{
+    if let Some(column) = table.crossed(path) {
+        return Some(Suggestion::Combo(crossing(alloc, model, table, set, path, column)?));
+    }
+    found(alloc, model, set, path, table, pivots, made)
+}
+
+// What the table shows under limits that do not cross: without a pivot where that can be read off, and else at the end of
+// a run.
+fn found(
+    alloc: Global,
+    model: &Model,
+    set: &MemberSet,
+    path: &[Branch],
+    table: &mut Table,
+    pivots: u64,
+    made: &mut u64,
+) -> Option<Suggestion>
+    ensures shape { IfSome result (IsSuggestion model.now set.now.members path.now) }
     ensures counted { made.old ≤ made.new }
     ensures spent { made.new ≤ made.old + pivots }
 {
@@ -133,7 +158,8 @@ fn found(
         End::Settled => Some(Suggestion::Point(point(alloc, model, table, None)?)),
         End::Blocked => {
             let blocked = table.blocked?;
-            Some(Suggestion::Combo(combo(alloc, table, model.column_count(), set, blocked)?))
+            let columns = model.column_count();
+            Some(Suggestion::Combo(combo(alloc, table, columns, set, path, blocked)?))
         }
     }
 }

@@ -46,6 +46,8 @@ fn at_start(limits: Limits) -> Variable {
     Variable {
         value,
         limits,
+        is_raised: false,
+        is_lowered: false,
         missed: missed(limits, value),
         row: None,
         count: 0,

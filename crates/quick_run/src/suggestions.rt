@@ -2,7 +2,7 @@
 ghost use Rattle.std.specs.Prelude.{◌≡◌, ◌+◌, ◌≤◌, ℕ};
 ghost use Rattle.certs.specs.Checks.{IsSetOf};
 
-use certs::{Combo, MemberSet, Point};
+use certs::{Branch, Combo, MemberSet, Point};
 use lp_model::Model;
 use std::alloc::Global;
 
@@ -13,18 +13,20 @@ pub enum Suggestion {
     Combo(Combo),
 }
 
-/// What suggests whether sets of one program's members can be satisfied. Nothing is promised of a suggestion, so all of it is
-/// to be checked; what is counted is its work.
+/// What suggests whether sets of one program's members can be satisfied on paths. Nothing is promised of a suggestion, so all
+/// of it is to be checked; what is counted is its work.
 pub trait Suggest {
     /// How many pivots were made so far.
     ghost made: { Self → ℕ };
 
-    /// What may show whether the set's members, marks left out, can be satisfied, found with at most so many pivots.
+    /// What may show whether some point on a path satisfies the set's members, marks left out, found with at most so many
+    /// pivots.
     fn suggest(
         &mut self,
         alloc: Global,
         model: &Model,
         set: &MemberSet,
+        path: &[Branch],
         pivots: u64,
     ) -> Option<Suggestion>
         requires same { IsSetOf model.now set.now }

@@ -4,18 +4,20 @@ ghost use Rattle.certs.specs.Checks.{IsSetOf};
 
 use crate::arithmetic::moved;
 use crate::entries::Entry;
-use crate::limits::{column_limits, limit_on, missed, row_limits};
+use crate::limits::{are_crossed, column_limits, limit_on, missed, row_limits};
 use crate::rows::TableRow;
-use certs::{Limits, MemberSet, Side};
+use certs::{Branch, Limits, MemberSet, Side};
 use frac128::Frac;
 use lp_model::Model;
 
-/// What the table has of a variable: where it stands, the side whose limit it misses, its row where it is basic, and in how
-/// many rows it counts.
+/// What the table has of a variable: where it stands, its limits and whether a branch gives them, the side whose limit it
+/// misses, its row where it is basic, and in how many rows it counts.
 #[derive(Clone, Copy)]
 pub(crate) struct Variable {
     pub value: Frac,
     pub limits: Limits,
+    pub is_raised: bool,
+    pub is_lowered: bool,
     pub missed: Option<Side>,
     pub row: Option<usize>,
     pub count: u32,
@@ -44,8 +46,9 @@ impl Table {
         self.variables.get(variable as usize)
     }
 
-    /// Puts the variables under the limits of a set. A nonbasic one that is outside moves to the limit that it misses.
-    pub(crate) fn limit(&mut self, model: &Model, set: &MemberSet) -> Option<()>
+    /// Puts the variables under the limits of a set, narrowed by the branches of a path. A nonbasic one that is outside moves to
+    /// the limit that it misses. None where a branch is on no column.
+    pub(crate) fn limit(&mut self, model: &Model, set: &MemberSet, path: &[Branch]) -> Option<()>
         requires same { IsSetOf model.now set.now }
     {
         let columns = model.column_count();
@@ -54,6 +57,12 @@ impl Table {
         }
         for index in 0..model.row_count() {
             self.put_limits(columns.checked_add(index)?, row_limits(model, set, index))?;
+        }
+        for branch in path {
+            if branch.column >= columns {
+                return None;
+            }
+            self.narrow(*branch)?;
         }
         for variable in 0..u32::try_from(self.variables.len()).ok()? {
             self.bring_inside(variable)?;
@@ -65,8 +74,46 @@ impl Table {
     fn put_limits(&mut self, variable: u32, limits: Limits) -> Option<()> {
         let known = self.variables.get_mut(variable as usize)?;
         known.limits = limits;
+        known.is_raised = false;
+        known.is_lowered = false;
         known.missed = missed(limits, known.value);
         Some(())
+    }
+
+    // Puts a column under a branch, where this is tighter than the limit so far.
+    fn narrow(&mut self, branch: Branch) -> Option<()> {
+        let known = self.variables.get_mut(branch.column as usize)?;
+        let number = Frac::new(branch.at, 1).ok()?;
+        if branch.upper {
+            if known.limits.up.is_none_or(|up| number < up) {
+                known.limits.up = Some(number);
+                known.is_lowered = true;
+            }
+        } else if known.limits.lo.is_none_or(|lo| number > lo) {
+            known.limits.lo = Some(number);
+            known.is_raised = true;
+        }
+        known.missed = missed(known.limits, known.value);
+        Some(())
+    }
+
+    /// A column on a path whose limits cross.
+    pub(crate) fn crossed(&self, path: &[Branch]) -> Option<u32> {
+        for branch in path {
+            let limits = self.variable(branch.column)?.limits;
+            if are_crossed(limits) {
+                return Some(branch.column);
+            }
+        }
+        None
+    }
+
+    /// Whether a branch gives the limit of a variable on a side.
+    pub(crate) fn is_branched(&self, variable: u32, side: Side) -> bool {
+        self.variable(variable).is_some_and(|known| match side {
+            Side::Lo => known.is_raised,
+            Side::Up => known.is_lowered,
+        })
     }
 
     // Moves a nonbasic variable that is outside its limits to the one that it misses.

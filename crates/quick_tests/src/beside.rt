@@ -1,10 +1,9 @@
-//! A model asked with quick runs beside the reference run alone.
-ghost use Rattle.std.specs.Prelude.{◌≡◌, true, IfOk};
-ghost use Rattle.lp_model.specs.Members.{is_mark};
+//! A model asked with quick runs and trees of them beside the reference alone.
+ghost use Rattle.std.specs.Prelude.{◌≡◌, ◌<◌, ◌^◌, true, IfOk};
 ghost use Rattle.certs.specs.Checks.{IsSetOf};
-ghost use Rattle.certs.specs.Answers.{is_linear};
 
 use crate::tally::{Tally, raise};
+use branch_oracle::BranchOracle;
 use certs::{Irreducible, MemberSet, Oracle, Stop, Verdict};
 use filter_steps::listed;
 use linear_oracle::LinearOracle;
@@ -15,6 +14,12 @@ use std::alloc::{AllocError, Global};
 
 // What a run may spend.
 const PIVOTS: u64 = 100_000;
+
+// What a tree may take.
+const NODES: u64 = 400;
+
+/// What makes the reference runs and trees.
+pub(crate) type Reference<'a> = BranchOracle<'a, LinearOracle<'a>>;
 
 // A question of a script.
 #[derive(Clone, Copy, PartialEq, Eq)]
@@ -31,25 +36,6 @@ enum Answer {
     Infeasible,
     Members(Vec<Member>),
     Stopped,
-}
-
-// Whether a member is a mark.
-fn is_whole(member: Member) -> bool
-    ensures { result ≡ is_mark member }
-{
-    matches!(member, Member::Whole(_))
-}
-
-/// Whether none of the members is a mark.
-pub(crate) fn are_unmarked(members: &[Member]) -> bool
-    ensures { result ≡ is_linear members.now }
-{
-    for member in members {
-        if is_whole(*member) {
-            return false;
-        }
-    }
-    true
 }
 
 /// All active members of a model.
@@ -108,7 +94,7 @@ fn agree(first: &Answer, second: &Answer) -> bool {
     }
 }
 
-// Tallies a question, to which the reference run alone gave the first answer.
+// Tallies a question, to which the reference alone gave the first answer.
 fn count(tally: &mut Tally, alone: &Answer, quick: &Answer) {
     raise(
         &mut tally.stopped_alone,
@@ -125,6 +111,20 @@ fn count(tally: &mut Tally, alone: &Answer, quick: &Answer) {
     raise(&mut tally.differ, u64::from(!agree(alone, quick)));
 }
 
+/// The reference of a model, within so many pivots a run and so many nodes a tree. It was asked nothing yet.
+pub(crate) fn reference_of<'a>(
+    alloc: Global,
+    model: &'a Model,
+    pivots: u64,
+    nodes: u64,
+) -> Reference<'a>
+    requires few { pivots < 2 ^ 63 }
+    ensures { result.inner.model ≡ model.now }
+{
+    let inner = LinearOracle::new(alloc, model, pivots);
+    BranchOracle::new(alloc, model, inner, nodes)
+}
+
 // Asks all questions of a set, one after the other, with what quick runs keep from one to the next.
 fn ask_all(
     alloc: Global,
@@ -133,20 +133,21 @@ fn ask_all(
     tally: &mut Tally,
 ) -> Result<(), AllocError>
     requires same { IsSetOf model.now set.now }
-    requires unmarked { is_linear set.now.members ≡ true }
 {
     let mut kept = Kept::new();
     for question in [Question::Check, Question::Deletion, Question::Additive] {
-        let mut reference = LinearOracle::new(alloc, model, PIVOTS);
+        let mut reference = reference_of(alloc, model, PIVOTS, NODES);
         let alone = ask_question(alloc, &mut reference, set, question)?;
-        let inner = LinearOracle::new(alloc, model, PIVOTS);
-        let mut quick = QuickOracle::new(alloc, model, kept, inner, PIVOTS);
+        let inner = reference_of(alloc, model, PIVOTS, NODES);
+        let mut quick = QuickOracle::new(alloc, model, kept, inner, PIVOTS, NODES);
         let answered = ask_question(alloc, &mut quick, set, question)?;
         raise(&mut tally.asks, quick.tale().asks());
         raise(&mut tally.handed, quick.inner().tale().asks());
+        raise(&mut tally.nodes_alone, reference.nodes_taken());
         count(tally, &alone, &answered);
         kept = quick.into_kept();
     }
+    raise(&mut tally.nodes, kept.nodes_taken());
     Ok(())
 }
 
@@ -164,10 +165,6 @@ pub(crate) fn try_text(alloc: Global, bytes: &[u8], tally: &mut Tally) -> Result
         return Ok(());
     };
     let set = active(alloc, &model)?;
-    if !are_unmarked(listed(alloc, &set)?.as_slice()) {
-        raise(&mut tally.differ, 1);
-        return Ok(());
-    }
     raise(&mut tally.models, 1);
     ask_all(alloc, &model, &set, tally)
 }

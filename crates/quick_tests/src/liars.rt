@@ -1,14 +1,12 @@
 //! Suggestions that are wrong on purpose: none is answered, and each ask is the inner oracle's.
-ghost use Rattle.std.specs.Prelude.{◌≡◌, true};
 ghost use Rattle.certs.specs.Checks.{IsSetOf};
-ghost use Rattle.certs.specs.Answers.{is_linear};
 
-use crate::beside::{active, are_unmarked};
+use crate::beside::{active, reference_of};
 use crate::models::opposed_text;
-use certs::{Combo, MemberSet, Oracle, Point, Share, Shares, Source, Stop, Values, Verdict};
-use filter_steps::listed;
+use certs::{
+    Branch, Combo, MemberSet, Oracle, Point, Share, Shares, Source, Stop, Values, Verdict,
+};
 use frac128::Frac;
-use linear_oracle::LinearOracle;
 use lp_model::{Member, Model};
 use mps_reader::read_mps;
 use quick_oracle::{Kept, QuickOracle};
@@ -18,13 +16,18 @@ use std::alloc::{AllocError, Global};
 // What a run may spend.
 const PIVOTS: u64 = 1_000;
 
-/// What is suggested for two rows, of which one asks a column to be at least 1, and the other to be at most 0.
+// What a tree may take.
+const NODES: u64 = 20;
+
+/// What is suggested for two rows, of which one asks a column to be at least 1, and the other to be at most 0, on every path.
 #[derive(Clone, Copy, PartialEq, Eq)]
 pub(crate) enum Lie {
     /// Nothing.
     Silence,
     /// A point that misses the first row.
     Point,
+    /// A point that misses the first row, at which the column is 1/2.
+    Half,
     /// A point without values.
     NoValues,
     /// The first row alone, which does not cancel.
@@ -52,6 +55,7 @@ impl Suggest for Liar {
         alloc: Global,
         model: &Model,
         _set: &MemberSet,
+        _path: &[Branch],
         pivots: u64,
     ) -> Option<Suggestion> {
         self.made = self.made.saturating_add(pivots.min(1));
@@ -72,8 +76,9 @@ fn suggestion(alloc: Global, model: &Model, lie: Lie) -> Result<Option<Suggestio
     let (first, second) = (Member::RowLo(0), Member::RowUp(1));
     match lie {
         Lie::Silence => Ok(None),
-        Lie::Point => point(alloc, model.column_count() as usize),
-        Lie::NoValues => point(alloc, 0),
+        Lie::Point => point(alloc, model.column_count() as usize, 1),
+        Lie::Half => point(alloc, model.column_count() as usize, 2),
+        Lie::NoValues => point(alloc, 0, 1),
         Lie::Uncancelled => combo(alloc, &[(first, 1)]),
         Lie::Negative => combo(alloc, &[(first, -1), (second, -1)]),
         Lie::Unordered => combo(alloc, &[(second, 1), (first, 1)]),
@@ -81,9 +86,16 @@ fn suggestion(alloc: Global, model: &Model, lie: Lie) -> Result<Option<Suggestio
     }
 }
 
-// The point of so many values, all of which are 0.
-fn point(alloc: Global, count: usize) -> Result<Option<Suggestion>, AllocError> {
-    let values = Values::new(vec![in alloc; Frac::whole(0); count]?);
+// The point of so many values, all of which are 0 but where a number is above 1: then the first is 1 over that number.
+fn point(alloc: Global, count: usize, denominator: i128) -> Result<Option<Suggestion>, AllocError> {
+    let mut values = vec![in alloc; Frac::whole(0); count]?;
+    if denominator > 1
+        && let Some(first) = values.get_mut(0)
+        && let Ok(part) = Frac::new(1, denominator)
+    {
+        *first = part;
+    }
+    let values = Values::new(values);
     Ok(Some(Suggestion::Point(Point { values })))
 }
 
@@ -109,14 +121,18 @@ pub(crate) struct Told {
     pub differ: u64,
 }
 
-/// Asks three times for a set of which the same lie is suggested again and again; none where the model is not the one that it
-/// should be.
+/// Asks three times for a set of which the same lie is suggested again and again, with the mark of the column or without; none
+/// where the model is not the one that it should be.
 ///
 /// # Errors
 ///
 /// Where there is no memory for it.
-pub(crate) fn try_lie(alloc: Global, lie: Lie) -> Result<Option<Told>, AllocError> {
-    let text = opposed_text(alloc)?;
+pub(crate) fn try_lie(
+    alloc: Global,
+    lie: Lie,
+    is_marked: bool,
+) -> Result<Option<Told>, AllocError> {
+    let text = opposed_text(alloc, is_marked)?;
     if text.bytes.len() >= 2_147_483_648 {
         return Ok(None);
     }
@@ -127,22 +143,18 @@ pub(crate) fn try_lie(alloc: Global, lie: Lie) -> Result<Option<Told>, AllocErro
     if lie == Lie::Outside && model.row_count() > 1 {
         set.remove(Member::RowUp(1));
     }
-    if !are_unmarked(listed(alloc, &set)?.as_slice()) {
-        return Ok(None);
-    }
     Ok(Some(ask_thrice(alloc, &model, &set, lie)))
 }
 
 // Asks three times.
 fn ask_thrice(alloc: Global, model: &Model, set: &MemberSet, lie: Lie) -> Told
     requires same { IsSetOf model.now set.now }
-    requires unmarked { is_linear set.now.members ≡ true }
 {
-    let mut reference = LinearOracle::new(alloc, model, PIVOTS);
+    let mut reference = reference_of(alloc, model, PIVOTS, NODES);
     let right = reference.ask(alloc, set);
-    let inner = LinearOracle::new(alloc, model, PIVOTS);
+    let inner = reference_of(alloc, model, PIVOTS, NODES);
     let kept = Kept::with_run(Liar { lie, made: 0 });
-    let mut oracle = QuickOracle::new(alloc, model, kept, inner, PIVOTS);
+    let mut oracle = QuickOracle::new(alloc, model, kept, inner, PIVOTS, NODES);
     let answers = [
         oracle.ask(alloc, set),
         oracle.ask(alloc, set),

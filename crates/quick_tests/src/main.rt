@@ -1,10 +1,11 @@
-//! Asks the questions of a script of models by chance, with quick runs beside the reference run alone, and tells where the two
-//! answers differ: whether there is a point, and which members the deletion and the additive filter leave.
+//! Asks the questions of a script of models by chance, with quick runs beside the reference alone, and tells where the two
+//! answers differ: whether there is a point, and which members the deletion and the additive filter leave. Of the last kinds
+//! columns are marked as whole, and quick trees stand beside the reference's.
 //!
-//! Small sets are asked of the reference run alone. All kinds but the first have more rows times columns than that.
+//! Small sets are asked of the reference alone. All kinds but the first have more rows times columns than that.
 //!
 //! Then suggestions that are wrong on purpose take the place of quick runs, and it tells of three asks for each how often there
-//! was a suggestion, how often the reference run was asked, and how many answers are not the reference run's own.
+//! was a suggestion, how often the reference was asked, and how many answers are not the reference's own.
 #![tactic(auto)]
 
 mod beside;
@@ -39,11 +40,12 @@ fn plain(idle: u32) -> Shape {
         places: 0,
         digits: 1,
         crossing: 0,
+        is_marked: false,
     }
 }
 
 // The kinds that are tried.
-fn batches() -> [Batch; 8] {
+fn batches() -> [Batch; 12] {
     let wide = plain(400);
     [
         Batch {
@@ -108,6 +110,33 @@ fn batches() -> [Batch; 8] {
             models: 24,
             seed: 7_001,
         },
+        Batch {
+            name: "marked rows",
+            kind: Kind::Rows(Shape {
+                is_marked: true,
+                ..wide
+            }),
+            models: 24,
+            seed: 8_001,
+        },
+        Batch {
+            name: "odd totals",
+            kind: Kind::Knapsack,
+            models: 3,
+            seed: 9_001,
+        },
+        Batch {
+            name: "shifts",
+            kind: Kind::Shifts,
+            models: 6,
+            seed: 10_001,
+        },
+        Batch {
+            name: "triangles",
+            kind: Kind::Triangles,
+            models: 8,
+            seed: 11_001,
+        },
     ]
 }
 
@@ -126,13 +155,15 @@ fn main(rt: HostRuntime) -> io::Result<()> {
     for batch in batches() {
         let tally = try_batch(rt.alloc(), batch)?;
         println!(rt;
-            "{}: models {} infeasible {} asks {} by quick runs {} by the reference run {} stopped {} and alone {} differ {}",
+            "{}: models {} infeasible {} asks {} by quick runs {} by the reference {} nodes {} and alone {} stopped {} and alone {} differ {}",
             batch.name,
             tally.models,
             tally.infeasible,
             tally.asks,
             tally.asks.saturating_sub(tally.handed),
             tally.handed,
+            tally.nodes,
+            tally.nodes_alone,
             tally.stopped,
             tally.stopped_alone,
             tally.differ
@@ -144,20 +175,25 @@ fn main(rt: HostRuntime) -> io::Result<()> {
 // Tells what comes of each lie.
 fn tell_lies(rt: &HostRuntime) -> io::Result<()> {
     let lies = [
-        ("nothing", Lie::Silence),
-        ("a point that misses a row", Lie::Point),
-        ("a point without values", Lie::NoValues),
-        ("a sum that does not cancel", Lie::Uncancelled),
-        ("weights below 0", Lie::Negative),
-        ("members in another order", Lie::Unordered),
-        ("a member that the set has not", Lie::Outside),
+        ("nothing", Lie::Silence, false),
+        ("a point that misses a row", Lie::Point, false),
+        ("a point without values", Lie::NoValues, false),
+        ("a sum that does not cancel", Lie::Uncancelled, false),
+        ("weights below 0", Lie::Negative, false),
+        ("members in another order", Lie::Unordered, false),
+        ("a member that the set has not", Lie::Outside, false),
+        ("nothing at a node", Lie::Silence, true),
+        ("a point that misses a row at a node", Lie::Point, true),
+        ("a point that breaks a mark at each node", Lie::Half, true),
+        ("a leaf that does not cancel", Lie::Uncancelled, true),
+        ("a leaf in another order", Lie::Unordered, true),
     ];
-    for (name, lie) in lies {
-        let Some(told) = try_lie(rt.alloc(), lie)? else {
+    for (name, lie, is_marked) in lies {
+        let Some(told) = try_lie(rt.alloc(), lie, is_marked)? else {
             return println!(rt; "{name}: the model is not read");
         };
         println!(rt;
-            "{name}: asks 3 suggestions {} by the reference run {} differ {}",
+            "{name}: asks 3 suggestions {} by the reference {} differ {}",
             told.suggestions, told.handed, told.differ
         )?;
     }

@@ -15,6 +15,12 @@ pub(crate) enum Kind {
     Transport,
     /// A flow through nodes, of which the last wants some of it.
     Flow,
+    /// Marked columns whose even weights are to come to an odd total, beside two rows that ask for little.
+    Knapsack,
+    /// A week of shifts of five days each, by marked columns, and a crew that parts of people would make large enough.
+    Shifts,
+    /// Triangles of marked columns: of any two in one triangle one is to be taken, and not two of each triangle in all.
+    Triangles,
 }
 
 /// The sizes of a model of rows, and what may stand in it.
@@ -32,6 +38,8 @@ pub(crate) struct Shape {
     pub digits: u32,
     /// Of so many columns with both bounds those of one cross; of none where it is 0.
     pub crossing: u32,
+    /// Whether the columns in the rows are marked, each with two bounds.
+    pub is_marked: bool,
 }
 
 /// A text that grows line by line.
@@ -83,6 +91,12 @@ impl Text {
         self.put(line.as_str())
     }
 
+    // The line of an upper bound that marks the column.
+    fn whole(&mut self, column: u32, number: u32) -> Result<(), AllocError> {
+        let line = format!(in self.alloc; " UI bound x{column} {number}\n")?;
+        self.put(line.as_str())
+    }
+
     // The line of an upper bound.
     fn upper(&mut self, column: u32, number: u32) -> Result<(), AllocError> {
         let line = format!(in self.alloc; " UP bound x{column} {number}\n")?;
@@ -103,21 +117,28 @@ pub(crate) fn model_text(
         Kind::Plan => put_plan(&mut text, chance)?,
         Kind::Transport => put_transport(&mut text, chance)?,
         Kind::Flow => put_flow(&mut text, chance)?,
+        Kind::Knapsack => put_knapsack(&mut text, chance)?,
+        Kind::Shifts => put_shifts(&mut text, chance)?,
+        Kind::Triangles => put_triangles(&mut text, chance)?,
     }
     text.put("ENDATA\n")?;
     Ok(text)
 }
 
 /// A model of two rows, of which one asks a column to be at least 1 and the other to be at most 0, beside 1,100 columns that
-/// stand in no row.
-pub(crate) fn opposed_text(alloc: Global) -> Result<Text, AllocError> {
+/// stand in no row. The column may be marked.
+pub(crate) fn opposed_text(alloc: Global, is_marked: bool) -> Result<Text, AllocError> {
     let mut text = Text::new(alloc);
     text.put("NAME opposed\nROWS\n N cost\n G r0\n L r1\nCOLUMNS\n")?;
     text.put(" x0 r0 1\n x0 r1 1\n")?;
     for column in 1..1_101 {
         text.column(column)?;
     }
-    text.put("RHS\n rhs r0 1\nENDATA\n")?;
+    text.put("RHS\n rhs r0 1\n")?;
+    if is_marked {
+        text.put("BOUNDS\n LI bound x0 0\n")?;
+    }
+    text.put("ENDATA\n")?;
     Ok(text)
 }
 
@@ -157,7 +178,11 @@ fn put_rows(text: &mut Text, shape: Shape, chance: &mut Chance) -> Result<(), Al
     }
     text.put("BOUNDS\n")?;
     for column in 0..columns {
-        put_bounds(text, shape, column, chance)?;
+        if shape.is_marked && column < busy {
+            put_box(text, column, chance)?;
+        } else {
+            put_bounds(text, shape, column, chance)?;
+        }
     }
     Ok(())
 }
@@ -243,6 +268,14 @@ fn put_bounds(
     text.put(lines.as_str())
 }
 
+// Two bounds of a marked column.
+fn put_box(text: &mut Text, column: u32, chance: &mut Chance) -> Result<(), AllocError> {
+    let low = i64::from(chance.below(5)) - 2;
+    let high = low + i64::from(chance.below(4));
+    let lines = format!(in text.alloc; " LI bound x{column} {low}\n UI bound x{column} {high}\n")?;
+    text.put(lines.as_str())
+}
+
 // ---- plans, transports and flows
 
 // A plan of 24 to 27 periods, the last of which may ask for much more than the others.
@@ -322,6 +355,99 @@ fn put_flow(text: &mut Text, chance: &mut Chance) -> Result<(), AllocError> {
     text.put("BOUNDS\n")?;
     for arc in 0..69 {
         text.upper(arc, chance.below(9).saturating_add(1))?;
+    }
+    Ok(())
+}
+
+// ---- marked columns
+
+// The lines of columns from a number on that stand in no row.
+fn put_idle(text: &mut Text, first: u32, count: u32) -> Result<(), AllocError> {
+    for column in first..first.saturating_add(count) {
+        text.column(column)?;
+    }
+    Ok(())
+}
+
+// From 3 to 4 columns of at most 3 whose even weights are to come to an odd total, and of which all together are to come to at
+// least 1 and at most 12, beside 400 that stand in no row.
+fn put_knapsack(text: &mut Text, chance: &mut Chance) -> Result<(), AllocError> {
+    let busy = chance.below(2).saturating_add(3);
+    text.put(" E r0\n G r1\n L r2\nCOLUMNS\n")?;
+    for column in 0..busy {
+        text.column(column)?;
+        let weight = format!(in text.alloc; "{}", chance.below(6).saturating_add(3) * 2)?;
+        text.entry(column, 0, weight.as_str())?;
+        text.entry(column, 1, "1")?;
+        text.entry(column, 2, "1")?;
+    }
+    put_idle(text, busy, 400)?;
+    let total = format!(in text.alloc; "{}", busy.saturating_mul(8).saturating_add(1))?;
+    text.put("RHS\n rhs r1 1 r2 12\n")?;
+    text.side(0, total.as_str())?;
+    text.put("BOUNDS\n")?;
+    for column in 0..busy {
+        text.whole(column, 3)?;
+    }
+    Ok(())
+}
+
+// A week in which each of 7 marked shifts works on five days in a row, and a crew; beside 150 columns that stand in no row.
+fn put_shifts(text: &mut Text, chance: &mut Chance) -> Result<(), AllocError> {
+    text.rows("G", 0, 7)?;
+    text.rows("L", 7, 1)?;
+    text.put("COLUMNS\n")?;
+    for shift in 0..7 {
+        text.column(shift)?;
+        for day in 0..5 {
+            text.entry(shift, shift.saturating_add(day) % 7, "1")?;
+        }
+        text.entry(shift, 7, "1")?;
+    }
+    put_idle(text, 7, 150)?;
+    text.put("RHS\n")?;
+    let mut total: u32 = 0;
+    for day in 0..7 {
+        let need = chance.below(8).saturating_add(5);
+        total = total.saturating_add(need);
+        let number = format!(in text.alloc; "{need}")?;
+        text.side(day, number.as_str())?;
+    }
+    let crew = format!(in text.alloc; "{}.5", (total / 5).saturating_add(chance.below(2)))?;
+    text.side(7, crew.as_str())?;
+    text.put("BOUNDS\n")?;
+    for shift in 0..7 {
+        text.whole(shift, 9)?;
+    }
+    Ok(())
+}
+
+// From 3 to 5 triangles, whose columns are all together at most twice as many as these, or a half less; beside 150 columns
+// that stand in no row.
+fn put_triangles(text: &mut Text, chance: &mut Chance) -> Result<(), AllocError> {
+    let count = chance.below(3).saturating_add(3);
+    let columns = count.saturating_mul(3);
+    text.rows("G", 0, columns)?;
+    text.rows("L", columns, 1)?;
+    text.put("COLUMNS\n")?;
+    for column in 0..columns {
+        text.column(column)?;
+        let first = column - column % 3;
+        text.entry(column, column, "1")?;
+        text.entry(column, first.saturating_add((column % 3 + 1) % 3), "1")?;
+        text.entry(column, columns, "1")?;
+    }
+    put_idle(text, columns, 150)?;
+    text.put("RHS\n")?;
+    for row in 0..columns {
+        text.side(row, "1")?;
+    }
+    let halves = count.saturating_mul(4) - u32::from(!chance.one_in(4));
+    let most = format!(in text.alloc; "{}.{}", halves / 2, halves % 2 * 5)?;
+    text.side(columns, most.as_str())?;
+    text.put("BOUNDS\n")?;
+    for column in 0..columns {
+        text.whole(column, 1)?;
     }
     Ok(())
 }

@@ -9,9 +9,13 @@ pub(crate) struct Tally {
     pub infeasible: u64,
     /// Asks of oracles with quick runs.
     pub asks: u64,
-    /// Those of them that were handed to the reference run.
+    /// Those of them that were handed to the reference.
     pub handed: u64,
-    /// Questions that stopped, by the reference run alone.
+    /// Nodes that quick trees took.
+    pub nodes: u64,
+    /// Nodes that the reference's trees took where it was asked alone.
+    pub nodes_alone: u64,
+    /// Questions that stopped, by the reference alone.
     pub stopped_alone: u64,
     /// Questions that stopped, with quick runs.
     pub stopped: u64,
@@ -27,6 +31,8 @@ impl Tally {
             infeasible: 0,
             asks: 0,
             handed: 0,
+            nodes: 0,
+            nodes_alone: 0,
             stopped_alone: 0,
             stopped: 0,
             differ: 0,

@@ -45,9 +45,9 @@ returns-in-Ok-Feasible-clause-right c =
     let set = c.args.set.now in
     let verdict = Feasible c.in-Ok-Feasible.point in
     let answered = subst (λ (v : Verdict). QuickAnswers (branch_state inner).model (branch_state inner).budgets set.members (Ok v)) c.in-Ok-Feasible.field-0-is c.in-Ok-Feasible.ensures.answered in
-    let alone = subst (λ (v : Verdict). stands_alone (branch_state inner).model set.members ≡ true → IsAsked InnerAnswers (branch_state inner) after set.members (Ok v)) c.in-Ok-Feasible.field-0-is c.in-Ok-Feasible.ensures.alone in (
+    let alone = subst (λ (v : Verdict). stands_alone (branch_state inner).model set.members c.args.oracle.now.nodes ≡ true → IsAsked InnerAnswers (branch_state inner) after set.members (Ok v)) c.in-Ok-Feasible.field-0-is c.in-Ok-Feasible.ensures.alone in (
       asked_holds model budgets set verdict c.requires.whole (fresh_answer model budgets inner c.requires.fresh set (Ok verdict) answered),
-      λ marked. (fresh_tree model budgets inner c.requires.fresh set verdict after c.requires.whole marked alone).ends,
+      λ marked. (fresh_tree model budgets inner c.requires.fresh set c.args.oracle.now.nodes verdict after c.requires.no_trees c.requires.whole marked alone).ends,
     )
 
 pub returns-in-Ok-Feasible-clause-known : goal.returns-in-Ok-Feasible-clause-known
@@ -68,8 +68,8 @@ returns-in-Ok-Infeasible-clause-right c =
     let after = branch_state c.ask.new.self.inner in
     let set = c.args.set.now in
     let verdict = Infeasible c.in-Ok-Infeasible.proof in
-    let alone = subst (λ (v : Verdict). stands_alone (branch_state inner).model set.members ≡ true → IsAsked InnerAnswers (branch_state inner) after set.members (Ok v)) c.in-Ok-Infeasible.field-0-is c.in-Ok-Infeasible.ensures.alone in
-    c.refuted.ensures.right budgets (λ marked. (fresh_tree model budgets inner c.requires.fresh set verdict after c.requires.whole marked alone).ends.0)
+    let alone = subst (λ (v : Verdict). stands_alone (branch_state inner).model set.members c.args.oracle.now.nodes ≡ true → IsAsked InnerAnswers (branch_state inner) after set.members (Ok v)) c.in-Ok-Infeasible.field-0-is c.in-Ok-Infeasible.ensures.alone in
+    c.refuted.ensures.right budgets (λ marked. (fresh_tree model budgets inner c.requires.fresh set c.args.oracle.now.nodes verdict after c.requires.no_trees c.requires.whole marked alone).ends.0)
 
 pub returns-in-Err-clause-right : goal.returns-in-Err-clause-right
 returns-in-Err-clause-right c =

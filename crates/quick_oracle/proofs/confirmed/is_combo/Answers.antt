@@ -9,6 +9,6 @@ pub returns : goal.returns
 returns c = λ yes.
     let shares = c.args.combo.now.shares in
     let passes = subst (λ (l : List Share). are_in_order l ≡ true) c.as_slice.ensures (sym c.are_in_order.ensures ∙ c.if-not-are_in_order.false) in (
-      combo_confirmed c.args.model.now c.args.set.now.members shares c.row_count-rows.ensures.well_formed (sym (c.is_yes.ensures yes) ∙ c.check_combo.ensures.said),
+      combo_confirmed c.args.model.now c.args.set.now.members c.args.path.now shares c.row_count-rows.ensures.well_formed c.requires.known (sym (c.is_yes.ensures yes) ∙ c.check_combo.ensures.said),
       in_order_by_test shares passes,
     )

@@ -1,0 +1,7 @@
+use Rattle.std.proofs.Common.{◌≡◌, false, take}
+use Rattle.quick_run.specs.Shape.{has_least}
+use Rattle.quick_run.proofs.combinations.has_branch_above.Given as goal
+
+-- none of the branches passed is one
+abbrev pub invariant-loop-branch : goal.invariant-loop-branch
+invariant-loop-branch l = has_least (take l.branch-index l.path) l.column ≡ false
