@@ -1,0 +1,10 @@
+use Rattle.std.proofs.Common.{◌≡◌, ◌++◌, flat_map, drop}
+use Rattle.lp_model.specs.Satisfaction.{values_at}
+use Rattle.report_page.specs.Pieces.{bytes_of}
+use Rattle.report_page.specs.Demands.{next_value}
+use Rattle.report_page.proofs.demands.write_other_values.Given as goal
+
+-- the terms that are left complete the bytes
+abbrev pub invariant-loop-term : goal.invariant-loop-term
+invariant-loop-term l =
+    l.into.items ++ bytes_of (flat_map (next_value l.model (values_at l.values)) (drop l.term-index l.terms)) ≡ l.initial.into.items ++ bytes_of (flat_map (next_value l.model (values_at l.values)) l.terms)

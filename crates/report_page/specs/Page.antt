@@ -1,0 +1,115 @@
+-- The page of a report.
+use Rattle.std.specs.Prelude.{ℕ, zero, suc, cond, List, [], ◌∷◌, ◌++◌, flat_map, length}
+use Rattle.rational.specs.Rational.{ℚ, zero_ℚ, eq_ℚ}
+use Rattle.lp_model.specs.declared.parts.Note.{Note}
+use Rattle.lp_model.specs.declared.parts.Note.TheVariants.{LowerRemoved, LowerKept}
+use Rattle.lp_model.specs.declared.members.Member.{Member}
+use Rattle.lp_model.specs.Program.{Program}
+use Rattle.lp_model.specs.Satisfaction.{values_at}
+use Rattle.certs.specs.declared.evidence.Point.{Point}
+use Rattle.certs.specs.declared.evidence.Node.{Node}
+use Rattle.certs.specs.declared.solving.Stop.{Stop}
+use Rattle.report_text.specs.declared.report.Method.{Method}
+use Rattle.report_text.specs.declared.report.Method.TheVariants.{Deletion, Additive, Sensitivity}
+use Rattle.report_text.specs.declared.report.Command.{Command}
+use Rattle.report_text.specs.declared.report.Command.TheVariants.{Check, Iis, Pivots, Nodes}
+use Rattle.report_text.specs.declared.report.Answer.{Answer}
+use Rattle.report_text.specs.declared.report.Answer.TheVariants.{Feasible, Infeasible, Irreducible, Done, Stopped}
+use Rattle.report_text.specs.declared.report.Entry.{Entry}
+use Rattle.report_text.specs.declared.report.Report.{Report}
+use Rattle.report_text.specs.Grammar.{column_name, value_phrases}
+use Rattle.cert_check.specs.Trials.{settled_count, unsettled_count}
+use Rattle.report_page.specs.declared.markup.Tag.{Tag}
+use Rattle.report_page.specs.declared.markup.Sign.{Sign}
+use Rattle.report_page.specs.declared.markup.Words.{Words}
+use Rattle.report_page.specs.Pieces.{Piece, bytes_of}
+use Rattle.report_page.specs.Demands.{value_pieces}
+use Rattle.report_page.specs.Members.{fold_tag, list_pieces}
+use Rattle.report_page.specs.Reasons.{leaf_shares, reason_pieces}
+use Rattle.report_page.specs.Stops.{stop_pieces}
+
+-- ---- commands
+-- what a method is asked
+abbrev pub method_words : Method → Words
+method_words Deletion = Words.DeletionAsked
+method_words Additive = Words.AdditiveAsked
+method_words Sensitivity = Words.SensitivityAsked
+
+-- what a command asks, or sets
+abbrev pub command_pieces : Command → List Piece
+command_pieces Check = Piece.Words Words.CheckAsked ∷ []
+command_pieces (Iis method) = Piece.Words (method_words method) ∷ []
+command_pieces (Pivots n) = Piece.Words Words.PivotBudget ∷ Piece.Count n ∷ []
+command_pieces (Nodes n) = Piece.Words Words.NodeBudget ∷ Piece.Count n ∷ []
+
+-- ---- answers
+-- an item with the value of a column
+abbrev pub valued_pieces : Program → ℕ → ℚ → List Piece
+valued_pieces model j v = Piece.Tag Tag.Item ∷ Piece.Tag Tag.Form ∷ (value_pieces model j v ++ Piece.Tag Tag.FormEnd ∷ Piece.Tag Tag.ItemEnd ∷ [])
+
+-- the same, where it is not 0
+abbrev pub some_pieces : Program → ℕ → ℚ → List Piece
+some_pieces model j v = cond (eq_ℚ v zero_ℚ) [] (valued_pieces model j v)
+
+-- an item for each of the first n columns whose value is not 0
+abbrev pub point_pieces : Program → List ℚ → ℕ → List Piece
+point_pieces model values zero = []
+point_pieces model values (suc n) = point_pieces model values n ++ some_pieces model n (values_at values n)
+
+-- a point that meets all members, in a fold with the count of its items
+abbrev pub feasible_pieces : Program → List ℚ → List Piece
+feasible_pieces model values =
+    let n = length (value_phrases 0 values) in
+    Piece.Tag Tag.Paragraph ∷ Piece.Words Words.Feasible ∷ Piece.Tag Tag.ParagraphEnd ∷ Piece.Tag (fold_tag n) ∷ Piece.Words Words.ValuesFold ∷ Piece.Count n ∷ Piece.Tag Tag.FoldBody ∷ Piece.Tag Tag.Unordered
+    ∷ (point_pieces model values (length model.columns) ++ Piece.Tag Tag.UnorderedEnd ∷ Piece.Tag Tag.FoldEnd ∷ [])
+
+-- members that cannot all be met, and why
+abbrev pub conflict_pieces : Program → List Member → List Point → List Node → List Piece
+conflict_pieces model members ws nodes = list_pieces model (leaf_shares nodes) members ws ++ reason_pieces model nodes
+
+-- a calculation that stopped
+abbrev pub stopped_pieces : Program → Stop → List Piece
+stopped_pieces model stop = Piece.Tag Tag.Paragraph ∷ (stop_pieces model stop ++ Piece.Tag Tag.ParagraphEnd ∷ [])
+
+-- an answer; that a command is done needs no words
+abbrev pub answer_pieces : Program → Answer → List Piece
+answer_pieces model (Feasible p) = feasible_pieces model p.values
+answer_pieces model (Infeasible set proof) = conflict_pieces model set.members [] proof.nodes
+answer_pieces model (Irreducible core) = conflict_pieces model core.members.members core.witnesses core.proof.nodes
+answer_pieces model Done = []
+answer_pieces model (Stopped stop) = stopped_pieces model stop
+
+-- ---- the page
+-- a command and its answer, under the number of its line in the report
+abbrev pub entry_pieces : Program → Entry → List Piece
+entry_pieces model e =
+    Piece.Tag Tag.Section ∷ Piece.Count e.line ∷ Piece.Tag Tag.SectionTitle ∷ (command_pieces e.command
+    ++ Piece.Tag Tag.SectionBody ∷ (answer_pieces model e.answer ++ Piece.Tag Tag.SectionEnd ∷ []))
+
+-- a note
+abbrev pub noted_pieces : Program → ℕ → Words → List Piece
+noted_pieces model j what = Piece.Tag Tag.Item ∷ Piece.Text (column_name model j) ∷ Piece.Words what ∷ Piece.Tag Tag.ItemEnd ∷ []
+
+abbrev pub note_pieces : Program → Note → List Piece
+note_pieces model (LowerRemoved j) = noted_pieces model j Words.LowerRemoved
+note_pieces model (LowerKept j) = noted_pieces model j Words.LowerKept
+
+-- the notes, where there are any
+abbrev pub notes_pieces : Program → List Note → List Piece
+notes_pieces model [] = []
+notes_pieces model (n ∷ notes) = Piece.Tag Tag.Unordered ∷ (flat_map (note_pieces model) (n ∷ notes) ++ Piece.Tag Tag.UnorderedEnd ∷ [])
+
+-- what stands before the notes: how many answers are settled, and how many are not
+abbrev pub head_pieces : List Entry → List Piece
+head_pieces entries =
+    Piece.Tag Tag.Head ∷ Piece.Tag Tag.Style ∷ Piece.Tag Tag.Body ∷ Piece.Tag Tag.Paragraph
+    ∷ Piece.Words Words.Settled ∷ Piece.Count (settled_count entries) ∷ Piece.Words Words.Unsettled ∷ Piece.Count (unsettled_count entries) ∷ Piece.Sign Sign.FullStop
+    ∷ Piece.Tag Tag.ParagraphEnd ∷ []
+
+-- the page: the head, the notes, and each entry once, in order
+abbrev pub page_pieces : Program → Report → List Piece
+page_pieces model report = head_pieces report.entries ++ (notes_pieces model report.notes ++ (flat_map (entry_pieces model) report.entries ++ Piece.Tag Tag.End ∷ []))
+
+-- its bytes
+abbrev pub page_of : Program → Report → List ℕ
+page_of model report = bytes_of (page_pieces model report)

@@ -1,0 +1,52 @@
+-- Calculations that stopped, each in a sentence with its site.
+use Rattle.std.specs.Prelude.{cond, List, [], ◌∷◌, ◌++◌, length}
+use Rattle.frac128.specs.declared.Op.{Op}
+use Rattle.frac128.specs.declared.Op.TheVariants.{Plus, Minus, Times, Over}
+use Rattle.frac128.specs.declared.Wide.{Wide as Operation}
+use Rattle.lp_model.specs.Program.{Program}
+use Rattle.certs.specs.declared.evidence.Branch.{Branch}
+use Rattle.certs.specs.declared.solving.Site.{Site}
+use Rattle.certs.specs.declared.solving.Stop.{Stop}
+use Rattle.certs.specs.declared.solving.Stop.TheVariants.{Wide as TooWide, Pivots as Spent, Nodes as NodesSpent, Large, Memory}
+use Rattle.report_text.specs.Grammar.{column_name}
+use Rattle.report_page.specs.declared.markup.Sign.{Sign}
+use Rattle.report_page.specs.declared.markup.Account.{Account}
+use Rattle.report_page.specs.Pieces.{Piece, first_then}
+
+-- the sign of an operation
+abbrev pub op_sign : Op → Sign
+op_sign Plus = Sign.Plus
+op_sign Minus = Sign.Minus
+op_sign Times = Sign.Product
+op_sign Over = Sign.Quotient
+
+-- what a branch asks for
+abbrev pub branch_pieces : Program → Branch → List Piece
+branch_pieces model b = Piece.Text (column_name model b.column) ∷ Piece.Sign (cond b.upper Sign.AtMost Sign.AtLeast) ∷ Piece.Whole b.at ∷ []
+
+-- the first of a path, and a further one
+abbrev pub first_branch : Program → Branch → List Piece
+first_branch model b = Piece.Account Account.Where ∷ branch_pieces model b
+
+abbrev pub next_branch : Program → Branch → List Piece
+next_branch model b = Piece.Sign Sign.Comma ∷ branch_pieces model b
+
+-- the branches on the way to a node, where there are any
+abbrev pub path_pieces : Program → List Branch → List Piece
+path_pieces model path = first_then (first_branch model) (next_branch model) path
+
+-- the site: how many members were asked about, and on which path
+abbrev pub site_pieces : Program → Site → List Piece
+site_pieces model site = Piece.Account Account.Asking ∷ Piece.Count (length site.set.members) ∷ Piece.Account Account.CanBeMet ∷ (path_pieces model site.path ++ Piece.Sign Sign.FullStop ∷ [])
+
+-- an operation, in the turn with this number
+abbrev pub operation_pieces : Operation → List Piece
+operation_pieces o = Piece.Account Account.At ∷ Piece.Number o.left ∷ Piece.Sign (op_sign o.op) ∷ Piece.Number o.right ∷ Piece.Sign Sign.FullStop ∷ []
+
+-- why it stopped, and where
+abbrev pub stop_pieces : Program → Stop → List Piece
+stop_pieces model (TooWide site k o) = Piece.Account Account.StoppedWide ∷ (site_pieces model site ++ Piece.Account Account.Step ∷ Piece.Count k ∷ operation_pieces o)
+stop_pieces model (Spent site) = Piece.Account Account.StoppedPivots ∷ site_pieces model site
+stop_pieces model (NodesSpent site) = Piece.Account Account.StoppedNodes ∷ site_pieces model site
+stop_pieces model (Large size) = Piece.Account Account.StoppedLarge ∷ Piece.Count size ∷ Piece.Sign Sign.FullStop ∷ []
+stop_pieces model Memory = Piece.Account Account.StoppedMemory ∷ []

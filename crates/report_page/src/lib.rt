@@ -1,0 +1,17 @@
+//! One page for a report, in the words of the model.
+#![tactic(auto)]
+
+mod answers;
+mod demands;
+mod markup;
+mod members;
+mod pages;
+mod parts;
+mod pieces;
+mod reasons;
+mod stops;
+mod totals;
+
+pub use markup::{Account, Sign, Tag, Words};
+pub use pages::page;
+pub use pieces::{Piece, escape, escaping_law, write};

@@ -1,0 +1,274 @@
+//! The fixed parts of a page.
+ghost use Rattle.std.specs.Prelude.{◌≡◌};
+ghost use Rattle.report_page.specs.Markup.{tag_text, sign_text, words_text, account_text};
+
+/// What marks up a page.
+#[derive(Clone, Copy, PartialEq, Eq, Debug)]
+pub enum Tag {
+    Head,
+    Style,
+    Body,
+    End,
+    Paragraph,
+    Lead,
+    ParagraphEnd,
+    Section,
+    SectionTitle,
+    SectionBody,
+    SectionEnd,
+    Fold,
+    OpenFold,
+    FoldBody,
+    FoldEnd,
+    Ordered,
+    OrderedEnd,
+    Unordered,
+    UnorderedEnd,
+    Item,
+    ItemEnd,
+    Title,
+    TitleEnd,
+    Form,
+    FormEnd,
+    Taken,
+    TakenEnd,
+    Without,
+}
+
+impl Tag {
+    /// How it is written.
+    #[tactic(auto, unfolding(crate::specs::Markup::tag_text))]
+    pub fn text(self) -> &'static str
+        ensures { result.now ≡ tag_text self }
+    {
+        match self {
+            Tag::Head => "\
+             <!doctype html>\n\
+             <html lang=en>\n\
+             <head>\n\
+             <meta charset=utf-8>\n\
+             <meta name=viewport content='width=device-width, initial-scale=1'>\n\
+             <title>What the model asks for</title>\n\
+             <style>\n",
+            Tag::Style => "\
+             :root{color-scheme:light dark;--ink:#1c2330;--soft:#566073;--paper:#fff;--panel:#f3f5f8;--line:#d4d9e2;--mark:#a3360b}\n\
+             @media(prefers-color-scheme:dark){:root{--ink:#e6e9ef;--soft:#a9b2c1;--paper:#14171c;--panel:#1e242c;--line:#3a424f;--mark:#ff9d6b}}\n\
+             body{margin:0 auto;max-width:46rem;padding:1rem;background:var(--paper);color:var(--ink);font:1rem/1.5 system-ui,sans-serif}\n\
+             h1{font-size:1.5rem;line-height:1.2}h2{margin-top:2.5rem;font-size:1.15rem;border-top:1px solid var(--line);padding-top:1rem}\n\
+             code{font:.95em ui-monospace,monospace;overflow-wrap:anywhere}p.lead{font-size:1.15rem;color:var(--mark)}\n\
+             ol,ul{padding-left:2rem}li{margin:.5rem 0;padding:.5rem .75rem;background:var(--panel);border-left:3px solid var(--line)}\n\
+             li b{display:block}li p{margin:.25rem 0 0}p.without,span.times,summary{color:var(--soft)}span.times{white-space:nowrap}\n\
+             svg{display:block;width:100%;height:auto;max-width:40rem}svg text{fill:var(--ink);font-size:12px}svg line{stroke:var(--soft)}\n\
+             @media print{body{max-width:none}li{break-inside:avoid}}\n",
+            Tag::Body => "</style>\n</head>\n<body>\n<h1>What the model asks for</h1>\n",
+            Tag::End => "</body>\n</html>\n",
+            Tag::Paragraph => "<p>",
+            Tag::Lead => "<p class=lead>",
+            Tag::ParagraphEnd => "</p>\n",
+            Tag::Section => "<section id=line-",
+            Tag::SectionTitle => ">\n<h2>",
+            Tag::SectionBody => "</h2>\n",
+            Tag::SectionEnd => "</section>\n",
+            Tag::Fold => "<details>\n<summary>",
+            Tag::OpenFold => "<details open>\n<summary>",
+            Tag::FoldBody => "</summary>\n",
+            Tag::FoldEnd => "</details>\n",
+            Tag::Ordered => "<ol>\n",
+            Tag::OrderedEnd => "</ol>\n",
+            Tag::Unordered => "<ul>\n",
+            Tag::UnorderedEnd => "</ul>\n",
+            Tag::Item => "<li>",
+            Tag::ItemEnd => "</li>\n",
+            Tag::Title => "<b>",
+            Tag::TitleEnd => "</b>\n",
+            Tag::Form => "<code>",
+            Tag::FormEnd => "</code>",
+            Tag::Taken => "\n<span class=times>",
+            Tag::TakenEnd => "</span>",
+            Tag::Without => "\n<p class=without>",
+        }
+    }
+}
+
+/// What stands between numbers and names.
+#[derive(Clone, Copy, PartialEq, Eq, Debug)]
+pub enum Sign {
+    Nothing,
+    Negative,
+    Plus,
+    Minus,
+    Blank,
+    AtLeast,
+    AtMost,
+    Above,
+    Equals,
+    Product,
+    Quotient,
+    Comma,
+    FullStop,
+    IsWhole,
+}
+
+impl Sign {
+    /// How it is written.
+    #[tactic(auto, unfolding(crate::specs::Markup::sign_text))]
+    pub fn text(self) -> &'static str
+        ensures { result.now ≡ sign_text self }
+    {
+        match self {
+            Sign::Nothing => "",
+            Sign::Negative => "-",
+            Sign::Plus => " + ",
+            Sign::Minus => " - ",
+            Sign::Blank => " ",
+            Sign::AtLeast => " &gt;= ",
+            Sign::AtMost => " &lt;= ",
+            Sign::Above => " &gt; ",
+            Sign::Equals => " = ",
+            Sign::Product => " * ",
+            Sign::Quotient => " / ",
+            Sign::Comma => ", ",
+            Sign::FullStop => ".",
+            Sign::IsWhole => " is a whole number",
+        }
+    }
+}
+
+/// What a page says of answers.
+#[derive(Clone, Copy, PartialEq, Eq, Debug)]
+pub enum Words {
+    Settled,
+    Unsettled,
+    LowerRemoved,
+    LowerKept,
+    CheckAsked,
+    DeletionAsked,
+    AdditiveAsked,
+    SensitivityAsked,
+    PivotBudget,
+    NodeBudget,
+    Feasible,
+    ValuesFold,
+    OneCannot,
+    These,
+    Cannot,
+    MembersFold,
+    LowerSideTitle,
+    UpperSideTitle,
+    LeastTitle,
+    GreatestTitle,
+    WholeTitle,
+    TakenOnce,
+    Taken,
+    Times,
+    Without,
+    ForInstance,
+    AddUp,
+    ZeroAtLeast,
+    SomeNumber,
+    IsFalse,
+}
+
+impl Words {
+    /// How it is written.
+    #[tactic(auto, unfolding(crate::specs::Markup::words_text))]
+    pub fn text(self) -> &'static str
+        ensures { result.now ≡ words_text self }
+    {
+        match self {
+            Words::Settled => "This report was checked against the model. Answers that hold: ",
+            Words::Unsettled => "; calculations that stopped before there was an answer: ",
+            Words::LowerRemoved =>
+                ": its upper bound is below 0, and the model was read so that it has no lower bound",
+            Words::LowerKept =>
+                ": its upper bound is below 0, and the model was read so that it keeps its lower bound 0",
+            Words::CheckAsked => "Can all requirements be met?",
+            Words::DeletionAsked => "Which requirements contradict one another? (deletion)",
+            Words::AdditiveAsked => "Which requirements contradict one another? (additive)",
+            Words::SensitivityAsked => "Which requirements contradict one another? (sensitivity)",
+            Words::PivotBudget => "From here on, how many pivots a calculation may take: ",
+            Words::NodeBudget => "From here on, how many cases a calculation may tell apart: ",
+            Words::Feasible => "All requirements can be met at once.",
+            Words::ValuesFold => "Values that meet them (any other is 0): ",
+            Words::OneCannot => "This requirement cannot be met: it must give way.",
+            Words::These => "These ",
+            Words::Cannot => " requirements cannot all be met. At least one of them must give way.",
+            Words::MembersFold => "Requirements: ",
+            Words::LowerSideTitle => "lower side of row ",
+            Words::UpperSideTitle => "upper side of row ",
+            Words::LeastTitle => "least value of ",
+            Words::GreatestTitle => "greatest value of ",
+            Words::WholeTitle => "whole values of ",
+            Words::TakenOnce => "taken once",
+            Words::Taken => "taken ",
+            Words::Times => " times",
+            Words::Without => "Without this one the others can be met",
+            Words::ForInstance => ", for instance with ",
+            Words::AddUp =>
+                "Take each as often as it says, turn round those with &lt;=, and add up: on the left everything cancels, and together they say ",
+            Words::ZeroAtLeast => "0 &gt;= ",
+            Words::SomeNumber => "a number above 0",
+            Words::IsFalse => ", which is false.",
+        }
+    }
+}
+
+/// What a page says of cases, and of calculations that stopped.
+#[derive(Clone, Copy, PartialEq, Eq, Debug)]
+pub enum Account {
+    Cases,
+    CasesFold,
+    Either,
+    Or,
+    OneThenOther,
+    Here,
+    TimesOf,
+    CaseBelow,
+    CaseAbove,
+    StoppedWide,
+    StoppedPivots,
+    StoppedNodes,
+    StoppedLarge,
+    StoppedMemory,
+    Asking,
+    CanBeMet,
+    Where,
+    Step,
+    At,
+}
+
+impl Account {
+    /// How it is written.
+    #[tactic(auto, unfolding(crate::specs::Markup::account_text))]
+    pub fn text(self) -> &'static str
+        ensures { result.now ≡ account_text self }
+    {
+        match self {
+            Account::Cases =>
+                "Since whole numbers are asked for, cases are told apart. In each of them a sum as below comes to what is false.",
+            Account::CasesFold => "Choices and cases: ",
+            Account::Either => "Either ",
+            Account::Or => " or ",
+            Account::OneThenOther => ": first what follows from the one, then from the other.",
+            Account::Here => "Add up: ",
+            Account::TimesOf => " times ",
+            Account::CaseBelow => "the upper limit of this case on ",
+            Account::CaseAbove => "the lower limit of this case on ",
+            Account::StoppedWide =>
+                "This calculation stopped before there was an answer: a number became too long to be kept exactly.",
+            Account::StoppedPivots =>
+                "This calculation stopped before there was an answer: the pivots that it may take were used up.",
+            Account::StoppedNodes =>
+                "This calculation stopped before there was an answer: the cases that it may tell apart were used up.",
+            Account::StoppedLarge =>
+                "This calculation stopped before there was an answer: it is too large, of size ",
+            Account::StoppedMemory =>
+                "This calculation stopped before there was an answer: there was no memory.",
+            Account::Asking => " It was asking whether ",
+            Account::CanBeMet => " requirements can be met together",
+            Account::Where => ", where ",
+            Account::Step => " That was in turn ",
+            Account::At => ", at ",
+        }
+    }
+}

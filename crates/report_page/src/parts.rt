@@ -1,0 +1,115 @@
+//! The parts of a model by their numbers. What is not there has no name, no terms and no number.
+ghost use Rattle.std.specs.Prelude.{◌≡◌};
+ghost use Rattle.lp_model.specs.Program.{row_at, column_at};
+ghost use Rattle.lp_model.specs.Members.{number};
+ghost use Rattle.certs.specs.Combination.{number_or_zero};
+ghost use Rattle.report_text.specs.Grammar.{column_name as column_named, name_of};
+
+use frac128::Frac;
+use lp_model::{Member, Model, Term};
+
+/// The name of a column.
+pub(crate) fn column_name(model: &Model, column: u32) -> &[u8]
+    ensures { result.now ≡ column_named model.now column }
+{
+    if column < model.column_count() {
+        return model.column_name(column);
+    }
+    &[]
+}
+
+// The name of a row.
+fn row_name(model: &Model, row: u32) -> &[u8]
+    ensures { result.now ≡ (row_at model.now row).name }
+{
+    if row < model.row_count() {
+        return model.row_name(row);
+    }
+    &[]
+}
+
+/// The terms of a row.
+pub(crate) fn row_terms(model: &Model, row: u32) -> &[Term]
+    ensures { result.now ≡ (row_at model.now row).terms }
+{
+    if row < model.row_count() {
+        return model.row(row).terms.as_slice();
+    }
+    &[]
+}
+
+/// The name that a member goes by.
+pub(crate) fn member_name(model: &Model, member: Member) -> &[u8]
+    ensures { result.now ≡ name_of model.now member }
+{
+    match member {
+        Member::RowLo(index) => row_name(model, index),
+        Member::RowUp(index) => row_name(model, index),
+        Member::Lower(index) => column_name(model, index),
+        Member::Upper(index) => column_name(model, index),
+        Member::Whole(index) => column_name(model, index),
+    }
+}
+
+// The lower side of a row.
+fn row_lower(model: &Model, row: u32) -> Option<Frac>
+    ensures { result ≡ (row_at model.now row).lower }
+{
+    if row < model.row_count() {
+        return model.row(row).lo;
+    }
+    None
+}
+
+// The upper side of a row.
+fn row_upper(model: &Model, row: u32) -> Option<Frac>
+    ensures { result ≡ (row_at model.now row).upper }
+{
+    if row < model.row_count() {
+        return model.row(row).up;
+    }
+    None
+}
+
+// The lower bound of a column.
+fn column_lower(model: &Model, column: u32) -> Option<Frac>
+    ensures { result ≡ (column_at model.now column).lower }
+{
+    if column < model.column_count() {
+        return model.column(column).lo;
+    }
+    None
+}
+
+// The upper bound of a column.
+fn column_upper(model: &Model, column: u32) -> Option<Frac>
+    ensures { result ≡ (column_at model.now column).upper }
+{
+    if column < model.column_count() {
+        return model.column(column).up;
+    }
+    None
+}
+
+// The number that a member asks for, where it is there; a mark asks for none.
+fn member_number(model: &Model, member: Member) -> Option<Frac>
+    ensures { result ≡ number model.now member }
+{
+    match member {
+        Member::RowLo(index) => row_lower(model, index),
+        Member::RowUp(index) => row_upper(model, index),
+        Member::Lower(index) => column_lower(model, index),
+        Member::Upper(index) => column_upper(model, index),
+        Member::Whole(_) => None,
+    }
+}
+
+/// The number that a member asks for, or 0.
+pub(crate) fn asked(model: &Model, member: Member) -> Frac
+    ensures { result ≡ number_or_zero (number model.now member) }
+{
+    match member_number(model, member) {
+        Some(number) => number,
+        None => Frac::whole(0),
+    }
+}

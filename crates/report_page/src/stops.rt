@@ -1,0 +1,177 @@
+//! Calculations that stopped.
+#![tactic(auto, using(crate::proofs::Pieced::more))]
+
+ghost use Rattle.std.specs.Prelude.{◌≡◌, ◌∷◌, [], OnOk, flat_map, cond};
+ghost use Rattle.certs.specs.declared.solving.Stop.TheVariants.{Wide as TooWide};
+ghost use Rattle.report_page.specs.Pieces.{Piece as Shown, Writes};
+ghost use Rattle.report_page.specs.Stops.{op_sign, branch_pieces, first_branch, next_branch, path_pieces, site_pieces, operation_pieces, stop_pieces};
+
+use crate::markup::{Account, Sign};
+use crate::parts::column_name;
+use crate::pieces::{Piece, write};
+use certs::{Branch, Site, Stop};
+use frac128::{Op, Wide};
+use lp_model::Model;
+use std::alloc::AllocError;
+
+// The sign of an operation.
+fn sign_of(op: Op) -> Sign
+    ensures { result ≡ op_sign op }
+{
+    match op {
+        Op::Plus => Sign::Plus,
+        Op::Minus => Sign::Minus,
+        Op::Times => Sign::Product,
+        Op::Over => Sign::Quotient,
+    }
+}
+
+// The sign of the side of its column on which a branch is.
+fn side_sign(upper: bool) -> Sign
+    ensures { result ≡ cond upper Sign.AtMost Sign.AtLeast }
+{
+    if upper { Sign::AtMost } else { Sign::AtLeast }
+}
+
+// Writes what a branch asks for.
+fn write_branch(model: &Model, branch: Branch, into: &mut Vec<u8>) -> Result<(), AllocError>
+    ensures { OnOk result (Writes into.old.items into.new.items (branch_pieces model.now branch)) }
+{
+    write(
+        &[
+            Piece::Text(column_name(model, branch.column)),
+            Piece::Sign(side_sign(branch.upper)),
+            Piece::Whole(branch.at),
+        ],
+        into,
+    )
+}
+
+// Writes the first branch of a path.
+fn write_first_branch(model: &Model, branch: Branch, into: &mut Vec<u8>) -> Result<(), AllocError>
+    ensures { OnOk result (Writes into.old.items into.new.items (first_branch model.now branch)) }
+{
+    write(&[Piece::Account(Account::Where)], into)?;
+    write_branch(model, branch, into)
+}
+
+// Writes a further branch.
+fn write_next_branch(model: &Model, branch: Branch, into: &mut Vec<u8>) -> Result<(), AllocError>
+    ensures { OnOk result (Writes into.old.items into.new.items (next_branch model.now branch)) }
+{
+    write(&[Piece::Sign(Sign::Comma)], into)?;
+    write_branch(model, branch, into)
+}
+
+// Writes further branches.
+fn write_other_branches(
+    model: &Model,
+    path: &[Branch],
+    into: &mut Vec<u8>,
+) -> Result<(), AllocError>
+    ensures { OnOk result (Writes into.old.items into.new.items (flat_map (next_branch model.now) path.now)) }
+{
+    for branch in path {
+        write_next_branch(model, *branch, into)?;
+    }
+    Ok(())
+}
+
+// Writes the branches of a path.
+fn write_path(model: &Model, path: &[Branch], into: &mut Vec<u8>) -> Result<(), AllocError>
+    ensures { OnOk result (Writes into.old.items into.new.items (path_pieces model.now path.now)) }
+{
+    let [first, others @ ..] = path else {
+        return Ok(());
+    };
+    write_first_branch(model, *first, into)?;
+    write_other_branches(model, others, into)
+}
+
+// Writes the site of a stop.
+fn write_site(model: &Model, site: &Site, into: &mut Vec<u8>) -> Result<(), AllocError>
+    ensures { OnOk result (Writes into.old.items into.new.items (site_pieces model.now site.now)) }
+{
+    write(
+        &[
+            Piece::Account(Account::Asking),
+            Piece::Count(site.set.count()),
+            Piece::Account(Account::CanBeMet),
+        ],
+        into,
+    )?;
+    write_path(model, site.path.as_slice(), into)?;
+    write(&[Piece::Sign(Sign::FullStop)], into)
+}
+
+// Writes an operation.
+fn write_operation(operation: &Wide, into: &mut Vec<u8>) -> Result<(), AllocError>
+    ensures { OnOk result (Writes into.old.items into.new.items (operation_pieces operation.now)) }
+{
+    write(
+        &[
+            Piece::Account(Account::At),
+            Piece::Number(operation.left),
+            Piece::Sign(sign_of(operation.op)),
+            Piece::Number(operation.right),
+            Piece::Sign(Sign::FullStop),
+        ],
+        into,
+    )
+}
+
+// Writes that an operation is too wide.
+fn write_wide(
+    model: &Model,
+    site: &Site,
+    step: u64,
+    operation: &Wide,
+    into: &mut Vec<u8>,
+) -> Result<(), AllocError>
+    ensures { OnOk result (Writes into.old.items into.new.items (stop_pieces model.now (TooWide site.now step operation.now))) }
+{
+    write(&[Piece::Account(Account::StoppedWide)], into)?;
+    write_site(model, site, into)?;
+    write(&[Piece::Account(Account::Step), Piece::Count(step)], into)?;
+    write_operation(operation, into)
+}
+
+// Writes that a budget is spent.
+fn write_spent(
+    model: &Model,
+    what: Account,
+    site: &Site,
+    into: &mut Vec<u8>,
+) -> Result<(), AllocError>
+    ensures { OnOk result (Writes into.old.items into.new.items (Shown.Account what ∷ site_pieces model.now site.now)) }
+{
+    write(&[Piece::Account(what)], into)?;
+    write_site(model, site, into)
+}
+
+// Writes that a system is too large.
+fn write_large(size: u64, into: &mut Vec<u8>) -> Result<(), AllocError>
+    ensures { OnOk result (Writes into.old.items into.new.items (Shown.Account Account.StoppedLarge ∷ Shown.Count size ∷ Shown.Sign Sign.FullStop ∷ [])) }
+{
+    write(
+        &[
+            Piece::Account(Account::StoppedLarge),
+            Piece::Count(size),
+            Piece::Sign(Sign::FullStop),
+        ],
+        into,
+    )
+}
+
+/// Writes why a calculation stopped, and where.
+pub(crate) fn write_stop(model: &Model, stop: &Stop, into: &mut Vec<u8>) -> Result<(), AllocError>
+    ensures { OnOk result (Writes into.old.items into.new.items (stop_pieces model.now stop.now)) }
+{
+    match stop {
+        Stop::Wide(site, step, operation) => write_wide(model, site, *step, operation, into),
+        Stop::Pivots(site) => write_spent(model, Account::StoppedPivots, site, into),
+        Stop::Nodes(site) => write_spent(model, Account::StoppedNodes, site, into),
+        Stop::Large(size) => write_large(*size, into),
+        Stop::Memory => write(&[Piece::Account(Account::StoppedMemory)], into),
+    }
+}
