@@ -133,7 +133,7 @@ filter() {
 
 echo
 echo "model trees asks reference nodes pivots seconds found"
-for model in "box 9" "knapsack 5" "shifts 2" "cycles 3 11" "cycles 5 7" "cycles 6 7" "cycles 8 5" "cycles 9 5"; do
+for model in "box 9" "knapsack 5" "shifts 2" "shifts 12" "cycles 3 11" "cycles 5 7" "cycles 6 7" "cycles 8 5" "cycles 9 5"; do
     # The words are the kind and the sizes.
     # shellcheck disable=SC2086
     $model >model.lp
