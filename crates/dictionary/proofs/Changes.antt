@@ -38,6 +38,18 @@ module _ (order : List ℕ) (left_out : ℕ) (change : ℕ → ℚ) (old : List 
     pub changed-before : at new c ≡ at old c
     changed-before = so.left i (omega arith) h
 
+    -- or the new one, where the two are one
+    pub changed-still : at new c ≡ change c → IsChangedTo (i + 1) order left_out change old new
+    changed-still v = record {
+      changed =
+          λ k l apart. elim (cases_eq k i) [
+            | inl d ↦ subst (λ z. at new z ≡ change z) (ap (slice_index order) (sym d)) v
+            | inr d ↦ so.changed k (omega arith) apart
+          ];
+      left = λ k l m. so.left k (omega arith) m;
+      kept = so.kept;
+    }
+
     pub changed-more : IsApart order → c ≢ left_out → c < length new → (v : ℚ) → v ≡ change c → IsChangedTo (i + 1) order left_out change old (set new c v)
     changed-more apart e l v is_v = record {
       changed =

@@ -32,6 +32,14 @@ module _ (m : ℕ) (kind : Op) (a b : ℚ) where
       ∙ first_wide-here m (operation kind a b) [] (ap (is_wide m) (sym s) ∙ h)
       ∙ ap (λ (o : Operation). Some o) (sym s)
 
+-- with 0 on the right, whatever stands on the left
+pub counted-zero : (m : ℕ) (kind : Op) (a b : ℚ) → b ≡ zero_ℚ → first_wide m (counted kind a b) ≡ None
+counted-zero m kind a b e = by (eq_ℚ a zero_ℚ) refl
+  where
+    by : (t : Bool) → eq_ℚ a zero_ℚ ≡ t → first_wide m (counted kind a b) ≡ None
+    by true t = counted-left m kind a b t
+    by false t = counted-right m kind a b t ((eq-Decides b zero_ℚ).1 e)
+
 -- values with an operand 0
 pub zero_times : (a b : ℚ) → a ≡ zero_ℚ → zero_ℚ ≡ a *ℚ b
 zero_times a b e = ring_ℚ (b ∷ []) zero_of (zero_of :* x0) tt ∙ ap (λ z. z *ℚ b) (sym e)

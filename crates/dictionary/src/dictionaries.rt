@@ -11,7 +11,7 @@ ghost use Rattle.dictionary.specs.Stops.{wide_of};
 ghost use Rattle.dictionary.specs.Value.{tableau_of};
 
 use crate::layouts::{Layout, exchange, is_standing, start_layout};
-use crate::numbers::{product, sum};
+use crate::numbers::{is_zero, product, sum};
 use crate::places::{Bounds, Place, other_limit, place_number};
 use crate::starts::{all_bounds, start_entries, start_places, zeros};
 use crate::table::change_table;
@@ -204,7 +204,11 @@ impl<N: Exact> Dictionary<N> {
     {
         let mut total = N::zero();
         for nonbasic in self.nonbasics() {
-            let part = product(self.entry(variable, *nonbasic), self.place(*nonbasic))?;
+            let factor = self.entry(variable, *nonbasic);
+            if is_zero(factor) {
+                continue;
+            }
+            let part = product(factor, self.place(*nonbasic))?;
             total = sum(total, part)?;
         }
         Ok(total)

@@ -57,7 +57,11 @@ pub(crate) fn reduce_row<N: Exact>(
         if *place == column {
             continue;
         }
-        let product = product(factor, quotients[*place as usize])?;
+        let quotient = quotients[*place as usize];
+        if is_zero(quotient) {
+            continue;
+        }
+        let product = product(factor, quotient)?;
         row[*place as usize] = difference(row[*place as usize], product)?;
     }
     Ok(())

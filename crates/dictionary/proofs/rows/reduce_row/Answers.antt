@@ -2,14 +2,15 @@ use Rattle.std.proofs.Common.{◌≡◌, ◌<◌, ℕ, length, map, refl, sym, �
 use Rattle.std.specs.Prelude.{slice_index, ◌++◌}
 use Rattle.std.proofs.lemmas.Result.{err_from_is_err_and}
 use Rattle.std.proofs.lemmas.List.{map-set, length-map}
-use Rattle.rational.specs.Rational.{ℚ, ◌-ℚ◌, ◌*ℚ◌}
+use Rattle.rational.specs.Rational.{ℚ, ◌-ℚ◌, ◌*ℚ◌, zero_ℚ}
 use Rattle.frac128.specs.declared.Op.TheVariants.{Times, Minus}
 use Rattle.frac128.specs.Calculation.{Calculation, first_wide}
 use Rattle.frac128.proofs.Calculations.{first_wide-past, first_wide-before}
 use Rattle.certs.specs.Turns.{counted}
 use Rattle.dictionary.specs.Cells.{at}
 use Rattle.dictionary.proofs.Steps.{first_of-left_out, first_of-wide, first_of-next, first_of-end}
-use Rattle.dictionary.proofs.Changes.{changed-none, changed-all, changed-skip, changed-before, changed-more, at_read}
+use Rattle.dictionary.proofs.Changes.{changed-none, changed-all, changed-skip, changed-before, changed-more, changed-still, at_read}
+use Rattle.dictionary.proofs.Counts.{is_zero, times_zero, minus_zero, counted-zero}
 use Rattle.dictionary.proofs.rows.reduce_row.Goals as goal
 
 -- the operations at a place
@@ -34,6 +35,27 @@ loop-place-preserved-then-place-column g c =
     record {
       width = sym (first_of-left_out g.N.Exact.most (work a f q) c.args.column c.args.order.now i c.loop-place-test.true c.if-place-column.true) ∙ c.loop-place.invariant.width;
       cells = changed-skip c.args.order.now c.args.column (change a f q) (map v c.args.row.now) i (map v c.loop-place.row) c.loop-place-test.true c.loop-place.invariant.cells c.if-place-column.true;
+    }
+
+pub loop-place-preserved-then-is_zero : goal.loop-place-preserved-then-is_zero
+loop-place-preserved-then-is_zero g c =
+    let v = g.N.Exact.value in
+    let m = g.N.Exact.most in
+    let a = v c.args.factor in
+    let f = at (map v c.args.row.now) in
+    let q = at (map v c.args.quotients.now) in
+    let i = c.loop-place.place-index in
+    let k = slice_index c.args.order.now i in
+    let l : k < length c.args.quotients.now = subst (λ n. k < n) (sym c.requires.room) (c.requires.known i 0 c.loop-place-test.true) in
+    let z : q k ≡ zero_ℚ = at_read v c.args.quotients.now k c.index-quotients-place.result l c.index-quotients-place.is ∙ is_zero _ _ c.is_zero.ensures c.if-is_zero.true in
+    let product : a *ℚ q k ≡ zero_ℚ = sym (times_zero a (q k) z) in
+    record {
+      width =
+          sym (first_of-next m (work a f q) c.args.column c.args.order.now i c.loop-place-test.true c.if-place-column.false
+          (first_wide-past m (counted Times a (q k)) (counted Minus (f k) (a *ℚ q k)) (counted-zero m Times a (q k) z) ∙ counted-zero m Minus (f k) (a *ℚ q k) product))
+          ∙ c.loop-place.invariant.width;
+      cells = changed-still c.args.order.now c.args.column (change a f q) (map v c.args.row.now) i (map v c.loop-place.row) c.loop-place-test.true c.loop-place.invariant.cells
+          (changed-before c.args.order.now c.args.column (change a f q) (map v c.args.row.now) i (map v c.loop-place.row) c.loop-place-test.true c.loop-place.invariant.cells ∙ minus_zero (f k) (a *ℚ q k) product);
     }
 
 pub returns-in_err-product : goal.returns-in_err-product
