@@ -10,7 +10,7 @@ use Rattle.report_text.specs.Grammar.{entry_phrases, entries_phrases, phrases_te
 use Rattle.report_printer.proofs.Printed.{text_both}
 use Rattle.report_text.proofs.InTurn.{gathered-push}
 use Rattle.analysis.specs.Right.{budgets_after, budgets_in_force, first_budgets}
-use Rattle.analysis.specs.Written.{entries_text, is_stop}
+use Rattle.analysis.specs.Written.{entries_text, is_unmet}
 use Rattle.analysis.specs.Pieces.{entry_text}
 
 -- the budgets after one command more
@@ -18,21 +18,21 @@ pub budgets_more : (before : List Command) (c : Command) → budgets_in_force (b
 budgets_more before c = fold-append budgets_after first_budgets before (c ∷ [])
 
 -- one text more
-pub text_more : (model : Program) (entries : List Entry) (e : Entry) → entries_text model (entries ++ e ∷ []) ≡ entries_text model entries ++ entry_text (after model (entry_commands entries)) e.command e.answer
+pub text_more : (model : Program) (entries : List Entry) (e : Entry) → entries_text model (entries ++ e ∷ []) ≡ entries_text model entries ++ entry_text model (entry_commands entries) e.command e.answer
 text_more model entries e =
     ap (phrases_text model) (gathered-push (λ front x. entry_phrases (after model front) x) [] entries e)
     ∙ text_both model (entries_phrases model [] entries) (entry_phrases (after model (entry_commands entries)) e)
 
--- whether one is a stop, with one more
-pub stop_more : (entries : List Entry) (e : Entry) → list_any (λ (d : Entry). is_stop d.answer) (entries ++ e ∷ []) ≡ (list_any (λ (d : Entry). is_stop d.answer) entries || is_stop e.answer)
-stop_more [] e = by (is_stop e.answer)
+-- whether some command was not done, with one more
+pub unmet_more : (entries : List Entry) (e : Entry) → list_any (λ (d : Entry). is_unmet d.answer) (entries ++ e ∷ []) ≡ (list_any (λ (d : Entry). is_unmet d.answer) entries || is_unmet e.answer)
+unmet_more [] e = by (is_unmet e.answer)
   where
     by : (b : Bool) → (b || false) ≡ b
     by true = refl
     by false = refl
-stop_more (x ∷ entries) e = by (is_stop x.answer) (stop_more entries e)
+unmet_more (x ∷ entries) e = by (is_unmet x.answer) (unmet_more entries e)
   where
-    by : (b : Bool) → list_any (λ (d : Entry). is_stop d.answer) (entries ++ e ∷ []) ≡ (list_any (λ (d : Entry). is_stop d.answer) entries || is_stop e.answer)
-        → (b || list_any (λ (d : Entry). is_stop d.answer) (entries ++ e ∷ [])) ≡ ((b || list_any (λ (d : Entry). is_stop d.answer) entries) || is_stop e.answer)
+    by : (b : Bool) → list_any (λ (d : Entry). is_unmet d.answer) (entries ++ e ∷ []) ≡ (list_any (λ (d : Entry). is_unmet d.answer) entries || is_unmet e.answer)
+        → (b || list_any (λ (d : Entry). is_unmet d.answer) (entries ++ e ∷ [])) ≡ ((b || list_any (λ (d : Entry). is_unmet d.answer) entries) || is_unmet e.answer)
     by true h = refl
     by false h = h

@@ -1,15 +1,15 @@
 -- Right answers stand in the grammar of reports, where all names are words.
-use Rattle.std.proofs.Common.{◌≡◌, ◌≢◌, ◌<◌, ◌≤◌, ◌+◌, refl, sym, subst, ℕ, true, not, List, [], ◌∷◌, ◌++◌, length, get_or, zip, inl, inr, arith}
+use Rattle.std.proofs.Common.{◌≡◌, ◌≢◌, ◌<◌, ◌≤◌, ◌+◌, refl, sym, subst, ℕ, Bool, true, false, cond, not, Option, Some, None, List, [], ◌∷◌, ◌++◌, length, get_or, zip, inl, inr, arith}
 use Rattle.std.specs.Prelude.{All, Contains, IsTrue}
 use Rattle.std.specs.List.{list_any}
 use Rattle.std.proofs.lemmas.Bool.{cases_lt}
-use Rattle.std.proofs.lemmas.List.{get_or_past}
+use Rattle.std.proofs.lemmas.List.{get_or_past, get_or_default}
 use Rattle.std.proofs.lemmas.List.Elements.{All-contains, All-contains_itself, All-cons, All-filter, All-head, All-nil, All-tail, All-weaker}
 use Rattle.std.proofs.lemmas.List.Kept.{AllPairs-filter}
 use Rattle.rational.specs.Rational.{zero_ℚ}
 use Rattle.lp_model.specs.declared.members.Member.{Member}
 use Rattle.lp_model.specs.declared.members.Member.TheVariants.{RowLo, RowUp, Lower, Upper, Whole}
-use Rattle.lp_model.specs.Program.{Program, IsWellFormed, empty_column, empty_row, noted_column}
+use Rattle.lp_model.specs.Program.{Program, NamedRow, NamedColumn, IsWellFormed, empty_column, empty_row, noted_column}
 use Rattle.lp_model.specs.Members.{active_members, comes_before, has}
 use Rattle.lp_model.specs.MemberSets.{SetValue, IsMemberFor, IsPossibleIn, active_set}
 use Rattle.lp_model.specs.Satisfaction.{IsPart, values_at}
@@ -34,17 +34,23 @@ use Rattle.report_text.specs.declared.report.Method.{Method}
 use Rattle.report_text.specs.declared.report.Method.TheVariants.{Deletion, Additive, Sensitivity}
 use Rattle.report_text.specs.declared.report.Core.{Core}
 use Rattle.report_text.specs.declared.report.Command.{Command}
-use Rattle.report_text.specs.declared.report.Command.TheVariants.{Check, Iis, Pivots, Nodes as MostNodes}
+use Rattle.report_text.specs.declared.report.Command.TheVariants.{Check, Iis, Edit, Undo, Pivots, Nodes as MostNodes}
 use Rattle.report_text.specs.declared.report.Answer.{Answer}
-use Rattle.report_text.specs.declared.report.Answer.TheVariants.{Feasible, Infeasible, Irreducible, Done, Stopped}
+use Rattle.report_text.specs.declared.report.Answer.TheVariants.{Feasible, Infeasible, Irreducible, Done, Refused, Stopped}
 use Rattle.report_text.specs.declared.report.Entry.{Entry}
-use Rattle.report_text.specs.Turns.{AllEntries, entry_commands}
+use Rattle.lp_model.specs.declared.edits.Edit.{Edit as OneEdit}
+use Rattle.model_history.specs.History.{changes}
+use Rattle.report_text.specs.declared.report.NamedEdit.{NamedEdit}
+use Rattle.report_text.specs.declared.report.Refusal.{Refusal}
+use Rattle.report_text.specs.Edits.{named_edit, edit_answer, undo_answer}
+use Rattle.report_text.specs.Turns.{after, edits_after, AllEntries, entry_commands}
+use Rattle.model_session.proofs.Unchanged.{same_names, rows_same, columns_same, row_name_same, column_name_same}
 use Rattle.report_text.specs.Grammar.{column_name}
 use Rattle.report_text.specs.Form.{is_word, IsNamedColumn, IsNamedMember, IsListed, IsPointFor, IsNamedSource, IsNodeFor, IsProofFor, IsSettleSite, IsSiteFor, IsStopFor, IsCoreFor, IsAnswerFor, IsCommand, IsEntryFor, IsReportFor, AreEntriesFor, AreNumbered, can_answer}
 use Rattle.report_printer.specs.Printing.{IsKnownSource}
 use Rattle.report_printer.specs.Numbers.{HasNumbersWithin, HasValuesWithin, HasWeightsWithin, HasWitnessesWithin, IsCoreWithin, IsProofWithin, IsStopWithin}
 use Rattle.analysis.specs.NamesAreWords.{HasWords}
-use Rattle.analysis.specs.Right.{AreRight, IsChecked, IsIsolated, IsRefutation, IsRightAfter, IsRightCore, IsRightStop, IsWhole, Right, budgets_in_force}
+use Rattle.analysis.specs.Right.{AreRight, IsChecked, IsIsolated, IsRefutation, IsRightAfter, IsRightCore, IsRightStop, IsWhole, Right, RightAfter, budgets_in_force}
 use Rattle.analysis.specs.Pieces.{Answers}
 use Rattle.analysis.specs.Written.{report_of}
 use Rattle.analysis.proofs.Found.{part_possible, possible_members_are}
@@ -174,6 +180,7 @@ module _ (model : Program) (words : HasWords model) where
   checked_form budgets (Infeasible printed proof) h within = (refl, refutation_form printed proof h.0 within)
   checked_form budgets (Irreducible core) h within = absurd h
   checked_form budgets Done h within = absurd h
+  checked_form budgets (Refused r) h within = absurd h
   checked_form budgets (Stopped stop) h within = (refl, stop_form (IsWhole model) budgets stop h within)
 
   isolated_form : (IsKept IsTest : List Member → Type 0) (method : Method) (budgets : Budgets) (answer : Answer) → IsIsolated IsKept IsTest model budgets answer → HasNumbersWithin answer → IsAnswerTo (Iis method) answer
@@ -181,6 +188,7 @@ module _ (model : Program) (words : HasWords model) where
   isolated_form IsKept IsTest method budgets (Infeasible printed proof) h within = absurd h
   isolated_form IsKept IsTest method budgets (Irreducible core) h within = (refl, core_form core h.0 within)
   isolated_form IsKept IsTest method budgets Done h within = absurd h
+  isolated_form IsKept IsTest method budgets (Refused r) h within = absurd h
   isolated_form IsKept IsTest method budgets (Stopped stop) h within = (refl, stop_form IsTest budgets stop h within)
 
   answer_form : (budgets : Budgets) (command : Command) (answer : Answer) → Right model budgets command answer → HasNumbersWithin answer → IsAnswerTo command answer
@@ -188,13 +196,49 @@ module _ (model : Program) (words : HasWords model) where
   answer_form budgets (Iis Deletion) answer h within = isolated_form _ _ Deletion budgets answer h within
   answer_form budgets (Iis Additive) answer h within = isolated_form _ _ Additive budgets answer h within
   answer_form budgets (Iis Sensitivity) answer h within = isolated_form _ _ Sensitivity budgets answer h within
+  answer_form budgets (Edit e) answer h within = absurd h
+  answer_form budgets Undo answer h within = absurd h
   answer_form budgets (Pivots n) answer h within = subst (IsAnswerTo (Pivots n)) (sym h) (refl, tt)
   answer_form budgets (MostNodes n) answer h within = subst (IsAnswerTo (MostNodes n)) (sym h) (refl, tt)
 
+  -- ---- edits
+  edit_form : (e : NamedEdit) (now : Program) (edit : Option OneEdit) → IsAnswerTo (Edit e) (edit_answer now edit)
+  edit_form e now None = (refl, tt)
+  edit_form e now (Some edit) = by (changes now edit)
+    where
+      by : (b : Bool) → IsAnswerTo (Edit e) (cond b Done (Refused Refusal.NoChange))
+      by true = (refl, tt)
+      by false = (refl, tt)
+
+  undo_form : (edits : List OneEdit) → IsAnswerTo Undo (undo_answer edits)
+  undo_form [] = (refl, tt)
+  undo_form (edit ∷ edits) = (refl, tt)
+
+-- no edit changes a name
+words_stand : (first : Program) (before : List Command) → HasWords first → HasWords (after first before)
+words_stand first before words =
+    let model = after first before in
+    let same = same_names first before in
+    record {
+      rows = λ i d l. subst (λ (r : NamedRow). is_word r.name ≡ true) (get_or_default model.rows i empty_row d l)
+          (subst (λ (name : List ℕ). is_word name ≡ true) (sym (row_name_same first model same i)) (words.rows i empty_row (subst (λ (n : ℕ). i < n) (rows_same first model same) l)));
+      columns = λ j d l. subst (λ (c : NamedColumn). is_word c.name ≡ true) (get_or_default model.columns j empty_column d l)
+          (subst (λ (name : List ℕ). is_word name ≡ true) (sym (column_name_same first model same j)) (words.columns j empty_column (subst (λ (n : ℕ). j < n) (columns_same first model same) l)));
+    }
+
+module _ (model : Program) (words : HasWords model) where
   -- ---- reports
-  entry_form : (before : List Command) (e : Entry) → IsCommand e.command → IsRightAfter model before e → IsEntryFor model e
+  right_form : (before : List Command) (command : Command) (answer : Answer) → RightAfter model before command answer → HasNumbersWithin answer → IsAnswerTo (after model before) (words_stand model before words) command answer
+  right_form before Check answer h within = answer_form (after model before) (words_stand model before words) (budgets_in_force before) Check answer h within
+  right_form before (Iis method) answer h within = answer_form (after model before) (words_stand model before words) (budgets_in_force before) (Iis method) answer h within
+  right_form before (Edit e) answer h within = subst (IsAnswerTo (after model before) (words_stand model before words) (Edit e)) (sym h) (edit_form (after model before) (words_stand model before words) e (after model before) (named_edit model e))
+  right_form before Undo answer h within = subst (IsAnswerTo (after model before) (words_stand model before words) Undo) (sym h) (undo_form (after model before) (words_stand model before words) (edits_after model before))
+  right_form before (Pivots n) answer h within = answer_form (after model before) (words_stand model before words) (budgets_in_force before) (Pivots n) answer h within
+  right_form before (MostNodes n) answer h within = answer_form (after model before) (words_stand model before words) (budgets_in_force before) (MostNodes n) answer h within
+
+  entry_form : (before : List Command) (e : Entry) → IsCommand e.command → IsRightAfter model before e → IsEntryFor (after model before) e
   entry_form before e built h =
-      let form = answer_form (budgets_in_force before) e.command e.answer h.right h.numbers in
+      let form = right_form before e.command e.answer h.right h.numbers in
       record { command = built; kind = form.0; answer = form.1 }
 
   entries_form : (before : List Command) (entries : List Entry) → All IsCommand (entry_commands entries) → AllEntries (IsRightAfter model) before entries → AreEntriesFor model before entries
@@ -207,7 +251,7 @@ module _ (model : Program) (words : HasWords model) where
   -- right entries with the numbers of their lines are a report
   in_grammar : (commands : List Command) (entries : List Entry) → IsWellFormed model → All IsCommand commands → AreRight model commands entries → AreNumbered model [] (2 + length model.notes) entries → IsReportFor model (report_of model entries)
   in_grammar commands entries formed built h numbered = record {
-    notes = All-weaker (λ note. noted_column note < length model.columns) (λ note. IsNamedColumn model (noted_column note)) (λ note l. named_column (noted_column note) l) model.notes formed.notes;
+    notes = All-weaker (λ note. noted_column note < length model.columns) (λ note. IsNamedColumn model (noted_column note)) (λ note l. named_column model words (noted_column note) l) model.notes formed.notes;
     entries = entries_form [] entries (front_of IsCommand (entry_commands entries) h.rest (subst (All IsCommand) h.first built)) h.each;
     numbered = numbered;
   }

@@ -1,4 +1,5 @@
 pub mod Putting
+pub mod Nexts
 pub mod Entries
 pub mod Refuting
 pub mod Stopping

@@ -2,7 +2,6 @@
 use Rattle.std.proofs.Common.{◌≡◌, refl, sym, ◌∙◌, ap, subst, ℕ, ◌==◌, Bool, cond, List, [], ◌∷◌, ◌++◌, append_assoc, length, Option, Ok, Err, inl, inr, eq-eqb}
 use Rattle.std.proofs.lemmas.Bool.{cond-true}
 use Rattle.lp_model.specs.Program.{Program}
-use Rattle.certs.specs.Sites.{Budgets}
 use Rattle.report_text.specs.declared.report.Command.{Command}
 use Rattle.report_text.specs.declared.report.Answer.{Answer}
 use Rattle.report_text.specs.declared.report.Entry.{Entry}
@@ -20,10 +19,10 @@ use Rattle.analysis.proofs.InGrammar.{AllInGrammar}
 use Rattle.analysis.proofs.Putting.{put_two, put_then_none, failed_after, failed_longer}
 
 -- a right answer whose entry was not put whole
-pub entry_err : {K : Type 0} (faults : K → ℕ) (taken : K → Option (List ℕ)) (old new : K) (model : Program) (b : Budgets) (c : Command) (a : Answer) (text : List ℕ) (w : Want)
-    → IsGiven model b c a → text ≡ entry_text model c a → TextPut faults taken old new text (Err w) → EntryPut faults taken old new model b c (Err w)
-entry_err faults taken old new model b c a text Fault r e p = (a, (r, subst (PutFailed faults taken old new) e p))
-entry_err faults taken old new model b c a text Memory r e p = p
+pub entry_err : {K : Type 0} (faults : K → ℕ) (taken : K → Option (List ℕ)) (old new : K) (first : Program) (before : List Command) (c : Command) (a : Answer) (text : List ℕ) (w : Want)
+    → IsGiven first before c a → text ≡ entry_text first before c a → TextPut faults taken old new text (Err w) → EntryPut faults taken old new first before c (Err w)
+entry_err faults taken old new first before c a text Fault r e p = (a, (r, subst (PutFailed faults taken old new) e p))
+entry_err faults taken old new first before c a text Memory r e p = p
 
 -- the text of a report is that of its parts
 whole_parts : (model : Program) (entries : List Entry) → whole_text model entries ≡ head_text model ++ (entries_text model entries ++ foot_text)

@@ -16,24 +16,28 @@ use Rattle.analysis.specs.declared.pieces.Want.{Want}
 use Rattle.analysis.specs.declared.pieces.Want.TheVariants.{Memory, Fault}
 use Rattle.analysis.specs.Puts.{PutWhole, PutFailed, PutsNothing}
 use Rattle.analysis.specs.Right.{IsGiven, AreRight, IsRightAfter, budgets_after, budgets_in_force}
-use Rattle.analysis.specs.Written.{entries_text, is_stop}
+use Rattle.analysis.specs.Written.{entries_text, is_unmet}
 use Rattle.analysis.specs.Pieces.{EntryPut, EntriesPut, entry_text}
 use Rattle.analysis.proofs.Putting.{put_two, put_then_none, failed_after}
-use Rattle.analysis.proofs.Entries.{budgets_more, text_more, stop_more}
+use Rattle.analysis.proofs.Entries.{budgets_more, text_more, unmet_more}
+
+-- the first commands with the next one
+pub next_front : (commands : List Command) (n : ℕ) (c d : Command) → n < length commands → c ≡ get_or commands n d → take (n + 1) commands ≡ take n commands ++ c ∷ []
+next_front commands n c d l is = take_more commands n d l ∙ ap (λ (x : Command). take n commands ++ x ∷ []) (sym is)
 
 -- the budgets stay small
 pub few_after : (b : Budgets) (c : Command) → IsCommand c → b.pivots < 2 ^ 63 → (budgets_after b c).pivots < 2 ^ 63
 few_after b (Pivots n) built few = omega (arith, built)
 few_after b _ built few = few
 
--- right answers to the first n commands were put, and the budgets and whether some is a stop are told
+-- right answers to the first n commands were put, and the budgets and whether some command was not done are told
 pub record HasPut {K : Type 0} (faults : K → ℕ) (taken : K → Option (List ℕ)) (old now : K) (model : Program) (commands : List Command) (n : ℕ) (budgets : Budgets) (stopped : Bool) : Type 0 where
   pub entries : List Entry
   pub first : entry_commands entries ≡ take n commands
   pub each : AllEntries (IsRightAfter model) [] entries
   pub numbered : AreNumbered model [] (2 + length model.notes) entries
   pub budgets_are : budgets ≡ budgets_in_force (take n commands)
-  pub stopped_is : stopped ≡ list_any (λ (e : Entry). is_stop e.answer) entries
+  pub stopped_is : stopped ≡ list_any (λ (e : Entry). is_unmet e.answer) entries
   pub put : PutWhole faults taken old now (entries_text model entries)
 
 module _ {K : Type 0} (faults : K → ℕ) (taken : K → Option (List ℕ)) (old now new : K) (model : Program) (commands : List Command) where
@@ -41,18 +45,17 @@ module _ {K : Type 0} (faults : K → ℕ) (taken : K → Option (List ℕ)) (ol
   abbrev next_entry : List Entry → Command → Answer → Entry
   next_entry entries c a = record { command = c; answer = a; line = 2 + length model.notes + length (entries_phrases model [] entries) }
 
-  one_more : (n : ℕ) (c d : Command) → n < length commands → c ≡ get_or commands n d → take (n + 1) commands ≡ take n commands ++ c ∷ []
-  one_more n c d l is = take_more commands n d l ∙ ap (λ (x : Command). take n commands ++ x ∷ []) (sym is)
-
   module _ (n : ℕ) (c d : Command) (b : Budgets) (s : Bool) (within : n < length commands) (is : c ≡ get_or commands n d) (h : HasPut faults taken old now model commands n b s) (a : Answer) where
     -- the answers with the next one
     more_first : entry_commands (h.entries ++ next_entry h.entries c a ∷ []) ≡ take (n + 1) commands
-    more_first = commands_push h.entries (next_entry h.entries c a) ∙ ap (λ (l : List Command). l ++ c ∷ []) h.first ∙ sym (one_more n c d within is)
+    more_first = commands_push h.entries (next_entry h.entries c a) ∙ ap (λ (l : List Command). l ++ c ∷ []) h.first ∙ sym (next_front commands n c d within is)
 
-    more_each : IsGiven (after model (entry_commands h.entries)) b c a → AllEntries (IsRightAfter model) [] (h.entries ++ next_entry h.entries c a ∷ [])
-    more_each r =
-        AllEntries-push (IsRightAfter model) [] h.entries (next_entry h.entries c a) h.each
-        (subst (λ (x : Budgets). IsGiven (after model (entry_commands h.entries)) x c a) (h.budgets_are ∙ ap budgets_in_force (sym h.first)) r)
+    more_each : IsGiven model (take n commands) c a → AllEntries (IsRightAfter model) [] (h.entries ++ next_entry h.entries c a ∷ [])
+    more_each r = AllEntries-push (IsRightAfter model) [] h.entries (next_entry h.entries c a) h.each (subst (λ (x : List Command). IsGiven model x c a) (sym h.first) r)
+
+    -- and their text
+    more_text : entries_text model (h.entries ++ next_entry h.entries c a ∷ []) ≡ entries_text model h.entries ++ entry_text model (take n commands) c a
+    more_text = text_more model h.entries (next_entry h.entries c a) ∙ ap (λ (x : List Command). entries_text model h.entries ++ entry_text model x c a) h.first
 
   -- answers to the first commands are right ones to the commands
   front_right : (n : ℕ) (entries : List Entry) → entry_commands entries ≡ take n commands → AllEntries (IsRightAfter model) [] entries → AreRight model commands entries
@@ -60,7 +63,7 @@ module _ {K : Type 0} (faults : K → ℕ) (taken : K → Option (List ℕ)) (ol
 
   -- one entry more was put
   pub has_more : (n : ℕ) (c d : Command) (b next : Budgets) (s t : Bool) → n < length commands → c ≡ get_or commands n d → HasPut faults taken old now model commands n b s
-      → EntryPut faults taken now new model b c (Ok t) → next ≡ budgets_after b c → HasPut faults taken old new model commands (n + 1) next (s || t)
+      → EntryPut faults taken now new model (take n commands) c (Ok t) → next ≡ budgets_after b c → HasPut faults taken old new model commands (n + 1) next (s || t)
   has_more n c d b next s t l is h (a, (r, (stop, put))) behind =
       let e = next_entry h.entries c a in
       record {
@@ -68,14 +71,14 @@ module _ {K : Type 0} (faults : K → ℕ) (taken : K → Option (List ℕ)) (ol
         first = more_first n c d b s l is h a;
         each = more_each n c d b s l is h a r;
         numbered = numbered-push model [] (2 + length model.notes) h.entries e h.numbered refl;
-        budgets_are = behind ∙ (ap (λ (x : Budgets). budgets_after x c) h.budgets_are ∙ sym (ap budgets_in_force (one_more n c d l is) ∙ budgets_more (take n commands) c));
-        stopped_is = ap (λ x. x || t) h.stopped_is ∙ (ap (λ y. list_any (λ (x : Entry). is_stop x.answer) h.entries || y) stop ∙ sym (stop_more h.entries e));
-        put = subst (PutWhole faults taken old new) (sym (text_more model h.entries e)) (put_two faults taken old now new (entries_text model h.entries) (entry_text model c a) h.put put);
+        budgets_are = behind ∙ (ap (λ (x : Budgets). budgets_after x c) h.budgets_are ∙ sym (ap budgets_in_force (next_front commands n c d l is) ∙ budgets_more (take n commands) c));
+        stopped_is = ap (λ x. x || t) h.stopped_is ∙ (ap (λ y. list_any (λ (x : Entry). is_unmet x.answer) h.entries || y) stop ∙ sym (unmet_more h.entries e));
+        put = subst (PutWhole faults taken old new) (sym (more_text n c d b s l is h a)) (put_two faults taken old now new (entries_text model h.entries) (entry_text model (take n commands) c a) h.put put);
       }
 
   -- a put of it failed
   pub has_failed : (n : ℕ) (c d : Command) (b : Budgets) (s : Bool) → n < length commands → c ≡ get_or commands n d → HasPut faults taken old now model commands n b s
-      → EntryPut faults taken now new model b c (Err Fault) → EntriesPut faults taken old new model commands (Err Fault)
+      → EntryPut faults taken now new model (take n commands) c (Err Fault) → EntriesPut faults taken old new model commands (Err Fault)
   has_failed n c d b s l is h (a, (r, put)) =
       let e = next_entry h.entries c a in (
         record {
@@ -83,7 +86,7 @@ module _ {K : Type 0} (faults : K → ℕ) (taken : K → Option (List ℕ)) (ol
           right = front_right (n + 1) (h.entries ++ e ∷ []) (more_first n c d b s l is h a) (more_each n c d b s l is h a r);
           numbered = numbered-push model [] (2 + length model.notes) h.entries e h.numbered refl;
         },
-        subst (PutFailed faults taken old new) (sym (text_more model h.entries e)) (failed_after faults taken old now new (entries_text model h.entries) (entry_text model c a) h.put put),
+        subst (PutFailed faults taken old new) (sym (more_text n c d b s l is h a)) (failed_after faults taken old now new (entries_text model h.entries) (entry_text model (take n commands) c a) h.put put),
       )
 
   -- there was no memory for it
@@ -95,7 +98,7 @@ module _ {K : Type 0} (faults : K → ℕ) (taken : K → Option (List ℕ)) (ol
 
   -- why it was not put
   pub has_stopped : (n : ℕ) (c d : Command) (b : Budgets) (s : Bool) (w : Want) → n < length commands → c ≡ get_or commands n d → HasPut faults taken old now model commands n b s
-      → EntryPut faults taken now new model b c (Err w) → EntriesPut faults taken old new model commands (Err w)
+      → EntryPut faults taken now new model (take n commands) c (Err w) → EntriesPut faults taken old new model commands (Err w)
   has_stopped n c d b s Fault l is h p = has_failed n c d b s l is h p
   has_stopped n c d b s Memory l is h p = has_wanted n b s h p
 

@@ -22,7 +22,7 @@ use Rattle.certs.proofs.HasLists.{agree_on}
 use Rattle.certs.proofs.Parted.{filter_both}
 use Rattle.branch_proof.proofs.TreeStops.{reference_stopped}
 use Rattle.report_text.specs.declared.report.Answer.{Answer}
-use Rattle.report_text.specs.declared.report.Answer.TheVariants.{Feasible, Infeasible, Irreducible, Done, Stopped}
+use Rattle.report_text.specs.declared.report.Answer.TheVariants.{Feasible, Infeasible, Irreducible, Done, Refused, Stopped}
 use Rattle.report_printer.specs.Printing.{IsKnownAnswer, IsKnownSite, IsKnownStop}
 use Rattle.analysis.specs.Answers.{IsPossibleSite, IsStopAnswer, IsToldStop}
 use Rattle.analysis.specs.Right.{IsChecked, IsIsolated, IsRightStop, IsSiteOf, IsWhole}
@@ -124,6 +124,7 @@ passes IsTest model budgets asked test (Feasible point) h = absurd h
 passes IsTest model budgets asked test (Infeasible printed proof) h = absurd h
 passes IsTest model budgets asked test (Irreducible core) h = absurd h
 passes IsTest model budgets asked test Done h = absurd h
+passes IsTest model budgets asked test (Refused r) h = absurd h
 passes IsTest model budgets asked test (Stopped stop) h = stop_passes IsTest model budgets asked test stop h
 
 -- what is answered to an ask for a set of active members that passes the test
@@ -138,6 +139,7 @@ isolated_answer IsKept IsTest model budgets (Feasible point) h = absurd h
 isolated_answer IsKept IsTest model budgets (Infeasible printed proof) h = absurd h
 isolated_answer IsKept IsTest model budgets (Irreducible core) h = absurd h
 isolated_answer IsKept IsTest model budgets Done h = absurd h
+isolated_answer IsKept IsTest model budgets (Refused r) h = absurd h
 isolated_answer IsKept IsTest model budgets (Stopped stop) h = h
 
 pub isolated_stop : (IsKept IsTest : List Member → Type 0) (model : Program) (budgets : Budgets) {E : Type 0} (result : Result Answer E) → IfOk result (IsStopAnswer IsTest model budgets) → IfOk result (IsIsolated IsKept IsTest model budgets)
@@ -149,6 +151,7 @@ checked_answer model budgets (Feasible point) h = absurd h
 checked_answer model budgets (Infeasible printed proof) h = absurd h
 checked_answer model budgets (Irreducible core) h = absurd h
 checked_answer model budgets Done h = absurd h
+checked_answer model budgets (Refused r) h = absurd h
 checked_answer model budgets (Stopped stop) h = h
 
 pub checked_stop : (model : Program) (budgets : Budgets) {E : Type 0} (result : Result Answer E) → IfOk result (IsStopAnswer (IsWhole model) model budgets) → IfOk result (IsChecked model budgets)
@@ -171,6 +174,7 @@ known_answer IsTest model budgets (Feasible point) h = absurd h
 known_answer IsTest model budgets (Infeasible printed proof) h = absurd h
 known_answer IsTest model budgets (Irreducible core) h = absurd h
 known_answer IsTest model budgets Done h = tt
+known_answer IsTest model budgets (Refused r) h = tt
 known_answer IsTest model budgets (Stopped stop) h = known_stop IsTest model budgets stop h
 
 pub known_stopped : (IsTest : List Member → Type 0) (model : Program) (budgets : Budgets) {E : Type 0} (result : Result Answer E) → IfOk result (IsStopAnswer IsTest model budgets) → IfOk result (IsKnownAnswer model)

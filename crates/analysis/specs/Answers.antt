@@ -1,5 +1,5 @@
 -- The budgets in code, the oracle that makes runs and trees, and answers from what filters and oracles tell.
-use Rattle.std.specs.Prelude.{◌≡◌, ⊤, List, None, filter, Result, Ok, Err}
+use Rattle.std.specs.Prelude.{◌≡◌, ⊤, List, [], ◌∷◌, ◌++◌, None, filter, Result, Ok, Err}
 use Rattle.lp_model.specs.declared.members.Member.{Member}
 use Rattle.lp_model.specs.Program.{Program}
 use Rattle.lp_model.specs.Members.{has, IsInOrder}
@@ -16,7 +16,10 @@ use Rattle.branch_oracle.specs.Value.{BranchValue}
 use Rattle.report_text.specs.declared.report.Answer.{Answer}
 use Rattle.report_text.specs.declared.report.Answer.TheVariants.{Feasible, Irreducible as Isolated, Stopped}
 use Rattle.analysis.specs.declared.answering.Budgets.{Budgets as Code}
-use Rattle.analysis.specs.Right.{IsRightStop}
+use Rattle.model_history.specs.History.{HistoryValue}
+use Rattle.report_text.specs.declared.report.Command.{Command}
+use Rattle.model_session.specs.Session.{session_at}
+use Rattle.analysis.specs.Right.{IsRightStop, RightAfter, budgets_in_force}
 
 -- as contracts have them
 abbrev pub budgets_of : Code → Budgets
@@ -25,6 +28,11 @@ budgets_of b = record { pivots = b.pivots; nodes = b.nodes }
 -- an oracle that makes the runs and trees of a program within the budgets, and was asked nothing yet
 abbrev pub fresh_oracle : Program → Budgets → BranchValue OracleValue
 fresh_oracle model budgets = record { inner = record { model = model; pivots = budgets.pivots; made = 0; tale = no_tale }; nodes = budgets.nodes; taken = 0; tale = no_tale }
+
+-- a command is answered right, and done to the session's program where it edits it
+pub record IsNext (old new : HistoryValue) (budgets : Budgets) (command : Command) (answer : Answer) : Type 0 where
+  pub goes_on : (first : Program) (before : List Command) → old ≡ session_at first before → new ≡ session_at first (before ++ command ∷ [])
+  pub right : (first : Program) (before : List Command) → old ≡ session_at first before → budgets ≡ budgets_in_force before → RightAfter first before command answer
 
 -- what a filter gives, as an answer
 abbrev pub answer_of : Irreducible → Answer

@@ -2,7 +2,6 @@
 use Rattle.std.specs.Prelude.{◌≡◌, ◌⊎◌, ⊤, ℕ, ◌+◌, ◌==◌, Bool, cond, List, [], ◌++◌, length, Option, Result, Ok, Err}
 use Rattle.std.specs.List.{list_any}
 use Rattle.lp_model.specs.Program.{Program}
-use Rattle.certs.specs.Sites.{Budgets}
 use Rattle.report_text.specs.declared.report.Command.{Command}
 use Rattle.report_text.specs.declared.report.Answer.{Answer}
 use Rattle.report_text.specs.Grammar.{entry_phrases, phrases_text}
@@ -10,19 +9,21 @@ use Rattle.analysis.specs.declared.pieces.Want.{Want}
 use Rattle.analysis.specs.declared.pieces.Want.TheVariants.{Memory, Fault}
 use Rattle.analysis.specs.Puts.{PutWhole, PutFailed, PutsNothing}
 use Rattle.report_text.specs.declared.report.Entry.{Entry}
+use Rattle.report_text.specs.Turns.{after}
 use Rattle.report_text.specs.Form.{AreNumbered}
 use Rattle.analysis.specs.Right.{IsGiven, AreRight}
-use Rattle.analysis.specs.Written.{is_stop, head_text, entries_text, foot_text, whole_text}
+use Rattle.analysis.specs.Written.{is_unmet, head_text, entries_text, foot_text, whole_text}
 
--- the text of an entry; the number of its line is not part of it
-abbrev pub entry_text : Program → Command → Answer → List ℕ
-entry_text model command answer = phrases_text model (entry_phrases model (record { command = command; answer = answer; line = 0 }))
+-- the text of an entry after commands; the number of its line is not part of it
+abbrev pub entry_text : Program → List Command → Command → Answer → List ℕ
+entry_text first before command answer = phrases_text first (entry_phrases (after first before) (record { command = command; answer = answer; line = 0 }))
 
--- A right answer was put whole, or a front of it; or nothing was for want of memory. With the whole it is told whether it is a stop.
-abbrev pub EntryPut : {K : Type 0} → (K → ℕ) → (K → Option (List ℕ)) → K → K → Program → Budgets → Command → Result Bool Want → Type 0
-EntryPut faults taken old new model budgets command (Ok stopped) = (answer : Answer) × (IsGiven model budgets command answer × ((stopped ≡ is_stop answer) × PutWhole faults taken old new (entry_text model command answer)))
-EntryPut faults taken old new model budgets command (Err Fault) = (answer : Answer) × (IsGiven model budgets command answer × PutFailed faults taken old new (entry_text model command answer))
-EntryPut faults taken old new model budgets command (Err Memory) = PutsNothing faults taken old new
+-- A right answer to a command after others was put whole, or a front of it; or nothing was for want of memory. With the whole it is told whether the command was not done.
+abbrev pub EntryPut : {K : Type 0} → (K → ℕ) → (K → Option (List ℕ)) → K → K → Program → List Command → Command → Result Bool Want → Type 0
+EntryPut faults taken old new first before command (Ok unmet) =
+    (answer : Answer) × (IsGiven first before command answer × ((unmet ≡ is_unmet answer) × PutWhole faults taken old new (entry_text first before command answer)))
+EntryPut faults taken old new first before command (Err Fault) = (answer : Answer) × (IsGiven first before command answer × PutFailed faults taken old new (entry_text first before command answer))
+EntryPut faults taken old new first before command (Err Memory) = PutsNothing faults taken old new
 
 -- a text was put whole or a front of it, or nothing for want of memory
 abbrev pub TextPut : {K : Type 0} → (K → ℕ) → (K → Option (List ℕ)) → K → K → List ℕ → Result ⊤ Want → Type 0
@@ -36,11 +37,11 @@ pub record Answers (model : Program) (commands : List Command) : Type 0 where
   pub right : AreRight model commands entries
   pub numbered : AreNumbered model [] (2 + length model.notes) entries
 
--- right answers to all, and whether some is a stop
+-- right answers to all, and whether some command was not done
 pub record AllAnswers (model : Program) (commands : List Command) (stopped : Bool) : Type 0 where
   pub answers : Answers model commands
   pub all : length answers.entries ≡ length commands
-  pub stopped_is : stopped ≡ list_any (λ e. is_stop e.answer) answers.entries
+  pub stopped_is : stopped ≡ list_any (λ e. is_unmet e.answer) answers.entries
 
 -- the entries of all commands were put whole; or a front of those of the first ones; or those of the first ones whole, and no more for want of memory
 abbrev pub EntriesPut : {K : Type 0} → (K → ℕ) → (K → Option (List ℕ)) → K → K → Program → List Command → Result Bool Want → Type 0

@@ -1,5 +1,5 @@
 -- What it is for an answer to be right: of the program, within the budgets in force, to its command.
-use Rattle.std.specs.Prelude.{◌≡◌, ◌≢◌, ◌⊎◌, ◌*◌, ◌≤◌, true, List, [], ◌++◌, fold, None, All}
+use Rattle.std.specs.Prelude.{◌≡◌, ◌≢◌, ◌⊎◌, ◌*◌, ◌≤◌, true, List, [], ◌++◌, fold, Option, Some, None, All}
 use Rattle.lp_model.specs.Program.{Program}
 use Rattle.lp_model.specs.declared.members.Member.{Member}
 use Rattle.lp_model.specs.Members.{active_members, IsInOrder}
@@ -25,11 +25,11 @@ use Rattle.report_text.specs.declared.report.Method.{Method}
 use Rattle.report_text.specs.declared.report.Method.TheVariants.{Deletion, Additive, Sensitivity}
 use Rattle.report_text.specs.declared.report.Core.{Core}
 use Rattle.report_text.specs.declared.report.Command.{Command}
-use Rattle.report_text.specs.declared.report.Command.TheVariants.{Check, Iis, Pivots, Nodes as MostNodes}
+use Rattle.report_text.specs.declared.report.Command.TheVariants.{Check, Iis, Edit, Undo, Pivots, Nodes as MostNodes}
 use Rattle.report_text.specs.declared.report.Answer.{Answer}
 use Rattle.report_text.specs.declared.report.Answer.TheVariants.{Feasible, Infeasible, Irreducible, Done, Stopped}
 use Rattle.report_text.specs.declared.report.Entry.{Entry}
-use Rattle.report_text.specs.Turns.{after, entry_commands, AllEntries}
+use Rattle.report_text.specs.Turns.{after, answer_after, entry_commands, AllEntries}
 use Rattle.report_text.specs.Form.{IsSettleSite}
 use Rattle.report_printer.specs.Numbers.{HasNumbersWithin}
 
@@ -117,10 +117,12 @@ IsFound Deletion model budgets answer = IsIsolated (Late model (active_members m
 IsFound Additive model budgets answer = IsIsolated (Early model (active_members model)) (IsEarlyTest model (active_members model)) model budgets answer
 IsFound Sensitivity model budgets answer = IsIsolated (IsLateOfCore model budgets) (IsCoreTest model budgets) model budgets answer
 
--- An answer is right only to a command that may have it; a budget is always done.
+-- An answer is right only to a command that may have it; a budget is always done, and no edit is asked here.
 abbrev pub Right : Program → Budgets → Command → Answer → Type 0
 Right model budgets Check answer = IsChecked model budgets answer
 Right model budgets (Iis method) answer = IsFound method model budgets answer
+Right model budgets (Edit e) answer = ⊥
+Right model budgets Undo answer = ⊥
 Right model budgets (Pivots n) answer = answer ≡ Done
 Right model budgets (MostNodes n) answer = answer ≡ Done
 
@@ -140,14 +142,22 @@ abbrev pub budgets_in_force : List Command → Budgets
 budgets_in_force before = fold budgets_after first_budgets before
 
 -- ---- entries
+-- What is right to a command after others: to an edit or an undo the answer that it has then, and to another one what is right of the program as then edited, within the budgets then in force.
+abbrev pub RightAfter : Program → List Command → Command → Answer → Type 0
+RightAfter first before command answer = by (answer_after first before command)
+  where
+    by : Option Answer → Type 0
+    by (Some right) = answer ≡ right
+    by None = Right (after first before) (budgets_in_force before) command answer
+
 -- an answer is right, and its numbers are fractions within the limit and counts of 64 bits
-pub record IsGiven (model : Program) (budgets : Budgets) (command : Command) (answer : Answer) : Type 0 where
-  pub right : Right model budgets command answer
+pub record IsGiven (first : Program) (before : List Command) (command : Command) (answer : Answer) : Type 0 where
+  pub right : RightAfter first before command answer
   pub numbers : HasNumbersWithin answer
 
--- such is the entry's answer, of the program after the commands before it, within the budgets then in force
+-- such is the entry's answer after the commands before it
 abbrev pub IsRightAfter : Program → List Command → Entry → Type 0
-IsRightAfter model before e = IsGiven (after model before) (budgets_in_force before) e.command e.answer
+IsRightAfter first before e = IsGiven first before e.command e.answer
 
 -- The entries answer the first commands, and each of them is right; the rest of the commands may be without answers.
 pub record AreRight (model : Program) (commands : List Command) (entries : List Entry) : Type 0 where

@@ -6,7 +6,7 @@ use Rattle.lp_model.specs.Shown.{empty_program}
 use Rattle.analysis.specs.Puts.{PutWhole, PutFailed, PutsNothing}
 use Rattle.report_text.specs.declared.report.Command.{Command}
 use Rattle.report_text.specs.declared.report.Answer.{Answer}
-use Rattle.report_text.specs.declared.report.Answer.TheVariants.{Stopped}
+use Rattle.report_text.specs.declared.report.Answer.TheVariants.{Refused, Stopped}
 use Rattle.report_text.specs.declared.report.Entry.{Entry}
 use Rattle.report_text.specs.declared.report.Report.{Report}
 use Rattle.report_text.specs.Grammar.{entries_phrases, report_lines, phrases_text, text_of}
@@ -38,14 +38,15 @@ abbrev pub whole_text : Program → List Entry → List ℕ
 whole_text model entries = text_of (report_lines model (report_of model entries))
 
 -- ---- the status
--- whether an answer is a stop
-abbrev pub is_stop : Answer → Bool
-is_stop (Stopped stop) = true
-is_stop _ = false
+-- whether a command was not done: its answer is a stop or a refusal
+abbrev pub is_unmet : Answer → Bool
+is_unmet (Stopped stop) = true
+is_unmet (Refused r) = true
+is_unmet _ = false
 
--- 1 where some answer is a stop
+-- 1 where some command was not done
 abbrev pub status_of : List Entry → ℕ
-status_of entries = cond (list_any (λ e. is_stop e.answer) entries) 1 0
+status_of entries = cond (list_any (λ e. is_unmet e.answer) entries) 1 0
 
 -- ---- what is written
 -- All commands are answered, and the whole text is put.

@@ -7,13 +7,14 @@ ghost use Rattle.certs.specs.Proof.{IsFittingNode, IsProof};
 ghost use Rattle.certs.specs.Sites.{Budgets as Allowed};
 ghost use Rattle.report_text.specs.Form.{IsCommand};
 ghost use Rattle.report_printer.specs.Printing.{IsKnownAnswer};
-ghost use Rattle.analysis.specs.Answers.{budgets_of, fresh_oracle};
-ghost use Rattle.analysis.specs.Right.{HasNodesInBox, IsChecked, Right, TreeCloses, budgets_after, first_budgets as budgets_at_first};
+ghost use Rattle.analysis.specs.Answers.{IsNext, budgets_of, fresh_oracle};
+ghost use Rattle.analysis.specs.Right.{HasNodesInBox, IsChecked, TreeCloses, budgets_after, first_budgets as budgets_at_first};
 
 use crate::asking::{Reference, quick_oracle};
 use crate::searching::{search, stopped};
 use certs::{MemberSet, Oracle, Proof, Verdict, members_used};
 use lp_model::Model;
+use model_session::Session;
 use quick_oracle::{Kept, QuickOracle};
 use report_text::{Answer, Command};
 use std::alloc::{AllocError, Global};
@@ -52,22 +53,25 @@ pub(crate) fn after(budgets: Budgets, command: &Command) -> Budgets
     }
 }
 
-/// The right answer to a command, where memory allows. What is kept of the program serves the next command too.
+/// The right answer to a command, where memory allows; an edit or an undo is done. What is kept of the program serves the
+/// next command too, whatever is edited between: an edit changes no form.
 pub(crate) fn answer(
     alloc: Global,
-    model: &Model,
+    session: &mut Session,
     budgets: Budgets,
     command: &Command,
     kept: &mut Kept,
 ) -> Result<Answer, AllocError>
     requires built { IsCommand command.now }
     requires few { budgets.pivots < 2 ^ 63 }
-    ensures right { IfOk result (Right model.now (budgets_of budgets) command.now) }
-    ensures known { IfOk result (IsKnownAnswer model.now) }
+    ensures next { IfOk result (IsNext session.old session.new (budgets_of budgets) command.now) }
+    ensures known { IfOk result (IsKnownAnswer session.new.model) }
 {
     match command {
-        Command::Check => check(alloc, model, budgets, kept),
-        Command::Iis(method) => search(alloc, model, budgets, *method, kept),
+        Command::Check => check(alloc, session.model(), budgets, kept),
+        Command::Iis(method) => search(alloc, session.model(), budgets, *method, kept),
+        Command::Edit(edit) => session.take_edit(edit),
+        Command::Undo => Ok(session.take_undo()),
         Command::Pivots(_) | Command::Nodes(_) => Ok(Answer::Done),
     }
 }

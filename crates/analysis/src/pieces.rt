@@ -1,14 +1,19 @@
 //! The pieces of an analysis: the head with the notes, an entry for each command, the foot.
-ghost use Rattle.std.specs.Prelude.{◌≡◌, ◌<◌, ◌^◌, ◌||◌, All, cond, false};
+ghost use Rattle.std.specs.Prelude.{◌≡◌, ◌<◌, ◌^◌, ◌||◌, [], ◌∷◌, ◌++◌, All, IfOk, List, cond, false};
+ghost use Rattle.lp_model.specs.Program.{Program};
+ghost use Rattle.report_text.specs.declared.report.Command.{Command};
 ghost use Rattle.analysis.specs.declared.pieces.Want.TheVariants.{Memory};
 ghost use Rattle.report_text.specs.Form.{IsCommand};
 ghost use Rattle.analysis.specs.Answers.{budgets_of};
+ghost use Rattle.model_session.specs.Session.{session_at};
+ghost use Rattle.analysis.specs.Right.{budgets_in_force};
 ghost use Rattle.analysis.specs.Pieces.{EntriesPut, EntryPut, ReportPut, TextPut};
-ghost use Rattle.analysis.specs.Written.{IsAnalysis, head_text, foot_text, is_stop as is_stop_of};
+ghost use Rattle.analysis.specs.Written.{IsAnalysis, head_text, foot_text, is_unmet as is_unmet_answer};
 
 use crate::answering::{Budgets, after, answer, first_budgets};
 use iis_edge::{PutFault, Sink};
 use lp_model::Model;
+use model_session::Session;
 use quick_oracle::Kept;
 use report_printer::{print_entry, print_foot, print_head};
 use report_text::{Answer, Command, Script};
@@ -29,48 +34,50 @@ impl From<AllocError> for Want {
     }
 }
 
-/// Answers the commands of a script in order, and puts the report of the answers piece by piece: the head with the
-/// program's notes, an entry for each command, and the foot. Gives the status:
+/// Answers the commands of a script in order, each of the program as those before it edited it, and puts the report of the
+/// answers piece by piece: the head with the program's notes, an entry for each command, and the foot. Gives the status:
 ///
-/// - 0 or 1: all is put; 1 where some answer is a stop.
+/// - 0 or 1: all is put; 1 where some answer is a stop, or says that an edit or an undo is refused.
 /// - 4: a put failed; a front of the report is put.
 /// - 7: want of memory; the head and the entries of the first commands are put, or nothing.
 ///
 /// What is put whole is a report in the grammar, where all names of the program are words.
-pub fn analyse<W: Sink>(alloc: Global, model: &Model, script: &Script, out: &mut W) -> u8
+pub fn analyse<W: Sink>(alloc: Global, model: Model, script: &Script, out: &mut W) -> u8
     requires built { All IsCommand script.now }
-    ensures { IsAnalysis W.faults W.taken out.old out.new model.now script.now result }
+    ensures { IsAnalysis W.faults W.taken out.old out.new model script.now result }
 {
     // That the program is well formed is told with the count.
     let _rows = model.row_count();
-    match put_report(alloc, model, script.commands.as_slice(), out) {
-        Ok(stopped) => status(stopped),
+    let mut session = Session::new(alloc, model);
+    match put_report(alloc, &mut session, script.commands.as_slice(), out) {
+        Ok(unmet) => status(unmet),
         Err(Want::Fault) => 4,
         Err(Want::Memory) => 7,
     }
 }
 
 // The status of a report that is put whole.
-fn status(stopped: bool) -> u8
-    ensures { result ≡ cond stopped 1 0 }
+fn status(unmet: bool) -> u8
+    ensures { result ≡ cond unmet 1 0 }
 {
-    if stopped { 1 } else { 0 }
+    if unmet { 1 } else { 0 }
 }
 
-// Puts the head, the entries and the foot, and tells whether some answer is a stop.
+// Puts the head, the entries and the foot, and tells whether some command was not done. Nothing was edited yet.
 fn put_report<W: Sink>(
     alloc: Global,
-    model: &Model,
+    session: &mut Session,
     commands: &[Command],
     out: &mut W,
 ) -> Result<bool, Want>
     requires built { All IsCommand commands.now }
-    ensures { ReportPut W.faults W.taken out.old out.new model.now commands.now result }
+    requires fresh { session.old.formers ≡ [] }
+    ensures { ReportPut W.faults W.taken out.old out.new session.old.model commands.now result }
 {
-    put_head(alloc, model, out)?;
-    let stopped = put_entries(alloc, model, commands, out)?;
+    put_head(alloc, session.model(), out)?;
+    let unmet = put_entries(alloc, session, commands, out)?;
     put_foot(alloc, out)?;
-    Ok(stopped)
+    Ok(unmet)
 }
 
 // Puts the head and the notes.
@@ -101,25 +108,26 @@ fn put<W: Sink>(out: &mut W, piece: &[u8]) -> Result<(), Want>
     }
 }
 
-// Puts the entries of the commands, and tells whether some answer is a stop.
+// Puts the entries of the commands, and tells whether some command was not done. Nothing was edited yet.
 fn put_entries<W: Sink>(
     alloc: Global,
-    model: &Model,
+    session: &mut Session,
     commands: &[Command],
     out: &mut W,
 ) -> Result<bool, Want>
     requires built { All IsCommand commands.now }
-    ensures { EntriesPut W.faults W.taken out.old out.new model.now commands.now result }
+    requires fresh { session.old.formers ≡ [] }
+    ensures { EntriesPut W.faults W.taken out.old out.new session.old.model commands.now result }
 {
     let mut budgets = first_budgets();
     let mut kept = Kept::new();
-    let mut stopped = false;
+    let mut some_unmet = false;
     for command in commands {
-        let stops = put_entry(alloc, model, budgets, command, &mut kept, out)?;
-        stopped = is_either(stopped, stops);
+        let unmet = put_entry(alloc, session, budgets, command, &mut kept, out)?;
+        some_unmet = is_either(some_unmet, unmet);
         budgets = after(budgets, command);
     }
-    Ok(stopped)
+    Ok(some_unmet)
 }
 
 // Whether one of the two is so.
@@ -129,10 +137,10 @@ fn is_either(first: bool, second: bool) -> bool
     first || second
 }
 
-// Puts the entry of a command, and tells whether its answer is a stop.
+// Puts the entry of a command, which is done to the program where it edits it, and tells whether it was not done.
 fn put_entry<W: Sink>(
     alloc: Global,
-    model: &Model,
+    session: &mut Session,
     budgets: Budgets,
     command: &Command,
     kept: &mut Kept,
@@ -140,18 +148,22 @@ fn put_entry<W: Sink>(
 ) -> Result<bool, Want>
     requires built { IsCommand command.now }
     requires few { budgets.pivots < 2 ^ 63 }
-    ensures { EntryPut W.faults W.taken out.old out.new model.now (budgets_of budgets) command.now result }
+    ensures put { (first : Program) (before : List Command) → session.old ≡ session_at first before
+        → budgets_of budgets ≡ budgets_in_force before
+        → EntryPut W.faults W.taken out.old out.new first before command.now result }
+    ensures goes_on { (first : Program) (before : List Command) → session.old ≡ session_at first before
+        → IfOk result (λ unmet. session.new ≡ session_at first (before ++ command.now ∷ [])) }
 {
-    let answer = answer(alloc, model, budgets, command, kept)?;
+    let answer = answer(alloc, session, budgets, command, kept)?;
     let mut text = Vec::new(alloc);
-    print_entry(model, command, &answer, &mut text)?;
+    print_entry(session.model(), command, &answer, &mut text)?;
     put(out, text.as_slice())?;
-    Ok(is_stop(&answer))
+    Ok(is_unmet(&answer))
 }
 
-// Whether an answer is a stop.
-fn is_stop(answer: &Answer) -> bool
-    ensures { result ≡ is_stop_of answer.now }
+// Whether an answer says that its command was not done.
+fn is_unmet(answer: &Answer) -> bool
+    ensures { result ≡ is_unmet_answer answer.now }
 {
-    matches!(answer, Answer::Stopped(_))
+    matches!(answer, Answer::Stopped(_) | Answer::Refused(_))
 }

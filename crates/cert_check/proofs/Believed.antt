@@ -1,8 +1,8 @@
 -- What is so where nothing stops the check.
-use Rattle.std.proofs.Common.{◌≡◌, ◌+◌, refl, sym, ◌∙◌, ap, subst, ℕ, suc, Bool, true, false, true≢false, List, [], ◌∷◌, ◌++◌, length, zip, flat_map, None, arith, eqb→eq, T}
+use Rattle.std.proofs.Common.{◌≡◌, ◌+◌, refl, sym, ◌∙◌, ap, subst, ℕ, suc, Bool, true, false, true≢false, List, [], ◌∷◌, ◌++◌, length, zip, flat_map, Option, Some, None, arith, eqb→eq, T}
 use Rattle.std.specs.Prelude.{All}
 use Rattle.std.proofs.lemmas.Bool.{and_parts}
-use Rattle.std.proofs.lemmas.List.Elements.{All-head, All-tail, All-nil, All-cons, All-weaker}
+use Rattle.std.proofs.lemmas.List.Elements.{All-head, All-tail, All-nil, All-cons, All-append, All-weaker}
 use Rattle.frac128.specs.Limit.{limit}
 use Rattle.lp_model.specs.declared.parts.Note.{Note}
 use Rattle.lp_model.specs.declared.parts.Note.TheVariants.{LowerRemoved, LowerKept}
@@ -24,13 +24,16 @@ use Rattle.branch_proof.specs.declared.checks.Judged.{Judged}
 use Rattle.branch_proof.specs.Walk.{judgement}
 use Rattle.branch_proof.proofs.Judgements.{told}
 use Rattle.report_text.specs.declared.report.Answer.{Answer}
-use Rattle.report_text.specs.declared.report.Answer.TheVariants.{Feasible, Infeasible, Irreducible, Done, Stopped}
+use Rattle.report_text.specs.declared.report.Answer.TheVariants.{Feasible, Infeasible, Irreducible, Done, Refused, Stopped}
 use Rattle.report_text.specs.declared.report.Command.{Command}
 use Rattle.report_text.specs.declared.report.Entry.{Entry}
-use Rattle.report_text.specs.Turns.{after}
-use Rattle.report_text.specs.Form.{IsAnswerFor, AreEntriesFor}
+use Rattle.report_text.specs.contracts.report.RefusalPartialEq.TheImpl.{ghosts as refusal_test}
+use Rattle.report_text.specs.declared.report.Refusal.{Refusal}
+use Rattle.report_text.specs.Turns.{after, answer_after}
+use Rattle.report_text.specs.Form.{IsAnswerFor, IsCommand, AreEntriesFor}
+use Rattle.model_session.proofs.Standing.{after_well_formed}
 use Rattle.report_text.specs.Grammar.{witness_phrases}
-use Rattle.cert_check.specs.Trials.{said, paired_trials, same_note, is_active_use, judged_trials, proof_members, proof_trials, others, witness_trials, witnesses_of, answer_trials, entry_trials, entries_trials, Trial, trials, unless_failed, outcome_of, IsAccepted}
+use Rattle.cert_check.specs.Trials.{said, paired_trials, same_note, is_active_use, judged_trials, proof_members, proof_trials, others, witness_trials, witnesses_of, answer_trials, same_reply, reply_trials, entry_trials, entries_trials, Trial, trials, unless_failed, outcome_of, IsAccepted}
 use Rattle.cert_check.specs.Stops.{first_stop, stop_or}
 use Rattle.cert_check.specs.Truth.{IsTrueAnswer, AreTrue, AcceptedLaw}
 use Rattle.cert_check.proofs.Firsts.{found_yes, parts_pass}
@@ -137,15 +140,42 @@ true_answer model n (Irreducible core) f h e =
       irreducible = record { cannot = cannot; minimal = irreducible_by model set core.witnesses h.members.in_order h.each each };
     }
 true_answer model n Done f h e = tt
+true_answer model n (Refused r) f h e = tt
 true_answer model n (Stopped stop) f h e = tt
 
-pub true_entries : (model : Program) (before : List Command) (entries : List Entry) → IsWellFormed model → AreEntriesFor model before entries → first_stop (entries_trials model before entries) ≡ None → AreTrue model before entries
-true_entries model before [] f h e = tt
-true_entries model before (t ∷ entries) f h e =
+-- ---- edits and undos
+same_refusal : (r s : Refusal) → refusal_test.eq r s ≡ true → s ≡ r
+same_refusal Refusal.UnknownName Refusal.UnknownName e = refl
+same_refusal Refusal.NoChange Refusal.NoChange e = refl
+same_refusal Refusal.NothingToUndo Refusal.NothingToUndo e = refl
+same_refusal r s e = absurd (true≢false (sym e))
+
+same_reply_same : (right a : Answer) → same_reply right a ≡ true → a ≡ right
+same_reply_same Done Done e = refl
+same_reply_same (Refused r) (Refused s) e = ap Refused (same_refusal r s e)
+same_reply_same right a e = absurd (true≢false (sym e))
+
+right_reply : (o : Option Answer) (n : ℕ) (a : Answer) → first_stop (reply_trials o n a) ≡ None → (right : Answer) → o ≡ Some right → a ≡ right
+right_reply None n a e right is = absurd (cc)
+right_reply (Some given) n a e right is =
+    let same : given ≡ right = cc in
+    same_reply_same given a (said_yes (same_reply given a) (found_yes (n + 1) (said (same_reply given a)) None e).0) ∙ same
+
+-- ---- entries
+pub true_entries : (model : Program) (before : List Command) (entries : List Entry) → IsWellFormed model → All IsCommand before → AreEntriesFor model before entries → first_stop (entries_trials model before entries) ≡ None → AreTrue model before entries
+true_entries model before [] f asked h e = tt
+true_entries model before (t ∷ entries) f asked h e =
     let now = after model before in
     let next = before ++ t.command ∷ [] in
-    let both = parts_pass (entry_trials now t) (entries_trials model next entries) e in
-    (true_answer now t.line t.answer f h.0.answer both.0, true_entries model next entries f h.1 both.1)
+    let both = parts_pass (entry_trials model before t) (entries_trials model next entries) e in
+    let own = parts_pass (answer_trials now t.line t.answer) (reply_trials (answer_after model before t.command) t.line t.answer) both.0 in
+    let more : All IsCommand next = All-append IsCommand before (t.command ∷ []) asked (All-cons IsCommand t.command [] h.0.command (All-nil IsCommand)) in (
+      record {
+        answer = true_answer now t.line t.answer (after_well_formed model before f asked) h.0.answer own.0;
+        reply = right_reply (answer_after model before t.command) t.line t.answer own.1;
+      },
+      true_entries model next entries f more h.1 both.1,
+    )
 
 -- where a check accepts, nothing stops it
 accepted_passes : (entries : List Entry) (list : List Trial) → IsAccepted (outcome_of entries list) → first_stop list ≡ None
@@ -160,4 +190,4 @@ accepted_passes entries (t ∷ list) a = by t.found a (accepted_passes entries l
 pub accepted_is_true : AcceptedLaw
 accepted_is_true model report f form a =
     let both = parts_pass (paired_trials same_note 2 report.notes model.notes) (entries_trials model [] report.entries) (accepted_passes report.entries (trials model report) a) in
-    (same_notes 2 report.notes model.notes both.0, true_entries model [] report.entries f form.entries both.1)
+    (same_notes 2 report.notes model.notes both.0, true_entries model [] report.entries f (All-nil IsCommand) form.entries both.1)

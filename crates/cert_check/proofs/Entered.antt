@@ -1,13 +1,54 @@
 -- Entries one after another: where the trials of those that are left stop the check.
-use Rattle.std.proofs.Common.{◌≡◌, ◌<◌, ◌+◌, sym, ◌∙◌, ap, List, ◌++◌, length, take, drop, get_or, ℕ, None}
+use Rattle.std.proofs.Common.{◌≡◌, ◌<◌, ◌+◌, sym, ◌∙◌, ap, List, [], ◌∷◌, ◌++◌, length, take, drop, get_or, ℕ, Option, None, Result, Ok, Err}
+use Rattle.std.proofs.lemmas.List.{take_more}
+use Rattle.std.specs.Prelude.{OnOk}
 use Rattle.lp_model.specs.Program.{Program}
+use Rattle.model_history.specs.History.{HistoryValue}
+use Rattle.model_session.specs.Session.{session_at, Takes}
+use Rattle.report_text.specs.declared.report.Answer.{Answer}
+use Rattle.report_text.specs.declared.report.Command.{Command}
 use Rattle.report_text.specs.declared.report.Entry.{Entry}
-use Rattle.report_text.specs.Turns.{after, entry_commands}
-use Rattle.report_text.proofs.InTurn.{gathered-at}
+use Rattle.report_text.specs.Turns.{after, answer_after, entry_commands}
+use Rattle.report_text.proofs.InTurn.{gathered-at, commands_push}
 use Rattle.cert_check.specs.declared.outcome.Stop.{Stop}
-use Rattle.cert_check.specs.Trials.{Trial, entry_trials, entries_trials}
-use Rattle.cert_check.specs.Stops.{first_stop, IsStop}
-use Rattle.cert_check.proofs.Firsts.{passed_over, stop_first, stop_of}
+use Rattle.cert_check.specs.declared.outcome.Stop.TheVariants.{Memory}
+use Rattle.cert_check.specs.Trials.{Trial, answer_trials, reply_trials, entry_trials, entries_trials}
+use Rattle.cert_check.specs.Stops.{first_stop, IsStop, Says}
+use Rattle.cert_check.specs.Replay.{Replays}
+use Rattle.cert_check.proofs.Firsts.{passed_over, stop_first, stop_of, says_second, says_of}
+
+-- ---- one entry, by the session before it
+module _ (old : HistoryValue) (e : Entry) where
+  -- the program of the session is the one after the commands
+  answer_same : (first : Program) (before : List Command) → old ≡ session_at first before → first_stop (answer_trials old.model e.line e.answer) ≡ first_stop (answer_trials (after first before) e.line e.answer)
+  answer_same first before is = ap (λ (v : HistoryValue). first_stop (answer_trials v.model e.line e.answer)) is
+
+  -- its answer stops the check
+  pub answer_stops : (s : Stop) (new : HistoryValue) → IsStop (first_stop (answer_trials old.model e.line e.answer)) s → Replays old e (Err s) new
+  answer_stops s new h = record {
+    says = λ first before is.
+        stop_first (answer_trials (after first before) e.line e.answer) (reply_trials (answer_after first before e.command) e.line e.answer) s (stop_of _ _ s (answer_same first before is) h);
+    goes_on = tt;
+  }
+
+  -- memory was refused
+  pub memory_stops : (new : HistoryValue) → Replays old e (Err Memory) new
+  memory_stops new = record { says = λ first before is. tt; goes_on = tt }
+
+  -- it passes, and what is said of the answer to an edit or an undo decides
+  on_ok : {P : Type 0} (r : Result (Unit {0}) Stop) → P → OnOk r P
+  on_ok (Ok done) p = p
+  on_ok (Err s) p = tt
+
+  pub reply_says : (right : Option Answer) (new : HistoryValue) (r : Result (Unit {0}) Stop) → first_stop (answer_trials old.model e.line e.answer) ≡ None → Takes old e.command right new → Says (first_stop (reply_trials right e.line e.answer)) r → Replays old e r new
+  reply_says right new r passes takes h = record {
+    says = λ first before is.
+        says_second (answer_trials (after first before) e.line e.answer) (reply_trials (answer_after first before e.command) e.line e.answer) r (sym (answer_same first before is) ∙ passes)
+        (says_of _ _ r (ap (λ o. first_stop (reply_trials o e.line e.answer)) (takes.answers first before is)) h);
+    goes_on = on_ok r takes.goes_on;
+  }
+
+-- ---- entries
 
 module _ (model : Program) (entries : List Entry) where
   -- those from number i on
@@ -16,16 +57,20 @@ module _ (model : Program) (entries : List Entry) where
 
   module _ (i : ℕ) (e : Entry) (within : i < length entries) (is : e ≡ get_or entries i e) where
     own : List Trial
-    own = entry_trials (after model (entry_commands (take i entries))) e
+    own = entry_trials model (entry_commands (take i entries)) e
 
     entry_at : first_stop (left i) ≡ first_stop (own ++ left (i + 1))
     unfolding own
-    entry_at = ap first_stop (gathered-at (λ front x. entry_trials (after model front) x) entries i e within is)
+    entry_at = ap first_stop (gathered-at (entry_trials model) entries i e within is)
 
-    pub entry_stops : (s : Stop) → IsStop (first_stop (entry_trials model e)) s → IsStop (first_stop (left i)) s
+    pub entry_stops : (s : Stop) → IsStop (first_stop (entry_trials model (entry_commands (take i entries)) e)) s → IsStop (first_stop (left i)) s
     unfolding own
     entry_stops s h = stop_of _ _ s (sym entry_at) (stop_first own (left (i + 1)) s h)
 
-    pub entry_passes : first_stop (entry_trials model e) ≡ None → first_stop (left (i + 1)) ≡ first_stop (left i)
+    pub entry_passes : first_stop (entry_trials model (entry_commands (take i entries)) e) ≡ None → first_stop (left (i + 1)) ≡ first_stop (left i)
     unfolding own
     entry_passes h = sym (entry_at ∙ passed_over own (left (i + 1)) h)
+
+    -- the commands of one entry more
+    pub commands_more : entry_commands (take i entries) ++ e.command ∷ [] ≡ entry_commands (take (i + 1) entries)
+    commands_more = sym (ap entry_commands (take_more entries i e within ∙ ap (λ (x : Entry). take i entries ++ x ∷ []) (sym is)) ∙ commands_push (take i entries) e)

@@ -1,5 +1,5 @@
 -- Small reports, tried on the definitions by computation.
-use Rattle.std.proofs.Common.{◌≡◌, refl, Bool, true, false, List, [], ◌∷◌, Option, None, Some}
+use Rattle.std.proofs.Common.{◌≡◌, refl, ℕ, Bool, true, false, List, [], ◌∷◌, Option, None, Some}
 use lib.IntN.{ℤ, pos}
 use Rattle.algebra.specs.Gcd.{gcd, gcd_within}
 use Rattle.rational.specs.Rational.{ℚ, frac, whole, one_ℚ, ◌+ℚ◌, ◌*ℚ◌, neg_ℚ, lt_q, le_q, eq_ℚ}
@@ -21,8 +21,13 @@ use Rattle.certs.specs.declared.evidence.Proof.{Proof}
 use Rattle.report_text.specs.declared.report.Method.TheVariants.{Deletion}
 use Rattle.certs.specs.declared.solving.SiteKind.TheVariants.{Improve}
 use Rattle.certs.specs.declared.solving.Stop.TheVariants.{Pivots as Spent}
-use Rattle.report_text.specs.declared.report.Command.TheVariants.{Check, Iis, Pivots}
-use Rattle.report_text.specs.declared.report.Answer.TheVariants.{Feasible, Infeasible, Irreducible, Done, Stopped}
+use Rattle.report_text.specs.declared.report.Command.{Command}
+use Rattle.report_text.specs.declared.report.Command.TheVariants.{Check, Iis, Edit, Undo, Pivots}
+use Rattle.report_text.specs.declared.report.EditKind.{EditKind}
+use Rattle.report_text.specs.declared.report.TargetKind.{TargetKind}
+use Rattle.report_text.specs.declared.report.Refusal.TheVariants.{UnknownName, NoChange, NothingToUndo}
+use Rattle.report_text.specs.declared.report.Answer.{Answer}
+use Rattle.report_text.specs.declared.report.Answer.TheVariants.{Feasible, Infeasible, Irreducible, Done, Refused, Stopped}
 use Rattle.report_text.specs.declared.report.Entry.{Entry}
 use Rattle.cert_check.specs.declared.outcome.Outcome.{Outcome}
 use Rattle.cert_check.specs.declared.outcome.Outcome.TheVariants.{Accepted, Rejected, Wide as TooWide}
@@ -154,6 +159,43 @@ outside = refl
 second_entry : check noted (infeasible pair (leaf (pos 1) (RowLo 1) (pos 1)) ∷ feasible (pos 0) ∷ []) ≡ Rejected 14
 unfolding frac ◌+ℚ◌ ◌*ℚ◌ neg_ℚ gcd gcd_within le_q lt_q eq_ℚ first_wide is_wide product_steps
 second_entry = refl
+
+-- ---- edits: the row x ≤ 1 is dropped, under its name, which has no byte; then 2 satisfies all
+abbrev command : Command → Answer → ℕ → Entry
+command c answer n = record { command = c; answer = answer; line = n }
+
+abbrev dropped : Command
+dropped = Edit (record { name = []; kind = EditKind.Drop TargetKind.Row })
+
+abbrev point_two : ℕ → Entry
+point_two n = command Check (Feasible (at (pos 2))) n
+
+after_edit : check noted (command dropped Done 3 ∷ point_two 5 ∷ []) ≡ Accepted 2 0
+unfolding frac ◌+ℚ◌ ◌*ℚ◌ neg_ℚ gcd gcd_within le_q lt_q eq_ℚ first_wide is_wide product_steps
+after_edit = refl
+
+-- the same edit once more makes no other program
+no_change : check noted (command dropped Done 3 ∷ command dropped (Refused NoChange) 5 ∷ point_two 7 ∷ []) ≡ Accepted 3 0
+unfolding frac ◌+ℚ◌ ◌*ℚ◌ neg_ℚ gcd gcd_within le_q lt_q eq_ℚ first_wide is_wide product_steps
+no_change = refl
+
+done_twice : check noted (command dropped Done 3 ∷ command dropped Done 5 ∷ point_two 7 ∷ []) ≡ Rejected 6
+unfolding frac ◌+ℚ◌ ◌*ℚ◌ neg_ℚ gcd gcd_within le_q lt_q eq_ℚ first_wide is_wide product_steps
+done_twice = refl
+
+-- once it is taken back, the row is asked for again
+undone : check noted (command dropped Done 3 ∷ command Undo Done 5 ∷ point_two 7 ∷ []) ≡ Rejected 9
+unfolding frac ◌+ℚ◌ ◌*ℚ◌ neg_ℚ gcd gcd_within le_q lt_q eq_ℚ first_wide is_wide product_steps
+undone = refl
+
+-- there is nothing more to take back, and no row of another name
+nothing_more : check noted (command dropped Done 3 ∷ command Undo Done 5 ∷ command Undo (Refused NothingToUndo) 7 ∷ []) ≡ Accepted 3 0
+unfolding frac ◌+ℚ◌ ◌*ℚ◌ neg_ℚ gcd gcd_within le_q lt_q eq_ℚ first_wide is_wide product_steps
+nothing_more = refl
+
+other_name : check noted (command (Edit (record { name = 120 ∷ []; kind = EditKind.Drop TargetKind.Row })) (Refused UnknownName) 3 ∷ command Undo Done 5 ∷ []) ≡ Rejected 6
+unfolding frac ◌+ℚ◌ ◌*ℚ◌ neg_ℚ gcd gcd_within le_q lt_q eq_ℚ first_wide is_wide product_steps
+other_name = refl
 
 -- ---- two times the greatest number is too wide
 too_wide : check noted (infeasible pair (leaf (pos limit) (RowLo 1) (pos limit)) ∷ []) ≡ TooWide 8 (operation Times (whole (pos 2)) (whole (pos limit)))

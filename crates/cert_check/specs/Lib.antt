@@ -2,3 +2,4 @@ pub mod Trials
 pub mod Stops
 pub mod Uses
 pub mod Truth
+pub mod Replay

@@ -1,5 +1,5 @@
 -- The trials of a report: which lines can fail against a program, in the order of the lines, and what is found there.
-use Rattle.std.specs.Prelude.{ℕ, ◌+◌, ◌==◌, Bool, true, false, ◌&&◌, not, List, [], ◌∷◌, ◌++◌, length, take, zip, filter, flat_map}
+use Rattle.std.specs.Prelude.{ℕ, ◌+◌, ◌==◌, Bool, true, false, ◌&&◌, not, List, [], ◌∷◌, ◌++◌, length, take, zip, filter, flat_map, Option, Some, None}
 use Rattle.lp_model.specs.declared.parts.Note.{Note}
 use Rattle.lp_model.specs.declared.parts.Note.TheVariants.{LowerRemoved, LowerKept}
 use Rattle.lp_model.specs.declared.members.Member.{Member}
@@ -18,12 +18,13 @@ use Rattle.branch_proof.specs.declared.checks.Judged.{Judged}
 use Rattle.branch_proof.specs.Walk.{judgement}
 use Rattle.report_text.specs.declared.report.Core.{Core}
 use Rattle.report_text.specs.declared.report.Answer.{Answer}
-use Rattle.report_text.specs.declared.report.Answer.TheVariants.{Feasible, Infeasible, Irreducible, Done, Stopped}
+use Rattle.report_text.specs.declared.report.Answer.TheVariants.{Feasible, Infeasible, Irreducible, Done, Refused, Stopped}
+use Rattle.report_text.specs.contracts.report.RefusalPartialEq.TheImpl.{ghosts as refusal_test}
 use Rattle.report_text.specs.declared.report.Entry.{Entry}
 use Rattle.report_text.specs.declared.report.Report.{Report}
 use Rattle.report_text.specs.declared.report.Command.{Command}
 use Rattle.report_text.specs.declared.layout.TheConstants.{HEAD_LINES, OPENING_LINES, MEMBER_LINES, PROOF_LINES}
-use Rattle.report_text.specs.Turns.{after, gathered}
+use Rattle.report_text.specs.Turns.{after, answer_after, gathered}
 use Rattle.report_text.specs.Grammar.{node_phrases, witness_phrases}
 use Rattle.cert_check.specs.declared.outcome.Outcome.{Outcome}
 use Rattle.cert_check.specs.declared.outcome.Outcome.TheVariants.{Accepted, Rejected, Wide as TooWide, Memory}
@@ -118,21 +119,35 @@ irreducible_trials model n core =
     witness_trials model core.members.members (n + OPENING_LINES) (witnesses_of core)
     ++ proof_trials model core.members.members (n + ((OPENING_LINES + PROOF_LINES) + length (flat_map witness_phrases (witnesses_of core)))) core.proof
 
--- those of an answer; nothing is tried of a command that is done, nor of a stop
+-- those of an answer; nothing is tried of the program where a command is done or refused, nor of a stop
 abbrev pub answer_trials : Program → ℕ → Answer → List Trial
 answer_trials model n (Feasible p) = feasible_trials model n p
 answer_trials model n (Infeasible set proof) = infeasible_trials model n set proof
 answer_trials model n (Irreducible core) = irreducible_trials model n core
 answer_trials model n Done = []
+answer_trials model n (Refused r) = []
 answer_trials model n (Stopped stop) = []
 
--- those of an entry, from the line of its command
-abbrev pub entry_trials : Program → Entry → List Trial
-entry_trials model e = answer_trials model e.line e.answer
+-- ---- edits and undos
+-- whether both answers say that a command is done, or that it is refused for one reason
+abbrev pub same_reply : Answer → Answer → Bool
+same_reply Done Done = true
+same_reply (Refused r) (Refused s) = refusal_test.eq r s
+same_reply _ _ = false
 
--- those of entries, each against the program after the commands before it
+-- The answer to an edit or an undo, whose command stands on line n, against the one that is right. Other commands have answers of their own.
+abbrev pub reply_trials : Option Answer → ℕ → Answer → List Trial
+reply_trials None n a = []
+reply_trials (Some right) n a = on_line (n + 1) (said (same_reply right a)) ∷ []
+
+-- ---- entries
+-- those of an entry, from the line of its command, by the program at first and the commands before the entry
+abbrev pub entry_trials : Program → List Command → Entry → List Trial
+entry_trials first before e = answer_trials (after first before) e.line e.answer ++ reply_trials (answer_after first before e.command) e.line e.answer
+
+-- those of entries, each by the commands before it
 abbrev pub entries_trials : Program → List Command → List Entry → List Trial
-entries_trials model before entries = gathered (λ front e. entry_trials (after model front) e) before entries
+entries_trials first before entries = gathered (entry_trials first) before entries
 
 -- ---- reports
 -- The notes against the program's, the first on the line behind the head. Then the entries.

@@ -1,15 +1,15 @@
 -- What a report claims of a program, apart from any check.
-use Rattle.std.specs.Prelude.{◌≡◌, List, [], All, zip}
+use Rattle.std.specs.Prelude.{◌≡◌, List, [], All, zip, Some}
 use Rattle.lp_model.specs.Program.{Program, IsWellFormed}
 use Rattle.lp_model.specs.declared.members.Member.{Member}
 use Rattle.lp_model.specs.Members.{active_members}
 use Rattle.lp_model.specs.Satisfaction.{values_at, Satisfies, IsUnsatisfiable, IsIrreducible, IsPart}
 use Rattle.certs.specs.declared.evidence.Point.{Point}
 use Rattle.report_text.specs.declared.report.Answer.{Answer}
-use Rattle.report_text.specs.declared.report.Answer.TheVariants.{Feasible, Infeasible, Irreducible, Done, Stopped}
+use Rattle.report_text.specs.declared.report.Answer.TheVariants.{Feasible, Infeasible, Irreducible, Done, Refused, Stopped}
 use Rattle.report_text.specs.declared.report.Command.{Command}
 use Rattle.report_text.specs.declared.report.Entry.{Entry}
-use Rattle.report_text.specs.Turns.{after, AllEntries}
+use Rattle.report_text.specs.Turns.{after, answer_after, AllEntries}
 use Rattle.report_text.specs.declared.report.Report.{Report}
 use Rattle.report_text.specs.Form.{IsReportFor}
 use Rattle.cert_check.specs.Trials.{others, trials, outcome_of, IsAccepted}
@@ -26,21 +26,23 @@ pub record IsIrreducibleBy (model : Program) (set : List Member) (witnesses : Li
   pub witnessed : All (λ w. Satisfies model (others set w.0) (values_at w.1.values)) (zip set witnesses)
   pub irreducible : IsIrreducible model set
 
--- What an answer claims: its point satisfies the active members, or its members are refuted, or irreducible by its witnesses. Where a command is done, or a solve stopped, nothing is claimed of the program.
+-- What an answer claims: its point satisfies the active members, or its members are refuted, or irreducible by its witnesses. Where a command is done or refused, or a solve stopped, nothing is claimed of the program.
 abbrev pub IsTrueAnswer : Program → Answer → Type 0
 IsTrueAnswer model (Feasible p) = Satisfies model (active_members model) (values_at p.values)
 IsTrueAnswer model (Infeasible set proof) = IsRefuted model set.members
 IsTrueAnswer model (Irreducible core) = IsIrreducibleBy model core.members.members core.witnesses
 IsTrueAnswer model Done = Unit {0}
+IsTrueAnswer model (Refused r) = Unit {0}
 IsTrueAnswer model (Stopped stop) = Unit {0}
 
--- what an entry claims is so
-abbrev pub IsTrueOf : Program → Entry → Type 0
-IsTrueOf model e = IsTrueAnswer model e.answer
+-- what an entry claims is so of the program after the commands before it, and where its command is an edit or an undo, its answer is the right one
+pub record IsTrueOf (first : Program) (before : List Command) (e : Entry) : Type 0 where
+  pub answer : IsTrueAnswer (after first before) e.answer
+  pub reply : (right : Answer) → answer_after first before e.command ≡ Some right → e.answer ≡ right
 
--- what each entry claims is so of the program after the commands before it
+-- and that of each entry, after the commands before it
 abbrev pub AreTrue : Program → List Command → List Entry → Type 0
-AreTrue model before entries = AllEntries (λ front e. IsTrueOf (after model front) e) before entries
+AreTrue first before entries = AllEntries (IsTrueOf first) before entries
 
 -- ---- what is accepted is true
 -- where the trials of a report in the grammar for a program all pass, its notes are the program's, and what each entry claims is so

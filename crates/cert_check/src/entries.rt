@@ -1,11 +1,13 @@
 //! Whether the entries of a report hold.
 ghost use Rattle.std.specs.Prelude.{◌≡◌, ◌+◌, ◌<◌, [], length, flat_map};
-ghost use Rattle.lp_model.specs.MemberSets.{active_set};
-ghost use Rattle.report_text.specs.Form.{IsProofFor, IsPointFor, IsListed, IsCoreFor, IsAnswerFor, AreEntriesFor};
+ghost use Rattle.model_history.specs.History.{history_of};
+ghost use Rattle.report_text.specs.declared.report.Answer.TheVariants.{Refused as RefusedBy};
+ghost use Rattle.report_text.specs.Form.{IsProofFor, IsPointFor, IsListed, IsCoreFor, IsAnswerFor, IsEntryFor, AreEntriesFor};
 ghost use Rattle.report_text.specs.Grammar.{answer_phrases, node_phrases, witness_phrases};
-ghost use Rattle.cert_check.specs.Trials.{witnesses_of, feasible_trials, infeasible_trials, irreducible_trials, answer_trials, entries_trials};
+ghost use Rattle.cert_check.specs.Trials.{witnesses_of, feasible_trials, infeasible_trials, irreducible_trials, answer_trials, reply_trials, same_reply, entries_trials};
 ghost use Rattle.cert_check.specs.Stops.{first_stop, Says};
-ghost use Rattle.cert_check.specs.Uses.{AreShort};
+ghost use Rattle.cert_check.specs.Uses.{IsShort, AreShort};
+ghost use Rattle.cert_check.specs.Replay.{Replays};
 
 use crate::members::{check_members, used_members};
 use crate::outcome::{Stop, settle};
@@ -13,55 +15,101 @@ use crate::trees::check_tree;
 use crate::witnesses::check_witnesses;
 use certs::{Point, Proof, check_point};
 use lp_model::{MemberSet, Model};
-use report_text::{Answer, Core, Entry, OPENING_LINES, PROOF_LINES};
+use model_session::Session;
+use report_text::{Answer, Core, Entry, OPENING_LINES, PROOF_LINES, Refusal};
 use std::alloc::Global;
 
-/// Checks the entries, in order.
-pub(crate) fn check_entries(alloc: Global, model: &Model, entries: &[Entry]) -> Result<(), Stop>
-    requires form { AreEntriesFor model.now [] entries.now }
-    requires short { AreShort model.now [] entries.now }
-    ensures { Says (first_stop (entries_trials model.now [] entries.now)) result }
+/// Checks the entries, in order, from a program of which nothing was edited yet.
+pub(crate) fn check_entries(
+    alloc: Global,
+    session: &mut Session,
+    entries: &[Entry],
+) -> Result<(), Stop>
+    requires fresh { session.old ≡ history_of session.old.model [] }
+    requires form { AreEntriesFor session.old.model [] entries.now }
+    requires short { AreShort session.old.model [] entries.now }
+    ensures { Says (first_stop (entries_trials session.old.model [] entries.now)) result }
 {
-    let Ok(active) = model.members(alloc) else {
-        return Err(Stop::Memory);
-    };
     for entry in entries {
-        check_answer(alloc, model, &active, &entry.answer, entry.line)?;
+        check_entry(alloc, session, entry)?;
     }
     Ok(())
 }
 
+// Checks an entry against the program as it stands, and then does to it what the command does.
+fn check_entry(alloc: Global, session: &mut Session, entry: &Entry) -> Result<(), Stop>
+    requires form { IsEntryFor session.old.model entry.now }
+    requires short { IsShort session.old.model entry.now }
+    ensures { Replays session.old entry.now result session.new }
+{
+    check_answer(alloc, session.model(), &entry.answer, entry.line)?;
+    let Ok(right) = session.take(&entry.command) else {
+        return Err(Stop::Memory);
+    };
+    check_reply(right, &entry.answer, entry.line)
+}
+
+// Checks the answer to an edit or an undo against the one that is right. There is none for other commands.
+fn check_reply(right: Option<Answer>, answer: &Answer, line: u32) -> Result<(), Stop>
+    requires { line + 1 < 4294967296 }
+    ensures { Says (first_stop (reply_trials right line answer.now)) result }
+{
+    let Some(right) = right else {
+        return Ok(());
+    };
+    if !is_same_reply(&right, answer) {
+        return Err(Stop::Rejected(line + 1));
+    }
+    Ok(())
+}
+
+// Whether both answers say that a command is done, or that it is refused for one reason.
+fn is_same_reply(right: &Answer, answer: &Answer) -> bool
+    ensures { result ≡ same_reply right.now answer.now }
+{
+    match right {
+        Answer::Done => matches!(answer, Answer::Done),
+        Answer::Refused(refusal) => is_refused(answer, *refusal),
+        _ => false,
+    }
+}
+
+// Whether an answer refuses a command for this reason.
+fn is_refused(answer: &Answer, reason: Refusal) -> bool
+    ensures { result ≡ same_reply (RefusedBy reason) answer.now }
+{
+    match answer {
+        Answer::Refused(refusal) => reason == *refusal,
+        _ => false,
+    }
+}
+
 // Checks an answer, of which the command stands on the given line.
-fn check_answer(
-    alloc: Global,
-    model: &Model,
-    active: &MemberSet,
-    answer: &Answer,
-    line: u32,
-) -> Result<(), Stop>
-    requires active { active.now ≡ active_set model.now }
+fn check_answer(alloc: Global, model: &Model, answer: &Answer, line: u32) -> Result<(), Stop>
     requires form { IsAnswerFor model.now answer.now }
     requires short { line + length (answer_phrases model.now answer.now) < 4294967280 }
     ensures { Says (first_stop (answer_trials model.now line answer.now)) result }
 {
     match answer {
-        Answer::Feasible(point) => check_feasible(model, active, point, line),
+        Answer::Feasible(point) => check_feasible(alloc, model, point, line),
         Answer::Infeasible(members, proof) => {
             check_infeasible(alloc, model, members, proof, line)
         }
         Answer::Irreducible(core) => check_core(alloc, model, core, line),
-        Answer::Done | Answer::Stopped(_) => Ok(()),
+        Answer::Done | Answer::Refused(_) | Answer::Stopped(_) => Ok(()),
     }
 }
 
 // Checks a point against the active members.
-fn check_feasible(model: &Model, active: &MemberSet, point: &Point, line: u32) -> Result<(), Stop>
-    requires active { active.now ≡ active_set model.now }
+fn check_feasible(alloc: Global, model: &Model, point: &Point, line: u32) -> Result<(), Stop>
     requires form { IsPointFor model.now point.now }
     requires short { line + 2 < 4294967296 }
     ensures { Says (first_stop (feasible_trials model.now line point.now)) result }
 {
-    settle(line + OPENING_LINES, check_point(model, active, point))
+    let Ok(active) = model.members(alloc) else {
+        return Err(Stop::Memory);
+    };
+    settle(line + OPENING_LINES, check_point(model, &active, point))
 }
 
 // Checks members and a proof that no point satisfies them.

@@ -1,5 +1,6 @@
 //! Whether a report holds of a program.
 ghost use Rattle.std.specs.Prelude.{◌≡◌, ◌⊎◌, ◌<◌, [], length};
+ghost use Rattle.model_history.specs.History.{history_of};
 ghost use Rattle.report_text.specs.Form.{IsReportFor};
 ghost use Rattle.report_text.specs.Grammar.{report_lines};
 ghost use Rattle.cert_check.specs.Trials.{trials, settles as settles_command, settled_count, unsettled_count, outcome_of, IsAccepted};
@@ -10,18 +11,20 @@ use crate::entries::check_entries;
 use crate::notes::check_notes;
 use crate::outcome::{Outcome, Stop};
 use lp_model::Model;
+use model_session::Session;
 use report_text::{Answer, Entry, Report};
 use std::alloc::Global;
 
 /// Checks a report against a program, line by line, and answers with the first line that fails or has an operation that
-/// is too wide.
+/// is too wide. Each answer is checked against the program as the commands before it edited it.
 ///
 /// The notes are compared with the program's position by position; where one is missing, the line in its place fails. A
 /// point fails on its `point` line where it does not satisfy the active members, and a witness where it does not
 /// satisfy the other members of its set. A member fails on its line where it is not active, and in `infeasible` also
 /// where it is not the one that the proof uses in its place; where one is missing, the line in its place fails, which
 /// may be the `proof` line. A proof fails on its `leaf` line where its shares are no combination of the printed
-/// members.
+/// members. The answer to an edit or an undo fails on its line where it is not the right one: that it is done, or the
+/// reason for which it is refused.
 ///
 /// `Accepted` shows that the notes are those of the program, and that what each entry says is so. Each entry is settled
 /// but the stops: these say nothing of the program, and nothing of them is checked.
@@ -38,7 +41,8 @@ pub fn verify(alloc: Global, model: Model, report: Report) -> Outcome
 {
     // That the program is well formed is told with the count.
     let _rows = model.row_count();
-    match check_report(alloc, &model, &report) {
+    let mut session = Session::new(alloc, model);
+    match check_report(alloc, &mut session, &report) {
         Ok(()) => accepted(report.entries.as_slice()),
         Err(stop) => ending_of(stop),
     }
@@ -50,13 +54,14 @@ pub fn accepted_reports_are_true()
 {}
 
 // Checks the notes, and then the entries.
-fn check_report(alloc: Global, model: &Model, report: &Report) -> Result<(), Stop>
-    requires form { IsReportFor model.now report.now }
-    requires short { length (report_lines model.now report.now) < 2147483648 }
-    ensures { Says (first_stop (trials model.now report.now)) result }
+fn check_report(alloc: Global, session: &mut Session, report: &Report) -> Result<(), Stop>
+    requires fresh { session.old ≡ history_of session.old.model [] }
+    requires form { IsReportFor session.old.model report.now }
+    requires short { length (report_lines session.old.model report.now) < 2147483648 }
+    ensures { Says (first_stop (trials session.old.model report.now)) result }
 {
-    check_notes(report.notes.as_slice(), model.notes())?;
-    check_entries(alloc, model, report.entries.as_slice())
+    check_notes(report.notes.as_slice(), session.model().notes())?;
+    check_entries(alloc, session, report.entries.as_slice())
 }
 
 // What is answered where no line fails.

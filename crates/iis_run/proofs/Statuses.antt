@@ -24,7 +24,7 @@ use Rattle.iis_run.specs.declared.endings.Ending.TheVariants.{Usage, ReadFault, 
 use Rattle.report_text.specs.declared.report.Command.{Command}
 use Rattle.analysis.specs.Puts.{PutWhole}
 use Rattle.analysis.specs.NamesAreWords.{HasWords}
-use Rattle.analysis.specs.Written.{IsAnalysis, IsWhole, IsCut, IsWant, is_stop, report_of, whole_text}
+use Rattle.analysis.specs.Written.{IsAnalysis, IsWhole, IsCut, IsWant, is_unmet, report_of, whole_text}
 use Rattle.iis_run.specs.Causes.{IsModelOf, AreReported, IsTrueReport}
 use Rattle.iis_run.specs.Scripts.{IsCommands, CallsForScript}
 use Rattle.iis_run.specs.Said.{IsSaid, EndsInWant, Ends, line_of, status_of, status_after_fault}
@@ -313,7 +313,7 @@ module _ {K : Type 0} (faults : K → ℕ) (taken : K → Option (List ℕ)) (ol
   answer_status p commands status words a = by a.written
     where
       by : IsWhole faults taken old new p commands a.entries status ⊎ (IsCut faults taken old new p commands a.entries status ⊎ IsWant faults taken old new p a.entries status) → AnswerStatus p commands status
-      by (inl whole) = inl (list_any (λ e. is_stop e.answer) a.entries, (whole.status_is, record { entries = a.entries; right = a.right; form = a.form words; all = whole.all; stops = refl; put = whole.put }))
+      by (inl whole) = inl (list_any (λ e. is_unmet e.answer) a.entries, (whole.status_is, record { entries = a.entries; right = a.right; form = a.form words; all = whole.all; stops = refl; put = whole.put }))
       by (inr (inl cut)) = inr (inl (cut.status_is, cut.put.rose))
       by (inr (inr want)) = inr (inr want.status_is)
 

@@ -16,7 +16,7 @@ use Rattle.iis_edge.specs.Causes.{Rose, KeepsCounts}
 use Rattle.analysis.specs.Puts.{PutWhole}
 use Rattle.analysis.specs.NamesAreWords.{HasWords}
 use Rattle.analysis.specs.Right.{AreRight}
-use Rattle.analysis.specs.Written.{IsAnalysis, is_stop, report_of, whole_text}
+use Rattle.analysis.specs.Written.{IsAnalysis, is_unmet, report_of, whole_text}
 use Rattle.iis_run.specs.Words.{Request}
 use Rattle.iis_run.specs.Limits.{limit_of}
 use Rattle.iis_run.specs.Causes.{IsModel, IsModelOf, IsTrueReport, CallsFor, IsToldFor}
@@ -137,7 +137,7 @@ pub record IsAnswered {K : Type 0} (put_faults : K → ℕ) (taken : K → Optio
   pub right : AreRight program commands entries
   pub form : IsReportFor program (report_of program entries)
   pub all : length entries ≡ length commands
-  pub stops : list_any (λ e. is_stop e.answer) entries ≡ stopped
+  pub stops : list_any (λ e. is_unmet e.answer) entries ≡ stopped
   pub put : PutWhole put_faults taken out_old out_new (whole_text program entries)
 
 -- the same of the program and the commands that the files are

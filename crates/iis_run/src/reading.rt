@@ -14,6 +14,7 @@ use iis_edge::Shelf;
 use iis_session::{ScriptStop, read_script};
 use lp_model::Model;
 use model_files::read_model;
+use model_session::Session;
 use report_reader::{ReportStop, read_report};
 use report_text::Script;
 use std::alloc::Global;
@@ -79,8 +80,9 @@ fn check_report(alloc: Global, model: Model, bytes: &[u8]) -> Ending
     requires { length bytes.now ≤ 67108864 }
     ensures { ComesTo model bytes.now result }
 {
-    match read_report(alloc, bytes, &model) {
-        Ok(report) => checked(verify(alloc, model, report)),
+    let mut session = Session::new(alloc, model);
+    match read_report(alloc, bytes, &mut session) {
+        Ok(report) => checked(verify(alloc, session.into_model(), report)),
         Err(stop) => refused(stop),
     }
 }

@@ -71,7 +71,7 @@ fn follow<W: Sink>(alloc: Global, plan: Plan, out: &mut W) -> u8
 {
     match plan {
         Plan::Say(ending) => say(alloc, ending, out),
-        Plan::Answer(model, script) => analyse(alloc, &model, &script, out),
+        Plan::Answer(model, script) => analyse(alloc, model, &script, out),
     }
 }
 
@@ -83,10 +83,10 @@ fn follow<W: Sink>(alloc: Global, plan: Plan, out: &mut W) -> u8
 /// file be fetched. The statuses are:
 ///
 /// - 0: under `verify` the report is accepted: `accepted settled N unsettled 0` for its N entries. What each of them
-///   claims of the model is true. Under `analyse` the whole report is written, and no answer is a stop.
+///   claims of the model is true. Under `analyse` the whole report is written, and no answer is a stop or a refusal.
 /// - 1: under `verify` the same with some entries that are stops: `accepted settled N unsettled M`. Under `analyse` the
-///   whole report is written, and some answer is a stop. A report that is written whole is one that `verify` reads, where
-///   it is within the limit of reports.
+///   whole report is written, and some answer is a stop, or says that an edit or an undo is refused. A report that is
+///   written whole is one that `verify` reads, where it is within the limit of reports.
 /// - 2: the words are none of the forms; the usage line.
 /// - 3: `read fault WHICH`, only where the shelf's count of faults of that file's own name rose; or `too long WHICH`,
 ///   exactly where a told file is longer than its limit.
@@ -115,7 +115,8 @@ pub fn run<S: Shelf, W: Sink>(alloc: Global, words: &[String], shelf: &mut S, ou
     ensures model_alone { result ≡ 5 → KeepsCounts (S.faults shelf.old) (S.faults shelf.new) }
     ensures text_refused { result ≡ 6 → IsTextRefused (S.file shelf.old) (request_of words.now) }
     ensures refuted { result ≡ 8 → IsRefuted (S.file shelf.old) (request_of words.now) }
-    // Statuses 0 and 1 come only where a report is accepted, or where all commands are answered: 1 where some entry is a stop.
+    // Statuses 0 and 1 come only where a report is accepted, or where all commands are answered: 1 where some entry is a stop,
+    // or some command is refused.
     ensures accepted { result ≡ 0 → IsAccepted (S.file shelf.old) W.faults W.taken out.old out.new (request_of words.now) }
     ensures unsettled { result ≡ 1 → IsUnsettled (S.file shelf.old) W.faults W.taken out.old out.new (request_of words.now) }
     // What an accepted report claims of the model is true.

@@ -120,6 +120,7 @@ fn take(saying: Saying, number: u32, commands: &mut Vec<Command>) -> Result<(), 
 /// Reads a script: each line is a command, or is passed over.
 ///
 /// Blank lines are passed over, and lines that begin with `#`, whatever their bytes are. The last line may lack its byte 10.
+/// A number may be written otherwise than it is printed, so that a command's own text may be longer than its line.
 ///
 /// `BadLine` has the number, from 1, of the first line that is neither passed over nor a command, that has more than
 /// 65,536 bytes, or that holds the 10,001st command. `Memory` comes where memory was refused.

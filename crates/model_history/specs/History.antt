@@ -1,11 +1,16 @@
 -- Edits of a program one after another, and undos: what stands after them.
-use Rattle.std.specs.Prelude.{◌≡◌, ◌≢◌, ◌⊎◌, Bool, true, false, List, [], ◌∷◌, ⊤}
+use Rattle.std.specs.Prelude.{◌≡◌, ◌≢◌, ◌↔◌, not, cond, Bool, true, false, List, [], ◌∷◌, ⊤}
 use Rattle.lp_model.specs.Program.{Program, IsWellFormed}
 use Rattle.lp_model.specs.declared.edits.Edit.{Edit}
 use Rattle.lp_model.specs.declared.edits.Former.{Former}
+use Rattle.lp_model.specs.contracts.edits.FormerPartialEq.TheImpl.{ghosts as former_test}
 use Rattle.lp_model.specs.Edits.{edited, former_of, put_back, IsKnownFormer, IsKnownEdit}
 
 -- ---- what is asked, as mathematics: no former program, and nothing that is put back
+-- whether an edit makes another program: what it changes does not stand there as before
+abbrev pub changes : Program → Edit → Bool
+changes model edit = not (former_test.eq (former_of model edit) (former_of (edited model edit) edit))
+
 -- what is done to a program: an edit, or the last one that stands is taken back
 pub data Action : Type 0 where
   Make : Edit → Action
@@ -21,19 +26,19 @@ abbrev pub without_last : List Edit → List Edit
 without_last [] = []
 without_last (edit ∷ edits) = edits
 
--- Which edits stand after actions, where these stood before them: an edit that makes another program is accepted, one that makes the same is not; an undo takes the last one away.
-abbrev pub Stand : Program → List Edit → List Action → List Edit → Type 0
-Stand start edits [] last = edits ≡ last
-Stand start edits (Make edit ∷ actions) last =
-    ((edited (after_edits start edits) edit ≢ after_edits start edits) × Stand start (edit ∷ edits) actions last)
-    ⊎ ((edited (after_edits start edits) edit ≡ after_edits start edits) × Stand start edits actions last)
-Stand start edits (Undo ∷ actions) last = Stand start (without_last edits) actions last
+-- Which edits stand after actions, the last one first, where these stood before: an edit that makes another program is accepted, one that makes the same is not; an undo takes the last one away.
+abbrev pub standing : Program → List Edit → List Action → List Edit
+standing start edits [] = edits
+standing start edits (Make edit ∷ actions) = standing start (cond (changes (after_edits start edits) edit) (edit ∷ edits) edits) actions
+standing start edits (Undo ∷ actions) = standing start (without_last edits) actions
 
 -- the program after actions is what the edits that stand make of the first one
-pub record IsAfter (start : Program) (actions : List Action) (model : Program) : Type 0 where
-  pub edits : List Edit
-  pub stand : Stand start [] actions edits
-  pub made : model ≡ after_edits start edits
+abbrev pub after_actions : Program → List Action → Program
+after_actions start actions = after_edits start (standing start [] actions)
+
+-- the test of an edit tells whether it makes another program
+abbrev pub ChangesLaw : Type 0
+ChangesLaw = (model : Program) (edit : Edit) → IsKnownEdit model edit → (changes model edit ≡ true) ↔ (edited model edit ≢ model)
 
 -- ---- what the code keeps: the program, and what each edit changed, the last one first
 pub record HistoryValue : Type 0 where
@@ -66,6 +71,15 @@ IsReached old (Make edit ∷ actions) new =
     IsKnownEdit old.model edit × ((made : Bool) × ((next : HistoryValue) × (IsEdited old edit made next × IsReached next actions new)))
 IsReached old (Undo ∷ actions) new = (undone : Bool) × ((next : HistoryValue) × (IsUndone old undone next × IsReached next actions new))
 
--- from a program of which nothing was edited yet they reach the program after the actions
+-- what edits changed, the last one first, where they were made of a program one after another
+abbrev pub formers_of : Program → List Edit → List Former
+formers_of start [] = []
+formers_of start (edit ∷ edits) = former_of (after_edits start edits) edit ∷ formers_of start edits
+
+-- the history of a program in which these edits stand
+abbrev pub history_of : Program → List Edit → HistoryValue
+history_of start edits = record { model = after_edits start edits; formers = formers_of start edits }
+
+-- from a program of which nothing was edited yet they reach its history after the actions
 abbrev pub HistoryLaw : Type 0
-HistoryLaw = (start : Program) (actions : List Action) (new : HistoryValue) → IsReached (record { model = start; formers = [] }) actions new → IsAfter start actions new.model
+HistoryLaw = (start : Program) (actions : List Action) (new : HistoryValue) → IsReached (history_of start []) actions new → new ≡ history_of start (standing start [] actions)

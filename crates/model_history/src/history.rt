@@ -1,7 +1,7 @@
 //! The history of a program.
 ghost use Rattle.std.specs.Prelude.{◌≡◌, ◌∷◌, ◌++◌, [], IfOk, OnOk, OnErr};
 ghost use Rattle.lp_model.specs.Edits.{IsFitting, IsKnownEdit, former_of};
-ghost use Rattle.model_history.specs.History.{HistoryLaw, IsEdited, IsUndone};
+ghost use Rattle.model_history.specs.History.{ChangesLaw, HistoryLaw, IsEdited, IsUndone, history_of};
 
 use frac128::Frac;
 use lp_model::{Column, Edit, Former, Model, Part, Weight, edit_goes_back};
@@ -28,7 +28,7 @@ impl std::marker::Model for History {
 impl History {
     /// A program of which nothing was edited yet. It takes no memory.
     pub fn new(alloc: Global, model: Model) -> History
-        ensures { result ≡ record { model = model; formers = [] } }
+        ensures { result ≡ history_of model [] }
     {
         History {
             model,
@@ -41,6 +41,13 @@ impl History {
         ensures { result.now ≡ self.now.model }
     {
         &self.model
+    }
+
+    /// The program, as it was edited, by itself.
+    pub fn into_model(self) -> Model
+        ensures { result ≡ self.model }
+    {
+        self.model
     }
 
     /// Makes an edit. True where the program is another one then; else the edit is refused, and all stays as it was.
@@ -97,6 +104,13 @@ fn keep(formers: &mut Vec<Former>, model: &Model, edit: Edit) -> Result<(), Allo
 /// It does nothing when it runs.
 pub fn history_law()
     ensures { HistoryLaw }
+{
+    edit_goes_back();
+}
+
+/// The test of an edit tells whether it makes another program. It does nothing when it runs.
+pub fn changes_law()
+    ensures { ChangesLaw }
 {
     edit_goes_back();
 }

@@ -3,4 +3,4 @@
 
 mod history;
 
-pub use history::{History, history_law};
+pub use history::{History, changes_law, history_law};

@@ -5,4 +5,5 @@ pub mod Demands
 pub mod Members
 pub mod Reasons
 pub mod Stops
+pub mod Edits
 pub mod Page

@@ -4,6 +4,7 @@ use Rattle.report_page.specs.declared.markup.Tag.{Tag}
 use Rattle.report_page.specs.declared.markup.Sign.{Sign}
 use Rattle.report_page.specs.declared.markup.Words.{Words}
 use Rattle.report_page.specs.declared.markup.Account.{Account}
+use Rattle.report_page.specs.declared.markup.Change.{Change}
 
 -- markup
 unfoldable pub tag_text : Tag → List ℕ
@@ -50,6 +51,7 @@ sign_text Sign.Equals = codes " = "
 sign_text Sign.Product = codes " * "
 sign_text Sign.Quotient = codes " / "
 sign_text Sign.Comma = codes ", "
+sign_text Sign.Colon = codes ": "
 sign_text Sign.FullStop = codes "."
 sign_text Sign.IsWhole = codes " is a whole number"
 
@@ -107,3 +109,20 @@ account_text Account.CanBeMet = codes " requirements can be met together"
 account_text Account.Where = codes ", where "
 account_text Account.Step = codes " That was in turn "
 account_text Account.At = codes ", at "
+
+-- what is said of edits
+unfoldable pub change_text : Change → List ℕ
+change_text Change.Drop = codes "Drop the "
+change_text Change.Keep = codes "Keep the "
+change_text Change.Weigh = codes "Weigh the "
+change_text Change.Set = codes "Set the "
+change_text Change.Mark = codes "Mark "
+change_text Change.Undo = codes "Take back the last edit that stands"
+change_text Change.Row = codes "row "
+change_text Change.NoNumber = codes "none"
+change_text Change.Rigid = codes "rigid"
+change_text Change.Whole = codes "whole"
+change_text Change.Plain = codes "plain"
+change_text Change.UnknownName = codes "The model has no such name."
+change_text Change.NoChange = codes "The model would stay as it is."
+change_text Change.NothingToUndo = codes "There is no edit to take back."

@@ -1,5 +1,5 @@
 -- The page of a report.
-use Rattle.std.specs.Prelude.{ℕ, zero, suc, cond, List, [], ◌∷◌, ◌++◌, flat_map, length}
+use Rattle.std.specs.Prelude.{◌≡◌, ℕ, zero, suc, cond, List, [], ◌∷◌, ◌++◌, flat_map, length}
 use Rattle.rational.specs.Rational.{ℚ, zero_ℚ, eq_ℚ}
 use Rattle.lp_model.specs.declared.parts.Note.{Note}
 use Rattle.lp_model.specs.declared.parts.Note.TheVariants.{LowerRemoved, LowerKept}
@@ -9,24 +9,29 @@ use Rattle.lp_model.specs.Satisfaction.{values_at}
 use Rattle.certs.specs.declared.evidence.Point.{Point}
 use Rattle.certs.specs.declared.evidence.Node.{Node}
 use Rattle.certs.specs.declared.solving.Stop.{Stop}
+use Rattle.model_history.specs.History.{HistoryValue}
 use Rattle.report_text.specs.declared.report.Method.{Method}
 use Rattle.report_text.specs.declared.report.Method.TheVariants.{Deletion, Additive, Sensitivity}
 use Rattle.report_text.specs.declared.report.Command.{Command}
-use Rattle.report_text.specs.declared.report.Command.TheVariants.{Check, Iis, Pivots, Nodes}
+use Rattle.report_text.specs.declared.report.Command.TheVariants.{Check, Iis, Edit, Undo, Pivots, Nodes}
 use Rattle.report_text.specs.declared.report.Answer.{Answer}
-use Rattle.report_text.specs.declared.report.Answer.TheVariants.{Feasible, Infeasible, Irreducible, Done, Stopped}
+use Rattle.report_text.specs.declared.report.Answer.TheVariants.{Feasible, Infeasible, Irreducible, Done, Refused, Stopped}
 use Rattle.report_text.specs.declared.report.Entry.{Entry}
 use Rattle.report_text.specs.declared.report.Report.{Report}
 use Rattle.report_text.specs.Grammar.{column_name, value_phrases}
+use Rattle.report_text.specs.Turns.{after, gathered}
+use Rattle.model_session.specs.Session.{session_at}
 use Rattle.cert_check.specs.Trials.{settled_count, unsettled_count}
 use Rattle.report_page.specs.declared.markup.Tag.{Tag}
 use Rattle.report_page.specs.declared.markup.Sign.{Sign}
 use Rattle.report_page.specs.declared.markup.Words.{Words}
+use Rattle.report_page.specs.declared.markup.Change.{Change}
 use Rattle.report_page.specs.Pieces.{Piece, bytes_of}
 use Rattle.report_page.specs.Demands.{value_pieces}
 use Rattle.report_page.specs.Members.{fold_tag, list_pieces}
 use Rattle.report_page.specs.Reasons.{leaf_shares, reason_pieces}
 use Rattle.report_page.specs.Stops.{stop_pieces}
+use Rattle.report_page.specs.Edits.{edit_pieces, refused_pieces}
 
 -- ---- commands
 -- what a method is asked
@@ -35,10 +40,12 @@ method_words Deletion = Words.DeletionAsked
 method_words Additive = Words.AdditiveAsked
 method_words Sensitivity = Words.SensitivityAsked
 
--- what a command asks, or sets
+-- what a command asks, edits, or sets
 abbrev pub command_pieces : Command → List Piece
 command_pieces Check = Piece.Words Words.CheckAsked ∷ []
 command_pieces (Iis method) = Piece.Words (method_words method) ∷ []
+command_pieces (Edit e) = edit_pieces e
+command_pieces Undo = Piece.Change Change.Undo ∷ []
 command_pieces (Pivots n) = Piece.Words Words.PivotBudget ∷ Piece.Count n ∷ []
 command_pieces (Nodes n) = Piece.Words Words.NodeBudget ∷ Piece.Count n ∷ []
 
@@ -77,10 +84,11 @@ answer_pieces model (Feasible p) = feasible_pieces model p.values
 answer_pieces model (Infeasible set proof) = conflict_pieces model set.members [] proof.nodes
 answer_pieces model (Irreducible core) = conflict_pieces model core.members.members core.witnesses core.proof.nodes
 answer_pieces model Done = []
+answer_pieces model (Refused reason) = refused_pieces reason
 answer_pieces model (Stopped stop) = stopped_pieces model stop
 
 -- ---- the page
--- a command and its answer, under the number of its line in the report
+-- a command and its answer, under the number of its line in the report, by the program as it stands before the command
 abbrev pub entry_pieces : Program → Entry → List Piece
 entry_pieces model e =
     Piece.Tag Tag.Section ∷ Piece.Count e.line ∷ Piece.Tag Tag.SectionTitle ∷ (command_pieces e.command
@@ -106,10 +114,20 @@ head_pieces entries =
     ∷ Piece.Words Words.Settled ∷ Piece.Count (settled_count entries) ∷ Piece.Words Words.Unsettled ∷ Piece.Count (unsettled_count entries) ∷ Piece.Sign Sign.FullStop
     ∷ Piece.Tag Tag.ParagraphEnd ∷ []
 
--- the page: the head, the notes, and each entry once, in order
+-- each entry once, in order, by the program as the commands before it edited it
+abbrev pub entries_pieces : Program → List Command → List Entry → List Piece
+entries_pieces first before entries = gathered (λ front e. entry_pieces (after first front) e) before entries
+
+-- the page: the head, the notes, and the entries
 abbrev pub page_pieces : Program → Report → List Piece
-page_pieces model report = head_pieces report.entries ++ (notes_pieces model report.notes ++ (flat_map (entry_pieces model) report.entries ++ Piece.Tag Tag.End ∷ []))
+page_pieces model report = head_pieces report.entries ++ (notes_pieces model report.notes ++ (entries_pieces model [] report.entries ++ Piece.Tag Tag.End ∷ []))
 
 -- its bytes
 abbrev pub page_of : Program → Report → List ℕ
 page_of model report = bytes_of (page_pieces model report)
+
+-- ---- the session by which it is written
+-- it is that of a program, after some commands
+pub record IsSessionOf (first : Program) (session : HistoryValue) : Type 0 where
+  pub before : List Command
+  pub at : session ≡ session_at first before

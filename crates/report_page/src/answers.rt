@@ -7,7 +7,8 @@ ghost use Rattle.report_page.specs.Pieces.{Writes};
 ghost use Rattle.report_page.specs.Page.{method_words, command_pieces, valued_pieces, some_pieces, point_pieces, feasible_pieces, conflict_pieces, stopped_pieces, answer_pieces};
 
 use crate::demands::{value_at, write_value};
-use crate::markup::{Tag, Words};
+use crate::edits::{write_edit, write_refused};
+use crate::markup::{Change, Tag, Words};
 use crate::members::{fold_tag, write_list};
 use crate::pieces::{Piece, write};
 use crate::reasons::{leaf_shares, write_reason};
@@ -36,6 +37,8 @@ pub(crate) fn write_command(command: &Command, into: &mut Vec<u8>) -> Result<(),
     match command {
         Command::Check => write(&[Piece::Words(Words::CheckAsked)], into),
         Command::Iis(method) => write(&[Piece::Words(method_asked(*method))], into),
+        Command::Edit(edit) => write_edit(edit, into),
+        Command::Undo => write(&[Piece::Change(Change::Undo)], into),
         Command::Pivots(most) => write(
             &[Piece::Words(Words::PivotBudget), Piece::Count(*most)],
             into,
@@ -158,6 +161,7 @@ pub(crate) fn write_answer(
             into,
         ),
         Answer::Done => Ok(()),
+        Answer::Refused(reason) => write_refused(*reason, into),
         Answer::Stopped(stop) => write_stopped(model, stop, into),
     }
 }

@@ -3,6 +3,7 @@
 
 mod answers;
 mod demands;
+mod edits;
 mod markup;
 mod members;
 mod pages;
@@ -12,6 +13,6 @@ mod reasons;
 mod stops;
 mod totals;
 
-pub use markup::{Account, Sign, Tag, Words};
+pub use markup::{Account, Change, Sign, Tag, Words};
 pub use pages::page;
 pub use pieces::{Piece, escape, escaping_law, write};

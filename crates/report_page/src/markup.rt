@@ -1,6 +1,6 @@
 //! The fixed parts of a page.
 ghost use Rattle.std.specs.Prelude.{◌≡◌};
-ghost use Rattle.report_page.specs.Markup.{tag_text, sign_text, words_text, account_text};
+ghost use Rattle.report_page.specs.Markup.{tag_text, sign_text, words_text, account_text, change_text};
 
 /// What marks up a page.
 #[derive(Clone, Copy, PartialEq, Eq, Debug)]
@@ -105,6 +105,7 @@ pub enum Sign {
     Product,
     Quotient,
     Comma,
+    Colon,
     FullStop,
     IsWhole,
 }
@@ -128,6 +129,7 @@ impl Sign {
             Sign::Product => " * ",
             Sign::Quotient => " / ",
             Sign::Comma => ", ",
+            Sign::Colon => ": ",
             Sign::FullStop => ".",
             Sign::IsWhole => " is a whole number",
         }
@@ -269,6 +271,50 @@ impl Account {
             Account::Where => ", where ",
             Account::Step => " That was in turn ",
             Account::At => ", at ",
+        }
+    }
+}
+
+/// What a page says of edits, and of why they are refused.
+#[derive(Clone, Copy, PartialEq, Eq, Debug)]
+pub enum Change {
+    Drop,
+    Keep,
+    Weigh,
+    Set,
+    Mark,
+    Undo,
+    Row,
+    NoNumber,
+    Rigid,
+    Whole,
+    Plain,
+    UnknownName,
+    NoChange,
+    NothingToUndo,
+}
+
+impl Change {
+    /// How it is written.
+    #[tactic(auto, unfolding(crate::specs::Markup::change_text))]
+    pub fn text(self) -> &'static str
+        ensures { result.now ≡ change_text self }
+    {
+        match self {
+            Change::Drop => "Drop the ",
+            Change::Keep => "Keep the ",
+            Change::Weigh => "Weigh the ",
+            Change::Set => "Set the ",
+            Change::Mark => "Mark ",
+            Change::Undo => "Take back the last edit that stands",
+            Change::Row => "row ",
+            Change::NoNumber => "none",
+            Change::Rigid => "rigid",
+            Change::Whole => "whole",
+            Change::Plain => "plain",
+            Change::UnknownName => "The model has no such name.",
+            Change::NoChange => "The model would stay as it is.",
+            Change::NothingToUndo => "There is no edit to take back.",
         }
     }
 }

@@ -1,16 +1,18 @@
 //! The page of a report.
 #![tactic(auto, using(crate::proofs::Pieced::more))]
 
-ghost use Rattle.std.specs.Prelude.{◌≡◌, ◌++◌, OnOk, flat_map};
+ghost use Rattle.std.specs.Prelude.{◌≡◌, ◌++◌, [], All, OnOk, flat_map};
+ghost use Rattle.report_text.specs.Form.{IsCommand};
 ghost use Rattle.cert_check.specs.Trials.{settles as settles_command, settled_count, unsettled_count};
 ghost use Rattle.report_page.specs.Pieces.{Writes};
-ghost use Rattle.report_page.specs.Page.{entry_pieces, noted_pieces, note_pieces, notes_pieces, head_pieces, page_pieces, page_of};
+ghost use Rattle.report_page.specs.Page.{entry_pieces, noted_pieces, note_pieces, notes_pieces, head_pieces, entries_pieces, page_pieces, page_of, IsSessionOf};
 
 use crate::answers::{write_answer, write_command};
 use crate::markup::{Sign, Tag, Words};
 use crate::parts::column_name;
 use crate::pieces::{Piece, write};
 use lp_model::{Model, Note};
+use model_session::Session;
 use report_text::{Answer, Entry, Report};
 use std::alloc::AllocError;
 
@@ -135,24 +137,38 @@ fn write_entry(model: &Model, entry: &Entry, into: &mut Vec<u8>) -> Result<(), A
     write(&[Piece::Tag(Tag::SectionEnd)], into)
 }
 
-// Writes entries.
-fn write_entries(model: &Model, entries: &[Entry], into: &mut Vec<u8>) -> Result<(), AllocError>
-    ensures { OnOk result (Writes into.old.items into.new.items (flat_map (entry_pieces model.now) entries.now)) }
+// Writes entries, each of the program as the commands before it edited it.
+fn write_entries(
+    session: &mut Session,
+    entries: &[Entry],
+    into: &mut Vec<u8>,
+) -> Result<(), AllocError>
+    requires fresh { session.old.formers ≡ [] }
+    requires commands { All (λ e. IsCommand e.command) entries.now }
+    ensures written { let pieces = entries_pieces session.old.model [] entries.now in
+        OnOk result (Writes into.old.items into.new.items pieces) }
+    ensures of_program { IsSessionOf session.old.model session.new }
 {
     for entry in entries {
-        write_entry(model, entry, into)?;
+        write_entry(session.model(), entry, into)?;
+        session.take(&entry.command)?;
     }
     Ok(())
 }
 
 // Writes the pieces of the page.
-fn write_page(model: &Model, report: &Report, into: &mut Vec<u8>) -> Result<(), AllocError>
-    ensures { OnOk result (Writes into.old.items into.new.items (page_pieces model.now report.now)) }
+fn write_page(session: &mut Session, report: &Report, into: &mut Vec<u8>) -> Result<(), AllocError>
+    requires fresh { session.old.formers ≡ [] }
+    requires commands { All (λ e. IsCommand e.command) report.now.entries }
+    ensures written { let pieces = page_pieces session.old.model report.now in
+        OnOk result (Writes into.old.items into.new.items pieces) }
+    ensures of_program { IsSessionOf session.old.model session.new }
 {
     let entries = report.entries.as_slice();
+    let model = session.model();
     write_head(entries, into)?;
     write_notes(model, report.notes.as_slice(), into)?;
-    write_entries(model, entries, into)?;
+    write_entries(session, entries, into)?;
     write(&[Piece::Tag(Tag::End)], into)
 }
 
@@ -162,13 +178,23 @@ fn write_page(model: &Model, report: &Report, into: &mut Vec<u8>) -> Result<(), 
 /// that a check accepted. It has, in the words of the model and in the order of the report, each note, and each command
 /// with its answer: the values of a point; the members that cannot all be met, each once, in order, with what it asks for,
 /// how often it is taken, and what its witness gives the columns of its form; and why they cannot, as a sum or as cases; or
-/// why a calculation stopped, and where. Names are escaped.
+/// why an edit is refused; or why a calculation stopped, and where. Each answer is written of the program as the commands
+/// before it edited it. Names are escaped.
+///
+/// The session is one of which nothing was edited yet, and it is so again in the end, whether memory is refused or not.
+/// The commands of the report are to be such as may be asked, as those of one that was read are.
 ///
 /// # Errors
 ///
 /// Where memory is refused. Some front of the page is appended then.
-pub fn page(model: &Model, report: &Report, into: &mut Vec<u8>) -> Result<(), AllocError>
-    ensures { OnOk result (into.new.items ≡ into.old.items ++ page_of model.now report.now) }
+pub fn page(session: &mut Session, report: &Report, into: &mut Vec<u8>) -> Result<(), AllocError>
+    requires fresh { session.old.formers ≡ [] }
+    requires commands { All (λ e. IsCommand e.command) report.now.entries }
+    ensures written { let bytes = page_of session.old.model report.now in
+        OnOk result (into.new.items ≡ into.old.items ++ bytes) }
+    ensures back { session.new ≡ session.old }
 {
-    write_page(model, report, into)
+    let written = write_page(session, report, into);
+    session.rewind();
+    written
 }

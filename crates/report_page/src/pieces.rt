@@ -4,7 +4,7 @@ ghost use Rattle.std.specs.Fmt.{signed_decimal};
 ghost use Rattle.report_page.specs.Escaping.{escaped_byte, escaped, EscapingLaw};
 ghost use Rattle.report_page.specs.Pieces.{piece_shown, piece_bytes, Writes};
 
-use crate::markup::{Account, Sign, Tag, Words};
+use crate::markup::{Account, Change, Sign, Tag, Words};
 use frac128::Frac;
 use itoa::Buffer;
 use std::alloc::AllocError;
@@ -16,6 +16,7 @@ pub enum Piece<'a> {
     Sign(Sign),
     Words(Words),
     Account(Account),
+    Change(Change),
     Text(&'a [u8]),
     Number(Frac),
     Whole(i128),
@@ -74,6 +75,7 @@ fn write_piece(piece: &Piece<'_>, into: &mut Vec<u8>) -> Result<(), AllocError>
         Piece::Sign(sign) => into.extend_from_slice(sign.text().as_bytes()),
         Piece::Words(words) => into.extend_from_slice(words.text().as_bytes()),
         Piece::Account(account) => into.extend_from_slice(account.text().as_bytes()),
+        Piece::Change(change) => into.extend_from_slice(change.text().as_bytes()),
         Piece::Text(text) => escape(text, into),
         Piece::Number(number) => {
             number.print(into)?;

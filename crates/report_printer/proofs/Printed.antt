@@ -29,6 +29,10 @@ text_both model first others = ap text_of (map-append (phrase_line model) first 
 pub goes_on : (done a next left rest start : List ℕ) → next ≡ done ++ a → left ≡ a ++ rest → done ++ left ≡ start → next ++ rest ≡ start
 goes_on done a next left rest start e s h = ap (λ t. t ++ rest) e ∙ (append_assoc done a rest ∙ (ap (λ t. done ++ t) (sym s) ∙ h))
 
+-- a word behind a text, and what follows it
+pub word_more : (start mid new word rest : List ℕ) → mid ≡ start ++ (word ++ 32 ∷ []) → new ≡ mid ++ rest → new ≡ start ++ (word ++ 32 ∷ rest)
+word_more start mid new word rest m e = e ∙ (ap (λ t. t ++ rest) m ∙ (append_assoc start (word ++ 32 ∷ []) rest ∙ ap (λ t. start ++ t) (append_assoc word (32 ∷ []) rest)))
+
 -- at the end nothing is left
 pub nothing_left : (done left start : List ℕ) → left ≡ [] → done ++ left ≡ start → done ≡ start
 nothing_left done left start e h = sym (append-nil done) ∙ (ap (λ t. done ++ t) (sym e) ∙ h)

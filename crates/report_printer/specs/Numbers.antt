@@ -9,7 +9,7 @@ use Rattle.certs.specs.declared.solving.Stop.{Stop}
 use Rattle.certs.specs.declared.solving.Stop.TheVariants.{Wide as TooWide, Pivots as Spent, Nodes, Large, Memory}
 use Rattle.report_text.specs.declared.report.Core.{Core}
 use Rattle.report_text.specs.declared.report.Answer.{Answer}
-use Rattle.report_text.specs.declared.report.Answer.TheVariants.{Feasible, Infeasible, Irreducible, Done, Stopped}
+use Rattle.report_text.specs.declared.report.Answer.TheVariants.{Feasible, Infeasible, Irreducible, Done, Refused, Stopped}
 use Rattle.report_text.specs.Form.{IsWithinLimit, IsCount, IsOperation}
 
 -- the values of a point are within the limit
@@ -48,4 +48,5 @@ HasNumbersWithin (Feasible p) = HasValuesWithin p
 HasNumbersWithin (Infeasible set proof) = IsProofWithin proof
 HasNumbersWithin (Irreducible core) = IsCoreWithin core
 HasNumbersWithin Done = Unit {0}
+HasNumbersWithin (Refused r) = Unit {0}
 HasNumbersWithin (Stopped stop) = IsStopWithin stop

@@ -1,8 +1,10 @@
 -- What can be printed, and the parts of a printed report.
-use Rattle.std.specs.Prelude.{◌≡◌, ℕ, ◌<◌, ◌&&◌, not, List, [], ◌∷◌, ◌++◌, length, map, filter, All}
+use Rattle.std.specs.Prelude.{◌≡◌, ℕ, ◌<◌, ◌&&◌, not, List, [], ◌∷◌, ◌++◌, length, map, filter, codes, Option, All}
 use Rattle.lp_model.specs.declared.parts.Note.{Note}
 use Rattle.lp_model.specs.Program.{Program}
+use Rattle.rational.specs.Rational.{ℚ}
 use Rattle.lp_model.specs.declared.members.Member.{Member}
+use Rattle.lp_model.specs.declared.members.Side.{Side}
 use Rattle.lp_model.specs.Members.{is_active, has}
 use Rattle.lp_model.specs.MemberSets.{IsMemberFor}
 use Rattle.certs.specs.declared.evidence.Source.{Source}
@@ -17,10 +19,10 @@ use Rattle.certs.specs.declared.solving.Stop.{Stop}
 use Rattle.certs.specs.declared.solving.Stop.TheVariants.{Wide as TooWide, Pivots as Spent, Nodes, Large, Memory}
 use Rattle.report_text.specs.declared.report.Core.{Core}
 use Rattle.report_text.specs.declared.report.Answer.{Answer}
-use Rattle.report_text.specs.declared.report.Answer.TheVariants.{Feasible, Infeasible, Irreducible, Done, Stopped}
+use Rattle.report_text.specs.declared.report.Answer.TheVariants.{Feasible, Infeasible, Irreducible, Done, Refused, Stopped}
 use Rattle.report_text.specs.declared.report.Report.{Report}
 use Rattle.report_text.specs.Turns.{after, gathered}
-use Rattle.report_text.specs.Grammar.{Line, without_phrase, entry_phrases, report_lines, phrases_text, text_of}
+use Rattle.report_text.specs.Grammar.{Line, joined, side_word, limit_word, without_phrase, entry_phrases, report_lines, phrases_text, text_of}
 use Rattle.report_text.specs.declared.phrases.Phrase.{Phrase}
 use Rattle.report_text.specs.Form.{IsAnswerFor}
 
@@ -32,6 +34,14 @@ ended line = line ++ 10 ∷ []
 pub record Keeps (old new : List ℕ) : Type 0 where
   pub more : List ℕ
   pub is : new ≡ old ++ more
+
+-- behind a text stand words, with a blank between two of them
+abbrev pub Adds : List ℕ → List (List ℕ) → List ℕ → Type 0
+Adds old words new = new ≡ old ++ joined words
+
+-- the words of an edit that sets a side of a row, or a bound of a column, by the word for which of them it is of
+abbrev pub set_words : List ℕ → Side → Option ℚ → List ℕ → List (List ℕ)
+set_words place side limit name = codes "set" ∷ place ∷ name ∷ side_word side ∷ limit_word limit ∷ []
 
 -- the text of the lines of those of some members that are active and not in a set
 abbrev pub missing_text : Program → List Member → List Member → List ℕ
@@ -86,6 +96,7 @@ IsKnownAnswer model (Feasible p) = IsKnownPoint model p
 IsKnownAnswer model (Infeasible set proof) = IsSetOf model set × IsKnownProof model proof
 IsKnownAnswer model (Irreducible core) = IsKnownCore model core
 IsKnownAnswer model Done = Unit {0}
+IsKnownAnswer model (Refused r) = Unit {0}
 IsKnownAnswer model (Stopped stop) = IsKnownStop model stop
 
 -- ---- the parts of a report

@@ -7,16 +7,18 @@ ghost use Rattle.frac128.specs.Printed.{printed};
 ghost use Rattle.certs.specs.Checks.{IsSetOf};
 ghost use Rattle.lp_model.specs.Program.{Program, noted_column};
 ghost use Rattle.lp_model.specs.Members.{has, is_active as is_in_force};
-ghost use Rattle.report_text.specs.Grammar.{◌then◌, spelled, column_name, name_of, kind_word, source_word, source_name, op_word, site_word, method_word, command_text, phrase_line, value_phrases, point_phrases, node_phrases, proof_phrases, without_phrase, branch_phrase, branch_keyword, keyword_text, left_out, site_phrases, stop_phrases, witness_phrases, answer_front, answer_end, answer_phrases, entry_phrases, phrases_text};
+ghost use Rattle.report_text.specs.Grammar.{◌then◌, spelled, column_name, name_of, kind_word, source_word, source_name, op_word, site_word, method_word, target_word, side_word, limit_word, weight_word, mark_word, edit_words, command_text, phrase_line, value_phrases, point_phrases, node_phrases, proof_phrases, without_phrase, branch_phrase, branch_keyword, keyword_text, left_out, site_phrases, stop_phrases, witness_phrases, answer_front, answer_end, answer_phrases, entry_phrases, phrases_text};
 ghost use Rattle.report_text.specs.Form.{IsCount, IsOperation, IsWithinLimit};
 ghost use Rattle.report_printer.specs.Numbers.{HasNumbersWithin, HasValuesWithin, HasWeightsWithin, HasWitnessesWithin, IsCoreWithin, IsProofWithin, IsStopWithin};
-ghost use Rattle.report_printer.specs.Printing.{CanPrintLaw, PartsLaw, ended, head_phrases, IsKnownMember, IsKnownSource, IsKnownNode, IsKnownProof, IsKnownPoint, IsKnownCore, IsKnownSite, IsKnownStop, IsKnownAnswer, Keeps, missing_text};
+ghost use Rattle.report_printer.specs.Printing.{CanPrintLaw, PartsLaw, set_words, Adds, ended, head_phrases, IsKnownMember, IsKnownSource, IsKnownNode, IsKnownProof, IsKnownPoint, IsKnownCore, IsKnownSite, IsKnownStop, IsKnownAnswer, Keeps, missing_text};
 
 use certs::{Branch, Node, Point, Proof, Share, Site, SiteKind, Source, Stop};
 use frac128::{Exact, Frac, Op, Wide};
 use itoa::Buffer;
-use lp_model::{Member, MemberSet, Model, Note};
-use report_text::{Answer, Command, Core, Method, Phrase, StopPhrase};
+use lp_model::{Member, MemberSet, Model, Note, Side, Weight};
+use report_text::{
+    Answer, Command, Core, EditKind, Method, NamedEdit, Phrase, Refusal, StopPhrase, TargetKind,
+};
 use std::alloc::AllocError;
 
 // Appends a word and a blank.
@@ -563,7 +565,19 @@ fn print_front(model: &Model, answer: &Answer, into: &mut Vec<u8>) -> Result<(),
         Answer::Infeasible(set, proof) => print_infeasible(model, set, proof, into),
         Answer::Irreducible(core) => print_irreducible(model, core, into),
         Answer::Done => Ok(()),
+        Answer::Refused(_) => Ok(()),
         Answer::Stopped(stop) => print_stop(model, stop, into),
+    }
+}
+
+// The line of a refusal.
+fn refusal_line(refusal: Refusal) -> &'static str
+    ensures { (model : Program) → result.now ≡ phrase_line model (Phrase.Refused refusal) }
+{
+    match refusal {
+        Refusal::UnknownName => "unknown name",
+        Refusal::NoChange => "no change",
+        Refusal::NothingToUndo => "nothing to undo",
     }
 }
 
@@ -573,6 +587,7 @@ fn last_word(answer: &Answer) -> &'static str
 {
     match answer {
         Answer::Done => "done",
+        Answer::Refused(refusal) => refusal_line(*refusal),
         _ => "end",
     }
 }
@@ -618,6 +633,136 @@ fn print_budget(what: &[u8], most: u64, into: &mut Vec<u8>) -> Result<(), AllocE
     Ok(())
 }
 
+// The word for what an edit is of.
+fn target_name(target: TargetKind) -> &'static str
+    ensures { result.now ≡ target_word target }
+{
+    match target {
+        TargetKind::Row => "row",
+        TargetKind::RowLo => "rowlo",
+        TargetKind::RowUp => "rowup",
+        TargetKind::Lower => "lower",
+        TargetKind::Upper => "upper",
+        TargetKind::Whole => "whole",
+    }
+}
+
+// The word for a side of a row, or a bound of a column.
+fn limit_side(side: Side) -> &'static str
+    ensures { result.now ≡ side_word side }
+{
+    match side {
+        Side::Lo => "lower",
+        Side::Up => "upper",
+    }
+}
+
+// The word for the mark that a column is to have.
+fn mark_name(whole: bool) -> &'static str
+    ensures { result.now ≡ mark_word whole }
+{
+    if whole { "whole" } else { "plain" }
+}
+
+// Appends the number that a side or a bound is set to.
+fn print_limit(limit: Option<Frac>, into: &mut Vec<u8>) -> Result<(), AllocError>
+    ensures text { OnOk result (into.new.items ≡ into.old.items ++ limit_word limit) }
+    ensures front { Keeps into.old.items into.new.items }
+{
+    match limit {
+        Some(value) => value.print(into),
+        None => into.extend_from_slice(b"none"),
+    }
+}
+
+// Appends a weight.
+fn print_weight(weight: Weight, into: &mut Vec<u8>) -> Result<(), AllocError>
+    ensures text { OnOk result (into.new.items ≡ into.old.items ++ weight_word weight) }
+    ensures front { Keeps into.old.items into.new.items }
+{
+    match weight {
+        Weight::Soft(value) => value.print(into),
+        Weight::Rigid => into.extend_from_slice(b"rigid"),
+    }
+}
+
+// Appends a word, what an edit is of, and the name of it.
+fn print_targeted(
+    verb: &[u8],
+    target: TargetKind,
+    name: &[u8],
+    into: &mut Vec<u8>,
+) -> Result<(), AllocError>
+    ensures text { OnOk result (Adds into.old.items (verb.now ∷ target_word target ∷ name.now ∷ []) into.new.items) }
+    ensures front { Keeps into.old.items into.new.items }
+{
+    push_word(verb, into)?;
+    push_word(target_name(target).as_bytes(), into)?;
+    into.extend_from_slice(name)
+}
+
+// Appends an edit that weighs.
+fn print_weighed(
+    target: TargetKind,
+    weight: Weight,
+    name: &[u8],
+    into: &mut Vec<u8>,
+) -> Result<(), AllocError>
+    ensures text { OnOk result (Adds into.old.items (edit_words name.now (EditKind.Weigh target weight)) into.new.items) }
+    ensures front { Keeps into.old.items into.new.items }
+{
+    push_word(b"weight", into)?;
+    push_word(target_name(target).as_bytes(), into)?;
+    push_word(name, into)?;
+    print_weight(weight, into)?;
+    Ok(())
+}
+
+// Appends an edit that sets a side of a row, or a bound of a column, by the word for which of them it is of.
+fn print_set(
+    place: &[u8],
+    side: Side,
+    limit: Option<Frac>,
+    name: &[u8],
+    into: &mut Vec<u8>,
+) -> Result<(), AllocError>
+    ensures text { OnOk result (Adds into.old.items (set_words place.now side limit name.now) into.new.items) }
+    ensures front { Keeps into.old.items into.new.items }
+{
+    push_word(b"set", into)?;
+    push_word(place, into)?;
+    push_word(name, into)?;
+    push_word(limit_side(side).as_bytes(), into)?;
+    print_limit(limit, into)?;
+    Ok(())
+}
+
+// Appends an edit that marks.
+fn print_mark(whole: bool, name: &[u8], into: &mut Vec<u8>) -> Result<(), AllocError>
+    ensures text { OnOk result (Adds into.old.items (edit_words name.now (EditKind.SetMark whole)) into.new.items) }
+    ensures front { Keeps into.old.items into.new.items }
+{
+    push_word(b"mark", into)?;
+    push_word(name, into)?;
+    into.extend_from_slice(mark_name(whole).as_bytes())
+}
+
+// Appends an edit.
+fn print_edit(edit: &NamedEdit, into: &mut Vec<u8>) -> Result<(), AllocError>
+    ensures text { OnOk result (Adds into.old.items (edit_words edit.now.name edit.now.kind) into.new.items) }
+    ensures front { Keeps into.old.items into.new.items }
+{
+    let name = edit.name.bytes();
+    match edit.kind {
+        EditKind::Drop(target) => print_targeted(b"drop", target, name, into),
+        EditKind::Keep(target) => print_targeted(b"keep", target, name, into),
+        EditKind::Weigh(target, weight) => print_weighed(target, weight, name, into),
+        EditKind::SetSide(side, limit) => print_set(b"row", side, limit, name, into),
+        EditKind::SetBound(side, limit) => print_set(b"column", side, limit, name, into),
+        EditKind::SetMark(whole) => print_mark(whole, name, into),
+    }
+}
+
 // Appends a command.
 fn put_command(command: &Command, into: &mut Vec<u8>) -> Result<(), AllocError>
     ensures text { OnOk result (into.new.items ≡ into.old.items ++ command_text command.now) }
@@ -626,6 +771,8 @@ fn put_command(command: &Command, into: &mut Vec<u8>) -> Result<(), AllocError>
     match command {
         Command::Check => into.extend_from_slice(b"check"),
         Command::Iis(method) => print_iis(*method, into),
+        Command::Edit(edit) => print_edit(edit, into),
+        Command::Undo => into.extend_from_slice(b"undo"),
         Command::Pivots(most) => print_budget(b"budget pivots", *most, into),
         Command::Nodes(most) => print_budget(b"budget nodes", *most, into),
     }

@@ -1,16 +1,16 @@
 -- Laws of the grammar: the last line of a report stands nowhere else in it, so bytes have one ending.
-use Rattle.std.proofs.Common.{◌≡◌, refl, sym, ap, ◌∙◌, Bool, true, false, List, [], ◌∷◌, ◌++◌, ◌==◌, true≢false, append_assoc, append-nil, arith}
+use Rattle.std.proofs.Common.{◌≡◌, refl, sym, ap, ◌∙◌, ℕ, Bool, true, false, List, [], ◌∷◌, ◌++◌, ◌==◌, true≢false, append_assoc, append-nil, arith}
 use Rattle.std.specs.Prelude.{◌≢◌, All, AllPairs, codes, slice_index}
 use Rattle.std.proofs.lemmas.List.Elements.{All-nil, All-cons, All-head, All-tail}
 use Rattle.std.proofs.lemmas.List.Kept.{AllPairs-cons}
 use Rattle.lp_model.specs.Program.{Program, noted_column}
 use Rattle.lp_model.specs.declared.parts.Note.TheVariants.{LowerRemoved, LowerKept}
 use Rattle.report_text.specs.declared.report.Report.{Report}
-use Rattle.report_text.specs.Grammar.{Line, keyword_text, branch_keyword, stop_details, spelled, phrase_line, lines_of, body_phrases, report_lines}
+use Rattle.report_text.specs.Grammar.{Line, keyword_text, branch_keyword, stop_details, command_words, spelled, phrase_line, lines_of, body_phrases, report_lines}
 use Rattle.report_text.specs.Form.{IsNamedColumn, IsReportFor}
 use Rattle.report_text.specs.declared.phrases.Phrase.{Phrase}
 use Rattle.report_text.specs.declared.phrases.StopPhrase.{StopPhrase}
-use Rattle.report_text.specs.declared.report.Command.TheVariants.{Check}
+use Rattle.report_text.specs.declared.report.Refusal.{Refusal}
 use Rattle.report_reader.specs.Reading.{IsFront, IsWhole}
 use Rattle.report_reader.proofs.Said.{is_foot, IsBefore, body_for}
 use Rattle.std.proofs.lemmas.List.{map-append}
@@ -53,8 +53,17 @@ phrase_apart model (Phrase.Stop (StopPhrase.Branch b)) e = by b.upper
     by true = other_start (spelled (codes "below") (stop_details model (StopPhrase.Branch b))) refl
     by false = other_start (spelled (codes "above") (stop_details model (StopPhrase.Branch b))) refl
 phrase_apart model (Phrase.Stop s) e = other_start (phrase_line model (Phrase.Stop s)) refl
-phrase_apart model (Phrase.Command Check) e = other_start (phrase_line model (Phrase.Command Check)) refl
-phrase_apart model (Phrase.Command c) e = other_start (phrase_line model (Phrase.Command c)) refl
+phrase_apart model (Phrase.Command c) e = other_start (phrase_line model (Phrase.Command c)) (by (command_words c))
+  where
+    by : (words : List (List ℕ)) → (slice_index (spelled (codes "command") words) 0 == 114) ≡ false
+    by [] = refl
+    by (word ∷ words) = refl
+phrase_apart model (Phrase.Refused r) e = by r
+  where
+    by : (r : Refusal) → NotFoot (phrase_line model (Phrase.Refused r))
+    by Refusal.UnknownName = other_start (codes "unknown name") refl
+    by Refusal.NoChange = other_start (codes "no change") refl
+    by Refusal.NothingToUndo = other_start (codes "nothing to undo") refl
 phrase_apart model p e = other_start (phrase_line model p) refl
 
 -- and of phrases

@@ -24,9 +24,16 @@ use Rattle.certs.specs.declared.evidence.Point.{Point}
 use Rattle.certs.specs.declared.evidence.Node.TheVariants.{Split, Leaf}
 use Rattle.certs.specs.declared.evidence.Proof.{Proof}
 use Rattle.report_text.specs.declared.report.Method.TheVariants.{Deletion}
-use Rattle.report_text.specs.declared.report.Command.TheVariants.{Check, Iis, Nodes}
+use Rattle.lp_model.specs.declared.members.Side.TheVariants.{Lo, Up}
+use Rattle.lp_model.specs.declared.parts.Weight.TheVariants.{Soft}
+use Rattle.report_text.specs.declared.report.TargetKind.{TargetKind}
+use Rattle.report_text.specs.declared.report.EditKind.{EditKind}
+use Rattle.report_text.specs.declared.report.EditKind.TheVariants.{Drop, Weigh, SetSide, SetBound, SetMark}
+use Rattle.report_text.specs.declared.report.Refusal.TheVariants.{UnknownName, NoChange, NothingToUndo}
+use Rattle.report_text.specs.declared.report.Command.{Command}
+use Rattle.report_text.specs.declared.report.Command.TheVariants.{Check, Iis, Edit, Undo, Nodes}
 use Rattle.report_text.specs.declared.report.Answer.{Answer}
-use Rattle.report_text.specs.declared.report.Answer.TheVariants.{Feasible, Infeasible, Irreducible, Done, Stopped}
+use Rattle.report_text.specs.declared.report.Answer.TheVariants.{Feasible, Infeasible, Irreducible, Done, Refused, Stopped}
 use Rattle.report_text.specs.declared.report.Report.{Report}
 use Rattle.report_text.specs.Grammar.{Line, report_lines, text_of}
 use Rattle.report_reader.proofs.Endings.{pair_in_order, nothing_is_front, foot, NotFoot, body, body_is, needs_foot, needs_head, whole_ends}
@@ -130,7 +137,30 @@ tree_has_lines : report_lines two_rows tree_report
 unfolding frac gcd gcd_within digits
 tree_has_lines = refl
 
--- ---- that report stands in the grammar, and its bytes are read as it
+-- ---- edits, some of which are refused
+abbrev asked : List ℕ → EditKind → Command
+asked name kind = Edit (record { name = name; kind = kind })
+
+abbrev edited_report : Report
+edited_report = record {
+  notes = [];
+  entries = record { command = asked (codes "c1") (Drop TargetKind.RowUp); answer = Done; line = 2 }
+      ∷ record { command = asked (codes "x") (Weigh TargetKind.Lower (Soft (frac (pos 1) 2))); answer = Done; line = 4 }
+      ∷ record { command = asked (codes "c2") (SetSide Up None); answer = Refused NoChange; line = 6 }
+      ∷ record { command = asked (codes "z") (SetBound Lo (Some (frac (negsuc 2) 2))); answer = Refused UnknownName; line = 8 }
+      ∷ record { command = asked (codes "y") (SetMark true); answer = Done; line = 10 }
+      ∷ record { command = Undo; answer = Done; line = 12 } ∷ record { command = Undo; answer = Refused NothingToUndo; line = 14 } ∷ [];
+}
+
+edited_has_lines : report_lines two_rows edited_report
+    ≡ codes "iisan report 2" ∷ codes "command drop rowup c1" ∷ codes "done" ∷ codes "command weight lower x 1/2" ∷ codes "done"
+    ∷ codes "command set row c2 upper none" ∷ codes "no change" ∷ codes "command set column z lower -3/2" ∷ codes "unknown name"
+    ∷ codes "command mark y whole" ∷ codes "done" ∷ codes "command undo" ∷ codes "done" ∷ codes "command undo" ∷ codes "nothing to undo"
+    ∷ codes "report end" ∷ []
+unfolding frac gcd gcd_within digits
+edited_has_lines = refl
+
+-- ---- the first report stands in the grammar, and its bytes are read as it
 rows_named : All (IsNamedMember two_rows) (RowUp 0 ∷ RowLo 1 ∷ [])
 rows_named = All-cons (IsNamedMember two_rows) (RowUp 0) (RowLo 1 ∷ []) (record { known = omega arith; word = refl })
     (All-cons (IsNamedMember two_rows) (RowLo 1) [] (record { known = omega arith; word = refl }) (All-nil (IsNamedMember two_rows)))

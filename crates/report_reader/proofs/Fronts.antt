@@ -26,7 +26,7 @@ use Rattle.frac128.specs.declared.Wide.{Wide as Operation}
 use Rattle.certs.specs.declared.solving.Stop.{Stop}
 use Rattle.certs.specs.declared.solving.Stop.TheVariants.{Wide as TooWide, Pivots as Spent, Nodes as NodesSpent}
 use Rattle.report_text.specs.declared.report.Command.{Command}
-use Rattle.report_text.specs.declared.report.Command.TheVariants.{Check, Iis, Pivots, Nodes}
+use Rattle.report_text.specs.declared.report.Command.TheVariants.{Check, Iis, Edit, Undo, Pivots, Nodes}
 use Rattle.report_text.specs.declared.report.Answer.{Answer}
 use Rattle.report_text.specs.declared.report.Entry.{Entry}
 use Rattle.report_text.specs.declared.phrases.Phrase.{Phrase}
@@ -39,13 +39,13 @@ use Rattle.report_reader.specs.declared.drafts.Part.{Part}
 use Rattle.report_reader.specs.declared.drafts.Next.{Next}
 use Rattle.report_reader.specs.declared.drafts.Stage.{Stage}
 use Rattle.report_reader.specs.declared.drafts.Draft.{Draft}
-use Rattle.report_text.specs.Turns.{after}
+use Rattle.report_text.specs.Turns.{after, entry_commands}
 use Rattle.report_text.specs.Grammar.{column_name, entries_phrases, value_phrases, point_phrases, node_phrases, witness_phrases, without_phrase, branch_phrase, site_phrases, answer_front, answer_end, entry_phrases, body_phrases}
 use Rattle.report_text.proofs.InTurn.{gathered-push, AllEntries-push, numbered-push}
 use Rattle.certs.specs.Order.{source_before}
 use Rattle.report_text.specs.Form.{is_word, IsNamedColumn, IsNamedMember, IsWithinLimit, IsUse, AreUses, IsListed, IsPointFor, IsAnswerFor, IsEntryFor, can_answer}
 use Rattle.report_reader.specs.Phrases.{IsNamedBranch, IsPhraseFor}
-use Rattle.report_reader.specs.Drafts.{filled, point_of, leaf_of, set_of, answer_of, only_if, proof_with, witnessed_with, site_without, stop_begun, stop_with, extended, placed, between, advanced, AreValues, AreMembers, AreWitnesses, IsFound, IsOneMore, AreLeftOut, IsTold, IsStopPart, AreNodes, Asks, IsPartFor, IsDraftFor}
+use Rattle.report_reader.specs.Drafts.{filled, point_of, leaf_of, set_of, answer_of, only_if, proof_with, witnessed_with, site_without, stop_begun, stop_with, reply_said, extended, placed, between, advanced, AreValues, AreMembers, AreWitnesses, IsFound, IsOneMore, AreLeftOut, IsTold, IsStopPart, AreNodes, Asks, IsPartFor, IsDraftFor}
 use Rattle.report_reader.proofs.Named.{told}
 use Rattle.report_reader.proofs.DueTrees.{whole_due, split_due, leaf_due, none_due}
 use Rattle.report_reader.proofs.LeftOut.{none_told, left_twice, site_in_form}
@@ -361,14 +361,22 @@ module _ (model : Program) where
       ap (λ l. found_phrases found ++ Phrase.Proof ∷ l) (flat_map-append node_phrases nodes (leaf_of shares ∷ []) ∙ ap (λ l. flat_map node_phrases nodes ++ Phrase.Leaf ∷ l) (append-nil (map Phrase.Use shares)))
       ∙ sym (append_assoc (found_phrases found) (Phrase.Proof ∷ flat_map node_phrases nodes) (Phrase.Leaf ∷ map Phrase.Use shares))
 
+  -- an answer of one line is whole, and no part of one
+  no_more_reply : (c : Command) (p : Phrase) (next : Part) → reply_said c p ≡ Some (Next.More next) → ⊥
+  no_more_reply c Phrase.Done next e = let t = only_told (can_answer c Answer.Done) (Next.Whole Answer.Done) (Next.More next) e in let s : Next.Whole Answer.Done ≡ Next.More next = t.1 in cc
+  no_more_reply c (Phrase.Refused r) next e = let t = only_told (can_answer c (Answer.Refused r)) (Next.Whole (Answer.Refused r)) (Next.More next) e in let s : Next.Whole (Answer.Refused r) ≡ Next.More next = t.1 in cc
+  no_more_reply c _ next e = cc
+
   more_taken : (c : Command) (part : Part) (p : Phrase) (next : Part) → IsPartFor model c part → IsPhraseFor model p → extended model c part p ≡ Some (Next.More next) → Took c part p next
   unfolding Took
   more_taken Check Part.Nothing Phrase.Feasible next h k e = subst (Took Check Part.Nothing Phrase.Feasible) (more_is Part.Feasible next e) (tt, refl)
   more_taken (Iis method) Part.Nothing Phrase.Feasible next h k e = subst (Took (Iis method) Part.Nothing Phrase.Feasible) (more_is Part.Feasible next e) (tt, refl)
   more_taken Check Part.Nothing (Phrase.Stop s) next h k e = begun_taken Check s next tt e
   more_taken (Iis method) Part.Nothing (Phrase.Stop s) next h k e = begun_taken (Iis method) s next tt e
-  more_taken (Pivots n) Part.Nothing Phrase.Done next h k e = absurd (cc)
-  more_taken (Nodes n) Part.Nothing Phrase.Done next h k e = absurd (cc)
+  more_taken (Edit edit) Part.Nothing p next h k e = absurd (no_more_reply (Edit edit) p next e)
+  more_taken Undo Part.Nothing p next h k e = absurd (no_more_reply Undo p next e)
+  more_taken (Pivots n) Part.Nothing p next h k e = absurd (no_more_reply (Pivots n) p next e)
+  more_taken (Nodes n) Part.Nothing p next h k e = absurd (no_more_reply (Nodes n) p next e)
   more_taken c (Part.Stop part) p next h k e = stop_taken c part p next h k e
   more_taken Check Part.Nothing Phrase.Infeasible next h k e = subst (Took Check Part.Nothing Phrase.Infeasible) (more_is (Part.Listed (Found.Members [])) next e) (no_members, refl)
   more_taken (Iis method) Part.Nothing Phrase.Irreducible next h k e = subst (Took (Iis method) Part.Nothing Phrase.Irreducible) (more_is (Part.Listed (Found.Witnessed [] [])) next e) ((no_members, no_witnesses), refl)
@@ -380,6 +388,8 @@ module _ (model : Program) where
       list_taken Check (Part.Listed (Found.Members members)) (Phrase.Member m) (λ ms. Part.Listed (Found.Members ms)) (list_all (λ n. comes_before n m) members) (members ++ m ∷ []) next
       (λ t. (member_taken members m h k t, ap (λ l. Phrase.Infeasible ∷ l) (map_push Phrase.Member members m))) e
   more_taken (Iis method) (Part.Listed (Found.Members members)) p next h k e = absurd h
+  more_taken (Edit edit) (Part.Listed (Found.Members members)) p next h k e = absurd h
+  more_taken Undo (Part.Listed (Found.Members members)) p next h k e = absurd h
   more_taken (Pivots n) (Part.Listed (Found.Members members)) p next h k e = absurd h
   more_taken (Nodes n) (Part.Listed (Found.Members members)) p next h k e = absurd h
   more_taken c (Part.Listed (Found.Members members)) Phrase.Proof next h k e = subst (Took c (Part.Listed (Found.Members members)) Phrase.Proof) (more_is (Part.Proof (Found.Members members) [] 1) next e) ((h, whole_due model), refl)
@@ -434,6 +444,8 @@ module _ (model : Program) where
   point_ends : (c : Command) (values : List ℚ) → IsPartFor model c (Part.Point values) → Ends c (Part.Point values) Phrase.End (Answer.Feasible (point_of model values))
   point_ends Check values h = record { ended = refl; kind = refl; form = point_taken values h.1; said = ap (λ l. Phrase.Feasible ∷ l) (point_said values) }
   point_ends (Iis method) values h = record { ended = refl; kind = refl; form = point_taken values h.1; said = ap (λ l. Phrase.Feasible ∷ l) (point_said values) }
+  point_ends (Edit edit) values h = absurd h.0
+  point_ends Undo values h = absurd h.0
   point_ends (Pivots n) values h = absurd h.0
   point_ends (Nodes n) values h = absurd h.0
 
@@ -450,6 +462,8 @@ module _ (model : Program) where
   can_stop : (c : Command) (stop : Stop) → Asks c → can_answer c (Answer.Stopped stop) ≡ true
   can_stop Check stop h = refl
   can_stop (Iis method) stop h = refl
+  can_stop (Edit edit) stop h = absurd h
+  can_stop Undo stop h = absurd h
   can_stop (Pivots n) stop h = absurd h
   can_stop (Nodes n) stop h = absurd h
 
@@ -505,6 +519,16 @@ module _ (model : Program) where
       absurd (let t = only_told (nat_lt 0 due) (Next.More (Part.Leaf found nodes (due - 1) [])) (Next.Whole a) e in let s : Next.More (Part.Leaf found nodes (due - 1) []) ≡ Next.Whole a = t.1 in cc)
   nodes_end c found nodes due part _ a same h k e = absurd (cc)
 
+  -- an answer of one line
+  reply_ends : (c : Command) (p : Phrase) (a : Answer) → reply_said c p ≡ Some (Next.Whole a) → Ends c Part.Nothing p a
+  reply_ends c Phrase.Done a e =
+      let t = only_told (can_answer c Answer.Done) (Next.Whole Answer.Done) (Next.Whole a) e in
+      subst (Ends c Part.Nothing Phrase.Done) (whole_is Answer.Done a (ap Some t.1)) (record { ended = refl; kind = t.0; form = tt; said = refl })
+  reply_ends c (Phrase.Refused r) a e =
+      let t = only_told (can_answer c (Answer.Refused r)) (Next.Whole (Answer.Refused r)) (Next.Whole a) e in
+      subst (Ends c Part.Nothing (Phrase.Refused r)) (whole_is (Answer.Refused r) a (ap Some t.1)) (record { ended = refl; kind = t.0; form = tt; said = refl })
+  reply_ends c _ a e = absurd (cc)
+
   whole_taken : (c : Command) (part : Part) (p : Phrase) (a : Answer) → IsPartFor model c part → extended model c part p ≡ Some (Next.Whole a) → Ends c part p a
   whole_taken c (Part.Point values) Phrase.End a h e = subst (Ends c (Part.Point values) Phrase.End) (whole_is (Answer.Feasible (point_of model values)) a e) (point_ends c values h)
   whole_taken c (Part.Point values) (Phrase.Value j v) a h e = absurd (not_whole (λ vs. Next.More (Part.Point vs)) (nat_le (length values) j) (filled j values ++ v ∷ []) a (λ y s. cc) e)
@@ -520,8 +544,10 @@ module _ (model : Program) where
       absurd (not_whole (λ vs. Next.More (Part.Witness members witnesses m vs)) (nat_le (length values) j) (filled j values ++ v ∷ []) a (λ y s. cc) e)
   whole_taken c (Part.Witness members witnesses m values) p a h e = absurd (no_answer (members ++ m ∷ []) (witnesses ++ point_of model values ∷ []) p a e)
   whole_taken c (Part.Stop part) p a h e = stop_ends c part p a h e
-  whole_taken (Pivots n) Part.Nothing Phrase.Done a h e = subst (Ends (Pivots n) Part.Nothing Phrase.Done) (whole_is Answer.Done a e) (record { ended = refl; kind = refl; form = tt; said = refl })
-  whole_taken (Nodes n) Part.Nothing Phrase.Done a h e = subst (Ends (Nodes n) Part.Nothing Phrase.Done) (whole_is Answer.Done a e) (record { ended = refl; kind = refl; form = tt; said = refl })
+  whole_taken (Edit edit) Part.Nothing p a h e = reply_ends (Edit edit) p a e
+  whole_taken Undo Part.Nothing p a h e = reply_ends Undo p a e
+  whole_taken (Pivots n) Part.Nothing p a h e = reply_ends (Pivots n) p a e
+  whole_taken (Nodes n) Part.Nothing p a h e = reply_ends (Nodes n) p a e
   whole_taken Check Part.Nothing (Phrase.Stop s) a h e = absurd (begun_ends s a e)
   whole_taken (Iis method) Part.Nothing (Phrase.Stop s) a h e = absurd (begun_ends s a e)
   whole_taken Check Part.Nothing Phrase.Feasible a h e = absurd (cc)
@@ -530,14 +556,15 @@ module _ (model : Program) where
   whole_taken c (Part.Member members witnesses m) Phrase.Point a h e = absurd (cc)
   whole_taken c part p a h e = absurd (cc)
 
-  -- ---- drafts
+-- ---- drafts
+module _ (model : Program) where
   body_length : (notes : List Note) (entries : List Entry) → length (body_phrases model notes entries) ≡ suc (length notes + length (entries_phrases model [] entries))
   body_length notes entries = ap suc (length-append (map Phrase.Note notes) (entries_phrases model [] entries) ∙ ap (λ k. k + length (entries_phrases model [] entries)) (length-map notes Phrase.Note))
 
-  body_push : (notes : List Note) (entries : List Entry) (e : Entry) → body_phrases model notes (entries ++ e ∷ []) ≡ body_phrases model notes entries ++ entry_phrases model e
+  body_push : (notes : List Note) (entries : List Entry) (e : Entry) → body_phrases model notes (entries ++ e ∷ []) ≡ body_phrases model notes entries ++ entry_phrases (after model (entry_commands entries)) e
   body_push notes entries e =
       ap (λ l. Phrase.Head ∷ (map Phrase.Note notes ++ l)) (gathered-push (λ front x. entry_phrases (after model front) x) [] entries e)
-      ∙ ap (λ l. Phrase.Head ∷ l) (sym (append_assoc (map Phrase.Note notes) (entries_phrases model [] entries) (entry_phrases model e)))
+      ∙ ap (λ l. Phrase.Head ∷ l) (sym (append_assoc (map Phrase.Note notes) (entries_phrases model [] entries) (entry_phrases (after model (entry_commands entries)) e)))
 
   -- what a phrase makes of a draft
   abbrev Draws : Draft → Phrase → Draft → Type 0
@@ -550,13 +577,13 @@ module _ (model : Program) where
   drawn d p a next e h = subst (Draws d p) (draft_is a next e) h
 
   -- between entries
-  between_taken : (n : ℕ) (notes : List Note) (entries : List Entry) (p : Phrase) (next : Draft) → IsDraftFor model (record { notes = notes; entries = entries; stage = Stage.Between }) → IsPhraseFor model p
+  between_taken : (n : ℕ) (notes : List Note) (entries : List Entry) (p : Phrase) (next : Draft) → IsDraftFor model (record { notes = notes; entries = entries; stage = Stage.Between }) → IsPhraseFor (after model (entry_commands entries)) p
       → n ≡ suc (length (body_phrases model notes entries)) → between n (record { notes = notes; entries = entries; stage = Stage.Between }) p ≡ Some next
       → Draws (record { notes = notes; entries = entries; stage = Stage.Between }) p next
   between_taken n notes [] (Phrase.Note note) next h k l e =
       drawn (record { notes = notes; entries = []; stage = Stage.Between }) (Phrase.Note note) (record { notes = notes ++ note ∷ []; entries = []; stage = Stage.Between }) next e (
         record { notes = All-push (λ x. IsNamedColumn model (noted_column x)) notes note h.notes k; entries = tt; numbered = tt; stage = tt },
-        ap (λ m. Phrase.Head ∷ m) (append-nil (map Phrase.Note (notes ++ note ∷ [])) ∙ map_push Phrase.Note notes note ∙ ap (λ m. m ++ Phrase.Note note ∷ []) (sym (append-nil (map Phrase.Note notes)))),
+        ap (λ m. Phrase.Head ∷ m) (append-nil (map Phrase.Note (notes ++ note ∷ [])) ∙ map_push model Phrase.Note notes note ∙ ap (λ m. m ++ Phrase.Note note ∷ []) (sym (append-nil (map Phrase.Note notes)))),
       )
   between_taken n notes (f ∷ entries) (Phrase.Note note) next h k l e = absurd (cc)
   between_taken n notes entries (Phrase.Command c) next h k l e =
@@ -569,16 +596,17 @@ module _ (model : Program) where
 
   -- within an answer
   answering_taken : (notes : List Note) (entries : List Entry) (question : Question) (part : Part) (p : Phrase) (next : Next)
-      → IsDraftFor model (record { notes = notes; entries = entries; stage = Stage.Answering question part }) → IsPhraseFor model p → extended model question.command part p ≡ Some next
+      → IsDraftFor model (record { notes = notes; entries = entries; stage = Stage.Answering question part }) → IsPhraseFor (after model (entry_commands entries)) p
+      → extended (after model (entry_commands entries)) question.command part p ≡ Some next
       → Draws (record { notes = notes; entries = entries; stage = Stage.Answering question part }) p (placed (record { notes = notes; entries = entries; stage = Stage.Answering question part }) question next)
   unfolding Took
   answering_taken notes entries question part p (Next.More more) h k e =
-      let t = more_taken question.command part p more h.stage.1.1 k e in (
+      let t = more_taken (after model (entry_commands entries)) question.command part p more h.stage.1.1 k e in (
         record { notes = h.notes; entries = h.entries; numbered = h.numbered; stage = (h.stage.0, (h.stage.1.0, t.0)) },
         ap (λ l. body_phrases model notes entries ++ Phrase.Command question.command ∷ l) t.1 ∙ sym (append_assoc (body_phrases model notes entries) (Phrase.Command question.command ∷ part_phrases part) (p ∷ [])),
       )
   answering_taken notes entries question part p (Next.Whole answer) h k e =
-      let t = whole_taken question.command part p answer h.stage.1.1 e in
+      let t = whole_taken (after model (entry_commands entries)) question.command part p answer h.stage.1.1 e in
       let entry : Entry = record { command = question.command; answer = answer; line = question.line } in (
         record {
           notes = h.notes;
@@ -592,7 +620,7 @@ module _ (model : Program) where
             ∙ sym (append_assoc (body_phrases model notes entries) (Phrase.Command question.command ∷ part_phrases part) (p ∷ [])),
       )
 
-  pub taken : (n : ℕ) (notes : List Note) (entries : List Entry) (stage : Stage) (p : Phrase) (next : Draft) → IsDraftFor model (record { notes = notes; entries = entries; stage = stage }) → IsPhraseFor model p
+  pub taken : (n : ℕ) (notes : List Note) (entries : List Entry) (stage : Stage) (p : Phrase) (next : Draft) → IsDraftFor model (record { notes = notes; entries = entries; stage = stage }) → IsPhraseFor (after model (entry_commands entries)) p
       → n ≡ suc (length (draft_phrases model (record { notes = notes; entries = entries; stage = stage }))) → advanced model n (record { notes = notes; entries = entries; stage = stage }) p ≡ Some next
       → Draws (record { notes = notes; entries = entries; stage = stage }) p next
   taken n notes entries Stage.Start Phrase.Head next h k l e =
@@ -601,6 +629,6 @@ module _ (model : Program) where
   taken n notes entries Stage.Start _ next h k l e = absurd (cc)
   taken n notes entries Stage.Between p next h k l e = between_taken n notes entries p next h k l e
   taken n notes entries (Stage.Answering question part) p next h k l e =
-      let t = told (placed (record { notes = notes; entries = entries; stage = Stage.Answering question part }) question) (extended model question.command part p) next e in
+      let t = told (placed (record { notes = notes; entries = entries; stage = Stage.Answering question part }) question) (extended (after model (entry_commands entries)) question.command part p) next e in
       subst (Draws (record { notes = notes; entries = entries; stage = Stage.Answering question part }) p) t.1.1 (answering_taken notes entries question part p t.0 h k t.1.0)
   taken n notes entries Stage.Done p next h k l e = absurd (cc)

@@ -1,21 +1,25 @@
 -- What the words of a value are, and what the words of a line are.
 use Rattle.std.proofs.Common.{◌≡◌, ◌≢◌, refl, sym, ap, ◌∙◌, ℕ, Bool, true, false, List, [], ◌∷◌, Option, Some, None}
-use Rattle.std.specs.Prelude.{IfSome, All}
+use Rattle.std.specs.Prelude.{IfSome, IfOk, All, Result, Ok, Err}
 use Rattle.std.specs.Str.{bytes_eq}
 use Rattle.std.proofs.lemmas.List.Elements.{All-nil, All-cons}
 use Rattle.lp_model.specs.declared.parts.Note.TheVariants.{LowerRemoved, LowerKept}
-use Rattle.report_text.specs.declared.report.Command.TheVariants.{Check}
-use Rattle.report_reader.specs.Parts.{parts}
+use Rattle.report_text.specs.declared.report.Command.{Command}
+use Rattle.report_text.specs.declared.report.Command.TheVariants.{Check, Edit}
+use Rattle.report_text.specs.declared.report.EditKind.{EditKind}
+use Rattle.report_text.specs.declared.report.Refusal.{Refusal}
+use Rattle.report_reader.specs.declared.parts.Words.{Words}
+use Rattle.report_reader.specs.Parts.{parts, AreWords}
 use Rattle.rational.specs.Rational.{ℚ, zero_ℚ}
 use Rattle.lp_model.specs.Program.{Program}
 use Rattle.report_text.specs.declared.phrases.Keyword.{Keyword}
 use Rattle.report_text.specs.declared.phrases.Phrase.{Phrase}
 use Rattle.report_text.specs.declared.phrases.StopPhrase.{StopPhrase}
-use Rattle.report_text.specs.Grammar.{keyword_text, keyword_of, branch_keyword, details}
+use Rattle.report_text.specs.Grammar.{keyword_text, keyword_of, branch_keyword, edit_words, command_words, details}
 use Rattle.report_reader.specs.Phrases.{IsPhraseFor, Says}
-use Rattle.report_reader.specs.Words.{IsSpelled, IsColumnSaid, IsFractionSaid, Finds, lone_phrases, lone_said, leading_keywords, leading_said}
+use Rattle.report_reader.specs.Words.{IsSpelled, IsColumnSaid, IsFractionSaid, Finds, SaysBehind, lone_phrases, lone_said, leading_keywords, leading_said}
 use Rattle.report_reader.proofs.Named.{found_has, found_spelled}
-use Rattle.report_reader.proofs.Spelling.{no_side, some_parts, words_of_line, line_of_words}
+use Rattle.report_reader.proofs.Spelling.{no_side, no_refusal, some_parts, words_of_line, line_of_words}
 
 -- the column and the value that two words say
 pub record ValueSaid (model : Program) (name number : List ℕ) (p : Phrase) : Type 0 where
@@ -29,6 +33,7 @@ pub record ValueSaid (model : Program) (name number : List ℕ) (p : Phrase) : T
 pub value_said : (model : Program) (name number : List ℕ) (p : Phrase) → IsSpelled model Keyword.Value (name ∷ number ∷ []) p → ValueSaid model name number p
 value_said model name number (Phrase.Value j v) h = record { column = j; value = v; is = refl; named = (h.form.0, (let e = h.behind in cc)); printed = (h.form.1.0, (let e = h.behind in cc)); apart = h.form.1.1 }
 value_said model name number (Phrase.Stop (StopPhrase.Branch b)) h = absurd (no_side b.upper Keyword.Value h.keyword refl)
+value_said model name number (Phrase.Refused r) h = absurd (no_refusal r Keyword.Value h.keyword refl)
 value_said model name number _ h = absurd (let e = h.keyword in cc)
 
 -- ---- the keyword of a line
@@ -37,6 +42,9 @@ pub leads : (model : Program) (p : Phrase) → details model p ≢ [] → leadin
 leads model Phrase.Head h = refl
 leads model (Phrase.Note n) h = refl
 leads model (Phrase.Command c) h = refl
+leads model (Phrase.Refused Refusal.UnknownName) h = refl
+leads model (Phrase.Refused Refusal.NoChange) h = refl
+leads model (Phrase.Refused Refusal.NothingToUndo) h = refl
 leads model (Phrase.Stop StopPhrase.Wide) h = refl
 leads model (Phrase.Stop StopPhrase.Spent) h = refl
 leads model (Phrase.Stop StopPhrase.Nodes) h = refl
@@ -58,6 +66,20 @@ leads model Phrase.Foot h = refl
 leads model _ h = absurd (h refl)
 
 -- ---- lines of one word
+-- an edit has words, and so has each command
+no_edit : (name : List ℕ) (kind : EditKind) → edit_words name kind ≢ []
+no_edit name (EditKind.Drop t) e = cc
+no_edit name (EditKind.Keep t) e = cc
+no_edit name (EditKind.Weigh t w) e = cc
+no_edit name (EditKind.SetSide side v) e = cc
+no_edit name (EditKind.SetBound side v) e = cc
+no_edit name (EditKind.SetMark whole) e = cc
+
+no_command : (c : Command) → command_words c ≢ []
+no_command (Edit n) e = no_edit n.name n.kind e
+no_command Check e = cc
+no_command c e = cc
+
 -- a phrase without words behind its keyword is said by that alone
 lone_is : (model : Program) (p : Phrase) → details model p ≡ [] → lone_said (keyword_text (keyword_of p)) ≡ Some p
 lone_is model Phrase.Feasible e = refl
@@ -70,8 +92,10 @@ lone_is model Phrase.Leaf e = refl
 lone_is model Phrase.End e = refl
 lone_is model (Phrase.Note (LowerRemoved j)) e = absurd (cc)
 lone_is model (Phrase.Note (LowerKept j)) e = absurd (cc)
-lone_is model (Phrase.Command Check) e = absurd (cc)
-lone_is model (Phrase.Command c) e = absurd (cc)
+lone_is model (Phrase.Command c) e = absurd (no_command c e)
+lone_is model (Phrase.Refused Refusal.UnknownName) e = absurd (cc)
+lone_is model (Phrase.Refused Refusal.NoChange) e = absurd (cc)
+lone_is model (Phrase.Refused Refusal.NothingToUndo) e = absurd (cc)
 lone_is model (Phrase.Stop StopPhrase.Wide) e = absurd (cc)
 lone_is model p e = absurd (cc)
 
@@ -128,3 +152,7 @@ module _ (model : Program) (line first rest : List ℕ) (cut : parts 32 line ≡
       by : (o : Option Phrase) → IfSome o (IsSpelled model k (parts 32 rest)) → IfSome o (Says model line)
       by None i = tt
       by (Some p) i = line_of_words model line p i.form (cut ∙ ap (λ w. w ∷ parts 32 rest) (spelled_so k e ∙ ap keyword_text (sym i.keyword)) ∙ ap (λ ws. keyword_text (keyword_of p) ∷ ws) i.behind)
+
+  pub found_ok : {E : Type 0} (k : Keyword) (given : Words) (r : Result (Option Phrase) E) → leading_said first ≡ Some k → AreWords given (parts 32 rest) → IfOk r (SaysBehind model k given) → IfOk r (Finds (Says model line))
+  found_ok k given (Ok result) e w h = found_so k result e (h (parts 32 rest) w)
+  found_ok k given (Err stop) e w h = tt

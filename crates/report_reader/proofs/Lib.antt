@@ -15,5 +15,14 @@ pub mod Lasts
 pub mod Listed
 pub mod LeftOut
 pub mod OneReport
+pub mod Budgets
+pub mod Quotients
+pub mod Fits
+pub mod Values
+pub mod Asked
 pub mod Scripted
+pub mod Samples
 pub mod WholeLines
+pub mod Alike
+pub mod Replayed
+pub mod Taking

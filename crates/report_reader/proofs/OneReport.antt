@@ -35,11 +35,12 @@ use Rattle.frac128.specs.declared.Op.{Op}
 use Rattle.frac128.specs.declared.Op.TheVariants.{Plus, Minus, Times, Over}
 use Rattle.frac128.specs.declared.Wide.{Wide as Operation}
 use Rattle.report_text.specs.declared.report.Command.{Command}
+use Rattle.report_text.specs.declared.report.Refusal.{Refusal}
 use Rattle.report_text.specs.declared.phrases.Keyword.{Keyword}
 use Rattle.report_text.specs.declared.phrases.Phrase.{Phrase}
 use Rattle.report_text.specs.declared.phrases.StopPhrase.{StopPhrase}
 use Rattle.report_text.specs.Form.{IsNamedColumn, IsNamedMember, IsNamedSource, IsWithinLimit, IsUse, IsCommand, IsOperation}
-use Rattle.report_text.specs.Grammar.{Line, column_name, name_of, kind_word, source_word, source_name, site_word, op_word, report_lines, keyword_text, keyword_of, branch_keyword, stop_keyword, stop_details, details, phrase_line, report_phrases}
+use Rattle.report_text.specs.Grammar.{Line, column_name, name_of, kind_word, source_word, source_name, site_word, op_word, report_lines, keyword_text, keyword_of, branch_keyword, refusal_keyword, stop_keyword, stop_details, details, phrase_line, report_phrases}
 use Rattle.report_reader.specs.Commands.{command_said}
 use Rattle.report_reader.specs.Reading.{OneReportLaw}
 use Rattle.report_reader.specs.Phrases.{IsNamedBranch, IsStopPhrase, IsPhraseFor, Says}
@@ -47,9 +48,9 @@ use Rattle.report_reader.specs.Words.{leading_said, lone_said}
 use Rattle.report_reader.specs.Drafts.{nothing_read}
 use Rattle.report_reader.specs.declared.drafts.Draft.{Draft}
 use Rattle.report_reader.proofs.Said.{report_for}
-use Rattle.report_reader.proofs.Spelling.{no_side, split_fits, words_of_line, parts_of_read}
+use Rattle.report_reader.proofs.Spelling.{no_side, no_refusal, split_fits, words_of_line, parts_of_read}
 use Rattle.report_reader.proofs.Named.{one_place}
-use Rattle.report_reader.proofs.Scripted.{own_words}
+use Rattle.report_reader.proofs.Asked.{own_words}
 use Rattle.report_reader.proofs.Runs.{run, done, report_read}
 
 -- words that are known to differ
@@ -124,6 +125,19 @@ operation_one model a b h k d =
     let lefts : printed a.left ≡ printed b.left = cc in
     let rights : printed a.right ≡ printed b.right = cc in
     operation_is a.op b.op a.left b.left a.right b.right (op_one a.op b.op ops) (fraction_one a.left b.left h.left k.left lefts) (fraction_one a.right b.right h.right k.right rights)
+
+-- ---- refusals
+refusal_one : (a b : Refusal) → refusal_keyword a ≡ refusal_keyword b → a ≡ b
+refusal_one Refusal.UnknownName Refusal.UnknownName e = refl
+refusal_one Refusal.NoChange Refusal.NoChange e = refl
+refusal_one Refusal.NothingToUndo Refusal.NothingToUndo e = refl
+refusal_one Refusal.UnknownName b e = absurd (cc)
+refusal_one a b e = absurd (cc)
+
+-- no branch has the keyword of one
+no_branch_refused : (r : Refusal) (upper : Bool) → refusal_keyword r ≡ branch_keyword upper → ⊥
+no_branch_refused r true e = no_refusal r Keyword.BranchBelow e refl
+no_branch_refused r false e = no_refusal r Keyword.BranchAbove e refl
 
 -- ---- names
 module _ (model : Program) (f : IsWellFormed model) where
@@ -230,8 +244,13 @@ module _ (model : Program) (f : IsWellFormed model) where
       let names : column_name model i ≡ column_name model j = cc in
       let numbers : signed_decimal m ≡ signed_decimal n = cc in
       ap (λ l. Phrase.Split l m) (column_one i j h.0 k.0 names) ∙ ap (λ l. Phrase.Split j l) (signed_one m n (split_fits m h.1.0 h.1.1) (split_fits n k.1.0 k.1.1) numbers)
+  behind_one (Phrase.Refused a) (Phrase.Refused b) h k e d = ap Phrase.Refused (refusal_one a b e)
+  behind_one (Phrase.Refused r) (Phrase.Stop (StopPhrase.Branch b)) h k e d = absurd (no_branch_refused r b.upper e)
+  behind_one (Phrase.Stop (StopPhrase.Branch b)) (Phrase.Refused r) h k e d = absurd (no_branch_refused r b.upper (sym e))
   behind_one (Phrase.Stop (StopPhrase.Branch b)) q h k e d = absurd (no_side b.upper (keyword_of q) e refl)
   behind_one p (Phrase.Stop (StopPhrase.Branch b)) h k e d = absurd (no_side b.upper (keyword_of p) (sym e) refl)
+  behind_one (Phrase.Refused r) q h k e d = absurd (no_refusal r (keyword_of q) e refl)
+  behind_one p (Phrase.Refused r) h k e d = absurd (no_refusal r (keyword_of p) (sym e) refl)
   behind_one p (Phrase.Stop StopPhrase.Wide) h k e d = absurd (cc)
   behind_one (Phrase.Stop StopPhrase.Wide) q h k e d = absurd (cc)
   behind_one p q h k e d = absurd (cc)

@@ -18,7 +18,7 @@ use Rattle.frac128.specs.declared.Wide.{Wide as Operation}
 use Rattle.algebra.specs.Gcd.{gcd, gcd_within}
 use Rattle.rational.specs.Rational.{ℚ, frac, zero_ℚ}
 use Rattle.report_text.specs.declared.report.Command.{Command}
-use Rattle.report_text.specs.declared.report.Command.TheVariants.{Check, Iis, Pivots, Nodes}
+use Rattle.report_text.specs.declared.report.Command.TheVariants.{Check, Iis, Edit, Undo, Pivots, Nodes}
 use Rattle.report_text.specs.declared.report.Answer.{Answer}
 use Rattle.report_text.specs.declared.report.Entry.{Entry}
 use Rattle.report_text.specs.declared.report.Report.{Report}
@@ -32,12 +32,14 @@ use Rattle.report_reader.specs.declared.drafts.Part.{Part}
 use Rattle.report_reader.specs.declared.drafts.Next.{Next}
 use Rattle.report_reader.specs.declared.drafts.Stage.{Stage}
 use Rattle.report_reader.specs.declared.drafts.Draft.{Draft}
+use Rattle.report_text.specs.Turns.{after, entry_commands}
 use Rattle.report_text.specs.Grammar.{Line, text_of, report_lines, phrase_line, report_phrases, lines_of}
 use Rattle.report_text.specs.Form.{IsReportFor, IsOperation}
 use Rattle.report_reader.specs.Reading.{Reads, IsFront, IsWhole, IsBadLine, IsTruncated, IsReportStop}
 use Rattle.report_reader.specs.Phrases.{IsPhraseFor, Says}
-use Rattle.report_reader.specs.Drafts.{point_of, leaf_of, answer_of, site_without, extended, placed, advanced, nothing_read, Takes, IsLineStop, ended, IsDraftFor}
+use Rattle.report_reader.specs.Drafts.{point_of, leaf_of, answer_of, site_without, extended, placed, program_now, advanced, nothing_read, Takes, IsLineStop, ended, IsDraftFor}
 use Rattle.report_reader.proofs.Said.{report_for}
+use Rattle.report_reader.proofs.Alike.{same_line, says_after}
 use Rattle.report_reader.proofs.Spelling.{some_parts, parts_of_read, text_of_parts}
 use Rattle.report_reader.proofs.Runs.{run, run_append, run_step, leaf_opens, done, report_read}
 use Rattle.report_reader.proofs.Fronts.{draft_phrases, taken}
@@ -70,7 +72,7 @@ module _ (model : Program) where
   Front d = IsFront model (lines_of model (draft_phrases model d))
 
   -- what a phrase leads to a front from is one
-  back : (notes : List Note) (entries : List Entry) (stage : Stage) (p : Phrase) (next : Draft) → IsDraftFor model (draft_of notes entries stage) → IsPhraseFor model p
+  back : (notes : List Note) (entries : List Entry) (stage : Stage) (p : Phrase) (next : Draft) → IsDraftFor model (draft_of notes entries stage) → IsPhraseFor (after model (entry_commands entries)) p
       → advanced model (suc (length (draft_phrases model (draft_of notes entries stage)))) (draft_of notes entries stage) p ≡ Some next → (IsDraftFor model next → Front next) → Front (draft_of notes entries stage)
   unfolding Front
   back notes entries stage p next h k e front =
@@ -86,47 +88,51 @@ module _ (model : Program) where
   front_between notes entries h = back notes entries Stage.Between Phrase.Foot (draft_of notes entries Stage.Done) h tt refl (front_done notes entries)
 
   module _ (notes : List Note) (entries : List Entry) (question : Question) where
+    -- the program after the commands of the entries
+    abbrev now : Program
+    now = after model (entry_commands entries)
+
     Within : Part → Type 0
     Within part = IsDraftFor model (draft_of notes entries (Stage.Answering question part)) → Front (draft_of notes entries (Stage.Answering question part))
 
     -- a phrase that makes more of a part
-    more_back : (part more : Part) (p : Phrase) → IsPhraseFor model p → extended model question.command part p ≡ Some (Next.More more) → Within more → Within part
+    more_back : (part more : Part) (p : Phrase) → IsPhraseFor now p → extended now question.command part p ≡ Some (Next.More more) → Within more → Within part
     unfolding Within
     more_back part more p k e front h =
         back notes entries (Stage.Answering question part) p (draft_of notes entries (Stage.Answering question more)) h k
         (ap (option_map (placed (draft_of notes entries (Stage.Answering question part)) question)) e) front
 
     -- the last line
-    last_back : (part : Part) (p : Phrase) (a : Answer) → IsPhraseFor model p → extended model question.command part p ≡ Some (Next.Whole a) → Within part
+    last_back : (part : Part) (p : Phrase) (a : Answer) → IsPhraseFor now p → extended now question.command part p ≡ Some (Next.Whole a) → Within part
     unfolding Within
     last_back part p a k e h =
         let more : List Entry = entries ++ (record { command = question.command; answer = a; line = question.line }) ∷ [] in
         back notes entries (Stage.Answering question part) p (draft_of notes more Stage.Between) h k
         (ap (option_map (placed (draft_of notes entries (Stage.Answering question part)) question)) e) (front_between notes more)
 
-    end_back : (part : Part) (a : Answer) → extended model question.command part Phrase.End ≡ Some (Next.Whole a) → Within part
+    end_back : (part : Part) (a : Answer) → extended now question.command part Phrase.End ≡ Some (Next.Whole a) → Within part
     end_back part a e = last_back part Phrase.End a tt e
 
     front_point : (values : List ℚ) → Within (Part.Point values)
-    front_point values = end_back (Part.Point values) (Answer.Feasible (point_of model values)) refl
+    front_point values = end_back (Part.Point values) (Answer.Feasible (point_of now values)) refl
 
     -- where subtrees are due, a leaf may stand for each
     front_leaf : (found : Found) (nodes : List Node) (due : ℕ) (shares : List Share) → Within (Part.Leaf found nodes due shares)
-    front_leaf found nodes zero shares = end_back (Part.Leaf found nodes 0 shares) (answer_of model found (nodes ++ leaf_of shares ∷ [])) refl
+    front_leaf found nodes zero shares = end_back (Part.Leaf found nodes 0 shares) (answer_of now found (nodes ++ leaf_of shares ∷ [])) refl
     front_leaf found nodes (suc due) shares =
         more_back (Part.Leaf found nodes (suc due) shares) (Part.Leaf found (nodes ++ leaf_of shares ∷ []) due []) Phrase.Leaf tt
-        (leaf_opens model found (nodes ++ leaf_of shares ∷ []) (suc due) due (omega arith)) (front_leaf found (nodes ++ leaf_of shares ∷ []) due [])
+        (leaf_opens now found (nodes ++ leaf_of shares ∷ []) (suc due) due (omega arith)) (front_leaf found (nodes ++ leaf_of shares ∷ []) due [])
 
     front_nodes : (found : Found) (nodes : List Node) (due : ℕ) → Within (Part.Proof found nodes due)
-    front_nodes found nodes zero = end_back (Part.Proof found nodes 0) (answer_of model found nodes) refl
-    front_nodes found nodes (suc due) = more_back (Part.Proof found nodes (suc due)) (Part.Leaf found nodes due []) Phrase.Leaf tt (leaf_opens model found nodes (suc due) due (omega arith)) (front_leaf found nodes due [])
+    front_nodes found nodes zero = end_back (Part.Proof found nodes 0) (answer_of now found nodes) refl
+    front_nodes found nodes (suc due) = more_back (Part.Proof found nodes (suc due)) (Part.Leaf found nodes due []) Phrase.Leaf tt (leaf_opens now found nodes (suc due) due (omega arith)) (front_leaf found nodes due [])
 
     front_proof : (found : Found) → Within (Part.Proof found [] 1)
     front_proof found = front_nodes found [] 1
 
     front_witness : (members : List Member) (witnesses : List Point) (m : Member) (values : List ℚ) → Within (Part.Witness members witnesses m values)
     front_witness members witnesses m values =
-        let found = Found.Witnessed (members ++ m ∷ []) (witnesses ++ point_of model values ∷ []) in
+        let found = Found.Witnessed (members ++ m ∷ []) (witnesses ++ point_of now values ∷ []) in
         more_back (Part.Witness members witnesses m values) (Part.Proof found [] 1) Phrase.Proof tt refl (front_proof found)
 
     front_feasible : Within Part.Feasible
@@ -134,21 +140,23 @@ module _ (model : Program) where
 
     -- by the command
     front_nothing : (c : Command) → question.command ≡ c → Within Part.Nothing
-    front_nothing Check e = more_back Part.Nothing Part.Feasible Phrase.Feasible tt (ap (λ d. extended model d Part.Nothing Phrase.Feasible) e) front_feasible
-    front_nothing (Iis method) e = more_back Part.Nothing Part.Feasible Phrase.Feasible tt (ap (λ d. extended model d Part.Nothing Phrase.Feasible) e) front_feasible
-    front_nothing (Pivots n) e = last_back Part.Nothing Phrase.Done Answer.Done tt (ap (λ d. extended model d Part.Nothing Phrase.Done) e)
-    front_nothing (Nodes n) e = last_back Part.Nothing Phrase.Done Answer.Done tt (ap (λ d. extended model d Part.Nothing Phrase.Done) e)
+    front_nothing Check e = more_back Part.Nothing Part.Feasible Phrase.Feasible tt (ap (λ d. extended now d Part.Nothing Phrase.Feasible) e) front_feasible
+    front_nothing (Iis method) e = more_back Part.Nothing Part.Feasible Phrase.Feasible tt (ap (λ d. extended now d Part.Nothing Phrase.Feasible) e) front_feasible
+    front_nothing (Edit edit) e = last_back Part.Nothing Phrase.Done Answer.Done tt (ap (λ d. extended now d Part.Nothing Phrase.Done) e)
+    front_nothing Undo e = last_back Part.Nothing Phrase.Done Answer.Done tt (ap (λ d. extended now d Part.Nothing Phrase.Done) e)
+    front_nothing (Pivots n) e = last_back Part.Nothing Phrase.Done Answer.Done tt (ap (λ d. extended now d Part.Nothing Phrase.Done) e)
+    front_nothing (Nodes n) e = last_back Part.Nothing Phrase.Done Answer.Done tt (ap (λ d. extended now d Part.Nothing Phrase.Done) e)
 
     front_operation : (left : List Member) (path : List Branch) (k : ℕ) (o : Operation) → Within (Part.Stop (StopPart.Operation left path k o))
-    front_operation left path k o = end_back (Part.Stop (StopPart.Operation left path k o)) (Answer.Stopped (TooWide (site_without model left path) k o)) refl
+    front_operation left path k o = end_back (Part.Stop (StopPart.Operation left path k o)) (Answer.Stopped (TooWide (site_without now left path) k o)) refl
 
     front_step : (left : List Member) (path : List Branch) (k : ℕ) → Within (Part.Stop (StopPart.Step left path k))
     front_step left path k = more_back (Part.Stop (StopPart.Step left path k)) (Part.Stop (StopPart.Operation left path k zeros)) (Phrase.Stop (StopPhrase.Operation zeros)) zeros_fit refl (front_operation left path k zeros)
 
     front_site : (cause : StopCause) (left : List Member) (path : List Branch) → Within (Part.Stop (StopPart.Site cause left path))
     front_site StopCause.Wide left path = more_back (Part.Stop (StopPart.Site StopCause.Wide left path)) (Part.Stop (StopPart.Step left path 0)) (Phrase.Stop (StopPhrase.Step 0)) (omega arith) refl (front_step left path 0)
-    front_site StopCause.Spent left path = end_back (Part.Stop (StopPart.Site StopCause.Spent left path)) (Answer.Stopped (Spent (site_without model left path))) refl
-    front_site StopCause.Nodes left path = end_back (Part.Stop (StopPart.Site StopCause.Nodes left path)) (Answer.Stopped (NodesSpent (site_without model left path))) refl
+    front_site StopCause.Spent left path = end_back (Part.Stop (StopPart.Site StopCause.Spent left path)) (Answer.Stopped (Spent (site_without now left path))) refl
+    front_site StopCause.Nodes left path = end_back (Part.Stop (StopPart.Site StopCause.Nodes left path)) (Answer.Stopped (NodesSpent (site_without now left path))) refl
 
     front_stop : (part : StopPart) → Within (Part.Stop part)
     front_stop (StopPart.Begun cause) = more_back (Part.Stop (StopPart.Begun cause)) (Part.Stop (StopPart.Site cause [] [])) (Phrase.Stop (StopPhrase.Site Settle)) tt refl (front_site cause [] [])
@@ -247,7 +255,7 @@ module _ (model : Program) where
       let made = taken model (suc (length front)) draft.notes draft.entries draft.stage t.phrase next h.form t.says.form n (t.all t.phrase t.says) in
       record {
         form = made.0;
-        said = ap (λ l. l ++ line ∷ []) h.said ∙ ap (λ l. map (phrase_line model) (draft_phrases model draft) ++ l ∷ []) t.says.text ∙ sym (map-append (phrase_line model) (draft_phrases model draft) (t.phrase ∷ [])) ∙ ap (map (phrase_line model)) (sym made.1);
+        said = ap (λ l. l ++ line ∷ []) h.said ∙ ap (λ l. map (phrase_line model) (draft_phrases model draft) ++ l ∷ []) (t.says.text ∙ same_line model (entry_commands draft.entries) t.phrase) ∙ sym (map-append (phrase_line model) (draft_phrases model draft) (t.phrase ∷ [])) ∙ ap (map (phrase_line model)) (sym made.1);
         only = λ ps all e.
             let c = cut_at model ps front line [] e in
             let qs = c.before in let p = c.phrase in let more = c.behind in let is = c.whole in let spelled = c.said in
@@ -255,7 +263,7 @@ module _ (model : Program) where
             let none : more ≡ [] = no_more qs p more spelled (ap (map (phrase_line model)) (sym is) ∙ e) in
             ap (run model 1 nothing_read) (is ∙ ap (λ l. qs ++ p ∷ l) none)
             ∙ next_run front draft qs [] p h (all_front qs (p ∷ more) same) spelled
-            ∙ run_step model (suc (length front)) draft next p [] (t.all p (record { form = all_middle qs p more same; text = sym c.spelled }));
+            ∙ run_step model (suc (length front)) draft next p [] (t.all p (says_after model (entry_commands draft.entries) line p (record { form = all_middle qs p more same; text = sym c.spelled })));
       }
     where
       no_more : (qs : List Phrase) (p : Phrase) (more : List Phrase) → map (phrase_line model) qs ≡ front → map (phrase_line model) (qs ++ p ∷ more) ≡ front ++ line ∷ [] → more ≡ []
@@ -267,7 +275,7 @@ module _ (model : Program) where
           empty (q ∷ ps) e = absurd (cc)
 
   -- a line that no phrase which may follow says
-  pub line_is_wrong : (front : List Line) (line : Line) (draft : Draft) → HasRead model front draft → ((p : Phrase) → Says model line p → advanced model (suc (length front)) draft p ≡ None) → ¬ (IsFront model (front ++ line ∷ []))
+  pub line_is_wrong : (front : List Line) (line : Line) (draft : Draft) → HasRead model front draft → ((p : Phrase) → Says (program_now model draft) line p → advanced model (suc (length front)) draft p ≡ None) → ¬ (IsFront model (front ++ line ∷ []))
   line_is_wrong front line draft h none goes =
       let report = goes.1.report in
       let all = report_for model report goes.1.form in
@@ -275,7 +283,7 @@ module _ (model : Program) where
       let qs = c.before in let p = c.phrase in let more = c.behind in
       let same : All (IsPhraseFor model) (qs ++ p ∷ more) = subst (All (IsPhraseFor model)) c.whole all in
       let ends : run model 1 nothing_read (qs ++ p ∷ more) ≡ Some (done model report) = ap (run model 1 nothing_read) (sym c.whole) ∙ report_read model report goes.1.form in
-      let stops : run model (suc (length front)) draft (p ∷ more) ≡ None = ap (option_and_then (λ d. run model (suc (suc (length front))) d more)) (none p (record { form = all_middle qs p more same; text = sym c.spelled })) in
+      let stops : run model (suc (length front)) draft (p ∷ more) ≡ None = ap (option_and_then (λ d. run model (suc (suc (length front))) d more)) (none p (says_after model (entry_commands draft.entries) line p (record { form = all_middle qs p more same; text = sym c.spelled }))) in
       let wrong : Some (done model report) ≡ None = sym ends ∙ next_run front draft qs more p h (all_front qs (p ∷ more) same) c.said ∙ stops in
       cc
 
@@ -356,7 +364,7 @@ module _ (model : Program) (bytes : List ℕ) where
         number = s.0 ∙ n;
         judged = inl (some_parts 10 after);
         right = is_front model h.front draft h.read;
-        wrong = line_is_wrong model h.front line draft h.read (subst (λ (k : ℕ). (p : Phrase) → Says model line p → advanced model k draft p ≡ None) n s.1);
+        wrong = line_is_wrong model h.front line draft h.read (subst (λ (k : ℕ). (p : Phrase) → Says (program_now model draft) line p → advanced model k draft p ≡ None) n s.1);
       }
   come_wrong rest after line number draft Truncated h e s = absurd s
   come_wrong rest after line number draft Memory h e s = tt

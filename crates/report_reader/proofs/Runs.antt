@@ -27,9 +27,9 @@ use Rattle.certs.specs.declared.solving.Site.{Site}
 use Rattle.certs.specs.declared.solving.Stop.{Stop}
 use Rattle.certs.specs.declared.solving.Stop.TheVariants.{Wide as TooWide, Pivots as Spent, Nodes as NodesSpent}
 use Rattle.report_text.specs.declared.report.Command.{Command}
-use Rattle.report_text.specs.declared.report.Command.TheVariants.{Check, Iis, Pivots, Nodes}
+use Rattle.report_text.specs.declared.report.Command.TheVariants.{Check, Iis, Edit, Undo, Pivots, Nodes}
 use Rattle.report_text.specs.declared.report.Answer.{Answer}
-use Rattle.report_text.specs.declared.report.Answer.TheVariants.{Feasible, Infeasible, Irreducible, Done, Stopped}
+use Rattle.report_text.specs.declared.report.Answer.TheVariants.{Feasible, Infeasible, Irreducible, Done, Refused, Stopped}
 use Rattle.report_text.specs.declared.report.Entry.{Entry}
 use Rattle.report_text.specs.declared.report.Report.{Report}
 use Rattle.report_text.specs.declared.phrases.Phrase.{Phrase}
@@ -44,9 +44,11 @@ use Rattle.report_reader.specs.declared.drafts.Stage.{Stage}
 use Rattle.report_reader.specs.declared.drafts.Draft.{Draft}
 use Rattle.lp_model.specs.MemberSets.{SetValue, empty_set}
 use Rattle.report_text.specs.Grammar.{left_out, value_phrases, point_phrases, node_phrases, proof_phrases, witness_phrases, without_phrase, branch_phrase, site_phrases, answer_front, answer_end, entry_phrases, entries_phrases, report_phrases}
+use Rattle.report_text.specs.Turns.{after, entry_commands}
+use Rattle.report_text.proofs.InTurn.{commands_push}
 use Rattle.certs.specs.Order.{source_before}
 use Rattle.report_text.specs.Form.{AreUses, IsListed, IsNodeFor, IsProofFor, IsPointFor, IsSettleSite, IsStopFor, IsAnswerFor, IsEntryFor, AreEntriesFor, AreNumbered, IsReportFor, can_answer}
-use Rattle.report_reader.specs.Drafts.{filled, point_of, leaf_of, set_of, answer_of, only_if, with_value, with_next, proof_begun, proof_with, witnessed_with, site_without, stop_begun, stop_with, extended, placed, advanced, nothing_read}
+use Rattle.report_reader.specs.Drafts.{filled, point_of, leaf_of, set_of, answer_of, only_if, with_value, with_next, proof_begun, proof_with, witnessed_with, site_without, stop_begun, stop_with, extended, placed, program_now, advanced, nothing_read}
 use Rattle.report_reader.proofs.LeftOut.{left_in_order, left_active, set_twice}
 
 -- ---- runs
@@ -105,10 +107,10 @@ grown_append model c part more (p ∷ ps) qs h =
     grown_step model c part t.0 p (ps ++ qs) t.1.0 ∙ grown_append model c t.0 more ps qs t.1.1
 
 -- a growth is a run
-grown_runs : (model : Program) (n : ℕ) (d : Draft) (q : Question) (part more : Part) (ps : List Phrase) → grown model q.command part ps ≡ Some more → run model n (answering d q part) ps ≡ Some (answering d q more)
+grown_runs : (model : Program) (n : ℕ) (d : Draft) (q : Question) (part more : Part) (ps : List Phrase) → grown (program_now model d) q.command part ps ≡ Some more → run model n (answering d q part) ps ≡ Some (answering d q more)
 grown_runs model n d q part more [] h = ap (λ o. option_map (answering d q) o) h
 grown_runs model n d q part more (p ∷ ps) h =
-    let t = first_step model q.command part more p ps h in
+    let t = first_step (program_now model d) q.command part more p ps h in
     run_step model n (answering d q part) (answering d q t.0) p ps (ap (option_map (placed (answering d q part) q)) t.1.0)
     ∙ grown_runs model (suc n) d q t.0 more ps t.1.1
 
@@ -404,6 +406,10 @@ answer_read : (model : Program) (c : Command) (a : Answer) → can_answer c a �
 unfolding AnswerRead
 answer_read model Check (Feasible p) can h = feasible_read model Check p h refl
 answer_read model (Iis method) (Feasible p) can h = feasible_read model (Iis method) p h refl
+answer_read model (Edit e) Done can h = (Part.Nothing, (refl, refl))
+answer_read model (Edit e) (Refused r) can h = (Part.Nothing, (refl, only_true (can_answer (Edit e) (Refused r)) (Next.Whole (Refused r)) can))
+answer_read model Undo Done can h = (Part.Nothing, (refl, refl))
+answer_read model Undo (Refused r) can h = (Part.Nothing, (refl, only_true (can_answer Undo (Refused r)) (Next.Whole (Refused r)) can))
 answer_read model (Pivots n) Done can h = (Part.Nothing, (refl, refl))
 answer_read model (Nodes n) Done can h = (Part.Nothing, (refl, refl))
 answer_read model Check (Stopped stop) can h = stop_read model Check stop h (λ s. refl)
@@ -444,28 +450,33 @@ module _ (model : Program) where
   between : List Note → List Entry → Draft
   between notes entries = record { notes = notes; entries = entries; stage = Stage.Between }
 
-  entry_read : (notes : List Note) (entries : List Entry) (e : Entry) → IsEntryFor model e → run model e.line (between notes entries) (entry_phrases model e) ≡ Some (between notes (entries ++ e ∷ []))
+  -- an entry, by the program after those before it
+  entry_read : (notes : List Note) (entries : List Entry) (e : Entry) → IsEntryFor (after model (entry_commands entries)) e
+      → run model e.line (between notes entries) (entry_phrases (after model (entry_commands entries)) e) ≡ Some (between notes (entries ++ e ∷ []))
   unfolding between AnswerRead
   entry_read notes entries e h =
+      let now = after model (entry_commands entries) in
       let last_phrase = answer_end e.answer in
       let q : Question = record { command = e.command; line = e.line } in
       let start = answering (between notes entries) q Part.Nothing in
-      let r = answer_read model e.command e.answer h.kind h.answer in
+      let r = answer_read now e.command e.answer h.kind h.answer in
       let last = answering (between notes entries) q r.0 in
-      run_step model e.line (between notes entries) start (Phrase.Command e.command) (answer_front model e.answer ++ last_phrase ∷ []) refl
-      ∙ run_append model (suc e.line) start last (answer_front model e.answer) (last_phrase ∷ []) (grown_runs model (suc e.line) (between notes entries) q Part.Nothing r.0 (answer_front model e.answer) r.1.0)
-      ∙ run_step model (suc e.line + length (answer_front model e.answer)) last (between notes (entries ++ e ∷ [])) last_phrase [] (ap (option_map (placed last q)) r.1.1)
+      run_step model e.line (between notes entries) start (Phrase.Command e.command) (answer_front now e.answer ++ last_phrase ∷ []) refl
+      ∙ run_append model (suc e.line) start last (answer_front now e.answer) (last_phrase ∷ []) (grown_runs model (suc e.line) (between notes entries) q Part.Nothing r.0 (answer_front now e.answer) r.1.0)
+      ∙ run_step model (suc e.line + length (answer_front now e.answer)) last (between notes (entries ++ e ∷ [])) last_phrase [] (ap (option_map (placed last q)) r.1.1)
 
-  entries_read : (before : List Command) (n : ℕ) (notes : List Note) (entries more : List Entry) → AreEntriesFor model before more → AreNumbered model before n more
+  entries_read : (before : List Command) (n : ℕ) (notes : List Note) (entries more : List Entry) → before ≡ entry_commands entries → AreEntriesFor model before more → AreNumbered model before n more
       → run model n (between notes entries) (entries_phrases model before more) ≡ Some (between notes (entries ++ more))
-  entries_read before n notes entries [] h numbered = ap (λ l. Some (between notes l)) (sym (append-nil entries))
-  entries_read before n notes entries (e ∷ more) h numbered =
-      let first = h.0 in
+  entries_read before n notes entries [] same h numbered = ap (λ l. Some (between notes l)) (sym (append-nil entries))
+  entries_read before n notes entries (e ∷ more) same h numbered =
       let behind = before ++ e.command ∷ [] in
-      let next = n + length (entry_phrases model e) in
-      run_append model n (between notes entries) (between notes (entries ++ e ∷ [])) (entry_phrases model e) (entries_phrases model behind more)
-      (subst (λ l. run model l (between notes entries) (entry_phrases model e) ≡ Some (between notes (entries ++ e ∷ []))) numbered.0 (entry_read notes entries e first))
-      ∙ entries_read behind next notes (entries ++ e ∷ []) more h.1 numbered.1
+      let lines = entry_phrases (after model before) e in
+      let one : run model e.line (between notes entries) lines ≡ Some (between notes (entries ++ e ∷ [])) =
+      subst (λ (b : List Command). run model e.line (between notes entries) (entry_phrases (after model b) e) ≡ Some (between notes (entries ++ e ∷ []))) (sym same)
+      (entry_read notes entries e (subst (λ (b : List Command). IsEntryFor (after model b) e) same h.0)) in
+      run_append model n (between notes entries) (between notes (entries ++ e ∷ [])) lines (entries_phrases model behind more)
+      (subst (λ l. run model l (between notes entries) lines ≡ Some (between notes (entries ++ e ∷ []))) numbered.0 one)
+      ∙ entries_read behind (n + length lines) notes (entries ++ e ∷ []) more (ap (λ b. b ++ e.command ∷ []) same ∙ sym (commands_push entries e)) h.1 numbered.1
       ∙ ap (λ l. Some (between notes l)) (append_assoc entries (e ∷ []) more)
 
   notes_read : (n : ℕ) (notes more : List Note) → run model n (between notes []) (map Phrase.Note more) ≡ Some (between (notes ++ more) [])
@@ -489,7 +500,7 @@ module _ (model : Program) where
       let two : run model 2 (between [] []) (notes ++ entries) ≡ Some middle =
       run_append model 2 (between [] []) (between report.notes []) notes entries (notes_read 2 [] report.notes)
       ∙ ap (λ k. run model (2 + k) (between report.notes []) entries) (length-map report.notes Phrase.Note)
-      ∙ entries_read [] (2 + length report.notes) report.notes [] report.entries h.entries h.numbered in
+      ∙ entries_read [] (2 + length report.notes) report.notes [] report.entries refl h.entries h.numbered in
       run_step model 1 nothing_read (between [] []) Phrase.Head ((notes ++ entries) ++ Phrase.Foot ∷ []) refl
       ∙ run_append model 2 (between [] []) middle (notes ++ entries) (Phrase.Foot ∷ []) two
       ∙ run_step model (2 + length (notes ++ entries)) middle (done report) Phrase.Foot [] refl

@@ -18,7 +18,7 @@ use Rattle.certs.specs.declared.solving.Stop.{Stop}
 use Rattle.certs.specs.declared.solving.Stop.TheVariants.{Wide as TooWide, Pivots as Spent, Nodes as NodesSpent}
 use Rattle.report_text.specs.declared.report.Command.{Command}
 use Rattle.report_text.specs.declared.report.Answer.{Answer}
-use Rattle.report_text.specs.declared.report.Answer.TheVariants.{Feasible, Infeasible, Irreducible, Done, Stopped}
+use Rattle.report_text.specs.declared.report.Answer.TheVariants.{Feasible, Infeasible, Irreducible, Done, Refused, Stopped}
 use Rattle.report_text.specs.declared.report.Entry.{Entry}
 use Rattle.report_text.specs.declared.report.Report.{Report}
 use Rattle.report_text.specs.declared.phrases.Phrase.{Phrase}
@@ -26,7 +26,9 @@ use Rattle.report_text.specs.declared.phrases.StopPhrase.{StopPhrase}
 use Rattle.lp_model.specs.Satisfaction.{values_at}
 use Rattle.report_text.specs.Form.{is_word, IsWithinLimit, IsNamedColumn, IsNamedMember, IsUse, IsNodeFor, IsProofFor, IsPointFor, IsSiteFor, IsStopFor, IsAnswerFor, IsEntryFor, AreEntriesFor, IsReportFor}
 use Rattle.report_text.specs.Grammar.{column_name, left_out, value_phrases, point_phrases, node_phrases, proof_phrases, witness_phrases, without_phrase, branch_phrase, site_phrases, stop_phrases, answer_front, answer_end, entry_phrases, entries_phrases, body_phrases, report_phrases}
+use Rattle.report_text.specs.Turns.{after}
 use Rattle.report_reader.specs.Phrases.{IsNamedBranch, IsPhraseFor}
+use Rattle.report_reader.proofs.Alike.{phrase_before}
 
 -- ---- each phrase of a report is one for the program
 abbrev pub is_foot : Phrase → Bool
@@ -126,11 +128,13 @@ module _ (model : Program) where
   unfolding For
   end_for (Feasible p) = own Phrase.End tt refl
   end_for Done = own Phrase.Done tt refl
+  end_for (Refused r) = own (Phrase.Refused r) tt refl
   end_for a = own (answer_end a) tt refl
 
   answer_for : (a : Answer) → IsAnswerFor model a → All For (answer_front model a)
   unfolding For
   answer_for Done h = All-nil For
+  answer_for (Refused r) h = All-nil For
   answer_for (Stopped stop) h = stop_for stop h
   answer_for (Feasible p) h = All-cons For Phrase.Feasible (point_phrases p) (own Phrase.Feasible tt refl) (point_for p h)
   answer_for (Infeasible set proof) h =
@@ -146,22 +150,27 @@ module _ (model : Program) where
   unfolding For
   entry_for e h = All-cons For (Phrase.Command e.command) (answer_front model e.answer ++ answer_end e.answer ∷ []) (own (Phrase.Command e.command) h.command refl) (All-push For (answer_front model e.answer) (answer_end e.answer) (answer_for e.answer h.answer) (end_for e.answer))
 
-  entries_for : (before : List Command) (entries : List Entry) → AreEntriesFor model before entries → All For (entries_phrases model before entries)
-  entries_for before [] h = All-nil For
-  entries_for before (e ∷ entries) h =
-      let next = before ++ e.command ∷ [] in
-      All-append For (entry_phrases model e) (entries_phrases model next entries) (entry_for e h.0) (entries_for next entries h.1)
+-- the phrases of entries, each for the program after the commands before it, are phrases for the first one
+entries_for : (model : Program) (before : List Command) (entries : List Entry) → AreEntriesFor model before entries → All (IsBefore model) (entries_phrases model before entries)
+unfolding For
+entries_for model before [] h = All-nil (IsBefore model)
+entries_for model before (e ∷ entries) h =
+    let now = after model before in
+    let next = before ++ e.command ∷ [] in
+    All-append (IsBefore model) (entry_phrases now e) (entries_phrases model next entries)
+    (All-weaker (IsBefore now) (IsBefore model) (λ p k. record { form = phrase_before model before p k.form; before = k.before }) (entry_phrases now e) (entry_for now e h.0))
+    (entries_for model next entries h.1)
 
-  -- all that stands before the foot
-  pub body_for : (report : Report) → IsReportFor model report → All (IsBefore model) (body_phrases model report.notes report.entries)
-  unfolding For
-  body_for report h =
-      All-cons For Phrase.Head (map Phrase.Note report.notes ++ entries_phrases model [] report.entries) (own Phrase.Head tt refl)
-      (All-append For (map Phrase.Note report.notes) (entries_phrases model [] report.entries)
-      (each_for (λ note. IsNamedColumn model (noted_column note)) Phrase.Note (λ note k. own (Phrase.Note note) k refl) report.notes h.notes)
-      (entries_for [] report.entries h.entries))
+-- all that stands before the foot
+pub body_for : (model : Program) (report : Report) → IsReportFor model report → All (IsBefore model) (body_phrases model report.notes report.entries)
+unfolding For
+body_for model report h =
+    All-cons (IsBefore model) Phrase.Head (map Phrase.Note report.notes ++ entries_phrases model [] report.entries) (own model Phrase.Head tt refl)
+    (All-append (IsBefore model) (map Phrase.Note report.notes) (entries_phrases model [] report.entries)
+    (each_for model (λ note. IsNamedColumn model (noted_column note)) Phrase.Note (λ note k. own model (Phrase.Note note) k refl) report.notes h.notes)
+    (entries_for model [] report.entries h.entries))
 
-  pub report_for : (report : Report) → IsReportFor model report → All (IsPhraseFor model) (report_phrases model report)
-  report_for report h =
-      All-push (IsPhraseFor model) (body_phrases model report.notes report.entries) Phrase.Foot
-      (All-weaker (IsBefore model) (IsPhraseFor model) (λ p k. k.form) (body_phrases model report.notes report.entries) (body_for report h)) tt
+pub report_for : (model : Program) (report : Report) → IsReportFor model report → All (IsPhraseFor model) (report_phrases model report)
+report_for model report h =
+    All-push (IsPhraseFor model) (body_phrases model report.notes report.entries) Phrase.Foot
+    (All-weaker (IsBefore model) (IsPhraseFor model) (λ p k. k.form) (body_phrases model report.notes report.entries) (body_for model report h)) tt

@@ -1,11 +1,11 @@
 -- The words of a line: each has shown bytes alone, so the parts of a line are its words, and those of a text its lines.
-use Rattle.std.proofs.Common.{◌≡◌, ◌≢◌, refl, sym, ap, ◌∙◌, ℕ, suc, ◌+◌, ◌^◌, ◌<◌, ◌≤◌, ◌==◌, Bool, true, false, true≢false, List, [], ◌∷◌, ◌++◌, append_assoc, append-nil, arith, eqb-true, ltb-false, length}
+use Rattle.std.proofs.Common.{◌≡◌, ◌≢◌, refl, sym, ap, ◌∙◌, ℕ, suc, ◌+◌, ◌^◌, ◌<◌, ◌≤◌, ◌==◌, Bool, true, false, true≢false, List, [], ◌∷◌, ◌++◌, append_assoc, append-nil, arith, eqb-true, ltb-false, length, Option, None, Some}
 use Rattle.std.specs.Prelude.{All, map, count_by, codes, decimal, nat_lt, unsigned_abs, neg_ℤ, ◌≤ℤ◌, ◌<ℤ◌}
 use Rattle.std.specs.List.{list_all, join_with_byte}
-use Rattle.std.proofs.lemmas.Bool.{and_parts, or_parts, cond_both, false_from_ne_true, le-ltb}
+use Rattle.std.proofs.lemmas.Bool.{and_parts, or_parts, cond_both, false_from_ne_true, le-ltb, lt-ltb}
 use Rattle.std.proofs.lemmas.Int.{ints}
 use Rattle.std.proofs.lemmas.Bool.Decides.{nat_tests}
-use Rattle.std.proofs.lemmas.Fmt.{decimal_is_IsNumeral, decimal_is_IsNumeral_wide}
+use Rattle.std.proofs.lemmas.Fmt.{decimal_nonempty, decimal_is_IsNumeral, decimal_is_IsNumeral_wide}
 use Rattle.std.proofs.lemmas.List.Elements.{All-nil, All-cons, All-head, All-tail, All-append, All-weaker}
 use Rattle.std.proofs.lemmas.List.Splits.{length-slice_split, slice_split_at, slice_split_none, join_with_byte-slice_split}
 use Rattle.std.specs.Fmt.{signed_decimal}
@@ -28,17 +28,27 @@ use Rattle.certs.specs.declared.solving.SiteKind.{SiteKind}
 use Rattle.certs.specs.declared.solving.SiteKind.TheVariants.{Settle}
 use Rattle.frac128.specs.declared.Op.{Op}
 use Rattle.frac128.specs.declared.Op.TheVariants.{Plus}
-use Rattle.report_text.specs.declared.report.Command.TheVariants.{Check, Iis, Pivots, Nodes}
-use Rattle.report_text.specs.declared.report.Method.TheVariants.{Deletion}
+use Rattle.lp_model.specs.declared.members.Side.{Side}
+use Rattle.lp_model.specs.declared.members.Side.TheVariants.{Lo, Up}
+use Rattle.lp_model.specs.declared.parts.Weight.{Weight}
+use Rattle.lp_model.specs.declared.parts.Weight.TheVariants.{Soft, Rigid}
+use Rattle.report_text.specs.declared.report.Command.{Command}
+use Rattle.report_text.specs.declared.report.Command.TheVariants.{Check, Iis, Edit, Undo, Pivots, Nodes}
+use Rattle.report_text.specs.declared.report.Method.{Method}
+use Rattle.report_text.specs.declared.report.Method.TheVariants.{Deletion, Additive, Sensitivity}
+use Rattle.report_text.specs.declared.report.TargetKind.{TargetKind}
+use Rattle.report_text.specs.declared.report.EditKind.{EditKind}
+use Rattle.report_text.specs.declared.report.Refusal.{Refusal}
 use Rattle.report_text.specs.declared.report.Report.{Report}
 use Rattle.report_text.specs.declared.phrases.Keyword.{Keyword}
 use Rattle.report_text.specs.declared.phrases.Phrase.{Phrase}
 use Rattle.report_text.specs.declared.phrases.StopPhrase.{StopPhrase}
-use Rattle.report_text.specs.Form.{is_word, IsNamedSource}
-use Rattle.report_text.specs.Grammar.{Line, ◌then◌, text_of, column_name, name_of, kind_word, source_word, source_name, method_word, site_word, op_word, report_lines, keyword_text, keyword_of, branch_keyword, stop_details, details, spelled, phrase_line, report_phrases}
+use Rattle.report_text.specs.Form.{is_word, IsNamedSource, most_budget, IsLimit, IsWeight, IsEditKind, IsCommand}
+use Rattle.report_text.specs.Grammar.{Line, ◌then◌, text_of, column_name, name_of, kind_word, source_word, source_name, method_word, target_word, side_word, limit_word, weight_word, mark_word, edit_words, command_words, refusal_keyword, site_word, op_word, report_lines, keyword_text, keyword_of, branch_keyword, stop_details, details, spelled, phrase_line, report_phrases}
 use Rattle.report_reader.specs.Reading.{Reads}
 use Rattle.report_reader.specs.Phrases.{IsStopPhrase, IsPhraseFor, Says}
 use Rattle.report_reader.proofs.Said.{report_for}
+use Rattle.report_reader.proofs.Quotients.{printed_some}
 
 -- a text has a part
 pub some_parts : (mark : ℕ) (text : List ℕ) → parts mark text ≢ []
@@ -96,14 +106,92 @@ printed_shown q h =
     (λ _. All-append (λ b. is_shown b ≡ true) (signed_decimal q.num) (47 ∷ decimal q.den) (signed_shown q.num both.0) (All-cons (λ b. is_shown b ≡ true) 47 (decimal q.den) refl (decimal_shown q.den both.1)))
 
 -- ---- the words of a phrase
-word_shown : (name : List ℕ) → is_word name ≡ true → Shown name
+pub word_shown : (name : List ℕ) → is_word name ≡ true → Shown name
 word_shown name h = plain name (and_parts (nat_lt 0 (length name)) (list_all is_shown name) h).1
 
 keyword_shown : (k : Keyword) → Shown (keyword_text k)
 keyword_shown Keyword.Iisan = plain (codes "iisan") refl
 keyword_shown k = plain (keyword_text k) refl
 
--- ---- the keywords of branches
+-- ---- the words of a command
+one_word : (w : List ℕ) (ws : List (List ℕ)) → is_word w ≡ true → All (λ w. is_word w ≡ true) ws → All (λ w. is_word w ≡ true) (w ∷ ws)
+one_word w ws h rest = All-cons (λ w. is_word w ≡ true) w ws h rest
+
+no_words : All (λ w. is_word w ≡ true) []
+no_words = All-nil (λ w. is_word w ≡ true)
+
+method_is : (method : Method) → is_word (method_word method) ≡ true
+method_is Deletion = refl
+method_is Additive = refl
+method_is Sensitivity = refl
+
+target_is : (t : TargetKind) → is_word (target_word t) ≡ true
+target_is TargetKind.Row = refl
+target_is TargetKind.RowLo = refl
+target_is TargetKind.RowUp = refl
+target_is TargetKind.Lower = refl
+target_is TargetKind.Upper = refl
+target_is TargetKind.Whole = refl
+
+side_is : (side : Side) → is_word (side_word side) ≡ true
+side_is Lo = refl
+side_is Up = refl
+
+mark_is : (whole : Bool) → is_word (mark_word whole) ≡ true
+mark_is true = refl
+mark_is false = refl
+
+-- shown bytes, of which there is one
+word_of_shown : (word : List ℕ) → length word ≢ 0 → Shown word → is_word word ≡ true
+word_of_shown word some h = rw (lt-ltb 0 (length word) (omega arith)) (all word h)
+  where
+    all : (word : List ℕ) → Shown word → list_all is_shown word ≡ true
+    all [] h = refl
+    all (b ∷ word) h = rw (All-head (λ b. is_shown b ≡ true) b word h) (all word (All-tail (λ b. is_shown b ≡ true) b word h))
+
+number_is : (q : ℚ) → is_too_wide limit q ≡ false → is_word (printed q) ≡ true
+number_is q h = word_of_shown (printed q) (printed_some q h) (printed_shown q h)
+
+limit_is : (v : Option ℚ) → IsLimit v → is_word (limit_word v) ≡ true
+limit_is None h = refl
+limit_is (Some q) h = number_is q h.0
+
+weight_is : (w : Weight) → IsWeight w → is_word (weight_word w) ≡ true
+weight_is Rigid h = refl
+weight_is (Soft q) h = number_is q h.0
+
+count_is : (n : ℕ) → n ≤ most_budget → is_word (decimal n) ≡ true
+count_is n h =
+    let small : n < 2 ^ 64 = omega arith in
+    word_of_shown (decimal n) (let s = decimal_nonempty n small in λ e. omega arith) (count_shown n small)
+
+set_words_are : (what name : List ℕ) (side : Side) (v : Option ℚ) → is_word what ≡ true → is_word name ≡ true → IsLimit v → All (λ w. is_word w ≡ true) (codes "set" ∷ what ∷ name ∷ side_word side ∷ limit_word v ∷ [])
+set_words_are what name side v k w h =
+    one_word (codes "set") (what ∷ name ∷ side_word side ∷ limit_word v ∷ []) refl
+    (one_word what (name ∷ side_word side ∷ limit_word v ∷ []) k
+    (one_word name (side_word side ∷ limit_word v ∷ []) w
+    (one_word (side_word side) (limit_word v ∷ []) (side_is side) (one_word (limit_word v) [] (limit_is v h) no_words))))
+
+edit_words_are : (name : List ℕ) (kind : EditKind) → is_word name ≡ true → IsEditKind kind → All (λ w. is_word w ≡ true) (edit_words name kind)
+edit_words_are name (EditKind.Drop t) w h = one_word (codes "drop") (target_word t ∷ name ∷ []) refl (one_word (target_word t) (name ∷ []) (target_is t) (one_word name [] w no_words))
+edit_words_are name (EditKind.Keep t) w h = one_word (codes "keep") (target_word t ∷ name ∷ []) refl (one_word (target_word t) (name ∷ []) (target_is t) (one_word name [] w no_words))
+edit_words_are name (EditKind.Weigh t weight) w h =
+    one_word (codes "weight") (target_word t ∷ name ∷ weight_word weight ∷ []) refl
+    (one_word (target_word t) (name ∷ weight_word weight ∷ []) (target_is t)
+    (one_word name (weight_word weight ∷ []) w (one_word (weight_word weight) [] (weight_is weight h.1) no_words)))
+edit_words_are name (EditKind.SetSide side v) w h = set_words_are (codes "row") name side v refl w h
+edit_words_are name (EditKind.SetBound side v) w h = set_words_are (codes "column") name side v refl w h
+edit_words_are name (EditKind.SetMark whole) w h = one_word (codes "mark") (name ∷ mark_word whole ∷ []) refl (one_word name (mark_word whole ∷ []) w (one_word (mark_word whole) [] (mark_is whole) no_words))
+
+pub command_words_are : (c : Command) → IsCommand c → All (λ w. is_word w ≡ true) (command_words c)
+command_words_are Check h = one_word (codes "check") [] refl no_words
+command_words_are (Iis method) h = one_word (codes "iis") (method_word method ∷ []) refl (one_word (method_word method) [] (method_is method) no_words)
+command_words_are (Edit e) h = edit_words_are e.name e.kind h.word h.kind
+command_words_are Undo h = one_word (codes "undo") [] refl no_words
+command_words_are (Pivots n) h = one_word (codes "budget") (codes "pivots" ∷ decimal n ∷ []) refl (one_word (codes "pivots") (decimal n ∷ []) refl (one_word (decimal n) [] (count_is n h) no_words))
+command_words_are (Nodes n) h = one_word (codes "budget") (codes "nodes" ∷ decimal n ∷ []) refl (one_word (codes "nodes") (decimal n ∷ []) refl (one_word (decimal n) [] (count_is n h) no_words))
+
+-- ---- the keywords of branches and of refusals
 abbrev is_side : Keyword → Bool
 is_side Keyword.BranchBelow = true
 is_side Keyword.BranchAbove = true
@@ -116,6 +204,21 @@ no_side upper k e other = true≢false (sym (own upper) ∙ ap is_side e ∙ oth
     own : (upper : Bool) → is_side (branch_keyword upper) ≡ true
     own true = refl
     own false = refl
+
+abbrev is_refusal : Keyword → Bool
+is_refusal Keyword.Unknown = true
+is_refusal Keyword.No = true
+is_refusal Keyword.Nothing = true
+is_refusal k = false
+
+-- nor has a refusal
+pub no_refusal : (r : Refusal) (k : Keyword) → refusal_keyword r ≡ k → is_refusal k ≡ false → ⊥
+no_refusal r k e other = true≢false (sym (own r) ∙ ap is_refusal e ∙ other)
+  where
+    own : (r : Refusal) → is_refusal (refusal_keyword r) ≡ true
+    own Refusal.UnknownName = refl
+    own Refusal.NoChange = refl
+    own Refusal.NothingToUndo = refl
 
 -- lists of one, two and more words
 none_shown : All Shown []
@@ -164,11 +267,10 @@ module _ (model : Program) where
   details_shown Phrase.Head h = two_shown (codes "report") (codes "2") (plain (codes "report") refl) (plain (codes "2") refl)
   details_shown (Phrase.Note (LowerRemoved j)) h = and_shown (column_name model j) (codes "lower" ∷ codes "removed" ∷ []) (word_shown (column_name model j) h.word) (two_shown (codes "lower") (codes "removed") (plain (codes "lower") refl) (plain (codes "removed") refl))
   details_shown (Phrase.Note (LowerKept j)) h = and_shown (column_name model j) (codes "lower" ∷ codes "kept" ∷ []) (word_shown (column_name model j) h.word) (two_shown (codes "lower") (codes "kept") (plain (codes "lower") refl) (plain (codes "kept") refl))
-  details_shown (Phrase.Command Check) h = and_shown (codes "check") [] (plain (codes "check") refl) none_shown
-  details_shown (Phrase.Command (Iis Deletion)) h = two_shown (codes "iis") (codes "deletion") (plain (codes "iis") refl) (plain (codes "deletion") refl)
-  details_shown (Phrase.Command (Iis method)) h = two_shown (codes "iis") (method_word method) (plain (codes "iis") refl) (plain (method_word method) refl)
-  details_shown (Phrase.Command (Pivots n)) h = and_shown (codes "budget") (codes "pivots" ∷ decimal n ∷ []) (plain (codes "budget") refl) (two_shown (codes "pivots") (decimal n) (plain (codes "pivots") refl) (count_shown n (let l : n ≤ 1000000 = h in omega arith)))
-  details_shown (Phrase.Command (Nodes n)) h = and_shown (codes "budget") (codes "nodes" ∷ decimal n ∷ []) (plain (codes "budget") refl) (two_shown (codes "nodes") (decimal n) (plain (codes "nodes") refl) (count_shown n (let l : n ≤ 1000000 = h in omega arith)))
+  details_shown (Phrase.Command c) h = All-weaker (λ w. is_word w ≡ true) Shown word_shown (command_words c) (command_words_are c h)
+  details_shown (Phrase.Refused Refusal.UnknownName) h = and_shown (codes "name") [] (plain (codes "name") refl) none_shown
+  details_shown (Phrase.Refused Refusal.NoChange) h = and_shown (codes "change") [] (plain (codes "change") refl) none_shown
+  details_shown (Phrase.Refused Refusal.NothingToUndo) h = two_shown (codes "to") (codes "undo") (plain (codes "to") refl) (plain (codes "undo") refl)
   details_shown (Phrase.Stop s) h = stop_shown s h
   details_shown (Phrase.Value j v) h = two_shown (column_name model j) (printed v) (word_shown (column_name model j) h.0.word) (printed_shown v h.1.0)
   details_shown (Phrase.Member m) h = two_shown (kind_word m) (name_of model m) (kind_shown m) (word_shown (name_of model m) h.word)

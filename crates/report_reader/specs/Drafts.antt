@@ -8,6 +8,8 @@ use Rattle.lp_model.specs.Members.{comes_before, is_active, IsInOrder}
 use Rattle.lp_model.specs.MemberSets.{SetValue, empty_set}
 use Rattle.lp_model.specs.Satisfaction.{values_at}
 use Rattle.lp_model.specs.declared.parts.Note.{Note}
+use Rattle.model_history.specs.History.{HistoryValue}
+use Rattle.model_session.specs.Session.{session_at, Takes as TakesCommand}
 use Rattle.certs.specs.declared.evidence.Branch.{Branch}
 use Rattle.certs.specs.declared.evidence.Share.{Share}
 use Rattle.certs.specs.declared.evidence.Point.{Point}
@@ -18,7 +20,7 @@ use Rattle.certs.specs.declared.solving.SiteKind.TheVariants.{Settle}
 use Rattle.certs.specs.declared.solving.Site.{Site}
 use Rattle.certs.specs.declared.solving.Stop.{Stop}
 use Rattle.report_text.specs.declared.report.Command.{Command}
-use Rattle.report_text.specs.declared.report.Command.TheVariants.{Check, Iis, Pivots, Nodes}
+use Rattle.report_text.specs.declared.report.Command.TheVariants.{Check, Iis, Edit, Undo, Pivots, Nodes}
 use Rattle.report_text.specs.declared.report.Answer.{Answer}
 use Rattle.report_text.specs.declared.report.Entry.{Entry}
 use Rattle.report_text.specs.declared.phrases.Phrase.{Phrase}
@@ -38,7 +40,7 @@ use Rattle.report_reader.specs.Phrases.{IsNamedBranch, Says}
 use Rattle.report_text.specs.Turns.{after, entry_commands}
 use Rattle.report_text.specs.Grammar.{Line, column_name, left_out, entries_phrases}
 use Rattle.certs.specs.Order.{source_before}
-use Rattle.report_text.specs.Form.{is_word, IsNamedColumn, IsNamedMember, IsWithinLimit, IsPointFor, AreEntriesFor, IsCommand, IsCount, IsOperation, AreUses, IsNodeFor, IsOneTree, AreNumbered}
+use Rattle.report_text.specs.Form.{is_word, IsNamedColumn, IsNamedMember, IsWithinLimit, IsPointFor, AreEntriesFor, IsCommand, IsCount, IsOperation, AreUses, IsNodeFor, IsOneTree, AreNumbered, can_answer}
 
 -- values with zeros behind them, up to so many
 abbrev pub filled : ℕ → List ℚ → List ℚ
@@ -134,6 +136,12 @@ stop_with model (StopPart.Step left path k) (Phrase.Stop (StopPhrase.Operation o
 stop_with model (StopPart.Operation left path k o) Phrase.End = Some (Next.Whole (Answer.Stopped (Stop.Wide (site_without model left path) k o)))
 stop_with model _ _ = None
 
+-- the answer of one line to a command: that it is done, or why it is refused
+abbrev pub reply_said : Command → Phrase → Option Next
+reply_said command Phrase.Done = only_if (can_answer command Answer.Done) (Next.Whole Answer.Done)
+reply_said command (Phrase.Refused r) = only_if (can_answer command (Answer.Refused r)) (Next.Whole (Answer.Refused r))
+reply_said command _ = None
+
 -- the answer that a part of one becomes by a phrase, if it may follow
 abbrev pub extended : Program → Command → Part → Phrase → Option Next
 extended model command Part.Feasible Phrase.Point = Some (Next.More (Part.Point []))
@@ -143,8 +151,10 @@ extended model Check Part.Nothing Phrase.Infeasible = Some (Next.More (Part.List
 extended model (Iis method) Part.Nothing Phrase.Irreducible = Some (Next.More (Part.Listed (Found.Witnessed [] [])))
 extended model Check Part.Nothing (Phrase.Stop s) = stop_begun s
 extended model (Iis method) Part.Nothing (Phrase.Stop s) = stop_begun s
-extended model (Pivots n) Part.Nothing Phrase.Done = Some (Next.Whole Answer.Done)
-extended model (Nodes n) Part.Nothing Phrase.Done = Some (Next.Whole Answer.Done)
+extended model (Edit e) Part.Nothing p = reply_said (Edit e) p
+extended model Undo Part.Nothing p = reply_said Undo p
+extended model (Pivots n) Part.Nothing p = reply_said (Pivots n) p
+extended model (Nodes n) Part.Nothing p = reply_said (Nodes n) p
 extended model command (Part.Point values) (Phrase.Value j v) = option_map (λ vs. Next.More (Part.Point vs)) (with_value values j v)
 extended model command (Part.Point values) Phrase.End = Some (Next.Whole (Answer.Feasible (point_of model values)))
 extended model command (Part.Listed (Found.Members members)) (Phrase.Member m) = option_map (λ ms. Next.More (Part.Listed (Found.Members ms))) (with_member members m)
@@ -217,6 +227,24 @@ ended n draft rest = by draft.stage rest
 abbrev pub nothing_read : Draft
 nothing_read = record { notes = []; entries = []; stage = Stage.Start }
 
+-- ---- the session in which a draft is read
+-- where the commands of entries have brought a session, those of other entries bring it afterwards
+abbrev pub Replays : HistoryValue → List Entry → HistoryValue → List Entry → Type 0
+Replays old entries new more = (first : Program) → old ≡ session_at first (entry_commands entries) → new ≡ session_at first (entry_commands more)
+
+-- where commands have brought a session, it stands afterwards where some commands bring it
+abbrev pub StaysOn : HistoryValue → HistoryValue → Type 0
+StaysOn old new = (first : Program) (before : List Command) → old ≡ session_at first before → (now : List Command) × (new ≡ session_at first now)
+
+-- a command is taken, whatever is answered to it
+abbrev pub IsTaken : HistoryValue → Command → HistoryValue → Type 0
+IsTaken old command new = (answer : Option Answer) × TakesCommand old command answer new
+
+-- the entries of the next draft, or the same ones where a phrase may not follow
+abbrev pub entries_now : List Entry → Option Draft → List Entry
+entries_now entries None = entries
+entries_now entries (Some next) = next.entries
+
 -- ---- what is asked of a draft
 -- values of the first columns, as a point may have them
 pub record AreValues (model : Program) (values : List ℚ) : Type 0 where
@@ -243,6 +271,8 @@ IsFound model command _ = ⊥
 -- members with witnesses, and one member more
 abbrev pub IsOneMore : Program → Command → List Member → List Point → Member → Type 0
 IsOneMore model Check members witnesses m = ⊥
+IsOneMore model (Edit e) members witnesses m = ⊥
+IsOneMore model Undo members witnesses m = ⊥
 IsOneMore model (Pivots n) members witnesses m = ⊥
 IsOneMore model (Nodes n) members witnesses m = ⊥
 IsOneMore model (Iis method) members witnesses m = AreMembers model (members ++ m ∷ []) × AreWitnesses model members witnesses
@@ -271,6 +301,8 @@ pub record AreNodes (model : Program) (nodes : List Node) (due : ℕ) : Type 0 w
 
 -- only a check, or the search for an irreducible set, is answered by more than one line
 abbrev pub Asks : Command → Type 0
+Asks (Edit e) = ⊥
+Asks Undo = ⊥
 Asks (Pivots n) = ⊥
 Asks (Nodes n) = ⊥
 Asks command = ⊤

@@ -10,8 +10,13 @@ use Rattle.frac128.specs.Printed.{printed}
 use Rattle.lp_model.specs.Program.{Program, row_at}
 use Rattle.lp_model.specs.declared.members.Member.{Member}
 use Rattle.certs.specs.declared.evidence.Source.{Source}
-use Rattle.report_text.specs.Grammar.{column_name, name_of, kind_word, source_word, source_name, keyword_text, keyword_of, details}
+use Rattle.report_text.specs.declared.report.Command.{Command}
+use Rattle.report_text.specs.declared.report.Command.TheVariants.{Edit, Pivots, Nodes}
+use Rattle.report_text.specs.declared.report.EditKind.{EditKind}
+use Rattle.report_text.specs.Grammar.{column_name, name_of, kind_word, limit_word, weight_word, source_word, source_name, keyword_text, keyword_of, details}
 use Rattle.report_text.specs.Form.{IsNamedRow, IsNamedColumn, IsNamedMember, IsNamedSource, IsWithinLimit, IsCount}
+use Rattle.report_reader.specs.declared.parts.Words.{Words}
+use Rattle.report_reader.specs.Parts.{AreWords}
 use Rattle.report_reader.specs.Phrases.{IsPhraseFor}
 
 -- the phrases of one word
@@ -24,7 +29,7 @@ lone_said word = find (λ p. bytes_eq word (keyword_text (keyword_of p))) lone_p
 
 -- the keywords with words behind them
 abbrev pub leading_keywords : List Keyword
-leading_keywords = Keyword.Value ∷ Keyword.Use ∷ Keyword.Member ∷ Keyword.Command ∷ Keyword.Too ∷ Keyword.Pivots ∷ Keyword.Site ∷ Keyword.Without ∷ Keyword.Step ∷ Keyword.Operation ∷ Keyword.Note ∷ Keyword.Split ∷ Keyword.Nodes ∷ Keyword.BranchBelow ∷ Keyword.BranchAbove ∷ Keyword.Iisan ∷ Keyword.Report ∷ []
+leading_keywords = Keyword.Value ∷ Keyword.Use ∷ Keyword.Member ∷ Keyword.Command ∷ Keyword.Unknown ∷ Keyword.No ∷ Keyword.Nothing ∷ Keyword.Too ∷ Keyword.Pivots ∷ Keyword.Site ∷ Keyword.Without ∷ Keyword.Step ∷ Keyword.Operation ∷ Keyword.Note ∷ Keyword.Split ∷ Keyword.Nodes ∷ Keyword.BranchBelow ∷ Keyword.BranchAbove ∷ Keyword.Iisan ∷ Keyword.Report ∷ []
 
 -- the keyword among these that a word is
 abbrev pub leading_said : List ℕ → Option Keyword
@@ -41,6 +46,10 @@ pub record IsSpelled (model : Program) (k : Keyword) (words : List (List ℕ)) (
 pub record Finds {X : Type 0} (Is : X → Type 0) (result : Option X) : Type 0 where
   pub found : IfSome result Is
   pub all : (x : X) → Is x → result ≡ Some x
+
+-- what words say behind a keyword
+abbrev pub SaysBehind : Program → Keyword → Words → Option Phrase → Type 0
+SaysBehind model k given result = (ws : List (List ℕ)) → AreWords given ws → Finds (IsSpelled model k ws) result
 
 -- the member has this kind and this name
 pub record IsMemberSaid (model : Program) (word name : List ℕ) (m : Member) : Type 0 where
@@ -74,7 +83,16 @@ IsWholeSaid text k = (unsigned_abs k ≤ limit) × (text ≡ signed_decimal k)
 abbrev pub IsCountSaid : List ℕ → ℕ → Type 0
 IsCountSaid text n = IsCount n × (text ≡ decimal n)
 
--- a third word is a count as it is printed
-abbrev pub IsPlain : List (List ℕ) → Type 0
-IsPlain (first ∷ second ∷ number ∷ []) = (n : ℕ) × IsCountSaid number n
-IsPlain words = ⊤
+-- the number of an edit, where it has one, is printed so
+abbrev pub IsPlainEdit : List ℕ → EditKind → Type 0
+IsPlainEdit word (EditKind.Weigh t w) = word ≡ weight_word w
+IsPlainEdit word (EditKind.SetSide side v) = word ≡ limit_word v
+IsPlainEdit word (EditKind.SetBound side v) = word ≡ limit_word v
+IsPlainEdit word kind = ⊤
+
+-- the number of a command, where it has one, is printed so
+abbrev pub IsPlain : List ℕ → Command → Type 0
+IsPlain word (Edit e) = IsPlainEdit word e.kind
+IsPlain word (Pivots n) = word ≡ decimal n
+IsPlain word (Nodes n) = word ≡ decimal n
+IsPlain word c = ⊤

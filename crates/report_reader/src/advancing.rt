@@ -1,13 +1,17 @@
 //! What a phrase makes of a draft.
-ghost use Rattle.std.specs.Prelude.{◌≡◌, ℕ, IfOk, option_map};
+ghost use Rattle.std.specs.Prelude.{◌≡◌, ℕ, IfOk, OnErr, OnOk, option_map};
 ghost use Rattle.lp_model.specs.Program.{Program};
+ghost use Rattle.model_session.specs.Session.{first_of, IsSessionAt};
+ghost use Rattle.report_text.specs.Form.{IsCommand};
+ghost use Rattle.report_text.specs.Turns.{entry_commands};
 ghost use Rattle.report_reader.specs.Phrases.{IsPhraseFor};
-ghost use Rattle.report_reader.specs.Drafts.{between as between_drafts, placed, extended, advanced, nothing_read, IsPartFor, IsDraftFor};
+ghost use Rattle.report_reader.specs.Drafts.{between as between_drafts, placed, extended, advanced, nothing_read, entries_now, IsTaken, Replays, StaysOn, IsPartFor, IsDraftFor};
 
 use crate::drafts::{Draft, Next, Part, Question, Stage};
 use crate::following::follow;
-use lp_model::{Model, Note};
-use report_text::{Answer, Entries, Entry, Notes, Phrase};
+use lp_model::Note;
+use model_session::Session;
+use report_text::{Answer, Command, Entries, Entry, Notes, Phrase};
 use std::alloc::{AllocError, Global};
 
 /// Nothing read.
@@ -68,15 +72,31 @@ fn advance_between(
     }
 }
 
-// One entry more.
+// Makes an edit or an undo, where the command is one. What is answered to it is not looked at.
+fn replay(session: &mut Session, command: &Command) -> Result<(), AllocError>
+    requires { IsCommand command.now }
+    ensures taken { OnOk result (IsTaken session.old command.now session.new) }
+    ensures unchanged { OnErr result (session.new ≡ session.old) }
+{
+    session.take(command)?;
+    Ok(())
+}
+
+// One entry more, whose command the session takes.
 fn add_entry(
+    session: &mut Session,
     notes: Notes,
     entries: Entries,
     question: Question,
     answer: Answer,
 ) -> Result<Draft, AllocError>
-    ensures { (stage : Stage) → IfOk result (λ d. d ≡ placed (record { notes = notes; entries = entries; stage = stage }) question (Next.Whole answer)) }
+    requires { IsCommand question.command }
+    ensures draft { (stage : Stage) → IfOk result (λ d. d ≡ placed
+        (record { notes = notes; entries = entries; stage = stage }) question (Next.Whole answer)) }
+    ensures goes { IfOk result (λ d. Replays session.old entries session.new d.entries) }
+    ensures stays { StaysOn session.old session.new }
 {
+    replay(session, &question.command)?;
     let mut items = entries.into_vec();
     items.push(Entry {
         command: question.command,
@@ -92,12 +112,17 @@ fn add_entry(
 
 // What an answer, or more of it, makes.
 fn place(
+    session: &mut Session,
     notes: Notes,
     entries: Entries,
     question: Question,
     next: Next,
 ) -> Result<Draft, AllocError>
-    ensures { (stage : Stage) → IfOk result (λ d. d ≡ placed (record { notes = notes; entries = entries; stage = stage }) question next) }
+    requires { IsCommand question.command }
+    ensures draft { (stage : Stage) → IfOk result (λ d. d ≡ placed
+        (record { notes = notes; entries = entries; stage = stage }) question next) }
+    ensures goes { IfOk result (λ d. Replays session.old entries session.new d.entries) }
+    ensures stays { StaysOn session.old session.new }
 {
     match next {
         Next::More(part) => Ok(Draft {
@@ -105,28 +130,34 @@ fn place(
             entries,
             stage: Stage::Answering(question, part),
         }),
-        Next::Whole(answer) => add_entry(notes, entries, question, answer),
+        Next::Whole(answer) => add_entry(session, notes, entries, question, answer),
     }
 }
 
 // What may follow within an answer.
 fn advance_answer(
     alloc: Global,
-    model: &Model,
+    session: &mut Session,
     notes: Notes,
     entries: Entries,
     question: Question,
     part: Part,
     phrase: Phrase,
 ) -> Result<Option<Draft>, AllocError>
-    requires part { IsPartFor model.now question.command part }
-    requires phrase { IsPhraseFor model.now phrase }
-    ensures { (stage : Stage) → IfOk result (λ d. d ≡ option_map (placed (record { notes = notes; entries = entries; stage = stage }) question) (extended model.now question.command part phrase)) }
+    requires command { IsCommand question.command }
+    requires part { IsPartFor session.old.model question.command part }
+    requires phrase { IsPhraseFor session.old.model phrase }
+    ensures draft { (stage : Stage) → IfOk result (λ d. d ≡ option_map
+        (placed (record { notes = notes; entries = entries; stage = stage }) question)
+        (extended session.old.model question.command part phrase)) }
+    ensures goes { IfOk result (λ d.
+        Replays session.old entries session.new (entries_now entries d)) }
+    ensures stays { StaysOn session.old session.new }
 {
-    let Some(next) = follow(alloc, model, &question.command, part, phrase)? else {
+    let Some(next) = follow(alloc, session.model(), &question.command, part, phrase)? else {
         return Ok(None);
     };
-    Ok(Some(place(notes, entries, question, next)?))
+    Ok(Some(place(session, notes, entries, question, next)?))
 }
 
 // What may stand first.
@@ -143,17 +174,22 @@ fn advance_start(notes: Notes, entries: Entries, phrase: Phrase) -> Option<Draft
     }
 }
 
-/// The draft that a draft becomes by the phrase of a line, if it may follow.
+/// The draft that a draft becomes by the phrase of a line, if it may follow. The session takes the command of an answer
+/// that is whole.
 pub(crate) fn advance(
     alloc: Global,
-    model: &Model,
+    session: &mut Session,
     draft: Draft,
     number: u32,
     phrase: Phrase,
 ) -> Result<Option<Draft>, AllocError>
-    requires draft { IsDraftFor model.now draft }
-    requires phrase { IsPhraseFor model.now phrase }
-    ensures { IfOk result (λ d. d ≡ advanced model.now number draft phrase) }
+    requires draft { IsDraftFor (first_of session.old) draft }
+    requires session { IsSessionAt session.old (entry_commands draft.entries) }
+    requires phrase { IsPhraseFor session.old.model phrase }
+    ensures draft { IfOk result (λ d. d ≡ advanced (first_of session.old) number draft phrase) }
+    ensures goes { IfOk result (λ d.
+        Replays session.old draft.entries session.new (entries_now draft.entries d)) }
+    ensures stays { StaysOn session.old session.new }
 {
     let Draft {
         notes,
@@ -164,7 +200,7 @@ pub(crate) fn advance(
         Stage::Start => Ok(advance_start(notes, entries, phrase)),
         Stage::Between => advance_between(notes, entries, number, phrase),
         Stage::Answering(question, part) => {
-            advance_answer(alloc, model, notes, entries, question, part, phrase)
+            advance_answer(alloc, session, notes, entries, question, part, phrase)
         }
         Stage::Done => Ok(None),
     }

@@ -1,22 +1,21 @@
 //! The commands of scripts and of reports.
-ghost use Rattle.std.specs.Prelude.{◌≡◌, ◌≤◌, All, List, ℕ, length, map, IfOk, IfErr, IfSome, Some};
-ghost use Rattle.std.specs.List.{list_all};
-ghost use Rattle.frac128.specs.Literal.{is_dec};
+ghost use Rattle.std.specs.Prelude.{◌≡◌, ◌≤◌, All, [], length, map, IfOk, IfErr, IfSome, MatchOption, Some};
 ghost use Rattle.text_fields.specs.Lines.{text_of};
 ghost use Rattle.text_fields.specs.Fields.{IsInside};
 ghost use Rattle.report_reader.specs.Parts.{AreWords};
-ghost use Rattle.report_text.specs.Form.{most_budget, IsCommand};
-ghost use Rattle.report_reader.specs.Commands.{budget_of, lone_command, method_of, iis_command, budget_behind, budget_command, command_said, command_of, command_stop, IsCommandStop, CommandLaw};
+ghost use Rattle.report_text.specs.Form.{IsCommand};
+ghost use Rattle.report_reader.specs.Commands.{lone_command, method_of, iis_command, budget_behind, edit_of, three_command, command_said, IsSaidBy, command_of, command_stop, IsCommandStop, CommandLaw};
 ghost use Rattle.report_reader.specs.declared.commands.CommandStop.{CommandStop};
 
+use crate::edits::{read_marking, read_moving, read_setting, read_weighing};
+use crate::naming::is_plain;
+use crate::numerals::budget_in;
 use crate::parts::Words;
-use report_text::{Command, Method};
-use std::alloc::Global;
+use lp_model::Name;
+use report_text::{Command, EditKind, Method, NamedEdit};
+use std::alloc::{AllocError, Global};
 use text_fields::{FieldStop, Line, Span, fields};
 use thiserror::Error;
-
-// The most that a budget may be.
-const MOST_BUDGET: u64 = 1_000_000;
 
 /// Why a line was not read as a command: it is none, or memory was refused.
 #[derive(Clone, Copy, PartialEq, Eq, Debug, Error)]
@@ -38,37 +37,15 @@ impl From<FieldStop> for CommandStop {
     }
 }
 
-// Whether each byte is a digit.
-fn all_digits(word: &[u8]) -> bool
-    ensures { result ≡ list_all is_dec word.now }
-{
-    word.iter().all(|b| *b >= b'0' && *b <= b'9')
-}
-
-// The budget that digits write.
-fn budget_in(word: &[u8]) -> Option<u64>
-    ensures { result ≡ budget_of word.now }
-{
-    if !all_digits(word) {
-        return None;
-    }
-    let Ok(digits) = str::from_utf8(word) else {
-        return None;
-    };
-    let Ok(most) = digits.parse::<u64>() else {
-        return None;
-    };
-    if most > MOST_BUDGET {
-        return None;
-    }
-    Some(most)
-}
-
-// `check`.
+// `check`, or `undo`.
 fn read_lone(word: &[u8]) -> Option<Command>
     ensures { result ≡ lone_command word.now }
 {
-    (word == b"check".as_slice()).then_some(Command::Check)
+    match word {
+        _ if word == b"check".as_slice() => Some(Command::Check),
+        _ if word == b"undo".as_slice() => Some(Command::Undo),
+        _ => None,
+    }
 }
 
 // The method that a word names.
@@ -94,7 +71,7 @@ fn read_search(first: &[u8], second: &[u8]) -> Option<Command>
 }
 
 // `pivots` or `nodes`, and a number.
-fn read_behind(second: &[u8], third: &[u8]) -> Option<Command>
+fn read_budget(second: &[u8], third: &[u8]) -> Option<Command>
     ensures { result ≡ budget_behind second.now third.now }
 {
     if second == b"pivots".as_slice() {
@@ -106,51 +83,112 @@ fn read_behind(second: &[u8], third: &[u8]) -> Option<Command>
     None
 }
 
-// `budget`, what it is of, and a number.
-fn read_budget(first: &[u8], second: &[u8], third: &[u8]) -> Option<Command>
-    ensures { result ≡ budget_command first.now second.now third.now }
+// The edit of that kind of what has the name, which is to be a word.
+fn named_edit(
+    alloc: Global,
+    kind: Option<EditKind>,
+    name: &[u8],
+) -> Result<Option<Command>, AllocError>
+    ensures { IfOk result (λ found. found ≡ edit_of kind name.now) }
 {
-    if first != b"budget".as_slice() {
-        return None;
+    if !is_plain(name) {
+        return Ok(None);
     }
-    read_behind(second, third)
+    let Some(kind) = kind else {
+        return Ok(None);
+    };
+    let name = Name::new(alloc, name)?;
+    Ok(Some(Command::Edit(NamedEdit { name, kind })))
 }
 
-/// The command that words are: `check`; or `iis` and `deletion`, `additive` or `sensitivity`; or `budget`, `pivots` or
-/// `nodes`, and a number of at most 1,000,000 in one digit or more.
-pub(crate) fn command_in(words: Words<'_>) -> Option<Command>
-    ensures { (ws : List (List ℕ)) → AreWords words.entry ws → result ≡ command_said ws }
+// A budget, a mark, or what is dropped or kept.
+fn read_three(
+    alloc: Global,
+    first: &[u8],
+    second: &[u8],
+    third: &[u8],
+) -> Result<Option<Command>, AllocError>
+    ensures { IfOk result (λ found. found ≡ three_command first.now second.now third.now) }
+{
+    if first == b"budget".as_slice() {
+        return Ok(read_budget(second, third));
+    }
+    if first == b"mark".as_slice() {
+        return named_edit(alloc, read_marking(third), second);
+    }
+    named_edit(alloc, read_moving(first, second), third)
+}
+
+/// The command that words are, as `read_command` says. `AllocError` where memory was refused for a
+/// name.
+pub(crate) fn command_in(alloc: Global, words: Words<'_>) -> Result<Option<Command>, AllocError>
+    ensures { IfOk result (IsSaidBy words.entry) }
 {
     match words {
-        Words::One(word) => read_lone(word),
-        Words::Two(first, second) => read_search(first, second),
-        Words::Three(first, second, third) => read_budget(first, second, third),
-        Words::More => None,
+        Words::One(word) => Ok(read_lone(word)),
+        Words::Two(first, second) => Ok(read_search(first, second)),
+        Words::Three(first, second, third) => read_three(alloc, first, second, third),
+        Words::Four(first, second, third, last) => {
+            named_edit(alloc, read_weighing(first, second, last), third)
+        }
+        Words::Five(first, second, third, side, last) => {
+            named_edit(alloc, read_setting(first, second, side, last), third)
+        }
+        Words::More => Ok(None),
+    }
+}
+
+// The fields of a line, as words, where there are some.
+fn words_in<'a>(text: &'a [u8], spans: &[Span]) -> Option<Words<'a>>
+    requires { All (IsInside text.now) spans.now }
+    ensures { MatchOption result
+        (spans.now ≡ [])
+        (λ words. AreWords words (map (text_of text.now) spans.now)) }
+{
+    match spans {
+        [] => None,
+        [a] => Some(Words::One(a.text(text))),
+        [a, b] => Some(Words::Two(a.text(text), b.text(text))),
+        [a, b, c] => Some(Words::Three(a.text(text), b.text(text), c.text(text))),
+        [a, b, c, d] => Some(Words::Four(a.text(text), b.text(text), c.text(text), d.text(text))),
+        [a, b, c, d, e] => Some(Words::Five(
+            a.text(text),
+            b.text(text),
+            c.text(text),
+            d.text(text),
+            e.text(text),
+        )),
+        _ => Some(Words::More),
     }
 }
 
 // What the fields say.
-fn read_fields(text: &[u8], spans: &[Span]) -> Option<Command>
+fn read_fields(alloc: Global, text: &[u8], spans: &[Span]) -> Result<Option<Command>, AllocError>
     requires { All (IsInside text.now) spans.now }
-    ensures { result ≡ command_said (map (text_of text.now) spans.now) }
+    ensures { IfOk result (λ found. found ≡ command_said (map (text_of text.now) spans.now)) }
 {
-    match spans {
-        [word] => command_in(Words::One(word.text(text))),
-        [first, second] => command_in(Words::Two(first.text(text), second.text(text))),
-        [first, second, third] => command_in(Words::Three(
-            first.text(text),
-            second.text(text),
-            third.text(text),
-        )),
-        _ => None,
-    }
+    let Some(words) = words_in(text, spans) else {
+        return Ok(None);
+    };
+    command_in(alloc, words)
 }
 
 /// The command that a line is, which stands without its end.
 ///
-/// Its fields, which blanks (32, 9 and 13) part, are `check`; or `iis` and `deletion`, `additive` or `sensitivity`; or
-/// `budget`, `pivots` or `nodes`, and a number of at most 1,000,000 in one digit or more. Everything else is `Bad`, and so
-/// is a line of more than 65,536 bytes. `Memory` comes where memory was refused.
+/// Its fields, which blanks (32, 9 and 13) part, are one of these, in lower case:
+///
+/// - `check`, or `undo`;
+/// - `iis` and `deletion`, `additive` or `sensitivity`;
+/// - `budget`, `pivots` or `nodes`, and a number of at most 1,000,000 in one digit or more;
+/// - `drop` or `keep`; `row`, `rowlo`, `rowup`, `lower`, `upper` or `whole`; and a name;
+/// - `weight`; one of these but `whole`; a name; and `rigid` or a value above 0;
+/// - `set`; `row` or `column`; a name; `lower` or `upper`; and `none` or a value, where a literal of 10^20 or more in
+///   magnitude means `none`, also one that does not fit;
+/// - `mark`, a name, and `whole` or `plain`.
+///
+/// A name is any field of bytes from 33 to 126; the program need not have it. A value is a literal that fits, or a
+/// fraction as it is printed. `Bad` is everything else, and so is a line of more than 65,536 bytes. `Memory` comes where
+/// memory was refused.
 pub fn read_command(alloc: Global, text: &[u8]) -> Result<Command, CommandStop>
     // The line is the command.
     ensures command { IfOk result (λ command. command_of text.now ≡ Some command) }
@@ -166,13 +204,17 @@ pub fn read_command(alloc: Global, text: &[u8]) -> Result<Command, CommandStop>
     };
     let mut spans = Vec::new(alloc);
     fields(text, &line, &mut spans)?;
-    let Some(command) = read_fields(text, spans.as_slice()) else {
+    let Ok(found) = read_fields(alloc, text, spans.as_slice()) else {
+        return Err(CommandStop::Memory);
+    };
+    let Some(command) = found else {
         return Err(CommandStop::Bad);
     };
     Ok(command)
 }
 
-/// A command of a script is read from its own text, and no other command is. It does nothing when it runs.
+/// A command of a script is what its own words say, and is read from its own text, where that is at most 65,536 bytes; and
+/// no other command is read. It does nothing when it runs.
 pub fn command_law()
     ensures { CommandLaw }
 {}

@@ -6,7 +6,8 @@ ghost use Rattle.report_reader.specs.Phrases.{IsPhraseFor};
 ghost use Rattle.report_reader.specs.Drafts.{members_of, point_of, proof_begun, proof_with, witnessed_with, extended, IsFound, IsPartFor};
 ghost use Rattle.lp_model.specs.Program.{Program};
 ghost use Rattle.report_text.specs.declared.report.Method.{Method};
-ghost use Rattle.report_text.specs.declared.report.Command.TheVariants.{Check, Iis, Pivots, Nodes};
+ghost use Rattle.report_text.specs.declared.report.Command.TheVariants.{Check, Iis, Edit, Undo, Pivots, Nodes};
+ghost use Rattle.report_text.specs.declared.report.NamedEdit.{NamedEdit as OneEdit};
 
 use crate::building::{
     add_leaf, add_member, add_share, add_split, add_value, make_answer, make_point,
@@ -16,20 +17,22 @@ use crate::ordering::member_follows;
 use crate::stopping::{begin_stop, follow_stop};
 use certs::{Nodes, Shares, Values};
 use lp_model::{Member, Model};
-use report_text::{Answer, Command, Phrase, Witnesses};
+use report_text::{Answer, Command, Phrase, Refusal, Witnesses};
 use std::alloc::{AllocError, Global};
 
 // What may follow `command check`.
 fn follow_check(alloc: Global, phrase: Phrase) -> Option<Next>
     ensures { (model : Program) → result ≡ extended model Check Part.Nothing phrase }
 {
+    if let Phrase::Stop(stop) = phrase {
+        return begin_stop(stop);
+    }
     match phrase {
         Phrase::Feasible => Some(Next::More(Part::Feasible)),
         Phrase::Infeasible => {
             let members = Members::new(Vec::new(alloc));
             Some(Next::More(Part::Listed(Found::Members(members))))
         }
-        Phrase::Stop(phrase) => begin_stop(phrase),
         _ => None,
     }
 }
@@ -38,6 +41,9 @@ fn follow_check(alloc: Global, phrase: Phrase) -> Option<Next>
 fn follow_search(alloc: Global, phrase: Phrase) -> Option<Next>
     ensures { (model : Program) (method : Method) → result ≡ extended model (Iis method) Part.Nothing phrase }
 {
+    if let Phrase::Stop(stop) = phrase {
+        return begin_stop(stop);
+    }
     match phrase {
         Phrase::Feasible => Some(Next::More(Part::Feasible)),
         Phrase::Irreducible => {
@@ -45,7 +51,35 @@ fn follow_search(alloc: Global, phrase: Phrase) -> Option<Next>
             let witnesses = Witnesses::new(Vec::new(alloc));
             Some(Next::More(Part::Listed(Found::Witnessed(members, witnesses))))
         }
-        Phrase::Stop(phrase) => begin_stop(phrase),
+        _ => None,
+    }
+}
+
+// What may follow the command of an edit.
+fn follow_edit(phrase: Phrase) -> Option<Next>
+    ensures { (model : Program) (e : OneEdit) → result ≡ extended model (Edit e) Part.Nothing phrase }
+{
+    match phrase {
+        Phrase::Done => Some(Next::Whole(Answer::Done)),
+        Phrase::Refused(Refusal::UnknownName) => {
+            Some(Next::Whole(Answer::Refused(Refusal::UnknownName)))
+        }
+        Phrase::Refused(Refusal::NoChange) => {
+            Some(Next::Whole(Answer::Refused(Refusal::NoChange)))
+        }
+        _ => None,
+    }
+}
+
+// What may follow `command undo`.
+fn follow_undo(phrase: Phrase) -> Option<Next>
+    ensures { (model : Program) → result ≡ extended model Undo Part.Nothing phrase }
+{
+    match phrase {
+        Phrase::Done => Some(Next::Whole(Answer::Done)),
+        Phrase::Refused(Refusal::NothingToUndo) => {
+            Some(Next::Whole(Answer::Refused(Refusal::NothingToUndo)))
+        }
         _ => None,
     }
 }
@@ -68,6 +102,8 @@ fn follow_command(alloc: Global, command: &Command, phrase: Phrase) -> Option<Ne
     match command {
         Command::Check => follow_check(alloc, phrase),
         Command::Iis(_) => follow_search(alloc, phrase),
+        Command::Edit(_) => follow_edit(phrase),
+        Command::Undo => follow_undo(phrase),
         Command::Pivots(_) => follow_budget(phrase),
         Command::Nodes(_) => follow_budget(phrase),
     }

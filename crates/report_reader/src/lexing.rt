@@ -1,16 +1,18 @@
 //! What a line says.
-ghost use Rattle.std.specs.Prelude.{◌≡◌, List, [], ◌∷◌, ℕ, pos, ◌<ℤ◌};
-ghost use Rattle.report_reader.specs.Parts.{parts, AreWords};
+ghost use Rattle.std.specs.Prelude.{◌≡◌, ◌≢◌, IfOk, List, [], ◌∷◌, ℕ, pos, ◌<ℤ◌};
+ghost use Rattle.report_reader.specs.Parts.{parts, IsLast};
 ghost use Rattle.rational.specs.Rational.{zero_ℚ, ◌<ℚ◌};
 ghost use Rattle.frac128.specs.Limit.{limit};
 ghost use Rattle.lp_model.specs.Program.{Program};
 ghost use Rattle.report_reader.specs.Phrases.{Says};
-ghost use Rattle.report_reader.specs.Words.{Finds, IsSpelled, IsFractionSaid, IsWholeSaid, IsPlain};
+ghost use Rattle.report_reader.specs.Words.{Finds, IsSpelled, SaysBehind, IsFractionSaid, IsWholeSaid};
 
 use crate::commands::command_in;
 use crate::keywords::{leading_keyword, lone_phrase};
 use crate::naming::{column_of, count_of, fraction_of, member_of, source_of, whole_of};
-use crate::parts::{Words, cut, split_words};
+use crate::parts::{Words, cut, last_of, split_words};
+use crate::printing::is_printed;
+use crate::refusal_words::{read_no, read_nothing, read_unknown};
 use crate::stop_words::{
     read_branch, read_nodes, read_operation, read_pivots, read_site, read_step, read_too,
     read_without,
@@ -19,6 +21,7 @@ use certs::Share;
 use frac128::Frac;
 use lp_model::{Model, Note};
 use report_text::{Keyword, Phrase};
+use std::alloc::{AllocError, Global};
 
 // `report end`.
 fn read_foot(word: &[u8]) -> Option<Phrase>
@@ -30,23 +33,15 @@ fn read_foot(word: &[u8]) -> Option<Phrase>
     None
 }
 
-// A command, of which a third word is a count as it is printed.
-fn read_command(words: Words<'_>) -> Option<Phrase>
-    ensures { (model : Program) (ws : List (List ℕ)) → AreWords words.entry ws → IsPlain ws → Finds (IsSpelled model Keyword.Command ws) result }
-{
-    let Some(command) = command_in(words) else {
-        return None;
-    };
-    Some(Phrase::Command(command))
-}
-
-// What one word says behind a keyword.
+// What one word says behind a keyword other than that of commands.
 fn read_one(keyword: Keyword, word: &[u8]) -> Option<Phrase>
+    requires { keyword ≢ Keyword.Command }
     ensures { (model : Program) → Finds (IsSpelled model keyword (word.now ∷ [])) result }
 {
     match keyword {
         Keyword::Report => read_foot(word),
-        Keyword::Command => read_command(Words::One(word)),
+        Keyword::Unknown => read_unknown(word),
+        Keyword::No => read_no(word),
         Keyword::Too => read_too(word),
         Keyword::Pivots => read_pivots(word),
         Keyword::Nodes => read_nodes(word),
@@ -105,13 +100,14 @@ fn read_split(model: &Model, name: &[u8], number: &[u8]) -> Option<Phrase>
     Some(Phrase::Split(column, at))
 }
 
-// What two words say behind a keyword.
+// What two words say behind such a keyword.
 fn read_two(model: &Model, keyword: Keyword, first: &[u8], second: &[u8]) -> Option<Phrase>
+    requires { keyword ≢ Keyword.Command }
     ensures { Finds (IsSpelled model.now keyword (first.now ∷ second.now ∷ [])) result }
 {
     match keyword {
         Keyword::Iisan => read_head(first, second),
-        Keyword::Command => read_command(Words::Two(first, second)),
+        Keyword::Nothing => read_nothing(first, second),
         Keyword::Value => read_value(model, first, second),
         Keyword::Member => read_member(model, first, second),
         Keyword::Without => read_without(model, first, second),
@@ -159,17 +155,7 @@ fn read_use(model: &Model, word: &[u8], name: &[u8], number: &[u8]) -> Option<Ph
     Some(Phrase::Use(Share { source, weight }))
 }
 
-// A command with a number, which is written as it is printed.
-fn read_budget(first: &[u8], second: &[u8], third: &[u8]) -> Option<Phrase>
-    ensures { (model : Program) → Finds (IsSpelled model Keyword.Command (first.now ∷ second.now ∷ third.now ∷ [])) result }
-{
-    let Some(_) = count_of(third) else {
-        return None;
-    };
-    read_command(Words::Three(first, second, third))
-}
-
-// What three words say behind a keyword.
+// What three words say behind such a keyword.
 fn read_three(
     model: &Model,
     keyword: Keyword,
@@ -177,10 +163,10 @@ fn read_three(
     second: &[u8],
     third: &[u8],
 ) -> Option<Phrase>
+    requires { keyword ≢ Keyword.Command }
     ensures { Finds (IsSpelled model.now keyword (first.now ∷ second.now ∷ third.now ∷ [])) result }
 {
     match keyword {
-        Keyword::Command => read_budget(first, second, third),
         Keyword::Note => read_note(model, first, second, third),
         Keyword::Operation => read_operation(first, second, third),
         Keyword::Use => read_use(model, first, second, third),
@@ -188,27 +174,72 @@ fn read_three(
     }
 }
 
-// What words say behind a keyword.
-fn read_details(model: &Model, keyword: Keyword, words: Words<'_>) -> Option<Phrase>
-    ensures { (ws : List (List ℕ)) → AreWords words.entry ws → Finds (IsSpelled model.now keyword ws) result }
+// What words say behind such a keyword.
+fn read_known(model: &Model, keyword: Keyword, words: Words<'_>) -> Option<Phrase>
+    requires { keyword ≢ Keyword.Command }
+    ensures { SaysBehind model.now keyword words.entry result }
 {
     match words {
         Words::One(word) => read_one(keyword, word),
         Words::Two(first, second) => read_two(model, keyword, first, second),
         Words::Three(first, second, third) => read_three(model, keyword, first, second, third),
-        Words::More => None,
+        Words::Four(..) | Words::Five(..) | Words::More => None,
     }
 }
 
-/// What a line says, by the names of the model.
-pub(crate) fn read_phrase(model: &Model, line: &[u8]) -> Option<Phrase>
-    ensures { Finds (Says model.now line.now) result }
+// A command, whose last word is written as it is printed.
+fn read_printed(alloc: Global, words: Words<'_>, last: &[u8]) -> Result<Option<Phrase>, AllocError>
+    requires { IsLast words last.now }
+    ensures { (model : Program) → IfOk result (SaysBehind model Keyword.Command words.entry) }
+{
+    let Some(command) = command_in(alloc, words)? else {
+        return Ok(None);
+    };
+    if !is_printed(last, &command) {
+        return Ok(None);
+    }
+    Ok(Some(Phrase::Command(command)))
+}
+
+// A command that is written as it is printed.
+fn read_command(alloc: Global, words: Words<'_>) -> Result<Option<Phrase>, AllocError>
+    ensures { (model : Program) → IfOk result (SaysBehind model Keyword.Command words.entry) }
+{
+    let Some(last) = last_of(words) else {
+        return Ok(None);
+    };
+    read_printed(alloc, words, last)
+}
+
+// What words say behind a keyword.
+fn read_details(
+    alloc: Global,
+    model: &Model,
+    keyword: Keyword,
+    words: Words<'_>,
+) -> Result<Option<Phrase>, AllocError>
+    ensures { IfOk result (SaysBehind model.now keyword words.entry) }
+{
+    match keyword {
+        Keyword::Command => read_command(alloc, words),
+        _ => Ok(read_known(model, keyword, words)),
+    }
+}
+
+/// What a line says, by the names of the model. `AllocError` where memory was refused for a name in
+/// a command.
+pub(crate) fn read_phrase(
+    alloc: Global,
+    model: &Model,
+    line: &[u8],
+) -> Result<Option<Phrase>, AllocError>
+    ensures { IfOk result (Finds (Says model.now line.now)) }
 {
     let Some((first, rest)) = cut(line, b' ') else {
-        return lone_phrase(line);
+        return Ok(lone_phrase(line));
     };
     let Some(keyword) = leading_keyword(first) else {
-        return None;
+        return Ok(None);
     };
-    read_details(model, keyword, split_words(rest))
+    read_details(alloc, model, keyword, split_words(rest))
 }

@@ -5,14 +5,18 @@ mod advancing;
 mod building;
 mod commands;
 mod drafts;
+mod edits;
 mod following;
 mod keywords;
 mod laws;
 mod lexing;
 mod naming;
+mod numerals;
 mod ordering;
 mod parts;
+mod printing;
 mod reader;
+mod refusal_words;
 mod stop_words;
 mod stopping;
 

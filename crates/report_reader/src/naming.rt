@@ -17,8 +17,8 @@ fn all_shown(word: &[u8]) -> bool
     word.iter().all(|b| *b >= 33 && *b <= 126)
 }
 
-// Whether a name is a word.
-fn is_plain(name: &[u8]) -> bool
+/// Whether a name is a word.
+pub(crate) fn is_plain(name: &[u8]) -> bool
     ensures { result ≡ is_word name.now }
 {
     !name.is_empty() && all_shown(name)

@@ -1,13 +1,15 @@
 //! The parts and the words of a line.
 ghost use Rattle.std.specs.Prelude.{◌≡◌, ◌<◌, ◌==◌, List, [], ◌∷◌, MatchOption, IfSome, length, position};
-ghost use Rattle.report_reader.specs.Parts.{parts, AreWords};
+ghost use Rattle.report_reader.specs.Parts.{parts, AreMany, AreWords, IsLast};
 
-/// At most three words, or that there are more.
+/// At most five words, or that there are more.
 #[derive(Clone, Copy)]
 pub(crate) enum Words<'a> {
     One(&'a [u8]),
     Two(&'a [u8], &'a [u8]),
     Three(&'a [u8], &'a [u8], &'a [u8]),
+    Four(&'a [u8], &'a [u8], &'a [u8], &'a [u8]),
+    Five(&'a [u8], &'a [u8], &'a [u8], &'a [u8], &'a [u8]),
     More,
 }
 
@@ -15,6 +17,20 @@ fn first_place(bytes: &[u8], mark: u8) -> Option<usize>
     ensures { result ≡ position (λ b. b == mark) bytes.now }
 {
     bytes.iter().position(|b| *b == mark)
+}
+
+/// The last of the words, where they are five at most.
+pub(crate) fn last_of<'a>(words: Words<'a>) -> Option<&'a [u8]>
+    ensures { MatchOption result (AreMany words.entry) (λ last. IsLast words.entry last.now) }
+{
+    match words {
+        Words::One(last) => Some(last),
+        Words::Two(_, last) => Some(last),
+        Words::Three(_, _, last) => Some(last),
+        Words::Four(_, _, _, last) => Some(last),
+        Words::Five(_, _, _, _, last) => Some(last),
+        Words::More => None,
+    }
 }
 
 /// What stands before the first mark, and what stands after it.
@@ -40,8 +56,14 @@ pub(crate) fn split_words(line: &[u8]) -> Words<'_>
     let Some((second, rest)) = cut(rest, b' ') else {
         return Words::Two(first, rest);
     };
-    let Some((_, _)) = cut(rest, b' ') else {
+    let Some((third, rest)) = cut(rest, b' ') else {
         return Words::Three(first, second, rest);
+    };
+    let Some((fourth, rest)) = cut(rest, b' ') else {
+        return Words::Four(first, second, third, rest);
+    };
+    let Some((_, _)) = cut(rest, b' ') else {
+        return Words::Five(first, second, third, fourth, rest);
     };
     Words::More
 }

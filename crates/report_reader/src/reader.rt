@@ -3,12 +3,14 @@ ghost use Rattle.std.specs.Prelude.{◌≡◌, ◌+◌, ◌<◌, ◌∷◌, [], 
 ghost use Rattle.report_reader.specs.Parts.{parts};
 ghost use Rattle.report_text.specs.declared.report.Report.{Report};
 ghost use Rattle.report_reader.specs.Reading.{Reads, IsReportStop};
-ghost use Rattle.report_reader.specs.Drafts.{Takes, IsLineStop, ended, IsDraftFor};
+ghost use Rattle.report_reader.specs.Drafts.{Takes, IsLineStop, Replays, StaysOn, ended, IsDraftFor};
+ghost use Rattle.report_text.specs.Turns.{entry_commands};
+ghost use Rattle.model_session.specs.Session.{first_of, IsSessionAt};
 
 use crate::advancing::{advance, nothing};
 use crate::drafts::{Draft, Stage};
 use crate::lexing::read_phrase;
-use lp_model::Model;
+use model_session::Session;
 use report_text::Report;
 use std::alloc::Global;
 use text_fields::next_line;
@@ -28,21 +30,29 @@ pub enum ReportStop {
     Memory,
 }
 
-// Takes one line more.
+// Takes one line more. The session stands where the commands of whole entries bring it.
 fn take_line(
     alloc: Global,
-    model: &Model,
+    session: &mut Session,
     draft: Draft,
     number: u32,
     line: &[u8],
 ) -> Result<Draft, ReportStop>
-    requires { IsDraftFor model.now draft }
-    ensures { MatchResult result (Takes model.now number draft line.now) (IsLineStop model.now number draft line.now) }
+    requires draft { IsDraftFor (first_of session.old) draft }
+    requires session { IsSessionAt session.old (entry_commands draft.entries) }
+    ensures line { MatchResult result
+        (Takes (first_of session.old) number draft line.now)
+        (IsLineStop (first_of session.old) number draft line.now) }
+    ensures goes { IfOk result (λ d. Replays session.old draft.entries session.new d.entries) }
+    ensures stays { StaysOn session.old session.new }
 {
-    let Some(phrase) = read_phrase(model, line) else {
+    let Ok(said) = read_phrase(alloc, session.model(), line) else {
+        return Err(ReportStop::Memory);
+    };
+    let Some(phrase) = said else {
         return Err(ReportStop::BadLine(number));
     };
-    let Ok(found) = advance(alloc, model, draft, number, phrase) else {
+    let Ok(found) = advance(alloc, session, draft, number, phrase) else {
         return Err(ReportStop::Memory);
     };
     let Some(next) = found else {
@@ -89,32 +99,54 @@ fn whole_line(bytes: &[u8]) -> Option<(&[u8], &[u8])>
     Some((&bytes[..line.to], &bytes[line.to + 1..]))
 }
 
-/// Reads a report on a program.
-///
-/// Each line is looked at once, in order, and what is read of it is kept: notes and entries with the numbers of their
-/// lines. Names are those of the program.
-///
-/// `BadLine` has the number, from 1, of the first whole line with which no report on the program goes on; a byte
-/// behind a whole report counts as such a line, whether or not a byte 10 follows it. `Truncated` comes where every
-/// whole line is right and the bytes end before the report does. `Memory` comes where memory was refused.
-///
-/// There are to be fewer than 2^31 bytes.
-pub fn read_report(alloc: Global, bytes: &[u8], model: &Model) -> Result<Report, ReportStop>
-    requires { length bytes.now < 2147483648 }
-    // The bytes are the report's.
-    ensures read { IfOk result (Reads model.now bytes.now) }
-    // They are those of no other report.
-    ensures one { IfOk result (λ report. (other : Report) → Reads model.now bytes.now other → other ≡ report) }
-    // A stop comes where it is to.
-    ensures stop { IfErr result (IsReportStop model.now bytes.now) }
+// Reads the lines of a report, and makes the edits and undos of its commands.
+fn read_lines(alloc: Global, bytes: &[u8], session: &mut Session) -> Result<Report, ReportStop>
+    requires short { length bytes.now < 2147483648 }
+    requires fresh { session.old.formers ≡ [] }
+    ensures read { IfOk result (Reads session.old.model bytes.now) }
+    ensures one { IfOk result (λ report.
+        (other : Report) → Reads session.old.model bytes.now other → other ≡ report) }
+    ensures stop { IfErr result (IsReportStop session.old.model bytes.now) }
+    ensures stays { StaysOn session.old session.new }
 {
     let mut draft = nothing(alloc);
     let mut rest = bytes;
     let mut number: u32 = 0;
     while let Some((line, after)) = whole_line(rest) {
         number += 1;
-        draft = take_line(alloc, model, draft, number, line)?;
+        draft = take_line(alloc, session, draft, number, line)?;
         rest = after;
     }
     end(draft, number, rest)
+}
+
+/// Reads a report on the program of a session in which nothing was edited yet.
+///
+/// Each line is looked at once, in order, and what is read of it is kept: notes and entries with the numbers of their
+/// lines. Names are those of the program. The edits and undos of the report's commands are made while it is read, so that
+/// the sets of sites are those of the program as it is edited where they stand. What is made follows from the commands
+/// alone: the answers that are printed to edits and undos are not looked at. At the end, and at a stop, all of it is taken
+/// back.
+///
+/// `BadLine` has the number, from 1, of the first whole line with which no report on the program goes on; a byte
+/// behind a whole report counts as such a line, whether or not a byte 10 follows it. `Truncated` comes where every
+/// whole line is right and the bytes end before the report does. `Memory` comes where memory was refused.
+///
+/// There are to be fewer than 2^31 bytes.
+pub fn read_report(alloc: Global, bytes: &[u8], session: &mut Session) -> Result<Report, ReportStop>
+    requires short { length bytes.now < 2147483648 }
+    requires fresh { session.old.formers ≡ [] }
+    // The bytes are the report's.
+    ensures read { IfOk result (Reads session.old.model bytes.now) }
+    // They are those of no other report.
+    ensures one { IfOk result (λ report.
+        (other : Report) → Reads session.old.model bytes.now other → other ≡ report) }
+    // A stop comes where it is to.
+    ensures stop { IfErr result (IsReportStop session.old.model bytes.now) }
+    // The session is as it was.
+    ensures back { session.new ≡ session.old }
+{
+    let read = read_lines(alloc, bytes, session);
+    session.rewind();
+    read
 }

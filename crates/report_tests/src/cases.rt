@@ -1,6 +1,5 @@
 //! Texts in a file.
 
-use crate::models::make_model;
 use crate::reports::tell_report;
 use crate::scripts::tell_script;
 use std::alloc::{AllocError, Global};
@@ -56,10 +55,7 @@ fn put_report(
     text: &[u8],
     into: &mut Vec<u8>,
 ) -> Result<(), AllocError> {
-    let Ok(model) = make_model(alloc, is_noted) else {
-        return Err(AllocError);
-    };
-    let told = tell_report(alloc, model, text)?;
+    let told = tell_report(alloc, is_noted, text)?;
     into.extend_from_slice(told.as_str().as_bytes())
 }
 

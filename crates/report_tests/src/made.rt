@@ -32,11 +32,17 @@ fn put_filled(alloc: Global, filled: &Filled, into: &mut Vec<u8>) -> Result<(), 
     put(alloc, filled.name, bytes.as_slice(), into)
 }
 
-// Puts what is told of so many commands, and a remark behind them.
-fn put_checks(alloc: Global, name: &str, count: u32, into: &mut Vec<u8>) -> Result<(), AllocError> {
+// Puts what is told of a command so many times, and a remark behind it.
+fn put_often(
+    alloc: Global,
+    name: &str,
+    line: &[u8],
+    count: u32,
+    into: &mut Vec<u8>,
+) -> Result<(), AllocError> {
     let mut bytes = Vec::new(alloc);
     for _ in 0..count {
-        bytes.extend_from_slice(b"check\n")?;
+        bytes.extend_from_slice(line)?;
     }
     bytes.extend_from_slice(b"# end\n")?;
     put(alloc, name, bytes.as_slice(), into)
@@ -92,6 +98,8 @@ pub fn try_made(alloc: Global, into: &mut Vec<u8>) -> Result<(), AllocError> {
     for filled in &SCRIPTS {
         put_filled(alloc, filled, into)?;
     }
-    put_checks(alloc, "10000 commands", 10_000, into)?;
-    put_checks(alloc, "10001 commands", 10_001, into)
+    put_often(alloc, "10000 commands", b"check\n", 10_000, into)?;
+    put_often(alloc, "10001 commands", b"check\n", 10_001, into)?;
+    put_often(alloc, "10000 undos", b"undo\n", 10_000, into)?;
+    put_often(alloc, "10001 undos", b"undo\n", 10_001, into)
 }

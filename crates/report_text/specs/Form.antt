@@ -1,11 +1,14 @@
 -- Which reports stand in the grammar: what is asked of their names, numbers and order.
-use Rattle.std.specs.Prelude.{◌≡◌, ◌≢◌, ℕ, ◌+◌, ◌^◌, ◌<◌, ◌≤◌, nat_lt, Bool, true, false, ◌&&◌, List, [], ◌∷◌, ◌++◌, length, filter, None, All}
+use Rattle.std.specs.Prelude.{◌≡◌, ◌≢◌, ℕ, ◌+◌, ◌^◌, ◌<◌, ◌≤◌, nat_lt, Bool, true, false, ◌&&◌, List, [], ◌∷◌, ◌++◌, length, filter, Option, None, Some, All}
 use Rattle.std.specs.List.{list_all}
 use Rattle.report_text.specs.Names.{is_shown}
 use Rattle.rational.specs.Rational.{ℚ, zero_ℚ, ◌<ℚ◌}
 use Rattle.frac128.specs.Limit.{limit}
 use Rattle.frac128.specs.Width.{is_too_wide}
+use Rattle.lp_model.specs.declared.parts.Weight.{Weight}
+use Rattle.lp_model.specs.declared.parts.Weight.TheVariants.{Soft, Rigid}
 use Rattle.lp_model.specs.Program.{Program, row_at, noted_column}
+use Rattle.text_fields.specs.Numbers.{is_far}
 use Rattle.lp_model.specs.declared.members.Member.{Member}
 use Rattle.lp_model.specs.Members.{has, active_members, IsInOrder}
 use Rattle.lp_model.specs.MemberSets.{SetValue, IsMemberFor, empty_set}
@@ -27,10 +30,14 @@ use Rattle.certs.specs.declared.solving.Stop.{Stop}
 use Rattle.certs.specs.declared.solving.Stop.TheVariants.{Wide as TooWide, Pivots as Spent, Nodes as NodesSpent, Large, Memory}
 use Rattle.frac128.specs.declared.Wide.{Wide as Operation}
 use Rattle.report_text.specs.declared.report.Command.{Command}
-use Rattle.report_text.specs.declared.report.Command.TheVariants.{Check, Iis, Pivots, Nodes}
+use Rattle.report_text.specs.declared.report.Command.TheVariants.{Check, Iis, Edit, Undo, Pivots, Nodes}
+use Rattle.report_text.specs.declared.report.TargetKind.{TargetKind}
+use Rattle.report_text.specs.declared.report.EditKind.{EditKind}
+use Rattle.report_text.specs.declared.report.NamedEdit.{NamedEdit}
+use Rattle.report_text.specs.declared.report.Refusal.{Refusal}
 use Rattle.report_text.specs.declared.report.Core.{Core}
 use Rattle.report_text.specs.declared.report.Answer.{Answer}
-use Rattle.report_text.specs.declared.report.Answer.TheVariants.{Feasible, Infeasible, Irreducible, Done, Stopped}
+use Rattle.report_text.specs.declared.report.Answer.TheVariants.{Feasible, Infeasible, Irreducible, Done, Refused, Stopped}
 use Rattle.report_text.specs.declared.report.Entry.{Entry}
 use Rattle.report_text.specs.declared.report.Report.{Report}
 use Rattle.report_text.specs.Turns.{after, AllEntries}
@@ -155,16 +162,43 @@ IsAnswerFor model (Feasible p) = IsPointFor model p
 IsAnswerFor model (Infeasible set proof) = IsListed model set × IsProofFor model proof
 IsAnswerFor model (Irreducible core) = IsCoreFor model core
 IsAnswerFor model Done = Unit {0}
+IsAnswerFor model (Refused r) = Unit {0}
 IsAnswerFor model (Stopped stop) = IsStopFor model stop
 
 -- the most that a budget may be
 abbrev pub most_budget : ℕ
 most_budget = 1000000
 
--- a budget is within its bound
+-- A number that a side or a bound may be set to: it fits, and is no whole number of 10^20 or more, which says that there is to be none.
+abbrev pub IsLimit : Option ℚ → Type 0
+IsLimit None = Unit {0}
+IsLimit (Some v) = IsWithinLimit v × (v.den ≡ 1 → is_far v ≡ false)
+
+-- a weight that may be given: rigid, or a number above 0 that fits
+abbrev pub IsWeight : Weight → Type 0
+IsWeight (Soft v) = IsWithinLimit v × (zero_ℚ <ℚ v)
+IsWeight Rigid = Unit {0}
+
+-- its numbers may be given; a mark has no weight
+abbrev pub IsEditKind : EditKind → Type 0
+IsEditKind (EditKind.Drop t) = Unit {0}
+IsEditKind (EditKind.Keep t) = Unit {0}
+IsEditKind (EditKind.Weigh t w) = (t ≢ TargetKind.Whole) × IsWeight w
+IsEditKind (EditKind.SetSide side v) = IsLimit v
+IsEditKind (EditKind.SetBound side v) = IsLimit v
+IsEditKind (EditKind.SetMark whole) = Unit {0}
+
+-- and its name is a word; the program need not have it
+pub record IsNamedEdit (e : NamedEdit) : Type 0 where
+  pub word : is_word e.name ≡ true
+  pub kind : IsEditKind e.kind
+
+-- an edit is one that may be asked for, and a budget is within its bound
 abbrev pub IsCommand : Command → Type 0
 IsCommand Check = Unit {0}
 IsCommand (Iis method) = Unit {0}
+IsCommand (Edit e) = IsNamedEdit e
+IsCommand Undo = Unit {0}
 IsCommand (Pivots n) = n ≤ most_budget
 IsCommand (Nodes n) = n ≤ most_budget
 
@@ -176,6 +210,11 @@ can_answer Check (Stopped stop) = true
 can_answer (Iis method) (Feasible p) = true
 can_answer (Iis method) (Irreducible core) = true
 can_answer (Iis method) (Stopped stop) = true
+can_answer (Edit e) Done = true
+can_answer (Edit e) (Refused Refusal.UnknownName) = true
+can_answer (Edit e) (Refused Refusal.NoChange) = true
+can_answer Undo Done = true
+can_answer Undo (Refused Refusal.NothingToUndo) = true
 can_answer (Pivots n) Done = true
 can_answer (Nodes n) Done = true
 can_answer _ _ = false

@@ -1,5 +1,5 @@
 -- What a report says, phrase by phrase. A phrase is one line, which stands here without the byte 10 that ends it.
-use Rattle.std.specs.Prelude.{ℕ, suc, ◌++◌, Bool, true, false, cond, not, List, [], ◌∷◌, map, flat_map, filter, zip, codes, decimal}
+use Rattle.std.specs.Prelude.{ℕ, suc, ◌++◌, Bool, true, false, cond, not, List, [], ◌∷◌, map, flat_map, filter, zip, codes, decimal, Option, Some, None}
 use Rattle.std.specs.Fmt.{signed_decimal}
 use Rattle.frac128.specs.declared.Op.{Op}
 use Rattle.frac128.specs.declared.Op.TheVariants.{Plus, Minus, Times, Over}
@@ -13,9 +13,13 @@ use Rattle.rational.specs.Rational.{ℚ, zero_ℚ, eq_ℚ}
 use Rattle.frac128.specs.Printed.{printed}
 use Rattle.lp_model.specs.declared.parts.Note.{Note}
 use Rattle.lp_model.specs.declared.parts.Note.TheVariants.{LowerRemoved, LowerKept}
+use Rattle.lp_model.specs.declared.parts.Weight.{Weight}
+use Rattle.lp_model.specs.declared.parts.Weight.TheVariants.{Soft, Rigid}
 use Rattle.lp_model.specs.Program.{Program, row_at, column_at}
 use Rattle.lp_model.specs.declared.members.Member.{Member}
 use Rattle.lp_model.specs.declared.members.Member.TheVariants.{RowLo, RowUp, Lower, Upper, Whole}
+use Rattle.lp_model.specs.declared.members.Side.{Side}
+use Rattle.lp_model.specs.declared.members.Side.TheVariants.{Lo, Up}
 use Rattle.lp_model.specs.Members.{has, active_members}
 use Rattle.certs.specs.declared.evidence.Branch.{Branch}
 use Rattle.certs.specs.declared.evidence.Source.{Source}
@@ -28,9 +32,12 @@ use Rattle.certs.specs.declared.evidence.Proof.{Proof}
 use Rattle.report_text.specs.declared.report.Method.{Method}
 use Rattle.report_text.specs.declared.report.Method.TheVariants.{Deletion, Additive, Sensitivity}
 use Rattle.report_text.specs.declared.report.Command.{Command}
-use Rattle.report_text.specs.declared.report.Command.TheVariants.{Check, Iis, Pivots, Nodes}
+use Rattle.report_text.specs.declared.report.Command.TheVariants.{Check, Iis, Edit, Undo, Pivots, Nodes}
+use Rattle.report_text.specs.declared.report.TargetKind.{TargetKind}
+use Rattle.report_text.specs.declared.report.EditKind.{EditKind}
+use Rattle.report_text.specs.declared.report.Refusal.{Refusal}
 use Rattle.report_text.specs.declared.report.Answer.{Answer}
-use Rattle.report_text.specs.declared.report.Answer.TheVariants.{Feasible, Infeasible, Irreducible, Done, Stopped}
+use Rattle.report_text.specs.declared.report.Answer.TheVariants.{Feasible, Infeasible, Irreducible, Done, Refused, Stopped}
 use Rattle.report_text.specs.declared.report.Entry.{Entry}
 use Rattle.report_text.specs.declared.report.Report.{Report}
 use Rattle.report_text.specs.Turns.{after, gathered}
@@ -102,10 +109,50 @@ method_word Deletion = codes "deletion"
 method_word Additive = codes "additive"
 method_word Sensitivity = codes "sensitivity"
 
+-- the word for what an edit is of
+abbrev pub target_word : TargetKind → List ℕ
+target_word TargetKind.Row = codes "row"
+target_word TargetKind.RowLo = codes "rowlo"
+target_word TargetKind.RowUp = codes "rowup"
+target_word TargetKind.Lower = codes "lower"
+target_word TargetKind.Upper = codes "upper"
+target_word TargetKind.Whole = codes "whole"
+
+-- the word for a side or a bound
+abbrev pub side_word : Side → List ℕ
+side_word Lo = codes "lower"
+side_word Up = codes "upper"
+
+-- the number of a side or a bound that is set, or that there is to be none
+abbrev pub limit_word : Option ℚ → List ℕ
+limit_word None = codes "none"
+limit_word (Some v) = printed v
+
+-- a weight
+abbrev pub weight_word : Weight → List ℕ
+weight_word (Soft v) = printed v
+weight_word Rigid = codes "rigid"
+
+-- whether a column is to be whole
+abbrev pub mark_word : Bool → List ℕ
+mark_word true = codes "whole"
+mark_word false = codes "plain"
+
+-- the words of an edit of what has a name
+abbrev pub edit_words : List ℕ → EditKind → List (List ℕ)
+edit_words name (EditKind.Drop t) = codes "drop" ∷ target_word t ∷ name ∷ []
+edit_words name (EditKind.Keep t) = codes "keep" ∷ target_word t ∷ name ∷ []
+edit_words name (EditKind.Weigh t w) = codes "weight" ∷ target_word t ∷ name ∷ weight_word w ∷ []
+edit_words name (EditKind.SetSide side v) = codes "set" ∷ codes "row" ∷ name ∷ side_word side ∷ limit_word v ∷ []
+edit_words name (EditKind.SetBound side v) = codes "set" ∷ codes "column" ∷ name ∷ side_word side ∷ limit_word v ∷ []
+edit_words name (EditKind.SetMark whole) = codes "mark" ∷ name ∷ mark_word whole ∷ []
+
 -- the words of a command
 abbrev pub command_words : Command → List (List ℕ)
 command_words Check = codes "check" ∷ []
 command_words (Iis method) = codes "iis" ∷ method_word method ∷ []
+command_words (Edit e) = edit_words e.name e.kind
+command_words Undo = codes "undo" ∷ []
 command_words (Pivots n) = codes "budget" ∷ codes "pivots" ∷ decimal n ∷ []
 command_words (Nodes n) = codes "budget" ∷ codes "nodes" ∷ decimal n ∷ []
 
@@ -118,6 +165,9 @@ keyword_text Keyword.Feasible = codes "feasible"
 keyword_text Keyword.Infeasible = codes "infeasible"
 keyword_text Keyword.Irreducible = codes "irreducible"
 keyword_text Keyword.Done = codes "done"
+keyword_text Keyword.Unknown = codes "unknown"
+keyword_text Keyword.No = codes "no"
+keyword_text Keyword.Nothing = codes "nothing"
 keyword_text Keyword.Point = codes "point"
 keyword_text Keyword.Value = codes "value"
 keyword_text Keyword.Member = codes "member"
@@ -136,6 +186,17 @@ keyword_text Keyword.Step = codes "step"
 keyword_text Keyword.Operation = codes "operation"
 keyword_text Keyword.End = codes "end"
 keyword_text Keyword.Report = codes "report"
+
+-- the keyword of a refusal, and the words after it
+abbrev pub refusal_keyword : Refusal → Keyword
+refusal_keyword Refusal.UnknownName = Keyword.Unknown
+refusal_keyword Refusal.NoChange = Keyword.No
+refusal_keyword Refusal.NothingToUndo = Keyword.Nothing
+
+abbrev pub refusal_details : Refusal → List (List ℕ)
+refusal_details Refusal.UnknownName = codes "name" ∷ []
+refusal_details Refusal.NoChange = codes "change" ∷ []
+refusal_details Refusal.NothingToUndo = codes "to" ∷ codes "undo" ∷ []
 
 -- the keyword of a branch, by whether it says at most
 abbrev pub branch_keyword : Bool → Keyword
@@ -163,6 +224,7 @@ keyword_of Phrase.Feasible = Keyword.Feasible
 keyword_of Phrase.Infeasible = Keyword.Infeasible
 keyword_of Phrase.Irreducible = Keyword.Irreducible
 keyword_of Phrase.Done = Keyword.Done
+keyword_of (Phrase.Refused r) = refusal_keyword r
 keyword_of (Phrase.Stop s) = stop_keyword s
 keyword_of Phrase.Point = Keyword.Point
 keyword_of (Phrase.Value j v) = Keyword.Value
@@ -196,6 +258,7 @@ details model Phrase.Feasible = []
 details model Phrase.Infeasible = []
 details model Phrase.Irreducible = []
 details model Phrase.Done = []
+details model (Phrase.Refused r) = refusal_details r
 details model (Phrase.Stop s) = stop_details model s
 details model Phrase.Point = []
 details model (Phrase.Value j v) = column_name model j ∷ printed v ∷ []
@@ -278,11 +341,13 @@ answer_front model (Feasible p) = Phrase.Feasible ∷ point_phrases p
 answer_front model (Infeasible set proof) = Phrase.Infeasible ∷ (map Phrase.Member set.members ++ proof_phrases proof)
 answer_front model (Irreducible core) = Phrase.Irreducible ∷ (flat_map witness_phrases (zip core.members.members core.witnesses) ++ proof_phrases core.proof)
 answer_front model Done = []
+answer_front model (Refused r) = []
 answer_front model (Stopped stop) = stop_phrases model stop
 
 -- the last line of an answer
 abbrev pub answer_end : Answer → Phrase
 answer_end Done = Phrase.Done
+answer_end (Refused r) = Phrase.Refused r
 answer_end _ = Phrase.End
 
 -- an answer

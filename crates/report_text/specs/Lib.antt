@@ -1,4 +1,5 @@
 pub mod Names
+pub mod Edits
 pub mod Turns
 pub mod Grammar
 pub mod Form

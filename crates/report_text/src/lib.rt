@@ -9,4 +9,7 @@ pub use layout::{
     HEAD_LINES, MEMBER_LINES, OPENING_LINES, PROOF_LINES, places_law, witness_length,
 };
 pub use phrases::{Keyword, Phrase, StopPhrase};
-pub use report::{Answer, Command, Core, Entries, Entry, Method, Notes, Report, Script, Witnesses};
+pub use report::{
+    Answer, Command, Core, EditKind, Entries, Entry, Method, NamedEdit, Notes, Refusal, Report,
+    Script, TargetKind, Witnesses,
+};

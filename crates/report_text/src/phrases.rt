@@ -1,6 +1,6 @@
 //! What single lines of a report say.
 
-use crate::report::Command;
+use crate::report::{Command, Refusal};
 use certs::{Branch, Share, SiteKind};
 use frac128::{Frac, Wide};
 use lp_model::{Member, Note};
@@ -15,6 +15,9 @@ pub enum Keyword {
     Infeasible,
     Irreducible,
     Done,
+    Unknown,
+    No,
+    Nothing,
     Point,
     Value,
     Member,
@@ -59,6 +62,7 @@ pub enum Phrase {
     Infeasible,
     Irreducible,
     Done,
+    Refused(Refusal),
     Stop(StopPhrase),
     Point,
     Value(u32, Frac),

@@ -3,7 +3,7 @@ ghost use Rattle.std.specs.Prelude.{◌≡◌};
 
 use certs::{Point, Proof, Stop};
 use frac128::Frac;
-use lp_model::{Items, MemberSet, Note};
+use lp_model::{Items, MemberSet, Name, Note, Side, Weight};
 use std::marker::Model;
 
 /// How an irreducible set of members is looked for.
@@ -14,13 +14,45 @@ pub enum Method {
     Sensitivity,
 }
 
+/// What an edit is of: a row with those sides that it has, one side of a row, a bound of a column, or its mark.
+#[derive(Clone, Copy, PartialEq, Eq, Debug)]
+pub enum TargetKind {
+    Row,
+    RowLo,
+    RowUp,
+    Lower,
+    Upper,
+    Whole,
+}
+
+/// What an edit asks for: members are dropped, kept, or weighed; a side of a row or a bound of a column is set to a number,
+/// or taken away; or a column is marked as whole, or not.
+#[derive(Clone, Copy, PartialEq, Eq, Debug)]
+pub enum EditKind {
+    Drop(TargetKind),
+    Keep(TargetKind),
+    Weigh(TargetKind, Weight),
+    SetSide(Side, Option<Frac>),
+    SetBound(Side, Option<Frac>),
+    SetMark(bool),
+}
+
+/// An edit with the name of the row or the column that it is of. The program may have none of that name.
+#[derive(Drop)]
+pub struct NamedEdit {
+    pub name: Name,
+    pub kind: EditKind,
+}
+
 /// What is asked of a program: whether some point satisfies its active members, or which of them no point satisfies
-/// though each part of them has one. Or how many pivots each later run may make, or how many nodes each later tree may
-/// have, up to 1,000,000.
+/// though each part of them has one; an edit of it, or that the last edit that stands is taken back. Or how many pivots
+/// each later run may make, or how many nodes each later tree may have, up to 1,000,000.
 #[derive(Drop)]
 pub enum Command {
     Check,
     Iis(Method),
+    Edit(NamedEdit),
+    Undo,
     Pivots(u64),
     Nodes(u64),
 }
@@ -55,14 +87,25 @@ pub struct Core {
     pub price: Option<(Frac, Point)>,
 }
 
+/// Why an edit is refused, or an undo: the program has no row or column of the name; the program would stay as it is; or no
+/// edit stands.
+#[derive(Clone, Copy, PartialEq, Eq, Debug)]
+pub enum Refusal {
+    UnknownName,
+    NoChange,
+    NothingToUndo,
+}
+
 /// What a report answers to a command: a point, members with a proof that no point satisfies them, or an irreducible
-/// set; that a command is done; or why a solve stopped, which is never for want of memory. Members are the printed ones.
+/// set; that a command is done, or refused; or why a solve stopped, which is never for want of memory. Members are the
+/// printed ones.
 #[derive(Drop)]
 pub enum Answer {
     Feasible(Point),
     Infeasible(MemberSet, Proof),
     Irreducible(Core),
     Done,
+    Refused(Refusal),
     Stopped(Stop),
 }
 

@@ -10,7 +10,7 @@ mod untold;
 
 use crate::rows::{Row, read_row};
 use crate::runs::{Outcome, run_row, verify_row};
-use crate::untold::{is_long_refused, is_steady_refused};
+use crate::untold::{is_full_refused, is_long_refused, is_steady_refused};
 use iis_edge::{HostShelf, Shelf};
 use std::alloc::{AllocError, Global};
 use std::{env, io};
@@ -82,7 +82,8 @@ fn main(rt: HostRuntime) -> io::Result<()> {
     let model = is_long_refused(alloc, "m.mps", "too long model\n")?;
     let script = is_long_refused(alloc, "s.txt", "too long script\n")?;
     println!(rt;
-        "long model {model}, long script {script}, steady {}",
+        "long model {model}, long script {script}, full script {}, steady {}",
+        is_full_refused(alloc)?,
         is_steady_refused(alloc)?
     )
 }

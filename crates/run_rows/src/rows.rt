@@ -30,12 +30,26 @@ impl Row {
         is_analysis && self.status < 2
     }
 
-    /// Whether the check of the report accepts it, with the status of the analysis, or comes to a sum that is too wide.
+    /// Whether the check of the report accepts it, with status 1 just where it has a stop, or comes to a sum that is too
+    /// wide.
     pub fn is_accepted(&self, checked: &Outcome) -> bool {
+        let status = u8::from(has_stop(self.written.as_slice()));
         let written = checked.written.as_slice();
-        let accepted = checked.status == self.status && written.starts_with(b"accepted settled ");
+        let accepted = checked.status == status && written.starts_with(b"accepted settled ");
         accepted || checked.status == 8 && written.starts_with(b"wide line ")
     }
+}
+
+// Whether a line of a report says that a solve stopped.
+fn is_stop(line: &[u8]) -> bool {
+    line == b"too wide".as_slice()
+        || line == b"pivots spent".as_slice()
+        || line == b"nodes spent".as_slice()
+}
+
+// Whether some answer of a report is a stop.
+fn has_stop(report: &[u8]) -> bool {
+    report.split(|byte| *byte == b'\n').any(is_stop)
 }
 
 // The words of a line.

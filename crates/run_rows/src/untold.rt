@@ -49,6 +49,33 @@ pub fn is_long_refused(alloc: Global, name: &str, line: &str) -> Result<bool, Al
     Ok(status == 3 && out.bytes() == line.as_bytes())
 }
 
+/// Whether the run refuses a script of one command too many, at the line that holds it.
+///
+/// # Errors
+///
+/// Where there is no memory for the files.
+pub fn is_full_refused(alloc: Global) -> Result<bool, AllocError> {
+    let mut script = Vec::new(alloc);
+    for _ in 0..10_001 {
+        script.extend_from_slice(b"undo\n")?;
+    }
+    let mut files = Vec::new(alloc);
+    files.push(model(alloc)?)?;
+    files.push(File {
+        name: "s.txt".as_bytes().to_vec(alloc)?,
+        bytes: script,
+    })?;
+    let mut shelf = MemShelf::new(alloc, files, Vec::new(alloc));
+    let mut out = MemSink::new(alloc, 100, Vec::new(alloc))?;
+    let status = run(
+        alloc,
+        words(alloc, "analyse")?.as_slice(),
+        &mut shelf,
+        &mut out,
+    );
+    Ok(status == 6 && out.bytes() == b"script refused line 10001\n".as_slice())
+}
+
 /// Whether the check over a shelf and a sink that tell nothing refuses a report, which is an empty file.
 ///
 /// # Errors

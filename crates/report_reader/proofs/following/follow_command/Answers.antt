@@ -15,3 +15,9 @@ returns-in-Pivots c = λ model. c.follow_budget.ensures.pivots model c.in-Pivots
 
 pub returns-in-Nodes : goal.returns-in-Nodes
 returns-in-Nodes c = λ model. c.follow_budget-in-Nodes.ensures.nodes model c.in-Nodes.field-0 ∙ ap (λ (d : Command). extended model d Part.Nothing c.args.phrase) (sym c.in-Nodes.is)
+
+pub returns-in-Edit : goal.returns-in-Edit
+returns-in-Edit c = λ model. c.follow_edit.ensures model c.in-Edit.field-0 ∙ ap (λ (d : Command). extended model d Part.Nothing c.args.phrase) (sym c.in-Edit.is)
+
+pub returns-in-Undo : goal.returns-in-Undo
+returns-in-Undo c = λ model. c.follow_undo.ensures model ∙ ap (λ (d : Command). extended model d Part.Nothing c.args.phrase) (sym c.in-Undo.is)

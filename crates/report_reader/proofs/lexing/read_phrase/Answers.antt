@@ -1,7 +1,6 @@
 use Rattle.std.proofs.Common.{sym, subst, ◌∙◌}
-use Rattle.report_reader.specs.Parts.{parts}
 use Rattle.report_text.specs.Grammar.{keyword_of}
-use Rattle.report_reader.proofs.Lexed.{lone_so, keyword_is, found_so}
+use Rattle.report_reader.proofs.Lexed.{lone_so, keyword_is, found_ok}
 use Rattle.report_reader.specs.Phrases.{Says}
 use Rattle.report_reader.specs.Words.{Finds}
 use Rattle.report_reader.proofs.lexing.read_phrase.Goals as goal
@@ -17,5 +16,5 @@ returns-in_default-leading_keyword c = record {
 
 pub returns : goal.returns
 returns c =
-    found_so c.args.model.now c.args.line.now c.in-Some.first.now c.in-Some.rest.now c.in-Some.ensures.parts c.in-Some-leading_keyword.keyword c.read_details.result (sym c.leading_keyword.ensures ∙ c.in-Some-leading_keyword.is)
-    (c.read_details.ensures (parts 32 c.in-Some.rest.now) c.split_words.ensures)
+    found_ok c.args.model.now c.args.line.now c.in-Some.first.now c.in-Some.rest.now c.in-Some.ensures.parts c.in-Some-leading_keyword.keyword c.split_words.result c.read_details.result
+    (sym c.leading_keyword.ensures ∙ c.in-Some-leading_keyword.is) c.split_words.ensures c.read_details.ensures

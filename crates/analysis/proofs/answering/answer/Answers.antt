@@ -1,0 +1,35 @@
+use Rattle.std.proofs.Common.{sym, subst}
+use Rattle.std.specs.Prelude.{IfOk}
+use Rattle.report_text.specs.declared.report.Command.{Command}
+use Rattle.analysis.specs.Answers.{IsNext, budgets_of}
+use Rattle.analysis.proofs.Nexts.{check_nexts, search_nexts, budget_next, edit_nexts, undo_next, known_reply, known_replies}
+use Rattle.analysis.proofs.answering.answer.Goals as goal
+
+pub returns-in-Edit-clause-next : goal.returns-in-Edit-clause-next
+returns-in-Edit-clause-next c =
+    subst (λ (command : Command). IfOk c.take_edit.result (IsNext c.args.session.now c.take_edit.new.self (budgets_of c.args.budgets) command)) (sym c.in-Edit.is)
+    (edit_nexts c.args.session.now (budgets_of c.args.budgets) c.in-Edit.edit c.take_edit.new.self c.take_edit.result c.take_edit.ensures.taken)
+
+pub returns-in-Edit-clause-known : goal.returns-in-Edit-clause-known
+returns-in-Edit-clause-known c = known_replies c.take_edit.new.self.model c.take_edit.result c.take_edit.ensures.reply
+
+pub returns-in-Undo-clause-next : goal.returns-in-Undo-clause-next
+returns-in-Undo-clause-next c =
+    subst (λ (command : Command). IsNext c.args.session.now c.take_undo.new.self (budgets_of c.args.budgets) command c.take_undo.result) (sym c.in-Undo.is)
+    (undo_next c.args.session.now (budgets_of c.args.budgets) c.take_undo.result c.take_undo.new.self c.take_undo.ensures.taken)
+
+pub returns-in-Undo-clause-known : goal.returns-in-Undo-clause-known
+returns-in-Undo-clause-known c = known_reply c.take_undo.new.self.model c.take_undo.result c.take_undo.ensures.reply
+
+pub returns-in-Check-clause-next : goal.returns-in-Check-clause-next
+returns-in-Check-clause-next c =
+    subst (λ (command : Command). IfOk c.check.result (IsNext c.args.session.now c.args.session.now (budgets_of c.args.budgets) command)) (sym c.in-Check.is)
+    (check_nexts c.args.session.now (budgets_of c.args.budgets) c.model.result.now c.check.result c.model.ensures c.check.ensures.right)
+
+pub returns-in-Iis-clause-next : goal.returns-in-Iis-clause-next
+returns-in-Iis-clause-next c =
+    subst (λ (command : Command). IfOk c.search.result (IsNext c.args.session.now c.args.session.now (budgets_of c.args.budgets) command)) (sym c.in-Iis.is)
+    (search_nexts c.args.session.now (budgets_of c.args.budgets) c.in-Iis.method c.model-in-Iis.result.now c.search.result c.model-in-Iis.ensures c.search.ensures.right)
+
+pub returns-in-Pivots-clause-next : goal.returns-in-Pivots-clause-next
+returns-in-Pivots-clause-next c = budget_next c.args.session.now (budgets_of c.args.budgets) c.args.command.now c.in-Pivots.is

@@ -1,0 +1,3 @@
+pub mod Unchanged
+pub mod Standing
+pub mod Taken
