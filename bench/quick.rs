@@ -213,12 +213,21 @@ fn product(first: i128, second: i128) -> Option<i128> {
     }
 }
 
-fn common_divisor(divisor: i128, number: i128) -> Option<i128> {
-    divisor.checked_div(Frac::new(number, divisor)?.den as i128)
+fn quotient(number: i128, divisor: i128) -> Option<i128> {
+    if let Ok(left) = i64::try_from(number)
+        && let Ok(right) = i64::try_from(divisor)
+        && let Some(quotient) = left.checked_div(right)
+    {
+        return Some(i128::from(quotient));
+    }
+    number.checked_div(divisor)
 }
 
-fn moved(value: Frac, factor: i128, scale: i128, step: Frac) -> Option<Frac> {
-    value.plus(Frac::new(factor, scale)?.times(step)?)
+fn common_divisor(divisor: i128, number: i128) -> Option<i128> {
+    if divisor == 1 {
+        return Some(1);
+    }
+    quotient(divisor, Frac::new(number, divisor)?.den as i128)
 }
 
 // ---- rows of the table
@@ -319,8 +328,8 @@ impl TableRow {
 
     fn with_row(&self, sum: &mut Entries, other: &TableRow, factor: i128) -> Option<TableRow> {
         let shared = common_divisor(other.scale, factor)?;
-        let times = other.scale.checked_div(shared)?;
-        let other_times = factor.checked_div(shared)?;
+        let times = quotient(other.scale, shared)?;
+        let other_times = quotient(factor, shared)?;
         sum.clear();
         self.put_sum(sum, times, other, other_times)?;
         divided(self.base, product(times, self.scale)?, sum)
@@ -383,10 +392,10 @@ fn divided(base: u32, scale: i128, entries: &Entries) -> Option<TableRow> {
     let mut factors = entries.factors.to_vec();
     if divisor > 1 {
         for factor in &mut factors {
-            *factor = factor.checked_div(divisor)?;
+            *factor = quotient(*factor, divisor)?;
         }
     }
-    Some(TableRow::new(base, scale.checked_div(divisor)?, Entries { variables, factors }))
+    Some(TableRow::new(base, quotient(scale, divisor)?, Entries { variables, factors }))
 }
 
 fn divisor_of(scale: i128, factors: &[i128]) -> Option<i128> {
@@ -434,6 +443,38 @@ fn missed(limits: Limits, value: Frac) -> Option<Side> {
         return Some(Side::Up);
     }
     None
+}
+
+// ---- moves
+
+fn moved(value: Frac, factor: i128, scale: i128, step: Frac) -> Option<Frac> {
+    value.plus(Frac::new(factor, scale)?.times(step)?)
+}
+
+fn would_miss(limits: Limits, value: Frac, factor: i128, scale: i128, step: Frac) -> Option<bool> {
+    if let Some(misses) = would_miss_by_products(limits, value, factor, scale, step) {
+        return Some(misses);
+    }
+    let value = moved(value, factor, scale, step)?;
+    Some(missed(limits, value).is_some())
+}
+
+fn would_miss_by_products(limits: Limits, value: Frac, factor: i128, scale: i128, step: Frac) -> Option<bool> {
+    let share = product(scale, step.den as i128)?;
+    let way = product(product(factor, step.num)?, value.den as i128)?;
+    let num = product(value.num, share)?.checked_add(way)?;
+    let den = product(value.den as i128, share)?;
+    if let Some(lo) = limits.lo
+        && product(num, lo.den as i128)? < product(lo.num, den)?
+    {
+        return Some(true);
+    }
+    if let Some(up) = limits.up
+        && product(num, up.den as i128)? > product(up.num, den)?
+    {
+        return Some(true);
+    }
+    Some(false)
 }
 
 // ---- the table
@@ -522,15 +563,19 @@ impl Table {
         let mut count = now.saturating_add(u32::from(missed(known.limits, value).is_some()));
         let mut left = known.count;
         for row in &self.rows {
-            if left == 0 || count > most.saturating_add(left) {
+            let Some(factor) = row.factor_of(variable) else {
+                continue;
+            };
+            if count >= most.saturating_add(left) {
                 break;
             }
-            if let Some(factor) = row.factor_of(variable) {
-                let basic = self.variables[row.base as usize];
-                let value = moved(basic.value, factor, row.scale, step)?;
-                count = count.saturating_add(u32::from(missed(basic.limits, value).is_some()));
-                count = count.saturating_sub(u32::from(basic.missed.is_some()));
-                left -= 1;
+            let basic = self.variables[row.base as usize];
+            let misses = would_miss(basic.limits, basic.value, factor, row.scale, step)?;
+            count = count.saturating_add(u32::from(misses));
+            count = count.saturating_sub(u32::from(basic.missed.is_some()));
+            left = left.saturating_sub(1);
+            if left == 0 {
+                break;
             }
         }
         Some(count)
@@ -556,10 +601,13 @@ impl Table {
     }
 }
 
-fn step_to(table: &Table, row: &TableRow, entry: Entry, side: Side) -> Option<Frac> {
+fn way_to(table: &Table, row: &TableRow, side: Side) -> Option<Frac> {
     let basic = table.variables[row.base as usize];
-    let way = limit_on(basic.limits, side)?.minus(basic.value)?;
-    way.times(Frac::new(row.scale, entry.factor)?)
+    limit_on(basic.limits, side)?.minus(basic.value)
+}
+
+fn step_for(way: Frac, row: &TableRow, factor: i128) -> Option<Frac> {
+    way.times(Frac::new(row.scale, factor)?)
 }
 
 // ---- the start
@@ -603,9 +651,13 @@ fn put_row(table: &mut Table, base: u32, terms: &[Term]) -> Option<()> {
 }
 
 fn sum(table: &Table, terms: &[Term]) -> Option<Frac> {
-    let mut sum = Frac::whole(0);
+    let zero = Frac::whole(0);
+    let mut sum = zero;
     for term in terms {
-        sum = sum.plus(term.factor.times(table.variables[term.column as usize].value)?)?;
+        let value = table.variables[term.column as usize].value;
+        if value != zero {
+            sum = sum.plus(term.factor.times(value)?)?;
+        }
     }
     Some(sum)
 }
@@ -614,8 +666,11 @@ fn whole_row(base: u32, terms: &[Term]) -> Option<TableRow> {
     let scale = common_denominator(terms)?;
     let mut entries = Entries::with_room(terms.len());
     for term in terms {
-        let times = scale.checked_div(term.factor.den as i128)?;
+        let times = quotient(scale, term.factor.den as i128)?;
         entries.push(term.column, product(term.factor.num, times)?);
+    }
+    if scale == 1 {
+        return Some(TableRow::new(base, scale, entries));
     }
     divided(base, scale, &entries)
 }
@@ -624,8 +679,11 @@ fn common_denominator(terms: &[Term]) -> Option<i128> {
     let mut common: i128 = 1;
     for term in terms {
         let denominator = term.factor.den as i128;
+        if denominator == 1 {
+            continue;
+        }
         let shared = common_divisor(common, denominator)?;
-        common = product(common.checked_div(shared)?, denominator)?;
+        common = product(quotient(common, shared)?, denominator)?;
     }
     Some(common)
 }
@@ -694,12 +752,13 @@ fn keep(best: &mut Vec<(u32, u32)>, candidate: (u32, u32)) {
 
 fn entering(table: &Table, place: usize, side: Side, candidates: &[(u32, u32)]) -> Option<Pivot> {
     let row = &table.rows[place];
+    let way = way_to(table, row, side)?;
     let now = table.missed_now();
     let mut best = None;
     let mut least = u32::MAX;
     for (_, variable) in candidates {
         let variable = *variable;
-        let Some((step, missed)) = after(table, row, side, variable, now, least) else {
+        let Some((step, missed)) = after(table, row, way, variable, now, least) else {
             continue;
         };
         if missed < least {
@@ -713,9 +772,8 @@ fn entering(table: &Table, place: usize, side: Side, candidates: &[(u32, u32)]) 
     best
 }
 
-fn after(table: &Table, row: &TableRow, side: Side, variable: u32, now: u32, most: u32) -> Option<(Frac, u32)> {
-    let factor = row.factor_of(variable)?;
-    let step = step_to(table, row, Entry { variable, factor }, side)?;
+fn after(table: &Table, row: &TableRow, way: Frac, variable: u32, now: u32, most: u32) -> Option<(Frac, u32)> {
+    let step = step_for(way, row, row.factor_of(variable)?)?;
     Some((step, table.missed_after(variable, step, now, most)?))
 }
 
@@ -826,9 +884,9 @@ fn read_off(table: &Table) -> Option<Step> {
     let blocked = table.blocked?;
     let row = &table.rows[blocked.place];
     let entry = freed(table, row, blocked)?;
-    let step = step_to(table, row, entry, blocked.side)?;
+    let step = step_for(way_to(table, row, blocked.side)?, row, entry.factor)?;
     let now = table.missed_now();
-    if table.missed_after(entry.variable, step, now, 0)? > 0 {
+    if table.missed_after(entry.variable, step, now, 1)? > 0 {
         return None;
     }
     Some(Step { variable: entry.variable, step })

@@ -12,3 +12,4 @@ mod table;
 
 pub use dictionaries::{Dictionary, PivotStop};
 pub use forming::is_formed;
+pub use numbers::{difference, product, quotient, sum};

@@ -13,8 +13,8 @@ pub(crate) fn is_zero<N: Exact>(a: N) -> bool
     a == N::zero()
 }
 
-/// The product, or the operation where it is too wide.
-pub(crate) fn product<N: Exact>(a: N, b: N) -> Result<N, Wide>
+/// The product, or the operation where it is too wide. None is made where an operand is 0.
+pub fn product<N: Exact>(a: N, b: N) -> Result<N, Wide>
     ensures { MatchResult result
         (λ r. (N.value r ≡ N.value a *ℚ N.value b) × (first_wide N.most (counted Op.Times (N.value a) (N.value b)) ≡ None))
         (λ w. first_wide N.most (counted Op.Times (N.value a) (N.value b)) ≡ Some w) }
@@ -28,8 +28,8 @@ pub(crate) fn product<N: Exact>(a: N, b: N) -> Result<N, Wide>
     a.times(b)
 }
 
-/// The sum, or the operation where it is too wide.
-pub(crate) fn sum<N: Exact>(a: N, b: N) -> Result<N, Wide>
+/// The sum, or the operation where it is too wide. None is made where an operand is 0.
+pub fn sum<N: Exact>(a: N, b: N) -> Result<N, Wide>
     ensures { MatchResult result
         (λ r. (N.value r ≡ N.value a +ℚ N.value b) × (first_wide N.most (counted Op.Plus (N.value a) (N.value b)) ≡ None))
         (λ w. first_wide N.most (counted Op.Plus (N.value a) (N.value b)) ≡ Some w) }
@@ -43,8 +43,8 @@ pub(crate) fn sum<N: Exact>(a: N, b: N) -> Result<N, Wide>
     a.plus(b)
 }
 
-/// The difference, or the operation where it is too wide.
-pub(crate) fn difference<N: Exact>(a: N, b: N) -> Result<N, Wide>
+/// The difference, or the operation where it is too wide. None is made where an operand is 0.
+pub fn difference<N: Exact>(a: N, b: N) -> Result<N, Wide>
     ensures { MatchResult result
         (λ r. (N.value r ≡ N.value a -ℚ N.value b) × (first_wide N.most (counted Op.Minus (N.value a) (N.value b)) ≡ None))
         (λ w. first_wide N.most (counted Op.Minus (N.value a) (N.value b)) ≡ Some w) }
@@ -58,8 +58,8 @@ pub(crate) fn difference<N: Exact>(a: N, b: N) -> Result<N, Wide>
     a.minus(b)
 }
 
-/// The quotient by a number that is not 0, or the operation where it is too wide.
-pub(crate) fn quotient<N: Exact>(a: N, b: N) -> Result<N, Wide>
+/// The quotient by a number that is not 0, or the operation where it is too wide. None is made where the dividend is 0.
+pub fn quotient<N: Exact>(a: N, b: N) -> Result<N, Wide>
     requires { N.value b ≢ zero_ℚ }
     ensures { MatchResult result
         (λ r. (N.value r ≡ N.value a /ℚ N.value b) × (first_wide N.most (counted Op.Over (N.value a) (N.value b)) ≡ None))

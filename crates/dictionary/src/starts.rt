@@ -175,7 +175,7 @@ pub(crate) fn fill_rows<N: Exact>(entries: &mut [N], width: usize, rows: &[Row])
 pub(crate) fn zeros<N: Exact>(alloc: Global, count: usize) -> Result<Vec<N>, AllocError>
     ensures { IfOk result (λ z. (length z.items ≡ count) × ((p : ℕ) → p < count → at (map N.value z.items) p ≡ zero_ℚ)) }
 {
-    let mut numbers = Vec::new(alloc);
+    let mut numbers = Vec::with_capacity(alloc, count)?;
     for _ in 0..count {
         numbers.push(N::zero())?;
     }

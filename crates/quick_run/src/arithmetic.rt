@@ -9,13 +9,21 @@ pub(crate) fn product(first: i128, second: i128) -> Option<i128> {
     }
 }
 
-/// The greatest number that divides both; `divisor` is above 0.
-pub(crate) fn common_divisor(divisor: i128, number: i128) -> Option<i128> {
-    divisor.checked_div(Frac::new(number, divisor).ok()?.den())
+/// The quotient without its rest, where it fits.
+pub(crate) fn quotient(number: i128, divisor: i128) -> Option<i128> {
+    if let Ok(left) = i64::try_from(number)
+        && let Ok(right) = i64::try_from(divisor)
+        && let Some(quotient) = left.checked_div(right)
+    {
+        return Some(i128::from(quotient));
+    }
+    number.checked_div(divisor)
 }
 
-/// The value of a basic variable after a nonbasic one, which counts `factor / scale` times in it, moved by a step.
-pub(crate) fn moved(value: Frac, factor: i128, scale: i128, step: Frac) -> Option<Frac> {
-    let slope = Frac::new(factor, scale).ok()?;
-    value.plus(slope.times(step).ok()?).ok()
+/// The greatest number that divides both; `divisor` is above 0.
+pub(crate) fn common_divisor(divisor: i128, number: i128) -> Option<i128> {
+    if divisor == 1 {
+        return Some(1);
+    }
+    quotient(divisor, Frac::new(number, divisor).ok()?.den())
 }

@@ -1,8 +1,7 @@
 //! Which variable leaves the basis, and which one enters.
-use crate::entries::Entry;
 use crate::limits::{limit_on, opposite};
 use crate::rows::TableRow;
-use crate::tables::{Table, step_to};
+use crate::tables::{Table, step_for, way_to};
 use certs::Side;
 use frac128::Frac;
 use std::alloc::Global;
@@ -98,12 +97,13 @@ pub(crate) fn entering(
     candidates: &[(u32, u32)],
 ) -> Option<Pivot> {
     let row = table.rows.get(place)?;
+    let way = way_to(table, row, side)?;
     let now = table.missed_now();
     let mut best = None;
     let mut least = u32::MAX;
     for candidate in candidates {
         let variable = candidate.1;
-        let Some((step, missed)) = after(table, row, side, variable, now, least) else {
+        let Some((step, missed)) = after(table, row, way, variable, now, least) else {
             continue;
         };
         if missed < least {
@@ -121,17 +121,16 @@ pub(crate) fn entering(
     best
 }
 
-// The step of a variable that brings the basic one of a row to its limit, and how many then miss a limit, where `now` basic
-// ones do before: more than `most` where they are more than that.
+// The step of a variable that moves the basic one of a row by a way, and how many then miss a limit, where `now` basic ones do
+// before; `most` or more where they are not fewer than that.
 fn after(
     table: &Table,
     row: &TableRow,
-    side: Side,
+    way: Frac,
     variable: u32,
     now: u32,
     most: u32,
 ) -> Option<(Frac, u32)> {
-    let factor = row.factor_of(variable)?;
-    let step = step_to(table, row, Entry { variable, factor }, side)?;
+    let step = step_for(way, row, row.factor_of(variable)?)?;
     Some((step, table.missed_after(variable, step, now, most)?))
 }

@@ -6,6 +6,7 @@ mod choices;
 mod combinations;
 mod entries;
 mod limits;
+mod moves;
 mod pivots;
 mod points;
 mod rows;

@@ -1,12 +1,12 @@
 //! Points that the table shows.
 ghost use Rattle.std.specs.Prelude.{◌≡◌, IfSome, length};
 
-use crate::arithmetic::moved;
 use crate::choices::side_of;
 use crate::entries::Entry;
 use crate::limits::limit_on;
+use crate::moves::moved;
 use crate::rows::TableRow;
-use crate::tables::{Blocked, Table, step_to};
+use crate::tables::{Blocked, Table, step_for, way_to};
 use certs::{Point, Values};
 use frac128::Frac;
 use lp_model::Model;
@@ -62,9 +62,9 @@ pub(crate) fn read_off(table: &Table) -> Option<Step> {
     let blocked = table.blocked?;
     let row = table.rows.get(blocked.place)?;
     let entry = freed(table, row, blocked)?;
-    let step = step_to(table, row, entry, blocked.side)?;
+    let step = step_for(way_to(table, row, blocked.side)?, row, entry.factor)?;
     let now = table.missed_now();
-    if table.missed_after(entry.variable, step, now, 0)? > 0 {
+    if table.missed_after(entry.variable, step, now, 1)? > 0 {
         return None;
     }
     Some(Step {

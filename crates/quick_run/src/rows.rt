@@ -1,5 +1,5 @@
 //! Rows of the table: whole numbers over one denominator.
-use crate::arithmetic::{common_divisor, product};
+use crate::arithmetic::{common_divisor, product, quotient};
 use crate::entries::{Entries, Entry, Rest};
 use std::alloc::Global;
 
@@ -16,8 +16,8 @@ pub(crate) struct TableRow {
 }
 
 impl TableRow {
-    // The row of these entries.
-    fn new(base: u32, scale: i128, entries: Entries) -> TableRow {
+    /// The row of these entries, which no number above 1 divides with the scale.
+    pub(crate) fn new(base: u32, scale: i128, entries: Entries) -> TableRow {
         let mut residues: u64 = 0;
         for variable in entries.variables.iter() {
             residues |= residue(*variable);
@@ -68,8 +68,8 @@ impl TableRow {
         factor: i128,
     ) -> Option<TableRow> {
         let shared = common_divisor(other.scale, factor)?;
-        let times = other.scale.checked_div(shared)?;
-        let other_times = factor.checked_div(shared)?;
+        let times = quotient(other.scale, shared)?;
+        let other_times = quotient(factor, shared)?;
         sum.clear();
         self.put_sum(sum, times, other, other_times)?;
         divided(alloc, self.base, product(times, self.scale)?, sum)
@@ -168,11 +168,11 @@ pub(crate) fn divided(
     let mut factors = Vec::from_slice(alloc, entries.factors.as_slice()).ok()?;
     if divisor > 1 {
         for factor in factors.iter_mut() {
-            *factor = factor.checked_div(divisor)?;
+            *factor = quotient(*factor, divisor)?;
         }
     }
     let stored = Entries { variables, factors };
-    Some(TableRow::new(base, scale.checked_div(divisor)?, stored))
+    Some(TableRow::new(base, quotient(scale, divisor)?, stored))
 }
 
 // The greatest number that divides a scale and all factors.

@@ -2,7 +2,7 @@
 ghost use Rattle.std.specs.Prelude.{◌≡◌};
 ghost use Rattle.certs.specs.Checks.{IsSetOf};
 
-use crate::arithmetic::{common_divisor, product};
+use crate::arithmetic::{common_divisor, product, quotient};
 use crate::entries::Entries;
 use crate::limits::{column_limits, missed, row_limits};
 use crate::rows::{TableRow, divided};
@@ -68,9 +68,13 @@ fn put_row(alloc: Global, table: &mut Table, base: u32, terms: &[Term]) -> Optio
 
 // The sum of the terms.
 fn sum(table: &Table, terms: &[Term]) -> Option<Frac> {
-    let mut sum = Frac::whole(0);
+    let zero = Frac::whole(0);
+    let mut sum = zero;
     for term in terms {
         let value = table.variable(term.column)?.value;
+        if value == zero {
+            continue;
+        }
         sum = sum.plus(term.factor.times(value).ok()?).ok()?;
     }
     Some(sum)
@@ -81,8 +85,11 @@ fn whole_row(alloc: Global, base: u32, terms: &[Term]) -> Option<TableRow> {
     let scale = common_denominator(terms)?;
     let mut entries = Entries::with_room(alloc, terms.len())?;
     for term in terms {
-        let times = scale.checked_div(term.factor.den())?;
+        let times = quotient(scale, term.factor.den())?;
         entries.push(term.column, product(term.factor.num(), times)?)?;
+    }
+    if scale == 1 {
+        return Some(TableRow::new(base, scale, entries));
     }
     divided(alloc, base, scale, &entries)
 }
@@ -92,8 +99,11 @@ fn common_denominator(terms: &[Term]) -> Option<i128> {
     let mut common: i128 = 1;
     for term in terms {
         let denominator = term.factor.den();
+        if denominator == 1 {
+            continue;
+        }
         let shared = common_divisor(common, denominator)?;
-        common = product(common.checked_div(shared)?, denominator)?;
+        common = product(quotient(common, shared)?, denominator)?;
     }
     Some(common)
 }

@@ -2,9 +2,8 @@
 ghost use Rattle.std.specs.Prelude.{◌≡◌};
 ghost use Rattle.certs.specs.Checks.{IsSetOf};
 
-use crate::arithmetic::moved;
-use crate::entries::Entry;
 use crate::limits::{are_crossed, column_limits, limit_on, missed, row_limits};
+use crate::moves::{moved, would_miss};
 use crate::rows::TableRow;
 use certs::{Branch, Limits, MemberSet, Side};
 use frac128::Frac;
@@ -159,8 +158,8 @@ impl Table {
         count
     }
 
-    /// How many variables would miss a limit after a nonbasic one moved by a step, where `now` basic ones do before: more than
-    /// `most` where they are more than that. Only the rows in which it counts are looked at.
+    /// How many variables would miss a limit after a nonbasic one moved by a step, where `now` basic ones do before; `most` or
+    /// more where they are not fewer than that. Only the rows in which it counts are looked at.
     pub(crate) fn missed_after(
         &self,
         variable: u32,
@@ -173,17 +172,20 @@ impl Table {
         let mut count = now.saturating_add(u32::from(missed(known.limits, value).is_some()));
         let mut left = known.count;
         for row in self.rows.iter() {
-            if left == 0 || count > most.saturating_add(left) {
+            let Some(factor) = row.factor_of(variable) else {
+                continue;
+            };
+            if count >= most.saturating_add(left) {
                 break;
             }
-            if let Some(factor) = row.factor_of(variable) {
-                let basic = self.variable(row.base)?;
-                let value = moved(basic.value, factor, row.scale, step)?;
-                let misses = missed(basic.limits, value).is_some();
-                count = count
-                    .saturating_add(u32::from(misses))
-                    .saturating_sub(u32::from(basic.missed.is_some()));
-                left -= 1;
+            let basic = self.variable(row.base)?;
+            let misses = would_miss(basic.limits, basic.value, factor, row.scale, step)?;
+            count = count
+                .saturating_add(u32::from(misses))
+                .saturating_sub(u32::from(basic.missed.is_some()));
+            left = left.saturating_sub(1);
+            if left == 0 {
+                break;
             }
         }
         Some(count)
@@ -213,9 +215,13 @@ impl Table {
     }
 }
 
-/// The step of a nonbasic variable that brings the basic one of a row to its limit on a side.
-pub(crate) fn step_to(table: &Table, row: &TableRow, entry: Entry, side: Side) -> Option<Frac> {
+/// The way of the basic variable of a row to its limit on a side.
+pub(crate) fn way_to(table: &Table, row: &TableRow, side: Side) -> Option<Frac> {
     let basic = table.variable(row.base)?;
-    let way = limit_on(basic.limits, side)?.minus(basic.value).ok()?;
-    way.times(Frac::new(row.scale, entry.factor).ok()?).ok()
+    limit_on(basic.limits, side)?.minus(basic.value).ok()
+}
+
+/// The step of a nonbasic variable, which counts so often in a row, that moves the basic one of this row by a way.
+pub(crate) fn step_for(way: Frac, row: &TableRow, factor: i128) -> Option<Frac> {
+    way.times(Frac::new(row.scale, factor).ok()?).ok()
 }

@@ -13,7 +13,7 @@ one_more xs n x l e h p m =
     ]
 
 pub loop-init : goal.loop-init
-loop-init g c = record { long = ap length c.new-numbers.ensures.items; zero = λ p l. absurd (omega arith) }
+loop-init g c = record { long = ap length c.in_ok-numbers.ensures.items; zero = λ p l. absurd (omega arith) }
 
 pub loop-preserved : goal.loop-preserved
 loop-preserved g c =
