@@ -4,6 +4,7 @@ pub mod Pieces
 pub mod Demands
 pub mod Members
 pub mod Reasons
+pub mod Drawing
 pub mod Stops
 pub mod Edits
 pub mod Page

@@ -9,7 +9,7 @@ use Rattle.report_page.specs.declared.markup.Change.{Change}
 -- markup
 unfoldable pub tag_text : Tag → List ℕ
 tag_text Tag.Head = codes "<!doctype html>\n<html lang=en>\n<head>\n<meta charset=utf-8>\n<meta name=viewport content='width=device-width, initial-scale=1'>\n<title>What the model asks for</title>\n<style>\n"
-tag_text Tag.Style = codes ":root{color-scheme:light dark;--ink:#1c2330;--soft:#566073;--paper:#fff;--panel:#f3f5f8;--line:#d4d9e2;--mark:#a3360b}\n@media(prefers-color-scheme:dark){:root{--ink:#e6e9ef;--soft:#a9b2c1;--paper:#14171c;--panel:#1e242c;--line:#3a424f;--mark:#ff9d6b}}\nbody{margin:0 auto;max-width:46rem;padding:1rem;background:var(--paper);color:var(--ink);font:1rem/1.5 system-ui,sans-serif}\nh1{font-size:1.5rem;line-height:1.2}h2{margin-top:2.5rem;font-size:1.15rem;border-top:1px solid var(--line);padding-top:1rem}\ncode{font:.95em ui-monospace,monospace;overflow-wrap:anywhere}p.lead{font-size:1.15rem;color:var(--mark)}\nol,ul{padding-left:2rem}li{margin:.5rem 0;padding:.5rem .75rem;background:var(--panel);border-left:3px solid var(--line)}\nli b{display:block}li p{margin:.25rem 0 0}p.without,span.times,summary{color:var(--soft)}span.times{white-space:nowrap}\nsvg{display:block;width:100%;height:auto;max-width:40rem}svg text{fill:var(--ink);font-size:12px}svg line{stroke:var(--soft)}\n@media print{body{max-width:none}li{break-inside:avoid}}\n"
+tag_text Tag.Style = codes ":root{color-scheme:light dark;--ink:#1c2330;--soft:#566073;--paper:#fff;--panel:#f3f5f8;--line:#d4d9e2;--mark:#a3360b}\n@media(prefers-color-scheme:dark){:root{--ink:#e6e9ef;--soft:#a9b2c1;--paper:#14171c;--panel:#1e242c;--line:#3a424f;--mark:#ff9d6b}}\nbody{margin:0 auto;max-width:46rem;padding:1rem;background:var(--paper);color:var(--ink);font:1rem/1.5 system-ui,sans-serif}\nh1{font-size:1.5rem;line-height:1.2}h2{margin-top:2.5rem;font-size:1.15rem;border-top:1px solid var(--line);padding-top:1rem}\ncode{font:.95em ui-monospace,monospace;overflow-wrap:anywhere}p.lead{font-size:1.15rem;color:var(--mark)}\nol,ul{padding-left:2rem}li{margin:.5rem 0;padding:.5rem .75rem;background:var(--panel);border-left:3px solid var(--line)}\nli b{display:block}li p{margin:.25rem 0 0}p.without,span.times,summary{color:var(--soft)}span.times{white-space:nowrap}\nsvg{display:block;width:100%;height:auto;max-width:26rem}svg text{fill:var(--ink);font-size:12px}svg line{stroke:var(--soft);transform:translateY(-4px)}\n@media print{body{max-width:none}li{break-inside:avoid}}\n"
 tag_text Tag.Body = codes "</style>\n</head>\n<body>\n<h1>What the model asks for</h1>\n"
 tag_text Tag.End = codes "</body>\n</html>\n"
 tag_text Tag.Paragraph = codes "<p>"
@@ -36,6 +36,16 @@ tag_text Tag.FormEnd = codes "</code>"
 tag_text Tag.Taken = codes "\n<span class=times>"
 tag_text Tag.TakenEnd = codes "</span>"
 tag_text Tag.Without = codes "\n<p class=without>"
+tag_text Tag.Drawing = codes "<svg role=img aria-label='Which quantities tie which requirements together' viewBox='0 0 400 "
+tag_text Tag.DrawingBody = codes "'>\n"
+tag_text Tag.DrawingEnd = codes "</svg>\n"
+tag_text Tag.OnLeft = codes "<text x=0 y="
+tag_text Tag.OnRight = codes "<text x=238 y="
+tag_text Tag.LabelBody = codes ">"
+tag_text Tag.LabelEnd = codes "</text>\n"
+tag_text Tag.LineFrom = codes "<line x1=140 y1="
+tag_text Tag.LineTo = codes " x2=230 y2="
+tag_text Tag.LineEnd = codes "></line>\n"
 
 -- signs and small words
 unfoldable pub sign_text : Sign → List ℕ
@@ -86,7 +96,10 @@ words_text Words.ForInstance = codes ", for instance with "
 words_text Words.AddUp = codes "Take each as often as it says, turn round those with &lt;=, and add up: on the left everything cancels, and together they say "
 words_text Words.ZeroAtLeast = codes "0 &gt;= "
 words_text Words.SomeNumber = codes "a number above 0"
-words_text Words.IsFalse = codes ", which is false."
+words_text Words.IsFalse = codes ", which is false. "
+words_text Words.Together = codes "So together they have to give way by at least "
+words_text Words.InAll = codes ", each counted as often as it is taken."
+words_text Words.SharedFold = codes "Quantities that two or more of them share: "
 
 -- what is said of cases and stops
 unfoldable pub account_text : Account → List ℕ

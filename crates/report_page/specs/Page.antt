@@ -30,6 +30,7 @@ use Rattle.report_page.specs.Pieces.{Piece, bytes_of}
 use Rattle.report_page.specs.Demands.{value_pieces}
 use Rattle.report_page.specs.Members.{fold_tag, list_pieces}
 use Rattle.report_page.specs.Reasons.{leaf_shares, reason_pieces}
+use Rattle.report_page.specs.Drawing.{drawing_pieces}
 use Rattle.report_page.specs.Stops.{stop_pieces}
 use Rattle.report_page.specs.Edits.{edit_pieces, refused_pieces}
 
@@ -70,9 +71,9 @@ feasible_pieces model values =
     Piece.Tag Tag.Paragraph ∷ Piece.Words Words.Feasible ∷ Piece.Tag Tag.ParagraphEnd ∷ Piece.Tag (fold_tag n) ∷ Piece.Words Words.ValuesFold ∷ Piece.Count n ∷ Piece.Tag Tag.FoldBody ∷ Piece.Tag Tag.Unordered
     ∷ (point_pieces model values (length model.columns) ++ Piece.Tag Tag.UnorderedEnd ∷ Piece.Tag Tag.FoldEnd ∷ [])
 
--- members that cannot all be met, and why
+-- members that cannot all be met, and why, and what ties them together
 abbrev pub conflict_pieces : Program → List Member → List Point → List Node → List Piece
-conflict_pieces model members ws nodes = list_pieces model (leaf_shares nodes) members ws ++ reason_pieces model nodes
+conflict_pieces model members ws nodes = list_pieces model (leaf_shares nodes) members ws ++ (reason_pieces model nodes ++ drawing_pieces model members)
 
 -- a calculation that stopped
 abbrev pub stopped_pieces : Program → Stop → List Piece

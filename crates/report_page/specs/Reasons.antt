@@ -46,7 +46,7 @@ gap_pieces (Some q) = Piece.Number q ∷ []
 abbrev pub total_pieces : Program → List Share → List Piece
 total_pieces model shares =
     Piece.Tag Tag.Paragraph ∷ Piece.Words Words.AddUp ∷ Piece.Tag Tag.Form ∷ Piece.Words Words.ZeroAtLeast ∷ (gap_pieces (gap model shares)
-    ++ Piece.Tag Tag.FormEnd ∷ Piece.Words Words.IsFalse ∷ Piece.Tag Tag.ParagraphEnd ∷ [])
+    ++ Piece.Tag Tag.FormEnd ∷ Piece.Words Words.IsFalse ∷ Piece.Words Words.Together ∷ (gap_pieces (gap model shares) ++ Piece.Words Words.InAll ∷ Piece.Tag Tag.ParagraphEnd ∷ []))
 
 -- ---- cases
 -- what a share takes: a member, or a limit of its case

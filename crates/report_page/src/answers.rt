@@ -7,6 +7,7 @@ ghost use Rattle.report_page.specs.Pieces.{Writes};
 ghost use Rattle.report_page.specs.Page.{method_words, command_pieces, valued_pieces, some_pieces, point_pieces, feasible_pieces, conflict_pieces, stopped_pieces, answer_pieces};
 
 use crate::demands::{value_at, write_value};
+use crate::drawing::write_drawing;
 use crate::edits::{write_edit, write_refused};
 use crate::markup::{Change, Tag, Words};
 use crate::members::{fold_tag, write_list};
@@ -117,7 +118,8 @@ fn count_values(point: &Point) -> u64
     witness_length(point) - 2
 }
 
-// Writes members that cannot all be met, with their witnesses as far as there are witnesses, and why.
+// Writes members that cannot all be met, with their witnesses as far as there are witnesses, and why, and what ties them
+// together.
 fn write_conflict(
     model: &Model,
     set: &MemberSet,
@@ -128,7 +130,8 @@ fn write_conflict(
     ensures { OnOk result (Writes into.old.items into.new.items (conflict_pieces model.now set.now.members witnesses.now nodes.now)) }
 {
     write_list(model, leaf_shares(nodes), set, witnesses, into)?;
-    write_reason(model, nodes, into)
+    write_reason(model, nodes, into)?;
+    write_drawing(model, set, into)
 }
 
 // Writes that a calculation stopped.

@@ -3,6 +3,7 @@
 
 mod answers;
 mod demands;
+mod drawing;
 mod edits;
 mod markup;
 mod members;

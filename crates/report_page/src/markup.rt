@@ -33,6 +33,16 @@ pub enum Tag {
     Taken,
     TakenEnd,
     Without,
+    Drawing,
+    DrawingBody,
+    DrawingEnd,
+    OnLeft,
+    OnRight,
+    LabelBody,
+    LabelEnd,
+    LineFrom,
+    LineTo,
+    LineEnd,
 }
 
 impl Tag {
@@ -58,7 +68,7 @@ impl Tag {
              code{font:.95em ui-monospace,monospace;overflow-wrap:anywhere}p.lead{font-size:1.15rem;color:var(--mark)}\n\
              ol,ul{padding-left:2rem}li{margin:.5rem 0;padding:.5rem .75rem;background:var(--panel);border-left:3px solid var(--line)}\n\
              li b{display:block}li p{margin:.25rem 0 0}p.without,span.times,summary{color:var(--soft)}span.times{white-space:nowrap}\n\
-             svg{display:block;width:100%;height:auto;max-width:40rem}svg text{fill:var(--ink);font-size:12px}svg line{stroke:var(--soft)}\n\
+             svg{display:block;width:100%;height:auto;max-width:26rem}svg text{fill:var(--ink);font-size:12px}svg line{stroke:var(--soft);transform:translateY(-4px)}\n\
              @media print{body{max-width:none}li{break-inside:avoid}}\n",
             Tag::Body => "</style>\n</head>\n<body>\n<h1>What the model asks for</h1>\n",
             Tag::End => "</body>\n</html>\n",
@@ -86,6 +96,17 @@ impl Tag {
             Tag::Taken => "\n<span class=times>",
             Tag::TakenEnd => "</span>",
             Tag::Without => "\n<p class=without>",
+            Tag::Drawing =>
+                "<svg role=img aria-label='Which quantities tie which requirements together' viewBox='0 0 400 ",
+            Tag::DrawingBody => "'>\n",
+            Tag::DrawingEnd => "</svg>\n",
+            Tag::OnLeft => "<text x=0 y=",
+            Tag::OnRight => "<text x=238 y=",
+            Tag::LabelBody => ">",
+            Tag::LabelEnd => "</text>\n",
+            Tag::LineFrom => "<line x1=140 y1=",
+            Tag::LineTo => " x2=230 y2=",
+            Tag::LineEnd => "></line>\n",
         }
     }
 }
@@ -169,6 +190,9 @@ pub enum Words {
     ZeroAtLeast,
     SomeNumber,
     IsFalse,
+    Together,
+    InAll,
+    SharedFold,
 }
 
 impl Words {
@@ -210,7 +234,10 @@ impl Words {
                 "Take each as often as it says, turn round those with &lt;=, and add up: on the left everything cancels, and together they say ",
             Words::ZeroAtLeast => "0 &gt;= ",
             Words::SomeNumber => "a number above 0",
-            Words::IsFalse => ", which is false.",
+            Words::IsFalse => ", which is false. ",
+            Words::Together => "So together they have to give way by at least ",
+            Words::InAll => ", each counted as often as it is taken.",
+            Words::SharedFold => "Quantities that two or more of them share: ",
         }
     }
 }

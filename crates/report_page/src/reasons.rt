@@ -49,11 +49,11 @@ pub(crate) fn leaf_shares(nodes: &[Node]) -> &[Share]
 }
 
 // Writes a number that 0 would have to be at least.
-fn write_gap(gap: Option<Frac>, into: &mut Vec<u8>) -> Result<(), AllocError>
-    ensures { OnOk result (Writes into.old.items into.new.items (gap_pieces gap)) }
+fn write_gap(gap: &Option<Frac>, into: &mut Vec<u8>) -> Result<(), AllocError>
+    ensures { OnOk result (Writes into.old.items into.new.items (gap_pieces gap.now)) }
 {
     match gap {
-        Some(number) => write(&[Piece::Number(number)], into),
+        Some(number) => write(&[Piece::Number(*number)], into),
         None => write(&[Piece::Words(Words::SomeNumber)], into),
     }
 }
@@ -71,13 +71,19 @@ fn write_total(model: &Model, shares: &[Share], into: &mut Vec<u8>) -> Result<()
         ],
         into,
     )?;
-    write_gap(gap(model, shares), into)?;
+    let missing = gap(model, shares);
+    write_gap(&missing, into)?;
     write(
         &[
             Piece::Tag(Tag::FormEnd),
             Piece::Words(Words::IsFalse),
-            Piece::Tag(Tag::ParagraphEnd),
+            Piece::Words(Words::Together),
         ],
+        into,
+    )?;
+    write_gap(&missing, into)?;
+    write(
+        &[Piece::Words(Words::InAll), Piece::Tag(Tag::ParagraphEnd)],
         into,
     )
 }
