@@ -25,8 +25,13 @@ fn limit(which: Which) -> usize
     }
 }
 
-/// The bytes of a file, or the ending of a run that does not get them.
-pub(crate) fn fetch_file<S: Shelf>(
+/// The bytes of a file, within its limit.
+///
+/// # Errors
+///
+/// The ending of a run that does not get them: `ReadFault` where the shelf's count of faults of the name rose, `TooLong`
+/// where the file is longer than its limit, or `Memory`.
+pub fn fetch_file<S: Shelf>(
     alloc: Global,
     shelf: &mut S,
     name: &str,

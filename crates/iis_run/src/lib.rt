@@ -12,5 +12,9 @@ mod saying;
 mod words;
 
 pub use endings::{Ending, Which};
+pub use fetching::fetch_file;
 pub use laws::one_ending;
+pub use reading::{fetch_model, outcome_ending, stop_ending};
 pub use running::run;
+pub use saying::say;
+pub use words::names_a_file;

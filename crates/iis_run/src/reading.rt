@@ -21,11 +21,11 @@ use std::alloc::Global;
 use text_fields::ReadFault;
 
 /// Fetches the model and reads it.
-pub(crate) fn fetch_model<S: Shelf>(
-    alloc: Global,
-    shelf: &mut S,
-    name: &str,
-) -> Result<Model, Ending>
+///
+/// # Errors
+///
+/// The ending of a run that gets no model: those of `fetch_file`; `ModelRefused` where the bytes declare none; or `Memory`.
+pub fn fetch_model<S: Shelf>(alloc: Global, shelf: &mut S, name: &str) -> Result<Model, Ending>
     ensures read { IfOk result (λ model. IfSome (S.file shelf.old name.now) (λ b. IsModelOf name.now b model)) }
     ensures words { IfOk result HasWords }
     ensures stop { IfErr result (IsModelStop name.now (S.file shelf.old name.now) (S.faults shelf.old name.now) (S.faults shelf.new name.now)) }
@@ -54,8 +54,8 @@ fn unread_model(fault: ReadFault) -> Ending
     }
 }
 
-// What the check of a report comes to.
-fn checked(outcome: Outcome) -> Ending
+/// What the check of a report comes to.
+pub fn outcome_ending(outcome: Outcome) -> Ending
     ensures { result ≡ checked_ending outcome }
 {
     match outcome {
@@ -64,8 +64,8 @@ fn checked(outcome: Outcome) -> Ending
     }
 }
 
-// Why a report was not read.
-fn refused(stop: ReportStop) -> Ending
+/// Why a report was not read.
+pub fn stop_ending(stop: ReportStop) -> Ending
     ensures { result ≡ refused_ending stop }
 {
     match stop {
@@ -82,8 +82,8 @@ fn check_report(alloc: Global, model: Model, bytes: &[u8]) -> Ending
 {
     let mut session = Session::new(alloc, model);
     match read_report(alloc, bytes, &mut session) {
-        Ok(report) => checked(verify(alloc, session.into_model(), report)),
-        Err(stop) => refused(stop),
+        Ok(report) => outcome_ending(verify(alloc, session.into_model(), report)),
+        Err(stop) => stop_ending(stop),
     }
 }
 

@@ -105,7 +105,7 @@ fn say_bad_script<W: Sink>(alloc: Global, line: u32, out: &mut W) -> u8
 }
 
 /// Puts the line of an ending, and gives its status.
-pub(crate) fn say<W: Sink>(alloc: Global, ending: Ending, out: &mut W) -> u8
+pub fn say<W: Sink>(alloc: Global, ending: Ending, out: &mut W) -> u8
     ensures { Ends W.faults W.taken out.old out.new ending result }
 {
     match ending {

@@ -18,8 +18,8 @@ pub struct Asked<'a> {
     pub second: &'a str,
 }
 
-// A word that names a file is not empty and does not begin with '-'.
-fn names_a_file(word: &str) -> bool
+/// Whether a word names a file: it is not empty and does not begin with '-'.
+pub fn names_a_file(word: &str) -> bool
     ensures { result ≡ names_file word.now }
 {
     match word.as_bytes() {

@@ -1,3 +1,4 @@
 pub mod Escaped
+pub mod Nested
 pub mod Pieced
 pub mod Turned

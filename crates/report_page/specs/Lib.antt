@@ -3,6 +3,7 @@ pub mod Markup
 pub mod Pieces
 pub mod Demands
 pub mod Members
+pub mod Cases
 pub mod Reasons
 pub mod Drawing
 pub mod Stops

@@ -1,23 +1,18 @@
 -- Why members cannot all be met: a sum, or cases with a sum each.
-use Rattle.std.specs.Prelude.{cond, is_some, List, [], ◌∷◌, ◌++◌, flat_map, length, Option, Some, None, unwrap_or}
+use Rattle.std.specs.Prelude.{cond, is_some, List, [], ◌∷◌, ◌++◌, Option, Some, None, unwrap_or}
 use Rattle.rational.specs.Rational.{ℚ, neg_ℚ, zero_ℚ}
 use Rattle.frac128.specs.Limit.{limit}
 use Rattle.frac128.specs.Calculation.{first_wide}
 use Rattle.lp_model.specs.Program.{Program}
-use Rattle.certs.specs.declared.evidence.Source.{Source}
-use Rattle.certs.specs.declared.evidence.Source.TheVariants.{Member as Of, Below, Above}
 use Rattle.certs.specs.declared.evidence.Share.{Share}
 use Rattle.certs.specs.declared.evidence.Node.{Node}
 use Rattle.certs.specs.declared.evidence.Node.TheVariants.{Split, Leaf}
 use Rattle.certs.specs.Combination.{right_side}
 use Rattle.certs.specs.Checks.{right_operations}
-use Rattle.report_text.specs.Grammar.{column_name}
 use Rattle.report_page.specs.declared.markup.Tag.{Tag}
-use Rattle.report_page.specs.declared.markup.Sign.{Sign}
 use Rattle.report_page.specs.declared.markup.Words.{Words}
-use Rattle.report_page.specs.declared.markup.Account.{Account}
 use Rattle.report_page.specs.Pieces.{Piece}
-use Rattle.report_page.specs.Demands.{title_pieces}
+use Rattle.report_page.specs.Cases.{cases_pieces}
 
 -- ---- one sum
 -- the shares of a node, where it is a leaf
@@ -48,35 +43,7 @@ total_pieces model shares =
     Piece.Tag Tag.Paragraph ∷ Piece.Words Words.AddUp ∷ Piece.Tag Tag.Form ∷ Piece.Words Words.ZeroAtLeast ∷ (gap_pieces (gap model shares)
     ++ Piece.Tag Tag.FormEnd ∷ Piece.Words Words.IsFalse ∷ Piece.Words Words.Together ∷ (gap_pieces (gap model shares) ++ Piece.Words Words.InAll ∷ Piece.Tag Tag.ParagraphEnd ∷ []))
 
--- ---- cases
--- what a share takes: a member, or a limit of its case
-abbrev pub source_pieces : Program → Source → List Piece
-source_pieces model (Of m) = title_pieces model m
-source_pieces model (Below j) = Piece.Account Account.CaseBelow ∷ Piece.Text (column_name model j) ∷ []
-source_pieces model (Above j) = Piece.Account Account.CaseAbove ∷ Piece.Text (column_name model j) ∷ []
-
--- a share: how often it takes what
-abbrev pub share_pieces : Program → Share → List Piece
-share_pieces model s = Piece.Number s.weight ∷ Piece.Account Account.TimesOf ∷ (source_pieces model s.source ++ Piece.Sign Sign.FullStop ∷ Piece.Sign Sign.Blank ∷ [])
-
--- the sum of a case
-abbrev pub case_pieces : Program → List Share → List Piece
-case_pieces model shares = Piece.Tag Tag.Item ∷ Piece.Account Account.Here ∷ (flat_map (share_pieces model) shares ++ Piece.Tag Tag.ItemEnd ∷ [])
-
--- a choice on a column, or the sum of a case
-abbrev pub node_pieces : Program → Node → List Piece
-node_pieces model (Split j k) =
-    Piece.Tag Tag.Item ∷ Piece.Account Account.Either ∷ Piece.Tag Tag.Form ∷ Piece.Text (column_name model j) ∷ Piece.Sign Sign.AtMost ∷ Piece.Whole k ∷ Piece.Tag Tag.FormEnd
-    ∷ Piece.Account Account.Or ∷ Piece.Tag Tag.Form ∷ Piece.Text (column_name model j) ∷ Piece.Sign Sign.Above ∷ Piece.Whole k ∷ Piece.Tag Tag.FormEnd
-    ∷ Piece.Account Account.OneThenOther ∷ Piece.Tag Tag.ItemEnd ∷ []
-node_pieces model (Leaf combo) = case_pieces model combo.shares
-
--- the nodes of a proof with cases, each before what follows from it
-abbrev pub cases_pieces : Program → List Node → List Piece
-cases_pieces model nodes =
-    Piece.Tag Tag.Paragraph ∷ Piece.Account Account.Cases ∷ Piece.Tag Tag.ParagraphEnd ∷ Piece.Tag Tag.Fold ∷ Piece.Account Account.CasesFold ∷ Piece.Count (length nodes) ∷ Piece.Tag Tag.FoldBody ∷ Piece.Tag Tag.Ordered
-    ∷ (flat_map (node_pieces model) nodes ++ Piece.Tag Tag.OrderedEnd ∷ Piece.Tag Tag.FoldEnd ∷ [])
-
+-- ---- either
 -- the sum of the shares, where there are no cases, and else the cases
 abbrev pub reason_by : Program → List Node → Option (List Share) → List Piece
 reason_by model nodes None = cases_pieces model nodes

@@ -2,6 +2,7 @@
 #![tactic(auto)]
 
 mod answers;
+mod cases;
 mod demands;
 mod drawing;
 mod edits;

@@ -24,6 +24,7 @@ pub enum Tag {
     OrderedEnd,
     Unordered,
     UnorderedEnd,
+    CaseList,
     Item,
     ItemEnd,
     Title,
@@ -68,6 +69,7 @@ impl Tag {
              code{font:.95em ui-monospace,monospace;overflow-wrap:anywhere}p.lead{font-size:1.15rem;color:var(--mark)}\n\
              ol,ul{padding-left:2rem}li{margin:.5rem 0;padding:.5rem .75rem;background:var(--panel);border-left:3px solid var(--line)}\n\
              li b{display:block}li p{margin:.25rem 0 0}p.without,span.times,summary{color:var(--soft)}span.times{white-space:nowrap}\n\
+             ul.cases{padding-left:0;list-style:none}ul.cases li{padding:.25rem 0 .25rem .5rem}details{overflow-x:auto}\n\
              svg{display:block;width:100%;height:auto;max-width:26rem}svg text{fill:var(--ink);font-size:12px}svg line{stroke:var(--soft);transform:translateY(-4px)}\n\
              @media print{body{max-width:none}li{break-inside:avoid}}\n",
             Tag::Body => "</style>\n</head>\n<body>\n<h1>What the model asks for</h1>\n",
@@ -87,6 +89,7 @@ impl Tag {
             Tag::OrderedEnd => "</ol>\n",
             Tag::Unordered => "<ul>\n",
             Tag::UnorderedEnd => "</ul>\n",
+            Tag::CaseList => "\n<ul class=cases>\n",
             Tag::Item => "<li>",
             Tag::ItemEnd => "</li>\n",
             Tag::Title => "<b>",
@@ -249,7 +252,6 @@ pub enum Account {
     CasesFold,
     Either,
     Or,
-    OneThenOther,
     Here,
     TimesOf,
     CaseBelow,
@@ -277,8 +279,7 @@ impl Account {
                 "Since whole numbers are asked for, cases are told apart. In each of them a sum as below comes to what is false.",
             Account::CasesFold => "Choices and cases: ",
             Account::Either => "Either ",
-            Account::Or => " or ",
-            Account::OneThenOther => ": first what follows from the one, then from the other.",
+            Account::Or => "Or ",
             Account::Here => "Add up: ",
             Account::TimesOf => " times ",
             Account::CaseBelow => "the upper limit of this case on ",

@@ -29,12 +29,12 @@ pub returns-in-Ok : goal.returns-in-Ok
 returns-in-Ok c =
     let first = ap (λ (v : HistoryValue). v.model) c.new-session.ensures in
     let same = c.into_model.ensures ∙ ap (λ (v : HistoryValue). v.model) c.read_report.ensures.back ∙ first in
-    subst (λ (e : Ending). ComesTo c.args.model c.args.bytes.now e) (sym c.checked.ensures)
+    subst (λ (e : Ending). ComesTo c.args.model c.args.bytes.now e) (sym c.outcome_ending.ensures)
     (check_comes c.args.model c.args.bytes.now c.in-Ok.report c.verify.result (subst (λ (m : Program). Reads m c.args.bytes.now c.in-Ok.report) first c.in-Ok.ensures.read)
     (subst (λ (m : Program). (c.verify.result ≡ Outcome.Memory) ⊎ (c.verify.result ≡ outcome_of c.in-Ok.report.entries (trials m c.in-Ok.report))) same c.verify.ensures.said))
 
 pub returns-in-Err : goal.returns-in-Err
 returns-in-Err c =
     let first = ap (λ (v : HistoryValue). v.model) c.new-session.ensures in
-    subst (λ (e : Ending). ComesTo c.args.model c.args.bytes.now e) (sym c.refused.ensures)
+    subst (λ (e : Ending). ComesTo c.args.model c.args.bytes.now e) (sym c.stop_ending.ensures)
     (stop_comes c.args.model c.args.bytes.now c.in-Err.stop (subst (λ (m : Program). IsReportStop m c.args.bytes.now c.in-Err.stop) first c.in-Err.ensures.stop))

@@ -1,7 +1,7 @@
 use Rattle.std.proofs.Common.{◌≡◌, ◌++◌, flat_map, drop}
 use Rattle.report_page.specs.Pieces.{bytes_of}
-use Rattle.report_page.specs.Reasons.{share_pieces}
-use Rattle.report_page.proofs.reasons.write_shares.Given as goal
+use Rattle.report_page.specs.Cases.{share_pieces}
+use Rattle.report_page.proofs.cases.write_shares.Given as goal
 
 -- the shares that are left complete the bytes
 abbrev pub invariant-loop-share : goal.invariant-loop-share

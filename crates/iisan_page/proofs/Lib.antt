@@ -1,0 +1,4 @@
+pub mod Statuses
+pub mod Refused
+pub mod Accepted
+pub mod Ended

@@ -1,0 +1,139 @@
+#!/usr/bin/env python3
+"""Tries the pages of reports: `tools/page_check.py [PROGRAM..]`
+
+Each `verify` of examples/runs.txt is made as a page. Where the report is accepted, the page is parsed by the standard
+library's HTML parser: every tag is closed in its turn, no id stands twice, and nothing is loaded from elsewhere; the
+members that stand on it are those of the report, in its order, under their own names; and where examples/ has the page
+of the report (NAME.html for NAME.report), it is that page byte by byte. Where it is refused, the line and the status are
+those of `verify`. Then come a model whose names are markup, and a report of 401 members. Without words the program is
+the one that ./iisan-page proves and builds. The last line is 'N pages passed, M failed', and the status 1 where some page
+is not as it is to be.
+"""
+
+import os
+import subprocess
+import sys
+import tempfile
+from html.parser import HTMLParser
+
+TOP = os.path.dirname(os.path.dirname(os.path.realpath(__file__)))
+EXAMPLES = f"{TOP}/examples"
+VOID = {"meta"}
+TITLES = {
+    "rowlo": "lower side of row ",
+    "rowup": "upper side of row ",
+    "lower": "least value of ",
+    "upper": "greatest value of ",
+    "whole": "whole values of ",
+}
+
+
+class Page(HTMLParser):
+    """What is wrong with a page, and the titles of the members that stand on it."""
+
+    def __init__(self):
+        super().__init__(convert_charrefs=True)
+        self.open, self.ids, self.faults, self.titles = [], set(), [], []
+
+    def handle_starttag(self, tag, attrs):
+        for name, value in attrs:
+            if name == "id" and value in self.ids:
+                self.faults.append(f"id {value} twice")
+            if name == "id":
+                self.ids.add(value)
+            if name in ("src", "href", "onload", "onclick"):
+                self.faults.append(f"{tag} has {name}")
+        if tag in ("script", "link", "img", "iframe"):
+            self.faults.append(f"a tag {tag}")
+        if tag == "b":
+            self.titles.append("")
+        if tag not in VOID:
+            self.open.append(tag)
+
+    def handle_endtag(self, tag):
+        if not self.open or self.open.pop() != tag:
+            self.faults.append(f"{tag} is closed out of turn")
+
+    def handle_data(self, data):
+        if self.open[-1:] == ["b"]:
+            self.titles[-1] += data
+
+
+def faults_of(page, report):
+    """What is wrong with the page of a report."""
+    if not page.startswith(b"<!doctype html>\n"):
+        return ["no page"]
+    found = Page()
+    found.feed(page.decode())
+    found.close()
+    members = [line.split(" ")[1:] for line in report.decode().splitlines() if line.startswith("member ")]
+    wanted = [TITLES[kind] + name for kind, name in members]
+    wrong = [] if found.titles == wanted else ["other members than those of the report"]
+    return found.faults + [f"{tag} is not closed" for tag in found.open] + wrong
+
+
+def read(path):
+    with open(path, "rb") as it:
+        return it.read()
+
+
+def example_cases():
+    """The checks of the examples: a name, the model's name, both files, the status, and the page or the line, if known."""
+    with open(f"{EXAMPLES}/runs.txt", encoding="utf-8") as lines:
+        for line in lines:
+            words, _, expected = line.strip().partition(" => ")
+            if not words.startswith("verify "):
+                continue
+            _, model, report = words.split()
+            status, _, said = expected.partition(" ")
+            page = f"{EXAMPLES}/{report.removesuffix('.report')}.html"
+            known = f"{said}\n".encode() if int(status) > 1 else read(page) if os.path.isfile(page) else None
+            yield words, model, read(f"{EXAMPLES}/{model}"), read(f"{EXAMPLES}/{report}"), int(status), known
+
+
+def made_cases():
+    """A model whose names are markup, and a chain of 401 members of which the last contradicts the others."""
+    data = f"{TOP}/crates/iisan_page"
+    yield "names of markup", "m.mps", read(f"{data}/data/m.mps"), read(f"{data}/data/r.txt"), 0, read(f"{data}/stdout")
+    rows = [f" r{i}: x{i} - x{i - 1} >= 1" for i in range(1, 400)]
+    model = "\n".join(["Minimize", " cost: x0", "Subject To", *rows, "Bounds", " x399 <= 398", "End", ""])
+    members = [f"rowlo r{i}" for i in range(1, 400)] + ["lower x0", "upper x399"]
+    uses = [f"use {member} 1" for member in members]
+    report = ["iisan report 2", "command check", "infeasible", *[f"member {it}" for it in members], "proof", "leaf", *uses]
+    yield "401 members", "chain.lp", model.encode(), "\n".join([*report, "end", "report end", ""]).encode(), 0, None
+
+
+def run(program, model, model_text, report_text):
+    """The status of a run over these files, and what it writes."""
+    with tempfile.TemporaryDirectory(prefix="iisan-page-") as room:
+        path = f"{room}/{model}"
+        os.makedirs(os.path.dirname(path), exist_ok=True)
+        for file, text in ((path, model_text), (f"{room}/a.report", report_text)):
+            with open(file, "wb") as it:
+                it.write(text)
+        words = [program, model, "a.report"]
+        ran = subprocess.run(words, cwd=room, stdin=subprocess.DEVNULL, capture_output=True, check=False)
+        return ran.returncode, ran.stdout
+
+
+def main(programs):
+    if not programs:
+        # Without words the program prints how it is used, once it is built.
+        subprocess.run([f"{TOP}/iisan-page"], stdin=subprocess.DEVNULL, stdout=subprocess.DEVNULL, check=False)
+        programs = [f"{TOP}/.build/page/iisan_page"]
+    passed = failed = 0
+    for program in map(os.path.abspath, programs):
+        for name, model, model_text, report_text, status, known in [*example_cases(), *made_cases()]:
+            ended, written = run(program, model, model_text, report_text)
+            faults = [] if ended == status else [f"status {ended}"]
+            faults += faults_of(written, report_text) if status < 2 else []
+            faults += ["other bytes than are known"] if known not in (None, written) else []
+            passed, failed = passed + (not faults), failed + bool(faults)
+            if faults:
+                print(f"{program}: not as it is to be: {name}: {'; '.join(faults)}")
+    print(f"{passed} pages passed, {failed} failed")
+    return 1 if failed else 0
+
+
+if __name__ == "__main__":
+    sys.exit(main(sys.argv[1:]))
