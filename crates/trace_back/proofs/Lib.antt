@@ -1,0 +1,12 @@
+pub mod Deciding
+pub mod Fills
+pub mod Folding
+pub mod Forced
+pub mod LastSteps
+pub mod Lists
+pub mod Once
+pub mod Pairs
+pub mod Sums
+pub mod Values
+pub mod Works
+pub mod Writes

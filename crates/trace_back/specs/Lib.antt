@@ -1,0 +1,4 @@
+pub mod Ends
+pub mod Held
+pub mod Listed
+pub mod Taking

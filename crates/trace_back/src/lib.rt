@@ -1,0 +1,22 @@
+//! The ways back: evidence of a reduced system as evidence of the system before the steps.
+#![tactic(auto)]
+
+mod combos;
+mod doubletons;
+mod filling;
+mod forcing;
+mod laws;
+mod listing;
+mod points;
+mod sides;
+mod singletons;
+mod steps;
+mod stops;
+mod taking;
+mod weights;
+
+pub use combos::combo_back;
+pub use laws::{deciding_takes_limits_once, run_ends_take_limits_once};
+pub use points::point_back;
+pub use steps::{ReduceStep, listed};
+pub use stops::BackStop;
