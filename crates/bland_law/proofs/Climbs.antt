@@ -133,3 +133,11 @@ improve_no_basis_twice_law most system first basis m k formed goal settled befor
     let few : rounds k n < 3 ^ limited_count system = fallen_few (limited_count system) (Passed system here.now basis) basis basis (rounds k n) (gone.flat_fallen level) in
     let many : n ≤ rounds k n = rounds_enough k n in
     omega arith
+
+-- from a settled basis on every variable but the objective stays within its limits
+pub stays_within : (most : ℕ) (system : LinearSystem) (first last : List Place) (made : ℕ) → IsWellFormedSystem system → IsSome system.objective → IsSettledAt most system first → Improves most system made first last
+    → (t : Tableau) → IsTableauOf system t → t.basis ≡ last → (v : ℕ) → v < limited_count system → IsWithin (limits_at t v) (value_of t v)
+stays_within most system first last made formed goal settled run t of at v l =
+    let here = climbed most system formed goal (value_of settled.here.tableau) first made last (settled_values most system formed first settled) (settled_inside most system formed first settled) run in
+    let same : here.now v ≡ value_of t v = values_are system formed goal t of here.now (subst (λ b. ValuesAt system b here.now) (sym at) here.values) v in
+    subst (λ q. IsWithin (limits_at t v) q) same (subst (λ z. IsWithin z (here.now v)) (ap (λ z. get_or z v no_limits) (sym of.limits)) (here.inside v l))

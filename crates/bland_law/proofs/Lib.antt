@@ -2,8 +2,8 @@ mod Falling
 mod Returns
 mod Counts
 pub mod Endings
-mod Nearest
+pub mod Nearest
 mod Moved
-mod Improving
-mod Climbs
-mod Bases
+pub mod Improving
+pub mod Climbs
+pub mod Bases

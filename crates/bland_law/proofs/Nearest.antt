@@ -24,7 +24,7 @@ pub record IsUpTo (b c : Block) : Type 0 where
 up_to_itself : (b : Block) → IsUpTo b b
 up_to_itself b = record { near = le_refl_ℚ b.distance; least = λ e. omega arith }
 
-up_to_both : (b c d : Block) → IsUpTo b c → IsUpTo c d → IsUpTo b d
+pub up_to_both : (b c d : Block) → IsUpTo b c → IsUpTo c d → IsUpTo b d
 up_to_both b c d h k = record {
   near = le_trans_ℚ h.near k.near;
   least = λ e.
@@ -35,7 +35,7 @@ up_to_both b c d h k = record {
 }
 
 -- by the test
-first_is : (b c : Block) → comes_first b c ≡ true → IsUpTo b c
+pub first_is : (b c : Block) → comes_first b c ≡ true → IsUpTo b c
 first_is b c e = by (lt_q b.distance c.distance) (eq_ℚ b.distance c.distance) (nat_lt b.variable c.variable) refl refl refl e
   where
     by : (x y z : Bool) → lt_q b.distance c.distance ≡ x → eq_ℚ b.distance c.distance ≡ y → nat_lt b.variable c.variable ≡ z → (x || (y && z)) ≡ true → IsUpTo b c
@@ -50,7 +50,7 @@ first_is b c e = by (lt_q b.distance c.distance) (eq_ℚ b.distance c.distance) 
     by false true false less same below h = absurd (true≢false (sym h))
     by false false z less same below h = absurd (true≢false (sym h))
 
-not_first : (b c : Block) → comes_first b c ≡ false → IsUpTo c b
+pub not_first : (b c : Block) → comes_first b c ≡ false → IsUpTo c b
 not_first b c e = by (lt_q b.distance c.distance) (eq_ℚ b.distance c.distance) (nat_lt b.variable c.variable) refl refl refl e
   where
     by : (x y z : Bool) → lt_q b.distance c.distance ≡ x → eq_ℚ b.distance c.distance ≡ y → nat_lt b.variable c.variable ≡ z → (x || (y && z)) ≡ false → IsUpTo c b
@@ -65,14 +65,14 @@ not_first b c e = by (lt_q b.distance c.distance) (eq_ℚ b.distance c.distance)
       least = λ q. absurd (true≢false (sym ((eq-Decides b.distance c.distance).1 q) ∙ same));
     }
 
-some_same : {X : Type 0} (a b : X) → ◌≡◌ {A = Option X} (Some a) (Some b) → a ≡ b
+pub some_same : {X : Type 0} (a b : X) → ◌≡◌ {A = Option X} (Some a) (Some b) → a ≡ b
 some_same {X} a b q = ap (of a) q
   where
     of : X → Option X → X
     of d None = d
     of d (Some s) = s
 
-none_some : {X : Type 0} (b : X) → ◌≡◌ {A = Option X} None (Some b) → ⊥
+pub none_some : {X : Type 0} (b : X) → ◌≡◌ {A = Option X} None (Some b) → ⊥
 none_some {X} b q = true≢false (ap is_none q)
   where
     is_none : Option X → Bool

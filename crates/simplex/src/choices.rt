@@ -21,7 +21,7 @@ pub(crate) struct Missed {
 }
 
 /// Whether a number is below another.
-pub(crate) fn is_less<N: Exact>(a: N, b: N) -> bool
+pub fn is_less<N: Exact>(a: N, b: N) -> bool
     ensures { result ≡ lt_q (N.value a) (N.value b) }
 {
     a.cmp(&b).is_lt()
@@ -94,8 +94,9 @@ fn helps<N: Exact>(dictionary: &Dictionary<N>, basic: u32, upper: bool, nonbasic
     (positive && rises) || (negative && falls)
 }
 
-/// The least nonbasic variable that helps a basic one.
-pub(crate) fn entering<N: Exact>(dictionary: &Dictionary<N>, basic: u32, upper: bool) -> Option<u32>
+/// The least nonbasic variable a change of which moves a basic one up, or, where `upper` is true, down: the smallest-index rule
+/// (Bland 1977).
+pub fn entering<N: Exact>(dictionary: &Dictionary<N>, basic: u32, upper: bool) -> Option<u32>
     requires usable { dictionary.now.usable ≡ true }
     requires basic { is_basic dictionary.now.basis basic ≡ true }
     ensures { result ≡ entering_one (tableau_of dictionary.now) (side_of upper) basic }
@@ -143,7 +144,7 @@ pub(crate) fn first_outside<N: Exact>(dictionary: &Dictionary<N>) -> Result<Opti
 }
 
 /// How many variables there are but the objective.
-pub(crate) fn limited_variables<N: Exact>(dictionary: &Dictionary<N>) -> u32
+pub fn limited_variables<N: Exact>(dictionary: &Dictionary<N>) -> u32
     ensures { result ≡ limited (tableau_of dictionary.now) }
 {
     match dictionary.objective() {

@@ -1,0 +1,4 @@
+pub mod Nearer
+pub mod Walks
+pub mod Steps
+pub mod Turned
