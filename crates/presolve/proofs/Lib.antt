@@ -1,0 +1,14 @@
+pub mod Extremal
+pub mod Single
+pub mod Planned
+pub mod Firsts
+pub mod Puts
+pub mod Narrow
+pub mod Forms
+pub mod Passed
+pub mod Shifted
+pub mod Substituted
+pub mod Rows
+pub mod Remaining
+pub mod Reached
+pub mod Led

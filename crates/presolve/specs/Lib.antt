@@ -1,0 +1,6 @@
+pub mod Plans
+pub mod Next
+pub mod Reduced
+pub mod Eliminated
+pub mod Forced
+pub mod Looked
