@@ -12,3 +12,4 @@ pub mod Rows
 pub mod Remaining
 pub mod Reached
 pub mod Led
+pub mod Quieted

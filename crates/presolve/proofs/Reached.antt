@@ -27,13 +27,13 @@ pub lives_last : (first last : Stage) (steps : List Step) → Reduces first step
 lives_last first last [] e = ap (λ (s : Stage). length s.live) (sym e)
 lives_last first last (s ∷ steps) e = lives_last (after_step s first) last steps e.1 ∙ lives_after s first
 
--- all rows are there at first
-pub all_live : {A : Type 0} (rows : List A) → replicate (length rows) true ≡ map (λ r. true) rows
-all_live [] = refl
-all_live (r ∷ rows) = ap (λ (bs : List Bool). true ∷ bs) (all_live rows)
+-- a mark for each item, all alike
+pub all_alike : {A : Type 0} (b : Bool) (items : List A) → replicate (length items) b ≡ map (λ r. b) items
+all_alike b [] = refl
+all_alike b (a ∷ items) = ap (λ (bs : List Bool). b ∷ bs) (all_alike b items)
 
 pub starts : (stage : Stage) (system : LinearSystem) → stage.system ≡ system → stage.live ≡ replicate (length system.rows) true → Reduces (start_stage system) [] stage
-starts stage system s l = λ i. record { system = sym s i; live = sym (l ∙ all_live system.rows) i }
+starts stage system s l = λ i. record { system = sym s i; live = sym (l ∙ all_alike true system.rows) i }
 
 -- ---- how many pass
 module _ {A : Type 0} (test : A → Bool) where

@@ -4,3 +4,4 @@ pub mod Reduced
 pub mod Eliminated
 pub mod Forced
 pub mod Looked
+pub mod Quiet

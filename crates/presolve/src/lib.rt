@@ -8,6 +8,7 @@ mod limits;
 mod looking;
 mod making;
 mod plans;
+mod quiet;
 mod reducing;
 mod reduction;
 mod row_rules;

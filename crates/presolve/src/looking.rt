@@ -2,11 +2,13 @@
 ghost use Rattle.std.specs.Prelude.{◌≡◌, ◌+◌, ◌<◌, ◌^◌, IfOk, length};
 ghost use Rattle.reductions.specs.Laws.{IsFormed};
 ghost use Rattle.reductions.specs.Reduction.{first_found, found_at, found_in_row, next_found as what_comes_next, places};
-ghost use Rattle.reductions.specs.Reduction.Rule.{CrossingLimits, FixedColumn};
+ghost use Rattle.reductions.specs.Reduction.Rule.{CrossingLimits, FixedColumn, ForcingRow, ImpossibleRow, RedundantRow};
 ghost use Rattle.presolve.specs.Looked.{rule_of};
 ghost use Rattle.presolve.specs.Next.{IsNext};
+ghost use Rattle.presolve.specs.Quiet.{IsQuiet};
 
 use crate::plans::Next;
+use crate::quiet::Quiet;
 use crate::row_rules::{crossing_at, empty_at, singleton_at};
 use crate::stages::Stage;
 use crate::substitution::{doubleton_at, fixed_at};
@@ -25,16 +27,27 @@ pub(crate) enum RowRule {
     Doubleton,
 }
 
-/// What comes next: the rules in their order, each over its places from the least.
+/// What comes next: the rules in their order, each over its places from the least. A rule that takes sums passes over the
+/// rows at which it is known to find nothing.
 ///
 /// # Errors
 ///
 /// There is no memory for the step or the shares.
-pub fn next_found(alloc: Global, stage: &Stage) -> Result<Option<Next>, AllocError>
+pub(crate) fn next_found(
+    alloc: Global,
+    stage: &Stage,
+    quiet: &mut Quiet,
+) -> Result<Option<Next>, AllocError>
     requires formed { IsFormed stage.now.system }
     requires small { length stage.now.system.columns + length stage.now.system.rows < 2 ^ 31 }
     requires lives { length stage.now.live ≡ length stage.now.system.rows }
-    ensures { IfOk result (IsNext stage.now.system (what_comes_next stage.now)) }
+    requires impossible { IsQuiet ImpossibleRow stage.now quiet.old.impossible.items }
+    requires redundant { IsQuiet RedundantRow stage.now quiet.old.redundant.items }
+    requires forcing { IsQuiet ForcingRow stage.now quiet.old.forcing.items }
+    ensures next { IfOk result (IsNext stage.now.system (what_comes_next stage.now)) }
+    ensures impossible { IsQuiet ImpossibleRow stage.now quiet.new.impossible.items }
+    ensures redundant { IsQuiet RedundantRow stage.now quiet.new.redundant.items }
+    ensures forcing { IsQuiet ForcingRow stage.now quiet.new.forcing.items }
 {
     if let Some(next) = first_crossing(alloc, stage)? {
         return Ok(Some(next));
@@ -48,13 +61,13 @@ pub fn next_found(alloc: Global, stage: &Stage) -> Result<Option<Next>, AllocErr
     if let Some(next) = first_fixed(alloc, stage)? {
         return Ok(Some(next));
     }
-    if let Some(next) = first_in_rows(alloc, stage, RowRule::Impossible)? {
+    if let Some(next) = first_awake(alloc, stage, RowRule::Impossible, &mut quiet.impossible)? {
         return Ok(Some(next));
     }
-    if let Some(next) = first_in_rows(alloc, stage, RowRule::Redundant)? {
+    if let Some(next) = first_awake(alloc, stage, RowRule::Redundant, &mut quiet.redundant)? {
         return Ok(Some(next));
     }
-    if let Some(next) = first_in_rows(alloc, stage, RowRule::Forcing)? {
+    if let Some(next) = first_awake(alloc, stage, RowRule::Forcing, &mut quiet.forcing)? {
         return Ok(Some(next));
     }
     first_in_rows(alloc, stage, RowRule::Doubleton)
@@ -108,6 +121,36 @@ fn first_in_rows(alloc: Global, stage: &Stage, rule: RowRule) -> Result<Option<N
         if let Some(next) = found_in_live(alloc, stage, rule, index)? {
             return Ok(Some(next));
         }
+    }
+    Ok(None)
+}
+
+// The same, where rows are passed over that are marked, since the rule finds nothing there; others at which it finds nothing
+// are marked.
+fn first_awake(
+    alloc: Global,
+    stage: &Stage,
+    rule: RowRule,
+    quiet: &mut Vec<bool>,
+) -> Result<Option<Next>, AllocError>
+    requires formed { IsFormed stage.now.system }
+    requires small { length stage.now.system.columns + length stage.now.system.rows < 2 ^ 31 }
+    requires lives { length stage.now.live ≡ length stage.now.system.rows }
+    requires quiet { IsQuiet (rule_of rule) stage.now quiet.old.items }
+    ensures next { let all = places (rule_of rule) stage.now.system in
+        let found = first_found (found_at (rule_of rule) stage.now) all in
+        IfOk result (IsNext stage.now.system found) }
+    ensures quiet { IsQuiet (rule_of rule) stage.now quiet.new.items }
+{
+    let system = &stage.system;
+    for index in 0..system.rows.len() as u32 {
+        if quiet[index as usize] {
+            continue;
+        }
+        if let Some(next) = found_in_live(alloc, stage, rule, index)? {
+            return Ok(Some(next));
+        }
+        quiet[index as usize] = true;
     }
     Ok(None)
 }

@@ -6,6 +6,7 @@ ghost use Rattle.presolve.specs.Reduced.{IsReductionOf};
 use crate::looking::next_found;
 use crate::making::make;
 use crate::plans::Next;
+use crate::quiet::Quiet;
 use crate::reduction::Reduction;
 use crate::stages::Stage;
 use certs::{Combo, System};
@@ -29,10 +30,11 @@ pub fn reduce(alloc: Global, system: System) -> Result<Reduction, AllocError>
     let columns = system.columns.len() as u32;
     let rows = system.rows.len() as u32;
     let live = vec![in alloc; true; system.rows.len()]?;
+    let mut quiet = Quiet::new(alloc, system.rows.len())?;
     let mut stage = Stage { system, live };
     let mut steps: Vec<Step> = Vec::new(alloc);
     loop {
-        let Some(next) = next_found(alloc, &stage)? else {
+        let Some(next) = next_found(alloc, &stage, &mut quiet)? else {
             return Ok(Reduction::Reduced {
                 system: stage.system,
                 trace: trace_of(columns, rows, steps),
@@ -47,6 +49,7 @@ pub fn reduce(alloc: Global, system: System) -> Result<Reduction, AllocError>
                 });
             }
         };
+        quiet.wake(alloc, &stage.system, &plan)?;
         let step = make(&mut stage, plan);
         steps.push(step)?;
     }

@@ -8,4 +8,6 @@ pub use laws::{
     deciding_is_combination, next_is_found, one_reduction, reduction_keeps_evidence,
     step_keeps_evidence,
 };
-pub use steps::{Change, Changes, Doubleton, Fixed, Forcing, Singleton, Step, Steps, Trace};
+pub use steps::{
+    Change, Changes, Doubleton, Fixed, Forcing, ReduceStep, Singleton, Step, Steps, Trace,
+};

@@ -80,3 +80,15 @@ pub struct Trace {
     pub rows: u32,
     pub steps: Steps,
 }
+
+/// A step of a reduction, told in short: the numbers of what it removes. A fixed column has its value, a forcing row the side
+/// that is met, and a doubleton its row and the column that is removed with it.
+#[derive(Clone, Copy, PartialEq, Eq, Debug)]
+pub enum ReduceStep {
+    Empty(u32),
+    Singleton(u32),
+    Fixed(u32, Frac),
+    Redundant(u32),
+    Forcing(u32, Side),
+    Doubleton(u32, u32),
+}

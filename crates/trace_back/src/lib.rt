@@ -18,5 +18,5 @@ mod weights;
 pub use combos::combo_back;
 pub use laws::{deciding_takes_limits_once, run_ends_take_limits_once};
 pub use points::point_back;
-pub use steps::{ReduceStep, listed};
+pub use steps::listed;
 pub use stops::BackStop;

@@ -2,22 +2,8 @@
 ghost use Rattle.std.specs.Prelude.{◌≡◌, IfOk, map};
 ghost use Rattle.trace_back.specs.Listed as short;
 
-use frac128::Frac;
-use lp_model::Side;
-use reductions::{Step, Trace};
+use reductions::{ReduceStep, Step, Trace};
 use std::alloc::{AllocError, Global};
-
-/// A step of a reduction by the numbers of what it removes. A fixed column has its value, a forcing row the side
-/// that is met, and a doubleton its row and the column that is removed with it.
-#[derive(Clone, Copy, PartialEq, Eq, Debug)]
-pub enum ReduceStep {
-    Empty(u32),
-    Singleton(u32),
-    Fixed(u32, Frac),
-    Redundant(u32),
-    Forcing(u32, Side),
-    Doubleton(u32, u32),
-}
 
 /// The steps of a trace in the order in which they were made. It fails only for want of memory.
 pub fn listed(alloc: Global, trace: &Trace) -> Result<Vec<ReduceStep>, AllocError>
