@@ -1,4 +1,4 @@
 pub mod Firsts
-mod Shares
-mod Runs
+pub mod Shares
+pub mod Runs
 mod Answering

@@ -109,8 +109,9 @@ fn crossing_combo(alloc: Global, columns: u32, variable: u32) -> Result<Combo, A
     })
 }
 
-/// The stop of a run, with its site.
-pub(crate) fn stop_end(alloc: Global, set: &MemberSet, path: &[Branch], stop: RunStop) -> Stop
+/// The stop of the settle run of a set's plain system on a path, with its site; or want of memory, where there is none for
+/// the site.
+pub fn stop_end(alloc: Global, set: &MemberSet, path: &[Branch], stop: RunStop) -> Stop
     ensures { (model : Program) (pivots : ℕ) → IsSetOf model set.now → RunEnds (plain_system model set.now.members path.now false) pivots (end_of (Err stop)) → IsNodeEnd model set.now.members path.now pivots (Err result) }
 {
     let Ok(site) = settle_site(alloc, set, path) else {

@@ -6,5 +6,6 @@ mod ends;
 mod oracle;
 mod solve;
 
-pub use ends::settle_site;
-pub use oracle::LinearOracle;
+pub use ends::{settle_site, stop_end};
+pub use oracle::{LinearOracle, leaf_proof};
+pub use solve::started;

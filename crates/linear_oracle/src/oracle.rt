@@ -49,6 +49,14 @@ impl<'a> LinearOracle<'a> {
         }
     }
 
+    /// How many pivots each of its runs may spend.
+    pub fn pivots(&self) -> u64
+        ensures pivots { result ≡ self.now.pivots }
+        ensures few { result < 2 ^ 63 }
+    {
+        self.pivots
+    }
+
     /// How many pivots its runs made so far, for measurements; it stays at its greatest value once there.
     pub fn pivots_made(&self) -> u64
         ensures { result ≡ self.now.made }
@@ -124,8 +132,12 @@ fn leaf_verdict(alloc: Global, combo: Combo) -> Result<Verdict, Stop>
     }
 }
 
-// The proof whose one node is a leaf.
-fn leaf_proof(alloc: Global, combo: Combo) -> Result<Proof, AllocError>
+/// The proof whose one node is a leaf, of this combination.
+///
+/// # Errors
+///
+/// There is no memory for the node.
+pub fn leaf_proof(alloc: Global, combo: Combo) -> Result<Proof, AllocError>
     ensures { IfOk result (λ proof. proof.nodes ≡ Node.Leaf combo ∷ []) }
 {
     let mut nodes = Vec::new(alloc);

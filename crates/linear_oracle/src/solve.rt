@@ -86,8 +86,12 @@ fn settle_system(
     }
 }
 
-// The dictionary at the start of a system, all numbers of which are fractions.
-fn started(alloc: Global, system: &System) -> Result<Dictionary<Frac>, AllocError>
+/// The dictionary at the start of a well-formed system of fewer than 2^31 variables, all numbers of which are fractions.
+///
+/// # Errors
+///
+/// There is no memory for its rows.
+pub fn started(alloc: Global, system: &System) -> Result<Dictionary<Frac>, AllocError>
     requires formed { IsWellFormedSystem system.now }
     requires few { variables system.now < 2 ^ 31 }
     ensures { IfOk result (λ d. IsTableauOf system.now (tableau_of d) × ((d.basis ≡ start_basis system.now) × ((d.columns ≡ length system.now.columns) × (d.usable ≡ true)))) }

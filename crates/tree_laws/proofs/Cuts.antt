@@ -140,7 +140,7 @@ module _ (system : LinearSystem) (pivots : ℕ) where
   few_shown : (basis : List Place) (a : TableauAt system basis) → length system.columns + length system.rows ≤ length a.tableau.basis
   few_shown basis a = let size = a.is_of.size in omega (arith, size)
 
-  blocks_same : (of other : List VariableShare) → BlocksWith system pivots of → BlocksWith system pivots other → of ≡ other
+  pub blocks_same : (of other : List VariableShare) → BlocksWith system pivots of → BlocksWith system pivots other → of ≡ other
   blocks_same of other a b =
       let same = one_run (Infeasible a.variable) (Infeasible b.variable) a.last b.last a.run b.run in
       let v = infeasible_same a.variable b.variable same.0 in

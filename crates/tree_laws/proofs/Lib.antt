@@ -1,4 +1,4 @@
-mod Cuts
+pub mod Cuts
 mod Outcomes
 mod Ends
 pub mod Boxes

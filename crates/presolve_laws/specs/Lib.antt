@@ -1,0 +1,3 @@
+pub mod Eased
+pub mod Answers
+pub mod Laws

@@ -1,0 +1,3 @@
+pub mod Returning
+mod Running
+mod Answering
