@@ -1,0 +1,3 @@
+pub mod Factors
+pub mod Shown
+pub mod Kept

@@ -1,0 +1,7 @@
+mod Directed
+mod Systems
+mod Duals
+mod Rays
+mod Settled
+mod Running
+mod Ending
