@@ -1,10 +1,10 @@
 -- Right answers stand in the grammar of reports, where all names are words.
-use Rattle.std.proofs.Common.{◌≡◌, ◌≢◌, ◌<◌, ◌≤◌, ◌+◌, refl, sym, subst, ℕ, Bool, true, false, cond, not, Option, Some, None, List, [], ◌∷◌, ◌++◌, length, get_or, zip, inl, inr, arith}
+use Rattle.std.proofs.Common.{◌≡◌, ◌≢◌, ◌<◌, ◌≤◌, ◌+◌, refl, sym, ap, subst, ℕ, Bool, true, false, cond, not, Option, Some, None, List, [], ◌∷◌, ◌++◌, length, get_or, zip, inl, inr, arith}
 use Rattle.std.specs.Prelude.{All, Contains, IsTrue}
 use Rattle.std.specs.List.{list_any}
 use Rattle.std.proofs.lemmas.Bool.{cases_lt}
 use Rattle.std.proofs.lemmas.List.{get_or_past, get_or_default}
-use Rattle.std.proofs.lemmas.List.Elements.{All-contains, All-contains_itself, All-cons, All-filter, All-head, All-nil, All-tail, All-weaker}
+use Rattle.std.proofs.lemmas.List.Elements.{All-append, All-contains, All-contains_itself, All-cons, All-filter, All-head, All-nil, All-tail, All-weaker}
 use Rattle.std.proofs.lemmas.List.Kept.{AllPairs-filter}
 use Rattle.rational.specs.Rational.{zero_ℚ}
 use Rattle.lp_model.specs.declared.members.Member.{Member}
@@ -34,9 +34,9 @@ use Rattle.report_text.specs.declared.report.Method.{Method}
 use Rattle.report_text.specs.declared.report.Method.TheVariants.{Deletion, Additive, Sensitivity}
 use Rattle.report_text.specs.declared.report.Core.{Core}
 use Rattle.report_text.specs.declared.report.Command.{Command}
-use Rattle.report_text.specs.declared.report.Command.TheVariants.{Check, Iis, Edit, Undo, Pivots, Nodes as MostNodes}
+use Rattle.report_text.specs.declared.report.Command.TheVariants.{Check, Iis, Reduce, Edit, Undo, Pivots, Nodes as MostNodes}
 use Rattle.report_text.specs.declared.report.Answer.{Answer}
-use Rattle.report_text.specs.declared.report.Answer.TheVariants.{Feasible, Infeasible, Irreducible, Done, Refused, Stopped}
+use Rattle.report_text.specs.declared.report.Answer.TheVariants.{Feasible, Infeasible, Irreducible, Reduced, Done, Refused, Stopped}
 use Rattle.report_text.specs.declared.report.Entry.{Entry}
 use Rattle.lp_model.specs.declared.edits.Edit.{Edit as OneEdit}
 use Rattle.model_history.specs.History.{changes}
@@ -44,14 +44,19 @@ use Rattle.report_text.specs.declared.report.NamedEdit.{NamedEdit}
 use Rattle.report_text.specs.declared.report.Refusal.{Refusal}
 use Rattle.report_text.specs.Edits.{named_edit, edit_answer, undo_answer}
 use Rattle.report_text.specs.Turns.{after, edits_after, AllEntries, entry_commands}
+use Rattle.model_session.proofs.Standing.{after_well_formed}
 use Rattle.model_session.proofs.Unchanged.{same_names, rows_same, columns_same, row_name_same, column_name_same}
 use Rattle.report_text.specs.Grammar.{column_name}
-use Rattle.report_text.specs.Form.{is_word, IsNamedColumn, IsNamedMember, IsListed, IsPointFor, IsNamedSource, IsNodeFor, IsProofFor, IsSettleSite, IsSiteFor, IsStopFor, IsCoreFor, IsAnswerFor, IsCommand, IsEntryFor, IsReportFor, AreEntriesFor, AreNumbered, can_answer}
-use Rattle.report_printer.specs.Printing.{IsKnownSource}
+use Rattle.report_text.specs.Form.{is_one_leaf, is_word, IsNamedColumn, IsNamedMember, IsNamedRow, IsListed, IsPointFor, IsNamedSource, IsNodeFor, IsProofFor, IsSettleSite, IsSiteFor, IsStopFor, IsStepFor, IsCoreFor, IsAnswerFor, IsCommand, IsEntryFor, IsReportFor, AreEntriesFor, AreNumbered, can_answer}
+use Rattle.evidence_printer.specs.Numbers.{IsStepWithin}
+use Rattle.reductions.specs.declared.steps.ReduceStep.{ReduceStep}
+use Rattle.reductions.specs.declared.steps.ReduceStep.TheVariants.{Empty, Singleton, Fixed, Redundant, Forcing, Doubleton}
+use Rattle.report_printer.specs.Printing.{IsKnownSource, IsKnownStep}
 use Rattle.report_printer.specs.Numbers.{HasNumbersWithin, HasValuesWithin, HasWeightsWithin, HasWitnessesWithin, IsCoreWithin, IsProofWithin, IsStopWithin}
 use Rattle.analysis.specs.NamesAreWords.{HasWords}
-use Rattle.analysis.specs.Right.{AreRight, IsChecked, IsIsolated, IsRefutation, IsRightAfter, IsRightCore, IsRightStop, IsWhole, Right, RightAfter, budgets_in_force}
+use Rattle.analysis.specs.Right.{AreRight, IsChecked, IsIsolated, IsReduction, IsRefutation, IsRightAfter, IsRightCore, IsRightStop, IsWhole, Right, RightAfter, budgets_in_force}
 use Rattle.analysis.specs.Pieces.{Answers}
+use Rattle.analysis.proofs.Leaving.{known_steps}
 use Rattle.analysis.specs.Written.{report_of}
 use Rattle.analysis.proofs.Found.{part_possible, possible_members_are}
 use Rattle.analysis.proofs.Refuting.{IsSoundNode, sound_nodes}
@@ -179,6 +184,7 @@ module _ (model : Program) (words : HasWords model) where
   checked_form budgets (Feasible p) h within = (refl, point_form (active_members model) p h.0 within)
   checked_form budgets (Infeasible printed proof) h within = (refl, refutation_form printed proof h.0 within)
   checked_form budgets (Irreducible core) h within = absurd h
+  checked_form budgets (Reduced r) h within = absurd h
   checked_form budgets Done h within = absurd h
   checked_form budgets (Refused r) h within = absurd h
   checked_form budgets (Stopped stop) h within = (refl, stop_form (IsWhole model) budgets stop h within)
@@ -187,19 +193,44 @@ module _ (model : Program) (words : HasWords model) where
   isolated_form IsKept IsTest method budgets (Feasible p) h within = (refl, point_form (active_members model) p h within)
   isolated_form IsKept IsTest method budgets (Infeasible printed proof) h within = absurd h
   isolated_form IsKept IsTest method budgets (Irreducible core) h within = (refl, core_form core h.0 within)
+  isolated_form IsKept IsTest method budgets (Reduced r) h within = absurd h
   isolated_form IsKept IsTest method budgets Done h within = absurd h
   isolated_form IsKept IsTest method budgets (Refused r) h within = absurd h
   isolated_form IsKept IsTest method budgets (Stopped stop) h within = (refl, stop_form IsTest budgets stop h within)
 
-  answer_form : (budgets : Budgets) (command : Command) (answer : Answer) → Right model budgets command answer → HasNumbersWithin answer → IsAnswerTo command answer
-  answer_form budgets Check answer h within = checked_form budgets answer h within
-  answer_form budgets (Iis Deletion) answer h within = isolated_form _ _ Deletion budgets answer h within
-  answer_form budgets (Iis Additive) answer h within = isolated_form _ _ Additive budgets answer h within
-  answer_form budgets (Iis Sensitivity) answer h within = isolated_form _ _ Sensitivity budgets answer h within
-  answer_form budgets (Edit e) answer h within = absurd h
-  answer_form budgets Undo answer h within = absurd h
-  answer_form budgets (Pivots n) answer h within = subst (IsAnswerTo (Pivots n)) (sym h) (refl, tt)
-  answer_form budgets (MostNodes n) answer h within = subst (IsAnswerTo (MostNodes n)) (sym h) (refl, tt)
+  -- ---- reductions
+  named_row : (i : ℕ) → i < length model.rows → IsNamedRow model i
+  named_row i l = record { known = l; word = words.rows i empty_row l }
+
+  step_form : (step : ReduceStep) → IsKnownStep model step → IsStepWithin step → IsStepFor model step
+  step_form (Empty i) known within = named_row i known
+  step_form (Singleton i) known within = named_row i known
+  step_form (Fixed j v) known within = (named_column j known, within)
+  step_form (Redundant i) known within = named_row i known
+  step_form (Forcing i side) known within = named_row i known
+  step_form (Doubleton i j) known within = (named_row i known.0, named_column j known.1)
+
+  reduction_form : IsWellFormed model → (answer : Answer) → IsReduction model answer → HasNumbersWithin answer → IsAnswerTo Reduce answer
+  reduction_form formed (Reduced r) h within =
+      let known : All (IsKnownStep model) r.steps = subst (All (IsKnownStep model)) (sym h.steps_are) (known_steps model (active_members model) h.last h.made formed h.reduces) in
+      (refl, record { steps = λ k d l. step_form (get_or r.steps k d) (known k d l) (within.steps k d l); rows = within.rows; columns = within.columns })
+  reduction_form formed (Infeasible printed proof) h within = (ap is_one_leaf h.1.1.1.leaf, refutation_form printed proof h.0 within)
+  reduction_form formed (Feasible p) h within = absurd h
+  reduction_form formed (Irreducible core) h within = absurd h
+  reduction_form formed Done h within = absurd h
+  reduction_form formed (Refused r) h within = absurd h
+  reduction_form formed (Stopped stop) h within = absurd h
+
+  answer_form : IsWellFormed model → (budgets : Budgets) (command : Command) (answer : Answer) → Right model budgets command answer → HasNumbersWithin answer → IsAnswerTo command answer
+  answer_form formed budgets Reduce answer h within = reduction_form formed answer h within
+  answer_form formed budgets Check answer h within = checked_form budgets answer h within
+  answer_form formed budgets (Iis Deletion) answer h within = isolated_form _ _ Deletion budgets answer h within
+  answer_form formed budgets (Iis Additive) answer h within = isolated_form _ _ Additive budgets answer h within
+  answer_form formed budgets (Iis Sensitivity) answer h within = isolated_form _ _ Sensitivity budgets answer h within
+  answer_form formed budgets (Edit e) answer h within = absurd h
+  answer_form formed budgets Undo answer h within = absurd h
+  answer_form formed budgets (Pivots n) answer h within = subst (IsAnswerTo (Pivots n)) (sym h) (refl, tt)
+  answer_form formed budgets (MostNodes n) answer h within = subst (IsAnswerTo (MostNodes n)) (sym h) (refl, tt)
 
   -- ---- edits
   edit_form : (e : NamedEdit) (now : Program) (edit : Option OneEdit) → IsAnswerTo (Edit e) (edit_answer now edit)
@@ -228,31 +259,33 @@ words_stand first before words =
 
 module _ (model : Program) (words : HasWords model) where
   -- ---- reports
-  right_form : (before : List Command) (command : Command) (answer : Answer) → RightAfter model before command answer → HasNumbersWithin answer → IsAnswerTo (after model before) (words_stand model before words) command answer
-  right_form before Check answer h within = answer_form (after model before) (words_stand model before words) (budgets_in_force before) Check answer h within
-  right_form before (Iis method) answer h within = answer_form (after model before) (words_stand model before words) (budgets_in_force before) (Iis method) answer h within
-  right_form before (Edit e) answer h within = subst (IsAnswerTo (after model before) (words_stand model before words) (Edit e)) (sym h) (edit_form (after model before) (words_stand model before words) e (after model before) (named_edit model e))
-  right_form before Undo answer h within = subst (IsAnswerTo (after model before) (words_stand model before words) Undo) (sym h) (undo_form (after model before) (words_stand model before words) (edits_after model before))
-  right_form before (Pivots n) answer h within = answer_form (after model before) (words_stand model before words) (budgets_in_force before) (Pivots n) answer h within
-  right_form before (MostNodes n) answer h within = answer_form (after model before) (words_stand model before words) (budgets_in_force before) (MostNodes n) answer h within
+  right_form : (before : List Command) → IsWellFormed (after model before) → (command : Command) (answer : Answer) → RightAfter model before command answer → HasNumbersWithin answer → IsAnswerTo (after model before) (words_stand model before words) command answer
+  right_form before formed Check answer h within = answer_form (after model before) (words_stand model before words) formed (budgets_in_force before) Check answer h within
+  right_form before formed (Iis method) answer h within = answer_form (after model before) (words_stand model before words) formed (budgets_in_force before) (Iis method) answer h within
+  right_form before formed (Edit e) answer h within = subst (IsAnswerTo (after model before) (words_stand model before words) (Edit e)) (sym h) (edit_form (after model before) (words_stand model before words) e (after model before) (named_edit model e))
+  right_form before formed Undo answer h within = subst (IsAnswerTo (after model before) (words_stand model before words) Undo) (sym h) (undo_form (after model before) (words_stand model before words) (edits_after model before))
+  right_form before formed Reduce answer h within = answer_form (after model before) (words_stand model before words) formed (budgets_in_force before) Reduce answer h within
+  right_form before formed (Pivots n) answer h within = answer_form (after model before) (words_stand model before words) formed (budgets_in_force before) (Pivots n) answer h within
+  right_form before formed (MostNodes n) answer h within = answer_form (after model before) (words_stand model before words) formed (budgets_in_force before) (MostNodes n) answer h within
 
-  entry_form : (before : List Command) (e : Entry) → IsCommand e.command → IsRightAfter model before e → IsEntryFor (after model before) e
-  entry_form before e built h =
-      let form = right_form before e.command e.answer h.right h.numbers in
+  entry_form : (before : List Command) (e : Entry) → IsWellFormed (after model before) → IsCommand e.command → IsRightAfter model before e → IsEntryFor (after model before) e
+  entry_form before e formed built h =
+      let form = right_form before formed e.command e.answer h.right h.numbers in
       record { command = built; kind = form.0; answer = form.1 }
 
-  entries_form : (before : List Command) (entries : List Entry) → All IsCommand (entry_commands entries) → AllEntries (IsRightAfter model) before entries → AreEntriesFor model before entries
-  entries_form before [] built h = tt
-  entries_form before (e ∷ entries) built h = (
-    entry_form before e (All-head IsCommand e.command (entry_commands entries) built) h.0,
-    entries_form (before ++ e.command ∷ []) entries (All-tail IsCommand e.command (entry_commands entries) built) h.1,
-  )
+  entries_form : IsWellFormed model → (before : List Command) (entries : List Entry) → All IsCommand before → All IsCommand (entry_commands entries) → AllEntries (IsRightAfter model) before entries → AreEntriesFor model before entries
+  entries_form formed before [] past built h = tt
+  entries_form formed before (e ∷ entries) past built h =
+      let own : IsCommand e.command = All-head IsCommand e.command (entry_commands entries) built in (
+        entry_form before e (after_well_formed model before formed past) own h.0,
+        entries_form formed (before ++ e.command ∷ []) entries (All-append IsCommand before (e.command ∷ []) past (All-cons IsCommand e.command [] own (All-nil IsCommand))) (All-tail IsCommand e.command (entry_commands entries) built) h.1,
+      )
 
   -- right entries with the numbers of their lines are a report
   in_grammar : (commands : List Command) (entries : List Entry) → IsWellFormed model → All IsCommand commands → AreRight model commands entries → AreNumbered model [] (2 + length model.notes) entries → IsReportFor model (report_of model entries)
   in_grammar commands entries formed built h numbered = record {
     notes = All-weaker (λ note. noted_column note < length model.columns) (λ note. IsNamedColumn model (noted_column note)) (λ note l. named_column model words (noted_column note) l) model.notes formed.notes;
-    entries = entries_form [] entries (front_of IsCommand (entry_commands entries) h.rest (subst (All IsCommand) h.first built)) h.each;
+    entries = entries_form formed [] entries (All-nil IsCommand) (front_of IsCommand (entry_commands entries) h.rest (subst (All IsCommand) h.first built)) h.each;
     numbered = numbered;
   }
 

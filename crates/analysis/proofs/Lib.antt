@@ -3,6 +3,7 @@ pub mod Nexts
 pub mod Entries
 pub mod Refuting
 pub mod Stopping
+mod Leaving
 pub mod Asked
 pub mod Found
 pub mod InBox

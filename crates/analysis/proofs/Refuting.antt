@@ -1,6 +1,6 @@
 -- The active members that a proof uses, and what it names.
-use Rattle.std.proofs.Common.{◌≡◌, ◌<◌, ℕ, refl, sym, ◌∙◌, ap, subst, Bool, true, false, true≢false, cond, not, ◌&&◌, ◌==◌, List, [], ◌∷◌, ◌++◌, length, option_map, Some}
-use Rattle.std.specs.Prelude.{All, IsSome}
+use Rattle.std.proofs.Common.{◌≡◌, ◌<◌, ℕ, refl, sym, ◌∙◌, ap, subst, Bool, true, false, true≢false, cond, not, ◌&&◌, ◌==◌, List, [], ◌∷◌, ◌++◌, length, option_map, Some, Result, Ok, Err}
+use Rattle.std.specs.Prelude.{All, IfOk, IsSome}
 use Rattle.std.proofs.lemmas.Bool.{and_parts, eqb-true}
 use Rattle.std.proofs.lemmas.List.Elements.{All-weaker, All-contains, All-nil, All-cons, All-head, All-tail, All-append}
 use lib.IntN.{pos, ◌+ℤ◌}
@@ -21,10 +21,16 @@ use Rattle.certs.specs.Proof.{IsProof, IsFittingNode, IsTreeProof, Tree, at_leas
 use Rattle.certs.specs.Proof.Tree.{Tip, Fork}
 use Rattle.certs.specs.Named.{used_set}
 use Rattle.certs.specs.Order.{AreLeavesInOrder}
+use Rattle.certs.specs.Sites.{Budgets}
+use Rattle.certs.specs.System.{VariableShare}
 use Rattle.branch_proof.proofs.Nodes.{mark_known}
 use Rattle.filter_steps.proofs.Proofs.{proof_of_used}
 use Rattle.report_printer.specs.Printing.{IsKnownSource, IsKnownNode}
-use Rattle.analysis.specs.Right.{IsRefutation}
+use Rattle.presolve_laws.specs.Answers.{IsLeafOf, set_system}
+use Rattle.presolve_laws.specs.Eased.{DecidesBy}
+use Rattle.report_text.specs.declared.report.Answer.{Answer}
+use Rattle.analysis.specs.Answers.{IsRefutedBy}
+use Rattle.analysis.specs.Right.{IsChecked, IsReduction, IsRefutation, TreeCloses}
 
 -- a proof of the active members refutes those that it uses
 pub refutes : (model : Program) (proof : Proof) (printed : SetValue) → IsProof model (active_members model) proof.nodes → AreLeavesInOrder proof.nodes → All IsFittingNode proof.nodes → printed ≡ used_set (active_set model) proof.nodes → IsRefutation model printed proof
@@ -34,6 +40,17 @@ refutes model proof printed p ordered fits same = record {
   fits = fits;
   used = same;
 }
+
+-- as an answer it is right to a check
+pub checked_refuted : (model : Program) (budgets : Budgets) (proof : Proof) {E : Type 0} (result : Result Answer E) → IfOk result (IsRefutedBy model proof) → TreeCloses model budgets proof → IfOk result (IsChecked model budgets)
+checked_refuted model budgets proof (Ok answer) (printed, (e, h)) closes = subst (IsChecked model budgets) (sym e) (h, closes)
+checked_refuted model budgets proof (Err error) h closes = tt
+
+-- and to a reduction that decides
+pub decided_refuted : (model : Program) (proof : Proof) (of : List VariableShare) → DecidesBy (set_system model (active_members model)) of → IsLeafOf model (active_members model) proof of
+    → {E : Type 0} (result : Result Answer E) → IfOk result (IsRefutedBy model proof) → IfOk result (IsReduction model)
+decided_refuted model proof of decides leaf (Ok answer) (printed, (e, h)) = subst (IsReduction model) (sym e) (h, (of, (decides, leaf)))
+decided_refuted model proof of decides leaf (Err error) h = tt
 
 -- ---- branches
 -- a path with an upper branch on a column knows the column

@@ -19,7 +19,7 @@ use Rattle.certs.specs.Sites.{Budgets}
 use Rattle.certs.specs.Tales.{FirstCore, OracleState, TaleValue}
 use Rattle.certs.specs.Trees.{has_mark}
 use Rattle.filter_steps.specs.Isolated.{IsIsolation, IsStoppedAt}
-use Rattle.linear_oracle.specs.Value.{OracleValue, state_of}
+use Rattle.presolve_oracle.specs.Value.{PresolveValue, presolve_state}
 use Rattle.branch_oracle.specs.Value.{BranchValue, state_with as with_trees}
 use Rattle.quick_oracle.specs.Alone.{stands_alone}
 use Rattle.quick_oracle.specs.Answers.{IsAsked}
@@ -35,18 +35,18 @@ use Rattle.analysis.proofs.Found.{given_answer, late_is_part, late_test_is_part,
 use Rattle.analysis.proofs.Stopping.{IsRunOf}
 
 -- what callers see of the oracle by trees
-abbrev pub branch_state : BranchValue OracleValue → OracleState
-branch_state oracle = with_trees (state_of oracle.inner) oracle.nodes oracle.tale
+abbrev pub branch_state : BranchValue PresolveValue → OracleState
+branch_state oracle = with_trees (presolve_state oracle.inner) oracle.nodes oracle.tale
 
 -- the quick oracle over one that was asked nothing yet
 abbrev quick_state : Program → Budgets → TaleValue → OracleState
 quick_state model budgets tale = state_with (branch_state (fresh_oracle model budgets)) tale
 
 -- ---- an ask for all active members
-module _ (model : Program) (budgets : Budgets) (inner : BranchValue OracleValue) (fresh : inner ≡ fresh_oracle model budgets) (set : SetValue) where
+module _ (model : Program) (budgets : Budgets) (inner : BranchValue PresolveValue) (fresh : inner ≡ fresh_oracle model budgets) (set : SetValue) where
   -- its answer is one within the budgets
   pub fresh_answer : (result : Result Verdict Stop) → QuickAnswers (branch_state inner).model (branch_state inner).budgets set.members result → QuickAnswers model budgets set.members result
-  fresh_answer result h = subst (λ (o : BranchValue OracleValue). QuickAnswers (branch_state o).model (branch_state o).budgets set.members result) fresh h
+  fresh_answer result h = subst (λ (o : BranchValue PresolveValue). QuickAnswers (branch_state o).model (branch_state o).budgets set.members result) fresh h
 
   -- and where there is a mark the tree's
   pub fresh_tree : (nodes : ℕ) (verdict : Verdict) (after : OracleState) → nodes ≡ 0 → set ≡ active_set model → has_mark (active_members model) ≡ true
@@ -54,7 +54,7 @@ module _ (model : Program) (budgets : Budgets) (inner : BranchValue OracleValue)
   fresh_tree nodes verdict after none whole marked alone =
       let here : has_mark set.members ≡ true = subst (λ (s : SetValue). has_mark s.members ≡ true) (sym whole) marked in
       subst (λ (s : SetValue). IsTreeAnswer model budgets s.members (Ok verdict)) whole
-      (by_tree model budgets set.members verdict (branch_state inner) after (ap (λ (o : BranchValue OracleValue). (branch_state o).model) fresh) (ap (λ (o : BranchValue OracleValue). (branch_state o).budgets) fresh) here
+      (by_tree model budgets set.members verdict (branch_state inner) after (ap (λ (o : BranchValue PresolveValue). (branch_state o).model) fresh) (ap (λ (o : BranchValue PresolveValue). (branch_state o).budgets) fresh) here
       (alone (marked_alone (branch_state inner).model set.members nodes none here)))
 
 -- ---- one oracle
@@ -70,7 +70,7 @@ filter_stop IsTest IsRight model budgets tale after part right (Err stop) h = re
 }
 
 -- what the filter gives is right
-pub search_answer : (IsLeft IsTest : Program → List Member → List Member → Type 0) (IsKept IsRight : List Member → Type 0) (model : Program) (set : SetValue) (budgets : Budgets) (inner : BranchValue OracleValue) (tale : TaleValue) (after : OracleState)
+pub search_answer : (IsLeft IsTest : Program → List Member → List Member → Type 0) (IsKept IsRight : List Member → Type 0) (model : Program) (set : SetValue) (budgets : Budgets) (inner : BranchValue PresolveValue) (tale : TaleValue) (after : OracleState)
     (given : Result Irreducible Stop) {E : Type 0} (result : Result Answer E) → inner ≡ fresh_oracle model budgets → set ≡ active_set model
     → ((k : List Member) → IsLeft model (active_members model) k → IsKept k) → ((k : List Member) → IsLeft model (active_members model) k → IsPart k (active_members model))
     → ((t : List Member) → IsTest model (active_members model) t → IsRight t) → ((t : List Member) → IsTest model (active_members model) t → IsPart t (active_members model))
@@ -79,10 +79,10 @@ pub search_answer : (IsLeft IsTest : Program → List Member → List Member →
 search_answer IsLeft IsTest IsKept IsRight model set budgets inner tale after given result fresh whole kept part right tested found stopped is =
     given_answer QuickAnswers IsLeft IsKept IsRight (quick_state model budgets tale) budgets given result (λ asked proof k. proof_ordered model budgets asked proof k) (λ asked proof k. proof_fits model budgets asked proof k) kept part
     (subst (λ (s : SetValue). IfOk given (IsIsolation IsLeft QuickAnswers (quick_state model budgets tale) s.members)) whole
-    (subst (λ (o : BranchValue OracleValue). IfOk given (IsIsolation IsLeft QuickAnswers (state_with (branch_state o) tale) set.members)) fresh found))
+    (subst (λ (o : BranchValue PresolveValue). IfOk given (IsIsolation IsLeft QuickAnswers (state_with (branch_state o) tale) set.members)) fresh found))
     (filter_stop IsTest IsRight model budgets tale after tested right given
     (subst (λ (s : SetValue). IfErr given (IsStoppedAt IsTest QuickAnswers s.members (quick_state model budgets tale) after)) whole
-    (subst (λ (o : BranchValue OracleValue). IfErr given (IsStoppedAt IsTest QuickAnswers set.members (state_with (branch_state o) tale) after)) fresh stopped)))
+    (subst (λ (o : BranchValue PresolveValue). IfErr given (IsStoppedAt IsTest QuickAnswers set.members (state_with (branch_state o) tale) after)) fresh stopped)))
     is
 
 -- ---- two oracles: the reference for all active members, and the quick oracle inside the first core
@@ -111,7 +111,7 @@ either_fits model budgets asked proof (inl h) = inner_fits model budgets asked p
 either_fits model budgets asked proof (inr h) = proof_fits model budgets asked proof h
 
 -- what the filter gives is right
-pub core_answer : (model : Program) (set : SetValue) (budgets : Budgets) (first inner : BranchValue OracleValue) (tale : TaleValue) (first_new later_new : OracleState) (given : Result Irreducible Stop) {E : Type 0} (result : Result Answer E)
+pub core_answer : (model : Program) (set : SetValue) (budgets : Budgets) (first inner : BranchValue PresolveValue) (tale : TaleValue) (first_new later_new : OracleState) (given : Result Irreducible Stop) {E : Type 0} (result : Result Answer E)
     → first ≡ fresh_oracle model budgets → inner ≡ fresh_oracle model budgets → set ≡ active_set model
     → IfOk given (IsIsolation (IsLateOfTold (AnswersAt InnerAnswers (branch_state first)) first_new.tale.first_core) (either InnerAnswers QuickAnswers (state_with (branch_state inner) tale).budgets) (branch_state first) set.members)
     → IfErr given (IsStoppedWith InnerAnswers QuickAnswers set.members (branch_state first) first_new (state_with (branch_state inner) tale) later_new)
@@ -122,10 +122,10 @@ core_answer model set budgets first inner tale first_new later_new given result 
     given_answer (either InnerAnswers QuickAnswers budgets) (IsLateOfTold (AnswersAt InnerAnswers state) told) (IsLateOfCore model budgets) (IsCoreTest model budgets) state budgets given result (either_ordered model budgets) (either_fits model budgets)
     (λ kept k. (k.core, (reference_core model budgets k.core k.is_core.answered, k.late))) (λ kept k. within kept k.core (active_members model) (late_is_part model k.core kept k.late) k.is_core.part)
     (subst (λ (s : SetValue). IfOk given (IsIsolation (IsLateOfTold (AnswersAt InnerAnswers state) told) (either InnerAnswers QuickAnswers budgets) state s.members)) whole
-    (subst (λ (o : BranchValue OracleValue). IfOk given (IsIsolation (IsLateOfTold (AnswersAt InnerAnswers state) told) (either InnerAnswers QuickAnswers (state_with (branch_state o) tale).budgets) state set.members)) inner_fresh
-    (subst (λ (o : BranchValue OracleValue). IfOk given (IsIsolation (IsLateOfTold (AnswersAt InnerAnswers (branch_state o)) told) (either InnerAnswers QuickAnswers (state_with (branch_state inner) tale).budgets) (branch_state o) set.members)) first_fresh found)))
+    (subst (λ (o : BranchValue PresolveValue). IfOk given (IsIsolation (IsLateOfTold (AnswersAt InnerAnswers state) told) (either InnerAnswers QuickAnswers (state_with (branch_state o) tale).budgets) state set.members)) inner_fresh
+    (subst (λ (o : BranchValue PresolveValue). IfOk given (IsIsolation (IsLateOfTold (AnswersAt InnerAnswers (branch_state o)) told) (either InnerAnswers QuickAnswers (state_with (branch_state inner) tale).budgets) (branch_state o) set.members)) first_fresh found)))
     (core_stop model budgets tale first_new later_new given
     (subst (λ (s : SetValue). IfErr given (IsStoppedWith InnerAnswers QuickAnswers s.members state first_new (quick_state model budgets tale) later_new)) whole
-    (subst (λ (o : BranchValue OracleValue). IfErr given (IsStoppedWith InnerAnswers QuickAnswers set.members state first_new (state_with (branch_state o) tale) later_new)) inner_fresh
-    (subst (λ (o : BranchValue OracleValue). IfErr given (IsStoppedWith InnerAnswers QuickAnswers set.members (branch_state o) first_new (state_with (branch_state inner) tale) later_new)) first_fresh stopped))))
+    (subst (λ (o : BranchValue PresolveValue). IfErr given (IsStoppedWith InnerAnswers QuickAnswers set.members state first_new (state_with (branch_state o) tale) later_new)) inner_fresh
+    (subst (λ (o : BranchValue PresolveValue). IfErr given (IsStoppedWith InnerAnswers QuickAnswers set.members (branch_state o) first_new (state_with (branch_state inner) tale) later_new)) first_fresh stopped))))
     is

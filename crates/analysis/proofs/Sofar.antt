@@ -8,7 +8,7 @@ use Rattle.report_text.specs.declared.report.Command.{Command}
 use Rattle.report_text.specs.declared.report.Command.TheVariants.{Pivots}
 use Rattle.report_text.specs.declared.report.Answer.{Answer}
 use Rattle.report_text.specs.declared.report.Entry.{Entry}
-use Rattle.report_text.specs.Turns.{after, entry_commands, AllEntries}
+use Rattle.report_text.specs.Turns.{entry_commands, AllEntries}
 use Rattle.report_text.specs.Grammar.{entries_phrases}
 use Rattle.report_text.specs.Form.{AreNumbered, IsCommand}
 use Rattle.report_text.proofs.InTurn.{commands_push, AllEntries-push, numbered-push}

@@ -1,5 +1,5 @@
 -- Stops of oracles as answers.
-use Rattle.std.proofs.Common.{◌≡◌, ◌<◌, refl, sym, ◌∙◌, ap, subst, ℕ, Bool, true, false, ◌&&◌, List, [], filter, length, Result, Ok, Err, inl, inr}
+use Rattle.std.proofs.Common.{◌≡◌, ◌<◌, refl, sym, ◌∙◌, ap, subst, ℕ, Bool, true, false, true≢false, ◌&&◌, List, [], filter, length, Result, Ok, Err, inl, inr}
 use Rattle.std.specs.Prelude.{All, Contains, IfOk}
 use Rattle.std.proofs.lemmas.List.Elements.{All-contains, All-nil, filter_passes}
 use Rattle.lp_model.specs.declared.members.Member.{Member}
@@ -20,9 +20,12 @@ use Rattle.certs.specs.Tales.{IsNodeSite}
 use Rattle.frac128.specs.declared.Wide.{Wide as Operation}
 use Rattle.certs.proofs.HasLists.{agree_on}
 use Rattle.certs.proofs.Parted.{filter_both}
+use Rattle.certs.specs.Trees.{has_mark}
 use Rattle.branch_proof.proofs.TreeStops.{reference_stopped}
+use Rattle.presolve_laws.specs.Answers.{IsPresolvedReference, IsPresolvedVerdict, IsUneased, set_system}
+use Rattle.presolve_laws.specs.Eased.{IsEased}
 use Rattle.report_text.specs.declared.report.Answer.{Answer}
-use Rattle.report_text.specs.declared.report.Answer.TheVariants.{Feasible, Infeasible, Irreducible, Done, Refused, Stopped}
+use Rattle.report_text.specs.declared.report.Answer.TheVariants.{Feasible, Infeasible, Irreducible, Reduced, Done, Refused, Stopped}
 use Rattle.report_printer.specs.Printing.{IsKnownAnswer, IsKnownSite, IsKnownStop}
 use Rattle.analysis.specs.Answers.{IsPossibleSite, IsStopAnswer, IsToldStop}
 use Rattle.analysis.specs.Right.{IsChecked, IsIsolated, IsRightStop, IsSiteOf, IsWhole}
@@ -57,9 +60,13 @@ empty_is model set of none =
     ∙ ap (λ (n : ℕ). record set { rows = length model.rows; columns = n }) of.columns
     ∙ ap (λ (l : List Member). record (empty_set model) { members = l }) none
 
+-- where no member of the set is a mark, its plain system is not eased
+abbrev IsUneasedSet : Program → Budgets → List Member → Type 0
+IsUneasedSet model budgets set = has_mark set ≡ false → IsEased (set_system model set) budgets.pivots → ⊥
+
 -- the site of a node, whose path is known and fits
-site_of : (model : Program) (asked : List Member) (site : Site) → IsTreeSite model asked site → IsPossibleSite site → IsPart asked (active_members model) → IsSiteOf (λ s. s ≡ asked) model site
-site_of model asked site h possible part = record {
+site_of : (model : Program) (budgets : Budgets) (asked : List Member) (site : Site) → IsTreeSite model asked site → IsUneasedSet model budgets asked → IsPossibleSite site → IsPart asked (active_members model) → IsSiteOf (λ s. s ≡ asked) model budgets site
+site_of model budgets asked site h uneased possible part = record {
   settle = record {
     kind = h.node.kind;
     of_model = h.node.set_of;
@@ -69,6 +76,7 @@ site_of model asked site h possible part = record {
     fits = h.fits;
   };
   test = h.node.set_is;
+  uneased = subst (IsUneasedSet model budgets) (sym h.node.set_is) uneased;
 }
 
 -- with no path there is nothing to be known
@@ -93,29 +101,50 @@ whole_site : (model : Program) (budgets : Budgets) (asked : List Member) (site :
 whole_site model budgets asked site (inl h) = absurd h.ends
 whole_site model budgets asked site (inr h) = root_site model asked site h.ends.0
 
+-- ---- where the set has no mark
+own_run : (model : Program) (pivots : ℕ) (asked : List Member) (stop : Stop) → (stop ≡ Memory → ⊥) → IsPresolvedVerdict model asked pivots (Err stop) → IsUneased model asked pivots (Err stop)
+own_run model pivots asked stop other (inl memory) = absurd (other memory)
+own_run model pivots asked stop other (inr h) = h
+
+-- a stop is that of its own run
+by_own_run : (model : Program) (budgets : Budgets) (asked : List Member) (stop : Stop) → (stop ≡ Memory → ⊥) → IsPresolvedReference model budgets asked (Err stop) → IsReferenceAnswer model budgets asked (Err stop)
+by_own_run model budgets asked stop other (inl h) = inl (record { asked = h.asked; ends = (own_run model budgets.pivots asked stop other h.ends).ends })
+by_own_run model budgets asked stop other (inr h) = inr h
+
+-- and its plain system is not eased
+uneased_set : (model : Program) (budgets : Budgets) (asked : List Member) (stop : Stop) → (stop ≡ Memory → ⊥) → IsPresolvedReference model budgets asked (Err stop) → IsUneasedSet model budgets asked
+uneased_set model budgets asked stop other (inl h) = λ none. (own_run model budgets.pivots asked stop other h.ends).not_eased
+uneased_set model budgets asked stop other (inr h) = λ none. absurd (true≢false (sym h.asked.marked ∙ none))
+
 -- as an answer it is right
-right_stop : (model : Program) (budgets : Budgets) (asked : List Member) (stop : Stop) (answer : Answer) → IsReferenceAnswer model budgets asked (Err stop) → IsPart asked (active_members model) → IsToldStop stop answer
+right_stop : (model : Program) (budgets : Budgets) (asked : List Member) (stop : Stop) (answer : Answer) → IsPresolvedReference model budgets asked (Err stop) → IsPart asked (active_members model) → IsToldStop stop answer
     → IsStopAnswer (λ s. s ≡ asked) model budgets answer
 right_stop model budgets asked (Wide site turn wide) answer h part told =
+    let other : Wide site turn wide ≡ Memory → ⊥ = λ e. cc in
+    let run = by_own_run model budgets asked (Wide site turn wide) other h in
     subst (IsStopAnswer (λ s. s ≡ asked) model budgets) (sym told.0)
-    (site_of model asked site (wide_site model budgets asked site turn wide h) told.1 part, reference_stopped model budgets asked (Wide site turn wide) (λ e. cc) h)
+    (site_of model budgets asked site (wide_site model budgets asked site turn wide run) (uneased_set model budgets asked (Wide site turn wide) other h) told.1 part, reference_stopped model budgets asked (Wide site turn wide) other run)
 right_stop model budgets asked (Spent site) answer h part told =
+    let other : Spent site ≡ Memory → ⊥ = λ e. cc in
+    let run = by_own_run model budgets asked (Spent site) other h in
     subst (IsStopAnswer (λ s. s ≡ asked) model budgets) (sym told.0)
-    (site_of model asked site (spent_site model budgets asked site h) told.1 part, reference_stopped model budgets asked (Spent site) (λ e. cc) h)
+    (site_of model budgets asked site (spent_site model budgets asked site run) (uneased_set model budgets asked (Spent site) other h) told.1 part, reference_stopped model budgets asked (Spent site) other run)
 right_stop model budgets asked (Nodes site) answer h part told =
+    let other : Nodes site ≡ Memory → ⊥ = λ e. cc in
+    let run = by_own_run model budgets asked (Nodes site) other h in
     subst (IsStopAnswer (λ s. s ≡ asked) model budgets) (sym told.0)
-    (site_of model asked site (whole_site model budgets asked site h) told.1 part, reference_stopped model budgets asked (Nodes site) (λ e. cc) h)
+    (site_of model budgets asked site (whole_site model budgets asked site run) (uneased_set model budgets asked (Nodes site) other h) told.1 part, reference_stopped model budgets asked (Nodes site) other run)
 right_stop model budgets asked (Large size) answer h part told = absurd told
 right_stop model budgets asked Memory answer h part told = absurd told
 
 -- ---- stops that pass a test
-site_passes : (IsTest : List Member → Type 0) (model : Program) (asked : List Member) (site : Site) → IsTest asked → IsSiteOf (λ s. s ≡ asked) model site → IsSiteOf IsTest model site
-site_passes IsTest model asked site test h = record { settle = h.settle; test = subst IsTest (sym h.test) test }
+site_passes : (IsTest : List Member → Type 0) (model : Program) (budgets : Budgets) (asked : List Member) (site : Site) → IsTest asked → IsSiteOf (λ s. s ≡ asked) model budgets site → IsSiteOf IsTest model budgets site
+site_passes IsTest model budgets asked site test h = record { settle = h.settle; test = subst IsTest (sym h.test) test; uneased = h.uneased }
 
 stop_passes : (IsTest : List Member → Type 0) (model : Program) (budgets : Budgets) (asked : List Member) → IsTest asked → (stop : Stop) → IsRightStop (λ s. s ≡ asked) model budgets stop → IsRightStop IsTest model budgets stop
-stop_passes IsTest model budgets asked test (Wide site turn wide) h = (site_passes IsTest model asked site test h.0, h.1)
-stop_passes IsTest model budgets asked test (Spent site) h = (site_passes IsTest model asked site test h.0, h.1)
-stop_passes IsTest model budgets asked test (Nodes site) h = (site_passes IsTest model asked site test h.0, h.1)
+stop_passes IsTest model budgets asked test (Wide site turn wide) h = (site_passes IsTest model budgets asked site test h.0, h.1)
+stop_passes IsTest model budgets asked test (Spent site) h = (site_passes IsTest model budgets asked site test h.0, h.1)
+stop_passes IsTest model budgets asked test (Nodes site) h = (site_passes IsTest model budgets asked site test h.0, h.1)
 stop_passes IsTest model budgets asked test (Large size) h = absurd h
 stop_passes IsTest model budgets asked test Memory h = absurd h
 
@@ -123,12 +152,13 @@ passes : (IsTest : List Member → Type 0) (model : Program) (budgets : Budgets)
 passes IsTest model budgets asked test (Feasible point) h = absurd h
 passes IsTest model budgets asked test (Infeasible printed proof) h = absurd h
 passes IsTest model budgets asked test (Irreducible core) h = absurd h
+passes IsTest model budgets asked test (Reduced r) h = absurd h
 passes IsTest model budgets asked test Done h = absurd h
 passes IsTest model budgets asked test (Refused r) h = absurd h
 passes IsTest model budgets asked test (Stopped stop) h = stop_passes IsTest model budgets asked test stop h
 
 -- what is answered to an ask for a set of active members that passes the test
-stop_answer : (IsTest : List Member → Type 0) (model : Program) (budgets : Budgets) (asked : List Member) (stop : Stop) (answer : Answer) → IsAnsweredStop (IsReferenceAnswer model budgets) asked stop
+stop_answer : (IsTest : List Member → Type 0) (model : Program) (budgets : Budgets) (asked : List Member) (stop : Stop) (answer : Answer) → IsAnsweredStop (IsPresolvedReference model budgets) asked stop
     → IsPart asked (active_members model) → IsTest asked → IsToldStop stop answer → IsStopAnswer IsTest model budgets answer
 stop_answer IsTest model budgets asked stop answer (inl memory) part test told = absurd (subst (λ (s : Stop). IsToldStop s answer) memory told)
 stop_answer IsTest model budgets asked stop answer (inr h) part test told = passes IsTest model budgets asked test answer (right_stop model budgets asked stop answer h part told)
@@ -138,6 +168,7 @@ isolated_answer : (IsKept IsTest : List Member → Type 0) (model : Program) (bu
 isolated_answer IsKept IsTest model budgets (Feasible point) h = absurd h
 isolated_answer IsKept IsTest model budgets (Infeasible printed proof) h = absurd h
 isolated_answer IsKept IsTest model budgets (Irreducible core) h = absurd h
+isolated_answer IsKept IsTest model budgets (Reduced r) h = absurd h
 isolated_answer IsKept IsTest model budgets Done h = absurd h
 isolated_answer IsKept IsTest model budgets (Refused r) h = absurd h
 isolated_answer IsKept IsTest model budgets (Stopped stop) h = h
@@ -150,6 +181,7 @@ checked_answer : (model : Program) (budgets : Budgets) (answer : Answer) → IsS
 checked_answer model budgets (Feasible point) h = absurd h
 checked_answer model budgets (Infeasible printed proof) h = absurd h
 checked_answer model budgets (Irreducible core) h = absurd h
+checked_answer model budgets (Reduced r) h = absurd h
 checked_answer model budgets Done h = absurd h
 checked_answer model budgets (Refused r) h = absurd h
 checked_answer model budgets (Stopped stop) h = h
@@ -159,13 +191,13 @@ checked_stop model budgets (Ok answer) h = checked_answer model budgets answer h
 checked_stop model budgets (Err error) h = tt
 
 -- ---- and can be printed
-known_site : (IsTest : List Member → Type 0) (model : Program) (site : Site) → IsSiteOf IsTest model site → IsKnownSite model site
-known_site IsTest model site h = record { set = h.settle.of_model; path = h.settle.known }
+known_site : (IsTest : List Member → Type 0) (model : Program) (budgets : Budgets) (site : Site) → IsSiteOf IsTest model budgets site → IsKnownSite model site
+known_site IsTest model budgets site h = record { set = h.settle.of_model; path = h.settle.known }
 
 pub known_stop : (IsTest : List Member → Type 0) (model : Program) (budgets : Budgets) (stop : Stop) → IsRightStop IsTest model budgets stop → IsKnownStop model stop
-known_stop IsTest model budgets (Wide site turn wide) h = known_site IsTest model site h.0
-known_stop IsTest model budgets (Spent site) h = known_site IsTest model site h.0
-known_stop IsTest model budgets (Nodes site) h = known_site IsTest model site h.0
+known_stop IsTest model budgets (Wide site turn wide) h = known_site IsTest model budgets site h.0
+known_stop IsTest model budgets (Spent site) h = known_site IsTest model budgets site h.0
+known_stop IsTest model budgets (Nodes site) h = known_site IsTest model budgets site h.0
 known_stop IsTest model budgets (Large size) h = absurd h
 known_stop IsTest model budgets Memory h = absurd h
 
@@ -173,6 +205,7 @@ known_answer : (IsTest : List Member → Type 0) (model : Program) (budgets : Bu
 known_answer IsTest model budgets (Feasible point) h = absurd h
 known_answer IsTest model budgets (Infeasible printed proof) h = absurd h
 known_answer IsTest model budgets (Irreducible core) h = absurd h
+known_answer IsTest model budgets (Reduced r) h = absurd h
 known_answer IsTest model budgets Done h = tt
 known_answer IsTest model budgets (Refused r) h = tt
 known_answer IsTest model budgets (Stopped stop) h = known_stop IsTest model budgets stop h
@@ -185,7 +218,7 @@ known_stopped IsTest model budgets (Err error) h = tt
 -- The stop of the reference for a set of active members that passes a test; or want of memory.
 pub record IsRunOf (IsTest : List Member → Type 0) (model : Program) (budgets : Budgets) (stop : Stop) : Type 0 where
   pub asked : List Member
-  pub answered : IsAnsweredStop (IsReferenceAnswer model budgets) asked stop
+  pub answered : IsAnsweredStop (IsPresolvedReference model budgets) asked stop
   pub part : IsPart asked (active_members model)
   pub test : IsTest asked
 

@@ -3,7 +3,8 @@ use Rattle.std.specs.Prelude.{◌≡◌, ⊤, List, [], ◌∷◌, ◌++◌, Non
 use Rattle.lp_model.specs.declared.members.Member.{Member}
 use Rattle.lp_model.specs.Program.{Program}
 use Rattle.lp_model.specs.Members.{has, IsInOrder}
-use Rattle.lp_model.specs.MemberSets.{possible_in}
+use Rattle.lp_model.specs.MemberSets.{SetValue, possible_in}
+use Rattle.certs.specs.declared.evidence.Proof.{Proof}
 use Rattle.certs.specs.declared.solving.Irreducible.{Irreducible}
 use Rattle.certs.specs.declared.solving.Irreducible.TheVariants.{Set, Feasible as AtPoint}
 use Rattle.certs.specs.declared.solving.Site.{Site}
@@ -11,28 +12,32 @@ use Rattle.certs.specs.declared.solving.Stop.{Stop}
 use Rattle.certs.specs.declared.solving.Stop.TheVariants.{Wide, Pivots as Spent, Nodes, Large, Memory}
 use Rattle.certs.specs.Sites.{Budgets}
 use Rattle.certs.specs.Tales.{no_tale}
-use Rattle.linear_oracle.specs.Value.{OracleValue}
+use Rattle.presolve_oracle.specs.Value.{PresolveValue, fresh_value}
 use Rattle.branch_oracle.specs.Value.{BranchValue}
 use Rattle.report_text.specs.declared.report.Answer.{Answer}
-use Rattle.report_text.specs.declared.report.Answer.TheVariants.{Feasible, Irreducible as Isolated, Stopped}
+use Rattle.report_text.specs.declared.report.Answer.TheVariants.{Feasible, Infeasible, Irreducible as Isolated, Stopped}
 use Rattle.analysis.specs.declared.answering.Budgets.{Budgets as Code}
 use Rattle.model_history.specs.History.{HistoryValue}
 use Rattle.report_text.specs.declared.report.Command.{Command}
 use Rattle.model_session.specs.Session.{session_at}
-use Rattle.analysis.specs.Right.{IsRightStop, RightAfter, budgets_in_force}
+use Rattle.analysis.specs.Right.{IsRefutation, IsRightStop, RightAfter, budgets_in_force}
 
 -- as contracts have them
 abbrev pub budgets_of : Code → Budgets
 budgets_of b = record { pivots = b.pivots; nodes = b.nodes }
 
--- an oracle that makes the runs and trees of a program within the budgets, and was asked nothing yet
-abbrev pub fresh_oracle : Program → Budgets → BranchValue OracleValue
-fresh_oracle model budgets = record { inner = record { model = model; pivots = budgets.pivots; made = 0; tale = no_tale }; nodes = budgets.nodes; taken = 0; tale = no_tale }
+-- an oracle that presolves, and makes the runs and trees of a program within the budgets, and was asked nothing yet
+abbrev pub fresh_oracle : Program → Budgets → BranchValue PresolveValue
+fresh_oracle model budgets = record { inner = fresh_value model budgets.pivots; nodes = budgets.nodes; taken = 0; tale = no_tale }
 
 -- a command is answered right, and done to the session's program where it edits it
 pub record IsNext (old new : HistoryValue) (budgets : Budgets) (command : Command) (answer : Answer) : Type 0 where
   pub goes_on : (first : Program) (before : List Command) → old ≡ session_at first before → new ≡ session_at first (before ++ command ∷ [])
   pub right : (first : Program) (before : List Command) → old ≡ session_at first before → budgets ≡ budgets_in_force before → RightAfter first before command answer
+
+-- the answer has the proof, with the members that it uses
+abbrev pub IsRefutedBy : Program → Proof → Answer → Type 0
+IsRefutedBy model proof answer = (printed : SetValue) × ((answer ≡ Infeasible printed proof) × IsRefutation model printed proof)
 
 -- what a filter gives, as an answer
 abbrev pub answer_of : Irreducible → Answer

@@ -1,5 +1,5 @@
 -- What it is for an answer to be right: of the program, within the budgets in force, to its command.
-use Rattle.std.specs.Prelude.{◌≡◌, ◌≢◌, ◌⊎◌, ◌*◌, ◌≤◌, true, List, [], ◌++◌, fold, Option, Some, None, All}
+use Rattle.std.specs.Prelude.{◌≡◌, ◌≢◌, ◌⊎◌, ◌*◌, ◌≤◌, true, false, List, [], ◌++◌, fold, Option, Some, None, All}
 use Rattle.lp_model.specs.Program.{Program}
 use Rattle.lp_model.specs.declared.members.Member.{Member}
 use Rattle.lp_model.specs.Members.{active_members, IsInOrder}
@@ -7,7 +7,7 @@ use Rattle.lp_model.specs.MemberSets.{SetValue, active_set}
 use Rattle.lp_model.specs.Satisfaction.{IsPart, IsIrreducible}
 use Rattle.certs.specs.declared.evidence.Point.{Point}
 use Rattle.certs.specs.declared.evidence.Proof.{Proof}
-use Rattle.certs.specs.Answers.{IsCoreBy, IsReferenceAnswer}
+use Rattle.certs.specs.Answers.{IsCoreBy}
 use Rattle.certs.specs.Checks.{IsSetOf}
 use Rattle.certs.specs.Order.{AreLeavesInOrder}
 use Rattle.certs.specs.Tales.{IsPointOf}
@@ -18,20 +18,24 @@ use Rattle.certs.specs.declared.solving.Stop.TheVariants.{Wide, Pivots as Spent,
 use Rattle.certs.specs.Proof.{IsProof, IsFittingNode}
 use Rattle.certs.specs.Named.{used_set}
 use Rattle.certs.specs.Sites.{Budgets, IsStopped}
+use Rattle.certs.specs.System.{VariableShare}
 use Rattle.certs.specs.Trees.{TreeEnd, HasTree, IsTree, has_mark}
 use Rattle.filter_steps.specs.Isolated.{AreWitnesses}
+use Rattle.presolve_laws.specs.Answers.{IsLeafOf, IsPresolvedReference, set_system}
+use Rattle.presolve_laws.specs.Eased.{DecidesBy, IsEased}
 use Rattle.tree_laws.specs.Boxes.{Box, IsBoxOf, volume}
 use Rattle.report_text.specs.declared.report.Method.{Method}
 use Rattle.report_text.specs.declared.report.Method.TheVariants.{Deletion, Additive, Sensitivity}
 use Rattle.report_text.specs.declared.report.Core.{Core}
 use Rattle.report_text.specs.declared.report.Command.{Command}
-use Rattle.report_text.specs.declared.report.Command.TheVariants.{Check, Iis, Edit, Undo, Pivots, Nodes as MostNodes}
+use Rattle.report_text.specs.declared.report.Command.TheVariants.{Check, Iis, Reduce, Edit, Undo, Pivots, Nodes as MostNodes}
 use Rattle.report_text.specs.declared.report.Answer.{Answer}
-use Rattle.report_text.specs.declared.report.Answer.TheVariants.{Feasible, Infeasible, Irreducible, Done, Stopped}
+use Rattle.report_text.specs.declared.report.Answer.TheVariants.{Feasible, Infeasible, Irreducible, Reduced, Done, Stopped}
 use Rattle.report_text.specs.declared.report.Entry.{Entry}
 use Rattle.report_text.specs.Turns.{after, answer_after, entry_commands, AllEntries}
 use Rattle.report_text.specs.Form.{IsSettleSite}
 use Rattle.report_printer.specs.Numbers.{HasNumbersWithin}
+use Rattle.analysis.specs.Reduced.{IsReducedTo}
 
 -- ---- answers
 -- The proof is one of the printed members, the shares of each leaf stand in order, the numbers of its splits fit, and these are the active members that it uses.
@@ -41,16 +45,17 @@ pub record IsRefutation (model : Program) (printed : SetValue) (proof : Proof) :
   pub fits : All IsFittingNode proof.nodes
   pub used : printed ≡ used_set (active_set model) proof.nodes
 
--- the site is a settle run of a set of active members that passes the test
-pub record IsSiteOf (IsTest : List Member → Type 0) (model : Program) (site : Site) : Type 0 where
+-- The site is a settle run of a set of active members that passes the test; and where none of them is a mark, their plain system is not eased.
+pub record IsSiteOf (IsTest : List Member → Type 0) (model : Program) (budgets : Budgets) (site : Site) : Type 0 where
   pub settle : IsSettleSite model site
   pub test : IsTest site.set.members
+  pub uneased : has_mark site.set.members ≡ false → IsEased (set_system model site.set.members) budgets.pivots → ⊥
 
 -- the stop's site is one of such a set, and its own run stops so within the budgets
 abbrev pub IsRightStop : (List Member → Type 0) → Program → Budgets → Stop → Type 0
-IsRightStop IsTest model budgets (Wide site k o) = IsSiteOf IsTest model site × IsStopped model budgets (Wide site k o)
-IsRightStop IsTest model budgets (Spent site) = IsSiteOf IsTest model site × IsStopped model budgets (Spent site)
-IsRightStop IsTest model budgets (Nodes site) = IsSiteOf IsTest model site × IsStopped model budgets (Nodes site)
+IsRightStop IsTest model budgets (Wide site k o) = IsSiteOf IsTest model budgets site × IsStopped model budgets (Wide site k o)
+IsRightStop IsTest model budgets (Spent site) = IsSiteOf IsTest model budgets site × IsStopped model budgets (Spent site)
+IsRightStop IsTest model budgets (Nodes site) = IsSiteOf IsTest model budgets site × IsStopped model budgets (Nodes site)
 IsRightStop IsTest model budgets (Large size) = ⊥
 IsRightStop IsTest model budgets Memory = ⊥
 
@@ -99,9 +104,9 @@ IsIsolated IsKept IsTest model budgets (Irreducible core) = IsRightCore model co
 IsIsolated IsKept IsTest model budgets (Stopped stop) = IsRightStop IsTest model budgets stop
 IsIsolated IsKept IsTest model budgets _ = ⊥
 
--- The core of the active members within the budgets: those that the proof by the run of their plain system uses, or by their tree where some of them is a mark.
+-- The core of the active members within the budgets: those that their proof uses, which comes back from the reduction of their plain system where that is eased, and else is by its own run; or is by their tree where some of them is a mark.
 abbrev pub IsCore : Program → Budgets → List Member → Type 0
-IsCore model budgets core = IsCoreBy (IsReferenceAnswer model budgets) (active_members model) core
+IsCore model budgets core = IsCoreBy (IsPresolvedReference model budgets) (active_members model) core
 
 -- what a late filter leaves of the core
 abbrev pub IsLateOfCore : Program → Budgets → List Member → Type 0
@@ -117,10 +122,22 @@ IsFound Deletion model budgets answer = IsIsolated (Late model (active_members m
 IsFound Additive model budgets answer = IsIsolated (Early model (active_members model)) (IsEarlyTest model (active_members model)) model budgets answer
 IsFound Sensitivity model budgets answer = IsIsolated (IsLateOfCore model budgets) (IsCoreTest model budgets) model budgets answer
 
+-- ---- reductions
+-- The printed members are those that a leaf uses whose shares come back from what decides the reduction of the active members' plain system.
+abbrev pub IsDecided : Program → SetValue → Proof → Type 0
+IsDecided model printed proof = IsRefutation model printed proof × ((of : List VariableShare) × (DecidesBy (set_system model (active_members model)) of × IsLeafOf model (active_members model) proof of))
+
+-- what is right to `reduce`
+abbrev pub IsReduction : Program → Answer → Type 0
+IsReduction model (Reduced r) = IsReducedTo model r.steps r.rows r.columns
+IsReduction model (Infeasible printed proof) = IsDecided model printed proof
+IsReduction model _ = ⊥
+
 -- An answer is right only to a command that may have it; a budget is always done, and no edit is asked here.
 abbrev pub Right : Program → Budgets → Command → Answer → Type 0
 Right model budgets Check answer = IsChecked model budgets answer
 Right model budgets (Iis method) answer = IsFound method model budgets answer
+Right model budgets Reduce answer = IsReduction model answer
 Right model budgets (Edit e) answer = ⊥
 Right model budgets Undo answer = ⊥
 Right model budgets (Pivots n) answer = answer ≡ Done

@@ -1,16 +1,16 @@
 //! The answer to a command.
-ghost use Rattle.std.specs.Prelude.{◌≡◌, ◌<◌, ◌^◌, IfOk, All, false};
+ghost use Rattle.std.specs.Prelude.{◌≡◌, ◌<◌, ◌^◌, IfOk, All};
 ghost use Rattle.lp_model.specs.Members.{active_members};
 ghost use Rattle.lp_model.specs.MemberSets.{active_set};
 ghost use Rattle.certs.specs.Order.{AreLeavesInOrder};
 ghost use Rattle.certs.specs.Proof.{IsFittingNode, IsProof};
-ghost use Rattle.certs.specs.Sites.{Budgets as Allowed};
 ghost use Rattle.report_text.specs.Form.{IsCommand};
 ghost use Rattle.report_printer.specs.Printing.{IsKnownAnswer};
-ghost use Rattle.analysis.specs.Answers.{IsNext, budgets_of, fresh_oracle};
-ghost use Rattle.analysis.specs.Right.{HasNodesInBox, IsChecked, TreeCloses, budgets_after, first_budgets as budgets_at_first};
+ghost use Rattle.analysis.specs.Answers.{IsNext, IsRefutedBy, budgets_of, fresh_oracle};
+ghost use Rattle.analysis.specs.Right.{HasNodesInBox, IsChecked, budgets_after, first_budgets as budgets_at_first};
 
 use crate::asking::{Reference, quick_oracle};
+use crate::reducing::reduction;
 use crate::searching::{search, stopped};
 use certs::{MemberSet, Oracle, Proof, Verdict, members_used};
 use lp_model::Model;
@@ -70,6 +70,7 @@ pub(crate) fn answer(
     match command {
         Command::Check => check(alloc, session.model(), budgets, kept),
         Command::Iis(method) => search(alloc, session.model(), budgets, *method, kept),
+        Command::Reduce => reduction(alloc, session.model()),
         Command::Edit(edit) => session.take_edit(edit),
         Command::Undo => Ok(session.take_undo()),
         Command::Pivots(_) | Command::Nodes(_) => Ok(Answer::Done),
@@ -119,8 +120,8 @@ fn check_by(
     }
 }
 
-// The active members that a proof uses, with the proof.
-fn refuted(
+/// The active members that a proof uses, with the proof.
+pub(crate) fn refuted(
     alloc: Global,
     model: &Model,
     set: &MemberSet,
@@ -130,7 +131,7 @@ fn refuted(
     requires proof { IsProof model.now (active_members model.now) proof.nodes }
     requires ordered { AreLeavesInOrder proof.nodes }
     requires fits { All IsFittingNode proof.nodes }
-    ensures right { (budgets : Allowed) → TreeCloses model.now budgets proof → IfOk result (IsChecked model.now budgets) }
+    ensures refutes { IfOk result (IsRefutedBy model.now proof) }
     ensures known { IfOk result (IsKnownAnswer model.now) }
 {
     set.stands_in_order();

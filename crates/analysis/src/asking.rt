@@ -1,18 +1,19 @@
-//! The oracles that are asked: quick runs, and else the runs and trees of the budgets.
+//! The oracles that are asked: quick runs, and else reductions, and the runs and trees of the budgets.
 ghost use Rattle.std.specs.Prelude.{◌≡◌, ◌<◌, ◌^◌};
 ghost use Rattle.certs.specs.Tales.{no_tale};
 ghost use Rattle.analysis.specs.Answers.{budgets_of, fresh_oracle};
 
 use crate::answering::Budgets;
 use branch_oracle::BranchOracle;
-use linear_oracle::LinearOracle;
 use lp_model::Model;
+use presolve_oracle::PresolveOracle;
 use quick_oracle::{Kept, QuickOracle};
 use std::alloc::Global;
 use std::mem;
 
-/// The oracle of the reference: the runs of sets without marks, and the trees of those with a mark, within the budgets.
-pub(crate) type Reference<'a> = BranchOracle<'a, LinearOracle<'a>>;
+/// The oracle of the reference: for sets without marks what comes back from the reduction of their plain systems, or
+/// else the runs of those, and for sets with a mark their trees, within the budgets.
+pub(crate) type Reference<'a> = BranchOracle<'a, PresolveOracle<'a>>;
 
 /// One of a program, that was asked nothing yet.
 pub(crate) fn reference_oracle<'a>(
@@ -23,7 +24,7 @@ pub(crate) fn reference_oracle<'a>(
     requires { budgets.pivots < 2 ^ 63 }
     ensures { result ≡ fresh_oracle model.now (budgets_of budgets) }
 {
-    let inner = LinearOracle::new(alloc, model, budgets.pivots);
+    let inner = PresolveOracle::new(alloc, model, budgets.pivots);
     BranchOracle::new(alloc, model, inner, budgets.nodes)
 }
 

@@ -4,6 +4,7 @@
 mod answering;
 mod asking;
 mod pieces;
+mod reducing;
 mod searching;
 
 pub use pieces::analyse;

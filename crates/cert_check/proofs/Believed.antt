@@ -24,7 +24,7 @@ use Rattle.branch_proof.specs.declared.checks.Judged.{Judged}
 use Rattle.branch_proof.specs.Walk.{judgement}
 use Rattle.branch_proof.proofs.Judgements.{told}
 use Rattle.report_text.specs.declared.report.Answer.{Answer}
-use Rattle.report_text.specs.declared.report.Answer.TheVariants.{Feasible, Infeasible, Irreducible, Done, Refused, Stopped}
+use Rattle.report_text.specs.declared.report.Answer.TheVariants.{Feasible, Infeasible, Irreducible, Reduced, Done, Refused, Stopped}
 use Rattle.report_text.specs.declared.report.Command.{Command}
 use Rattle.report_text.specs.declared.report.Entry.{Entry}
 use Rattle.report_text.specs.contracts.report.RefusalPartialEq.TheImpl.{ghosts as refusal_test}
@@ -139,6 +139,7 @@ true_answer model n (Irreducible core) f h e =
       witnessed = All-weaker (Tried model set) (λ w. Satisfies model (others set w.0) (values_at w.1.values)) (λ w t. point_check_law limit model (others set w.0) (values_at w.1.values) t.1) (witnesses_of core) each;
       irreducible = record { cannot = cannot; minimal = irreducible_by model set core.witnesses h.members.in_order h.each each };
     }
+true_answer model n (Reduced r) f h e = tt
 true_answer model n Done f h e = tt
 true_answer model n (Refused r) f h e = tt
 true_answer model n (Stopped stop) f h e = tt

@@ -18,16 +18,17 @@ use Rattle.certs.specs.declared.evidence.Share.{Share}
 use Rattle.certs.specs.declared.evidence.Point.{Point}
 use Rattle.certs.specs.declared.evidence.Node.TheVariants.{Leaf}
 use Rattle.certs.specs.declared.evidence.Proof.{Proof}
+use Rattle.reductions.specs.declared.steps.ReduceStep.TheVariants.{Empty}
 use Rattle.report_text.specs.declared.report.Method.TheVariants.{Deletion}
 use Rattle.certs.specs.declared.solving.SiteKind.TheVariants.{Improve}
 use Rattle.certs.specs.declared.solving.Stop.TheVariants.{Pivots as Spent}
 use Rattle.report_text.specs.declared.report.Command.{Command}
-use Rattle.report_text.specs.declared.report.Command.TheVariants.{Check, Iis, Edit, Undo, Pivots}
+use Rattle.report_text.specs.declared.report.Command.TheVariants.{Check, Iis, Reduce, Edit, Undo, Pivots}
 use Rattle.report_text.specs.declared.report.EditKind.{EditKind}
 use Rattle.report_text.specs.declared.report.TargetKind.{TargetKind}
 use Rattle.report_text.specs.declared.report.Refusal.TheVariants.{UnknownName, NoChange, NothingToUndo}
 use Rattle.report_text.specs.declared.report.Answer.{Answer}
-use Rattle.report_text.specs.declared.report.Answer.TheVariants.{Feasible, Infeasible, Irreducible, Done, Refused, Stopped}
+use Rattle.report_text.specs.declared.report.Answer.TheVariants.{Feasible, Infeasible, Irreducible, Reduced, Done, Refused, Stopped}
 use Rattle.report_text.specs.declared.report.Entry.{Entry}
 use Rattle.cert_check.specs.declared.outcome.Outcome.{Outcome}
 use Rattle.cert_check.specs.declared.outcome.Outcome.TheVariants.{Accepted, Rejected, Wide as TooWide}
@@ -95,6 +96,26 @@ finished = record { command = Pivots 7; answer = Done; line = 16 }
 counted : check noted (infeasible pair (leaf (pos 1) (RowLo 1) (pos 1)) ∷ stopped ∷ finished ∷ []) ≡ Accepted 2 1
 unfolding frac ◌+ℚ◌ ◌*ℚ◌ neg_ℚ gcd gcd_within le_q lt_q eq_ℚ first_wide is_wide product_steps
 counted = refl
+
+-- nor is it settled how far a program is reduced, whatever is said of it
+abbrev lessened : Entry
+lessened = record { command = Reduce; answer = Reduced (record { steps = Empty 7 ∷ []; rows = 0; columns = 9 }); line = 12 }
+
+also_counted : check noted (infeasible pair (leaf (pos 1) (RowLo 1) (pos 1)) ∷ lessened ∷ finished ∷ []) ≡ Accepted 2 1
+unfolding frac ◌+ℚ◌ ◌*ℚ◌ neg_ℚ gcd gcd_within le_q lt_q eq_ℚ first_wide is_wide product_steps
+also_counted = refl
+
+-- but where a reduction finds that no point is left, the members and the proof are checked as those of a check are
+abbrev reduced_to_none : Proof → Entry
+reduced_to_none proof = record (infeasible pair proof) { command = Reduce }
+
+none_left : check noted (reduced_to_none (leaf (pos 1) (RowLo 1) (pos 1)) ∷ []) ≡ Accepted 1 0
+unfolding frac ◌+ℚ◌ ◌*ℚ◌ neg_ℚ gcd gcd_within le_q lt_q eq_ℚ first_wide is_wide product_steps
+none_left = refl
+
+some_left : check noted (reduced_to_none (leaf (pos 2) (RowLo 1) (pos 1)) ∷ []) ≡ Rejected 8
+unfolding frac ◌+ℚ◌ ◌*ℚ◌ neg_ℚ gcd gcd_within le_q lt_q eq_ℚ first_wide is_wide product_steps
+some_left = refl
 
 -- ---- notes: one missing, one too many, another
 note_missing : check [] (infeasible pair (leaf (pos 1) (RowLo 1) (pos 1)) ∷ []) ≡ Rejected 2

@@ -18,7 +18,7 @@ use Rattle.branch_proof.specs.declared.checks.Judged.{Judged}
 use Rattle.branch_proof.specs.Walk.{judgement}
 use Rattle.report_text.specs.declared.report.Core.{Core}
 use Rattle.report_text.specs.declared.report.Answer.{Answer}
-use Rattle.report_text.specs.declared.report.Answer.TheVariants.{Feasible, Infeasible, Irreducible, Done, Refused, Stopped}
+use Rattle.report_text.specs.declared.report.Answer.TheVariants.{Feasible, Infeasible, Irreducible, Reduced, Done, Refused, Stopped}
 use Rattle.report_text.specs.contracts.report.RefusalPartialEq.TheImpl.{ghosts as refusal_test}
 use Rattle.report_text.specs.declared.report.Entry.{Entry}
 use Rattle.report_text.specs.declared.report.Report.{Report}
@@ -119,11 +119,12 @@ irreducible_trials model n core =
     witness_trials model core.members.members (n + OPENING_LINES) (witnesses_of core)
     ++ proof_trials model core.members.members (n + ((OPENING_LINES + PROOF_LINES) + length (flat_map witness_phrases (witnesses_of core)))) core.proof
 
--- those of an answer; nothing is tried of the program where a command is done or refused, nor of a stop
+-- those of an answer; nothing is tried of the program where a command is done or refused, nor of a stop, nor of how far the program is reduced
 abbrev pub answer_trials : Program → ℕ → Answer → List Trial
 answer_trials model n (Feasible p) = feasible_trials model n p
 answer_trials model n (Infeasible set proof) = infeasible_trials model n set proof
 answer_trials model n (Irreducible core) = irreducible_trials model n core
+answer_trials model n (Reduced r) = []
 answer_trials model n Done = []
 answer_trials model n (Refused r) = []
 answer_trials model n (Stopped stop) = []
@@ -160,8 +161,9 @@ unless_failed n Yes rest = rest
 unless_failed n No rest = Rejected n
 unless_failed n (Wide o) rest = TooWide n o
 
--- an answer settles its command, unless it is a stop
+-- an answer settles its command, unless it is a stop, or tells how far the program is reduced
 abbrev pub settles : Answer → Bool
+settles (Reduced r) = false
 settles (Stopped stop) = false
 settles _ = true
 
@@ -169,7 +171,7 @@ settles _ = true
 abbrev pub settled_count : List Entry → ℕ
 settled_count entries = length (filter (λ e. settles e.answer) entries)
 
--- how many are not: they are stops
+-- how many are not
 abbrev pub unsettled_count : List Entry → ℕ
 unsettled_count entries = length (filter (λ e. not (settles e.answer)) entries)
 

@@ -6,7 +6,7 @@ use Rattle.lp_model.specs.Members.{active_members}
 use Rattle.lp_model.specs.Satisfaction.{values_at, Satisfies, IsUnsatisfiable, IsIrreducible, IsPart}
 use Rattle.certs.specs.declared.evidence.Point.{Point}
 use Rattle.report_text.specs.declared.report.Answer.{Answer}
-use Rattle.report_text.specs.declared.report.Answer.TheVariants.{Feasible, Infeasible, Irreducible, Done, Refused, Stopped}
+use Rattle.report_text.specs.declared.report.Answer.TheVariants.{Feasible, Infeasible, Irreducible, Reduced, Done, Refused, Stopped}
 use Rattle.report_text.specs.declared.report.Command.{Command}
 use Rattle.report_text.specs.declared.report.Entry.{Entry}
 use Rattle.report_text.specs.Turns.{after, answer_after, AllEntries}
@@ -26,11 +26,12 @@ pub record IsIrreducibleBy (model : Program) (set : List Member) (witnesses : Li
   pub witnessed : All (λ w. Satisfies model (others set w.0) (values_at w.1.values)) (zip set witnesses)
   pub irreducible : IsIrreducible model set
 
--- What an answer claims: its point satisfies the active members, or its members are refuted, or irreducible by its witnesses. Where a command is done or refused, or a solve stopped, nothing is claimed of the program.
+-- What an answer claims: its point satisfies the active members, or its members are refuted, or irreducible by its witnesses. Where a command is done or refused, or a solve stopped, nothing is claimed of the program; nor where it is told how far the program is reduced.
 abbrev pub IsTrueAnswer : Program → Answer → Type 0
 IsTrueAnswer model (Feasible p) = Satisfies model (active_members model) (values_at p.values)
 IsTrueAnswer model (Infeasible set proof) = IsRefuted model set.members
 IsTrueAnswer model (Irreducible core) = IsIrreducibleBy model core.members.members core.witnesses
+IsTrueAnswer model (Reduced r) = Unit {0}
 IsTrueAnswer model Done = Unit {0}
 IsTrueAnswer model (Refused r) = Unit {0}
 IsTrueAnswer model (Stopped stop) = Unit {0}

@@ -96,7 +96,7 @@ fn check_answer(alloc: Global, model: &Model, answer: &Answer, line: u32) -> Res
             check_infeasible(alloc, model, members, proof, line)
         }
         Answer::Irreducible(core) => check_core(alloc, model, core, line),
-        Answer::Done | Answer::Refused(_) | Answer::Stopped(_) => Ok(()),
+        Answer::Reduced(_) | Answer::Done | Answer::Refused(_) | Answer::Stopped(_) => Ok(()),
     }
 }
 

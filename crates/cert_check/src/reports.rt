@@ -27,7 +27,7 @@ use std::alloc::Global;
 /// reason for which it is refused.
 ///
 /// `Accepted` shows that the notes are those of the program, and that what each entry says is so. Each entry is settled
-/// but the stops: these say nothing of the program, and nothing of them is checked.
+/// but the stops, which say nothing of the program, and those that tell how far it is reduced: of these nothing is checked.
 ///
 /// The report is to stand in the grammar for the program, as one that was read for it does, and to have fewer than 2^31
 /// lines.
@@ -93,7 +93,7 @@ fn settles(answer: &Answer) -> bool
     ensures { result ≡ settles_command answer.now }
 {
     match answer {
-        Answer::Stopped(_) => false,
+        Answer::Reduced(_) | Answer::Stopped(_) => false,
         _ => true,
     }
 }

@@ -12,8 +12,8 @@ use Rattle.text_fields.specs.Fields.{is_long}
 use Rattle.text_fields.proofs.LineLists.{lines_of-nil}
 use Rattle.report_text.specs.declared.report.Command.{Command}
 use Rattle.report_text.specs.Form.{IsCommand}
-use Rattle.report_reader.specs.Commands.{command_of}
-use Rattle.report_reader.proofs.Scripted.{line_built}
+use Rattle.phrase_reader.specs.Commands.{command_of}
+use Rattle.phrase_reader.proofs.Scripted.{line_built}
 use Rattle.iis_session.specs.declared.scripts.Saying.{Saying}
 use Rattle.iis_session.specs.declared.scripts.Saying.TheVariants.{Nothing, Says, Bad}
 use Rattle.iis_session.specs.Scripts.{most_commands, is_remark, is_blank_line, said_by, saying_of, command_in, commands_of, is_bad_after, first_bad_behind, first_bad, Takes, AreRight, IsFirstBad}

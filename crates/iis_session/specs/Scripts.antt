@@ -6,7 +6,7 @@ use Rattle.text_fields.specs.Lines.{lines_of}
 use Rattle.text_fields.specs.Fields.{is_long}
 use Rattle.report_text.specs.declared.report.Command.{Command}
 use Rattle.report_text.specs.Form.{IsCommand}
-use Rattle.report_reader.specs.Commands.{command_of}
+use Rattle.phrase_reader.specs.Commands.{command_of}
 use Rattle.iis_session.specs.declared.scripts.Saying.{Saying}
 use Rattle.iis_session.specs.declared.scripts.Saying.TheVariants.{Nothing, Says, Bad}
 use Rattle.iis_session.specs.declared.scripts.ScriptStop.{ScriptStop}

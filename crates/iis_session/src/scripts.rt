@@ -3,11 +3,11 @@ ghost use Rattle.std.specs.Prelude.{◌≡◌, ◌<◌, ◌==◌, ◌||◌, All,
 ghost use Rattle.std.specs.List.{list_all};
 ghost use Rattle.text_fields.specs.Lines.{lines_of};
 ghost use Rattle.report_text.specs.Form.{IsCommand};
-ghost use Rattle.report_reader.specs.Commands.{command_of, IsCommandStop};
+ghost use Rattle.phrase_reader.specs.Commands.{command_of, IsCommandStop};
 ghost use Rattle.iis_session.specs.Scripts.{is_remark, is_blank_line, said_by, saying_of, commands_of, first_bad, IsScriptStop, Takes, IsLineStop, ScriptLaw};
 ghost use Rattle.iis_session.specs.declared.scripts.ScriptStop.TheVariants.{Memory as ScriptMemory};
 
-use report_reader::{CommandStop, read_command};
+use phrase_reader::{CommandStop, read_command};
 use report_text::{Command, Script};
 use std::alloc::{AllocError, AllocFailed, Global};
 use text_fields::{after_line, next_line};

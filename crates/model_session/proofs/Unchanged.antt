@@ -22,13 +22,15 @@ use Rattle.lp_model.specs.Edits.{with_row, with_column, with_flag, with_weight, 
 use Rattle.certs.specs.declared.evidence.Source.{Source}
 use Rattle.certs.specs.declared.evidence.Source.TheVariants.{Member as Of, Below, Above}
 use Rattle.model_history.specs.History.{after_edits}
+use Rattle.reductions.specs.declared.steps.ReduceStep.{ReduceStep}
+use Rattle.reductions.specs.declared.steps.ReduceStep.TheVariants.{Empty, Singleton, Fixed, Redundant, Forcing, Doubleton}
 use Rattle.report_text.specs.declared.report.Command.{Command}
 use Rattle.report_text.specs.declared.report.NamedEdit.{NamedEdit}
 use Rattle.report_text.specs.declared.phrases.Phrase.{Phrase}
 use Rattle.report_text.specs.declared.phrases.StopPhrase.{StopPhrase}
 use Rattle.report_text.specs.Edits.{edit_at, names_row, place_of, named_edit}
 use Rattle.report_text.specs.Turns.{after, edits_after}
-use Rattle.report_text.specs.Grammar.{column_name, name_of, source_name, stop_details, details, keyword_text, keyword_of, spelled, phrase_line, lines_of, text_of, phrases_text}
+use Rattle.report_text.specs.Grammar.{column_name, name_of, source_name, stop_details, step_details, details, keyword_text, keyword_of, spelled, phrase_line, lines_of, text_of, phrases_text}
 use Rattle.model_session.specs.Session.{SameNames, NamesStandLaw}
 
 -- ---- an edit
@@ -165,6 +167,14 @@ module _ (first model : Program) (same : SameNames first model) where
   stop_details_same (StopPhrase.Step k) = refl
   stop_details_same (StopPhrase.Operation o) = refl
 
+  step_details_same : (s : ReduceStep) → step_details model s ≡ step_details first s
+  step_details_same (Empty i) = simp (row_name_same i)
+  step_details_same (Singleton i) = simp (row_name_same i)
+  step_details_same (Fixed j v) = simp (column_name_same j)
+  step_details_same (Redundant i) = simp (row_name_same i)
+  step_details_same (Forcing i side) = simp (row_name_same i)
+  step_details_same (Doubleton i j) = simp (name_of_same (RowLo i), column_name_same j)
+
   note_details_same : (note : Note) → details model (Phrase.Note note) ≡ details first (Phrase.Note note)
   note_details_same (LowerRemoved j) = simp (column_name_same j)
   note_details_same (LowerKept j) = simp (column_name_same j)
@@ -176,6 +186,7 @@ module _ (first model : Program) (same : SameNames first model) where
   details_same Phrase.Feasible = refl
   details_same Phrase.Infeasible = refl
   details_same Phrase.Irreducible = refl
+  details_same Phrase.Reduced = refl
   details_same Phrase.Done = refl
   details_same (Phrase.Refused r) = refl
   details_same (Phrase.Stop s) = stop_details_same s
@@ -186,6 +197,8 @@ module _ (first model : Program) (same : SameNames first model) where
   details_same (Phrase.Split j k) = simp (column_name_same j)
   details_same Phrase.Leaf = refl
   details_same (Phrase.Use s) = simp (source_name_same s.source)
+  details_same (Phrase.Reduction s) = step_details_same s
+  details_same (Phrase.Left rows columns) = refl
   details_same Phrase.End = refl
   details_same Phrase.Foot = refl
 

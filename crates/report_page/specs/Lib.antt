@@ -6,6 +6,7 @@ pub mod Members
 pub mod Cases
 pub mod Reasons
 pub mod Drawing
+pub mod Steps
 pub mod Stops
 pub mod Edits
 pub mod Page

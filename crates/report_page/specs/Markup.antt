@@ -5,6 +5,7 @@ use Rattle.report_page.specs.declared.markup.Sign.{Sign}
 use Rattle.report_page.specs.declared.markup.Words.{Words}
 use Rattle.report_page.specs.declared.markup.Account.{Account}
 use Rattle.report_page.specs.declared.markup.Change.{Change}
+use Rattle.report_page.specs.declared.markup.Removal.{Removal}
 
 -- markup
 unfoldable pub tag_text : Tag → List ℕ
@@ -69,7 +70,7 @@ sign_text Sign.IsWhole = codes " is a whole number"
 -- what is said of answers
 unfoldable pub words_text : Words → List ℕ
 words_text Words.Settled = codes "This report was checked against the model. Answers that hold: "
-words_text Words.Unsettled = codes "; calculations that stopped before there was an answer: "
+words_text Words.Unsettled = codes "; calculations that stopped before there was an answer, and reductions, into which the check does not look: "
 words_text Words.LowerRemoved = codes ": its upper bound is below 0, and the model was read so that it has no lower bound"
 words_text Words.LowerKept = codes ": its upper bound is below 0, and the model was read so that it keeps its lower bound 0"
 words_text Words.CheckAsked = codes "Can all requirements be met?"
@@ -139,3 +140,21 @@ change_text Change.Plain = codes "plain"
 change_text Change.UnknownName = codes "The model has no such name."
 change_text Change.NoChange = codes "The model would stay as it is."
 change_text Change.NothingToUndo = codes "There is no edit to take back."
+
+-- what is said of reductions
+unfoldable pub removal_text : Removal → List ℕ
+removal_text Removal.Asked = codes "How far is the program reduced before it is solved?"
+removal_text Removal.Told = codes "The report says by which steps the program is made smaller, and what is left. The check does not look into this."
+removal_text Removal.StepsFold = codes "Steps: "
+removal_text Removal.Row = codes "Row "
+removal_text Removal.IsEmpty = codes " has no quantity left, and it is met."
+removal_text Removal.IsSingle = codes " has one quantity left: what it asks for became limits of this quantity."
+removal_text Removal.Stands = codes " stands at "
+removal_text Removal.IsFixed = codes ": its least and its greatest value are equal."
+removal_text Removal.IsRedundant = codes " is met whatever its quantities are within their limits."
+removal_text Removal.ForcesLower = codes " meets its lower side only with each of its quantities at a limit."
+removal_text Removal.ForcesUpper = codes " meets its upper side only with each of its quantities at a limit."
+removal_text Removal.Gives = codes " is an equation of two quantities: it gives "
+removal_text Removal.ByOther = codes " by the other one."
+removal_text Removal.RowsLeft = codes "Rows that are left: "
+removal_text Removal.ColumnsLeft = codes "; quantities that are left: "

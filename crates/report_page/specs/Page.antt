@@ -13,9 +13,9 @@ use Rattle.model_history.specs.History.{HistoryValue}
 use Rattle.report_text.specs.declared.report.Method.{Method}
 use Rattle.report_text.specs.declared.report.Method.TheVariants.{Deletion, Additive, Sensitivity}
 use Rattle.report_text.specs.declared.report.Command.{Command}
-use Rattle.report_text.specs.declared.report.Command.TheVariants.{Check, Iis, Edit, Undo, Pivots, Nodes}
+use Rattle.report_text.specs.declared.report.Command.TheVariants.{Check, Iis, Reduce, Edit, Undo, Pivots, Nodes}
 use Rattle.report_text.specs.declared.report.Answer.{Answer}
-use Rattle.report_text.specs.declared.report.Answer.TheVariants.{Feasible, Infeasible, Irreducible, Done, Refused, Stopped}
+use Rattle.report_text.specs.declared.report.Answer.TheVariants.{Feasible, Infeasible, Irreducible, Reduced, Done, Refused, Stopped}
 use Rattle.report_text.specs.declared.report.Entry.{Entry}
 use Rattle.report_text.specs.declared.report.Report.{Report}
 use Rattle.report_text.specs.Grammar.{column_name, value_phrases}
@@ -26,11 +26,13 @@ use Rattle.report_page.specs.declared.markup.Tag.{Tag}
 use Rattle.report_page.specs.declared.markup.Sign.{Sign}
 use Rattle.report_page.specs.declared.markup.Words.{Words}
 use Rattle.report_page.specs.declared.markup.Change.{Change}
+use Rattle.report_page.specs.declared.markup.Removal.{Removal}
 use Rattle.report_page.specs.Pieces.{Piece, bytes_of}
 use Rattle.report_page.specs.Demands.{value_pieces}
 use Rattle.report_page.specs.Members.{fold_tag, list_pieces}
 use Rattle.report_page.specs.Reasons.{leaf_shares, reason_pieces}
 use Rattle.report_page.specs.Drawing.{drawing_pieces}
+use Rattle.report_page.specs.Steps.{reduced_pieces}
 use Rattle.report_page.specs.Stops.{stop_pieces}
 use Rattle.report_page.specs.Edits.{edit_pieces, refused_pieces}
 
@@ -45,6 +47,7 @@ method_words Sensitivity = Words.SensitivityAsked
 abbrev pub command_pieces : Command → List Piece
 command_pieces Check = Piece.Words Words.CheckAsked ∷ []
 command_pieces (Iis method) = Piece.Words (method_words method) ∷ []
+command_pieces Reduce = Piece.Removal Removal.Asked ∷ []
 command_pieces (Edit e) = edit_pieces e
 command_pieces Undo = Piece.Change Change.Undo ∷ []
 command_pieces (Pivots n) = Piece.Words Words.PivotBudget ∷ Piece.Count n ∷ []
@@ -84,6 +87,7 @@ abbrev pub answer_pieces : Program → Answer → List Piece
 answer_pieces model (Feasible p) = feasible_pieces model p.values
 answer_pieces model (Infeasible set proof) = conflict_pieces model set.members [] proof.nodes
 answer_pieces model (Irreducible core) = conflict_pieces model core.members.members core.witnesses core.proof.nodes
+answer_pieces model (Reduced r) = reduced_pieces model r
 answer_pieces model Done = []
 answer_pieces model (Refused reason) = refused_pieces reason
 answer_pieces model (Stopped stop) = stopped_pieces model stop

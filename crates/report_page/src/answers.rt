@@ -9,10 +9,11 @@ ghost use Rattle.report_page.specs.Page.{method_words, command_pieces, valued_pi
 use crate::demands::{value_at, write_value};
 use crate::drawing::write_drawing;
 use crate::edits::{write_edit, write_refused};
-use crate::markup::{Change, Tag, Words};
+use crate::markup::{Change, Removal, Tag, Words};
 use crate::members::{fold_tag, write_list};
 use crate::pieces::{Piece, write};
 use crate::reasons::{leaf_shares, write_reason};
+use crate::steps::write_reduced;
 use crate::stops::write_stop;
 use certs::{Node, Point, Stop};
 use frac128::Frac;
@@ -38,6 +39,7 @@ pub(crate) fn write_command(command: &Command, into: &mut Vec<u8>) -> Result<(),
     match command {
         Command::Check => write(&[Piece::Words(Words::CheckAsked)], into),
         Command::Iis(method) => write(&[Piece::Words(method_asked(*method))], into),
+        Command::Reduce => write(&[Piece::Removal(Removal::Asked)], into),
         Command::Edit(edit) => write_edit(edit, into),
         Command::Undo => write(&[Piece::Change(Change::Undo)], into),
         Command::Pivots(most) => write(
@@ -163,6 +165,7 @@ pub(crate) fn write_answer(
             core.proof.nodes.as_slice(),
             into,
         ),
+        Answer::Reduced(reduced) => write_reduced(model, reduced, into),
         Answer::Done => Ok(()),
         Answer::Refused(reason) => write_refused(*reason, into),
         Answer::Stopped(stop) => write_stopped(model, stop, into),

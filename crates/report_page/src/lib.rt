@@ -12,9 +12,10 @@ mod pages;
 mod parts;
 mod pieces;
 mod reasons;
+mod steps;
 mod stops;
 mod totals;
 
-pub use markup::{Account, Change, Sign, Tag, Words};
+pub use markup::{Account, Change, Removal, Sign, Tag, Words};
 pub use pages::page;
 pub use pieces::{Piece, escape, escaping_law, write};

@@ -1,6 +1,6 @@
 //! The fixed parts of a page.
 ghost use Rattle.std.specs.Prelude.{◌≡◌};
-ghost use Rattle.report_page.specs.Markup.{tag_text, sign_text, words_text, account_text, change_text};
+ghost use Rattle.report_page.specs.Markup.{tag_text, sign_text, words_text, account_text, change_text, removal_text};
 
 /// What marks up a page.
 #[derive(Clone, Copy, PartialEq, Eq, Debug)]
@@ -206,7 +206,8 @@ impl Words {
     {
         match self {
             Words::Settled => "This report was checked against the model. Answers that hold: ",
-            Words::Unsettled => "; calculations that stopped before there was an answer: ",
+            Words::Unsettled =>
+                "; calculations that stopped before there was an answer, and reductions, into which the check does not look: ",
             Words::LowerRemoved =>
                 ": its upper bound is below 0, and the model was read so that it has no lower bound",
             Words::LowerKept =>
@@ -343,6 +344,56 @@ impl Change {
             Change::UnknownName => "The model has no such name.",
             Change::NoChange => "The model would stay as it is.",
             Change::NothingToUndo => "There is no edit to take back.",
+        }
+    }
+}
+
+/// What a page says of how far a program is reduced.
+#[derive(Clone, Copy, PartialEq, Eq, Debug)]
+pub enum Removal {
+    Asked,
+    Told,
+    StepsFold,
+    Row,
+    IsEmpty,
+    IsSingle,
+    Stands,
+    IsFixed,
+    IsRedundant,
+    ForcesLower,
+    ForcesUpper,
+    Gives,
+    ByOther,
+    RowsLeft,
+    ColumnsLeft,
+}
+
+impl Removal {
+    /// How it is written.
+    #[tactic(auto, unfolding(crate::specs::Markup::removal_text))]
+    pub fn text(self) -> &'static str
+        ensures { result.now ≡ removal_text self }
+    {
+        match self {
+            Removal::Asked => "How far is the program reduced before it is solved?",
+            Removal::Told =>
+                "The report says by which steps the program is made smaller, and what is left. The check does not look into this.",
+            Removal::StepsFold => "Steps: ",
+            Removal::Row => "Row ",
+            Removal::IsEmpty => " has no quantity left, and it is met.",
+            Removal::IsSingle =>
+                " has one quantity left: what it asks for became limits of this quantity.",
+            Removal::Stands => " stands at ",
+            Removal::IsFixed => ": its least and its greatest value are equal.",
+            Removal::IsRedundant => " is met whatever its quantities are within their limits.",
+            Removal::ForcesLower =>
+                " meets its lower side only with each of its quantities at a limit.",
+            Removal::ForcesUpper =>
+                " meets its upper side only with each of its quantities at a limit.",
+            Removal::Gives => " is an equation of two quantities: it gives ",
+            Removal::ByOther => " by the other one.",
+            Removal::RowsLeft => "Rows that are left: ",
+            Removal::ColumnsLeft => "; quantities that are left: ",
         }
     }
 }

@@ -21,7 +21,7 @@ fn settles(answer: &Answer) -> bool
     ensures { result ≡ settles_command answer.now }
 {
     match answer {
-        Answer::Stopped(_) => false,
+        Answer::Reduced(_) | Answer::Stopped(_) => false,
         _ => true,
     }
 }
@@ -178,8 +178,8 @@ fn write_page(session: &mut Session, report: &Report, into: &mut Vec<u8>) -> Res
 /// that a check accepted. It has, in the words of the model and in the order of the report, each note, and each command
 /// with its answer: the values of a point; the members that cannot all be met, each once, in order, with what it asks for,
 /// how often it is taken, and what its witness gives the columns of its form; and why they cannot, as a sum or as cases; or
-/// why an edit is refused; or why a calculation stopped, and where. Each answer is written of the program as the commands
-/// before it edited it. Names are escaped.
+/// how far the program is reduced, step by step; or why an edit is refused; or why a calculation stopped, and where. Each
+/// answer is written of the program as the commands before it edited it. Names are escaped.
 ///
 /// The session is one of which nothing was edited yet, and it is so again in the end, whether memory is refused or not.
 /// The commands of the report are to be such as may be asked, as those of one that was read are.

@@ -18,8 +18,8 @@ pub(crate) fn column_name(model: &Model, column: u32) -> &[u8]
     &[]
 }
 
-// The name of a row.
-fn row_name(model: &Model, row: u32) -> &[u8]
+/// The name of a row.
+pub(crate) fn row_name(model: &Model, row: u32) -> &[u8]
     ensures { result.now ≡ (row_at model.now row).name }
 {
     if row < model.row_count() {

@@ -4,7 +4,7 @@ ghost use Rattle.std.specs.Fmt.{signed_decimal};
 ghost use Rattle.report_page.specs.Escaping.{escaped_byte, escaped, EscapingLaw};
 ghost use Rattle.report_page.specs.Pieces.{piece_shown, piece_bytes, Writes};
 
-use crate::markup::{Account, Change, Sign, Tag, Words};
+use crate::markup::{Account, Change, Removal, Sign, Tag, Words};
 use frac128::Frac;
 use itoa::Buffer;
 use std::alloc::AllocError;
@@ -17,6 +17,7 @@ pub enum Piece<'a> {
     Words(Words),
     Account(Account),
     Change(Change),
+    Removal(Removal),
     Text(&'a [u8]),
     Number(Frac),
     Whole(i128),
@@ -76,6 +77,7 @@ fn write_piece(piece: &Piece<'_>, into: &mut Vec<u8>) -> Result<(), AllocError>
         Piece::Words(words) => into.extend_from_slice(words.text().as_bytes()),
         Piece::Account(account) => into.extend_from_slice(account.text().as_bytes()),
         Piece::Change(change) => into.extend_from_slice(change.text().as_bytes()),
+        Piece::Removal(removal) => into.extend_from_slice(removal.text().as_bytes()),
         Piece::Text(text) => escape(text, into),
         Piece::Number(number) => {
             number.print(into)?;

@@ -1,52 +1,20 @@
 -- Answers whose numbers are those of the code: fractions within the limit, and counts of 64 bits.
-use Rattle.std.specs.Prelude.{List, zip, All}
-use Rattle.lp_model.specs.declared.members.Member.{Member}
-use Rattle.certs.specs.declared.evidence.Point.{Point}
-use Rattle.certs.specs.declared.evidence.Node.{Node}
-use Rattle.certs.specs.declared.evidence.Node.TheVariants.{Split, Leaf}
-use Rattle.certs.specs.declared.evidence.Proof.{Proof}
-use Rattle.certs.specs.declared.solving.Stop.{Stop}
-use Rattle.certs.specs.declared.solving.Stop.TheVariants.{Wide as TooWide, Pivots as Spent, Nodes, Large, Memory}
+pub use Rattle.evidence_printer.specs.Numbers.{HasValuesWithin, HasWitnessesWithin, HasWeightsWithin, IsProofWithin, IsStopWithin, IsReducedWithin}
 use Rattle.report_text.specs.declared.report.Core.{Core}
 use Rattle.report_text.specs.declared.report.Answer.{Answer}
-use Rattle.report_text.specs.declared.report.Answer.TheVariants.{Feasible, Infeasible, Irreducible, Done, Refused, Stopped}
-use Rattle.report_text.specs.Form.{IsWithinLimit, IsCount, IsOperation}
-
--- the values of a point are within the limit
-abbrev pub HasValuesWithin : Point → Type 0
-HasValuesWithin p = All IsWithinLimit p.values
-
--- those of each member's witness
-abbrev pub HasWitnessesWithin : List Member → List Point → Type 0
-HasWitnessesWithin members witnesses = All (λ (w : Member × Point). HasValuesWithin w.1) (zip members witnesses)
-
--- the weights of a leaf's shares
-abbrev pub HasWeightsWithin : Node → Type 0
-HasWeightsWithin (Split j k) = Unit {0}
-HasWeightsWithin (Leaf combo) = All (λ s. IsWithinLimit s.weight) combo.shares
-
--- those of each node
-abbrev pub IsProofWithin : Proof → Type 0
-IsProofWithin proof = All HasWeightsWithin proof.nodes
+use Rattle.report_text.specs.declared.report.Answer.TheVariants.{Feasible, Infeasible, Irreducible, Reduced as ReducedTo, Done, Refused, Stopped}
 
 -- those of the witnesses and of the proof
 pub record IsCoreWithin (core : Core) : Type 0 where
   pub witnesses : HasWitnessesWithin core.members.members core.witnesses
   pub proof : IsProofWithin core.proof
 
--- a turn's number with the operands of an operation, or a size
-abbrev pub IsStopWithin : Stop → Type 0
-IsStopWithin (TooWide site k o) = IsCount k × IsOperation o
-IsStopWithin (Spent site) = Unit {0}
-IsStopWithin (Nodes site) = Unit {0}
-IsStopWithin (Large size) = IsCount size
-IsStopWithin Memory = Unit {0}
-
 -- all numbers of an answer
 abbrev pub HasNumbersWithin : Answer → Type 0
 HasNumbersWithin (Feasible p) = HasValuesWithin p
 HasNumbersWithin (Infeasible set proof) = IsProofWithin proof
 HasNumbersWithin (Irreducible core) = IsCoreWithin core
+HasNumbersWithin (ReducedTo r) = IsReducedWithin r
 HasNumbersWithin Done = Unit {0}
 HasNumbersWithin (Refused r) = Unit {0}
 HasNumbersWithin (Stopped stop) = IsStopWithin stop

@@ -6,13 +6,15 @@ use Rattle.lp_model.specs.declared.members.Member.TheVariants.{RowLo, RowUp, Low
 use Rattle.lp_model.specs.MemberSets.{IsMemberFor}
 use Rattle.certs.specs.declared.evidence.Source.{Source}
 use Rattle.certs.specs.declared.evidence.Source.TheVariants.{Member as Of, Below, Above}
+use Rattle.reductions.specs.declared.steps.ReduceStep.{ReduceStep}
+use Rattle.reductions.specs.declared.steps.ReduceStep.TheVariants.{Empty, Singleton, Fixed, Redundant, Forcing, Doubleton}
 use Rattle.report_text.specs.declared.report.Command.{Command}
 use Rattle.report_text.specs.declared.phrases.Phrase.{Phrase}
 use Rattle.report_text.specs.declared.phrases.StopPhrase.{StopPhrase}
 use Rattle.report_text.specs.Turns.{after}
 use Rattle.report_text.specs.Grammar.{Line, column_name, name_of, phrase_line}
-use Rattle.report_text.specs.Form.{is_word, IsNamedColumn, IsNamedMember, IsNamedSource}
-use Rattle.report_reader.specs.Phrases.{IsStopPhrase, IsPhraseFor, Says}
+use Rattle.report_text.specs.Form.{is_word, IsNamedRow, IsNamedColumn, IsNamedMember, IsNamedSource, IsStepFor}
+use Rattle.phrase_reader.specs.Phrases.{IsStopPhrase, IsPhraseFor, Says}
 use Rattle.model_session.proofs.Unchanged.{same_names, rows_same, columns_same, row_name_same, column_name_same, phrase_line_same}
 
 -- as many rows and columns, of the same names
@@ -33,6 +35,9 @@ module _ (a b : Program) (names : HasNamesOf a b) where
   column_alike : (j : ℕ) → IsNamedColumn a j → IsNamedColumn b j
   column_alike j h = record { known = subst (λ n. j < n) names.columns h.known; word = subst (λ (w : List ℕ). is_word w ≡ true) (names.column j) h.word }
 
+  row_alike : (i : ℕ) → IsNamedRow a i → IsNamedRow b i
+  row_alike i h = record { known = subst (λ n. i < n) names.rows h.known; word = subst (λ (w : List ℕ). is_word w ≡ true) (names.row i) h.word }
+
   member_alike : (m : Member) → IsNamedMember a m → IsNamedMember b m
   member_alike m h = record {
     known = subst (λ n. IsMemberFor (length b.rows) n m) names.columns (subst (λ n. IsMemberFor n (length a.columns) m) names.rows h.known);
@@ -49,12 +54,21 @@ module _ (a b : Program) (names : HasNamesOf a b) where
   stop_alike (StopPhrase.Branch branch) h = record { named = column_alike branch.column h.named; fits = h.fits }
   stop_alike s h = h
 
+  step_alike : (s : ReduceStep) → IsStepFor a s → IsStepFor b s
+  step_alike (Empty i) h = row_alike i h
+  step_alike (Singleton i) h = row_alike i h
+  step_alike (Fixed j v) h = (column_alike j h.0, h.1)
+  step_alike (Redundant i) h = row_alike i h
+  step_alike (Forcing i side) h = row_alike i h
+  step_alike (Doubleton i j) h = (row_alike i h.0, column_alike j h.1)
+
   phrase_alike : (p : Phrase) → IsPhraseFor a p → IsPhraseFor b p
   phrase_alike (Phrase.Note note) h = column_alike (noted_column note) h
   phrase_alike (Phrase.Value j v) h = (column_alike j h.0, h.1)
   phrase_alike (Phrase.Member m) h = member_alike m h
   phrase_alike (Phrase.Use s) h = record { named = source_alike s.source h.named; positive = h.positive; fits = h.fits }
   phrase_alike (Phrase.Stop s) h = stop_alike s h
+  phrase_alike (Phrase.Reduction s) h = step_alike s h
   phrase_alike (Phrase.Split j k) h = (column_alike j h.0, h.1)
   phrase_alike p h = h
 

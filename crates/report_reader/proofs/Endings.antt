@@ -5,6 +5,7 @@ use Rattle.std.proofs.lemmas.List.Elements.{All-nil, All-cons, All-head, All-tai
 use Rattle.std.proofs.lemmas.List.Kept.{AllPairs-cons}
 use Rattle.lp_model.specs.Program.{Program, noted_column}
 use Rattle.lp_model.specs.declared.parts.Note.TheVariants.{LowerRemoved, LowerKept}
+use Rattle.reductions.specs.declared.steps.ReduceStep.TheVariants.{Empty, Singleton, Fixed, Redundant, Forcing, Doubleton}
 use Rattle.report_text.specs.declared.report.Report.{Report}
 use Rattle.report_text.specs.Grammar.{Line, keyword_text, branch_keyword, stop_details, command_words, spelled, phrase_line, lines_of, body_phrases, report_lines}
 use Rattle.report_text.specs.Form.{IsNamedColumn, IsReportFor}
@@ -34,9 +35,12 @@ one_foot [] (l ∷ c) rest hb hc e = absurd (All-head (λ l. l ≢ foot) l c hc 
 one_foot (l ∷ b) [] rest hb hc e = absurd (All-head (λ l. l ≢ foot) l b hb cc)
 one_foot (l ∷ b) (m ∷ c) rest hb hc e = one_foot b c rest (All-tail (λ l. l ≢ foot) l b hb) (All-tail (λ l. l ≢ foot) m c hc) cc
 
--- a line that begins with another byte is no foot
+-- a line that begins with another byte is no foot, nor is one whose third byte is another
 other_start : (line : Line) → (slice_index line 0 == 114) ≡ false → line ≢ foot
 other_start line h e = let p : (slice_index line 0 == 114) ≡ true = ap (λ l. slice_index l 0 == 114) e in absurd (true≢false (sym p ∙ h))
+
+other_third : (line : Line) → (slice_index line 2 == 112) ≡ false → line ≢ foot
+other_third line h e = let p : (slice_index line 2 == 112) ≡ true = ap (λ l. slice_index l 2 == 112) e in absurd (true≢false (sym p ∙ h))
 
 abbrev pub NotFoot : Line → Type 0
 NotFoot l = l ≢ foot
@@ -64,6 +68,13 @@ phrase_apart model (Phrase.Refused r) e = by r
     by Refusal.UnknownName = other_start (codes "unknown name") refl
     by Refusal.NoChange = other_start (codes "no change") refl
     by Refusal.NothingToUndo = other_start (codes "nothing to undo") refl
+phrase_apart model Phrase.Reduced e = other_third (codes "reduced") refl
+phrase_apart model (Phrase.Reduction (Redundant i)) e = other_third (phrase_line model (Phrase.Reduction (Redundant i))) refl
+phrase_apart model (Phrase.Reduction (Empty i)) e = other_start (phrase_line model (Phrase.Reduction (Empty i))) refl
+phrase_apart model (Phrase.Reduction (Singleton i)) e = other_start (phrase_line model (Phrase.Reduction (Singleton i))) refl
+phrase_apart model (Phrase.Reduction (Fixed j v)) e = other_start (phrase_line model (Phrase.Reduction (Fixed j v))) refl
+phrase_apart model (Phrase.Reduction (Forcing i side)) e = other_start (phrase_line model (Phrase.Reduction (Forcing i side))) refl
+phrase_apart model (Phrase.Reduction (Doubleton i j)) e = other_start (phrase_line model (Phrase.Reduction (Doubleton i j))) refl
 phrase_apart model p e = other_start (phrase_line model p) refl
 
 -- and of phrases

@@ -30,10 +30,11 @@ use Rattle.report_text.specs.declared.report.TargetKind.{TargetKind}
 use Rattle.report_text.specs.declared.report.EditKind.{EditKind}
 use Rattle.report_text.specs.declared.report.EditKind.TheVariants.{Drop, Weigh, SetSide, SetBound, SetMark}
 use Rattle.report_text.specs.declared.report.Refusal.TheVariants.{UnknownName, NoChange, NothingToUndo}
+use Rattle.reductions.specs.declared.steps.ReduceStep.TheVariants.{Empty, Singleton, Fixed, Redundant, Forcing, Doubleton}
 use Rattle.report_text.specs.declared.report.Command.{Command}
-use Rattle.report_text.specs.declared.report.Command.TheVariants.{Check, Iis, Edit, Undo, Nodes}
+use Rattle.report_text.specs.declared.report.Command.TheVariants.{Check, Iis, Reduce, Edit, Undo, Nodes}
 use Rattle.report_text.specs.declared.report.Answer.{Answer}
-use Rattle.report_text.specs.declared.report.Answer.TheVariants.{Feasible, Infeasible, Irreducible, Done, Refused, Stopped}
+use Rattle.report_text.specs.declared.report.Answer.TheVariants.{Feasible, Infeasible, Irreducible, Reduced as ReducedTo, Done, Refused, Stopped}
 use Rattle.report_text.specs.declared.report.Report.{Report}
 use Rattle.report_text.specs.Grammar.{Line, report_lines, text_of}
 use Rattle.report_reader.proofs.Endings.{pair_in_order, nothing_is_front, foot, NotFoot, body, body_is, needs_foot, needs_head, whole_ends}
@@ -42,7 +43,7 @@ use Rattle.certs.specs.Proof.{Tip, at_most, at_least}
 use Rattle.certs.specs.declared.solving.SiteKind.TheVariants.{Settle}
 use Rattle.certs.specs.declared.solving.Site.{Site}
 use Rattle.certs.specs.declared.solving.Stop.TheVariants.{Nodes as NodesSpent}
-use Rattle.report_text.specs.Form.{IsNamedColumn, IsNamedMember, IsListed, IsUse, AreUses, IsNodeFor, IsReportFor}
+use Rattle.report_text.specs.Form.{IsNamedColumn, IsNamedMember, IsListed, IsUse, AreUses, IsNodeFor, IsReportFor, can_answer}
 use Rattle.report_reader.specs.Reading.{Reads, IsFront, IsWhole, IsBadLine, IsTruncated}
 
 abbrev term : ℕ → ℤ → Term
@@ -136,6 +137,30 @@ tree_has_lines : report_lines two_rows tree_report
     ∷ codes "report end" ∷ []
 unfolding frac gcd gcd_within digits
 tree_has_lines = refl
+
+-- ---- a reduction, and one in which a rule decides
+abbrev reduced : Answer
+reduced = ReducedTo (record { steps = Empty 0 ∷ Singleton 0 ∷ Fixed 0 zero_ℚ ∷ Redundant 1 ∷ Forcing 1 Up ∷ Doubleton 0 1 ∷ []; rows = 1; columns = 0 })
+
+abbrev reduced_report : Report
+reduced_report = record {
+  notes = [];
+  entries = record { command = Reduce; answer = reduced; line = 2 } ∷ record { command = Reduce; answer = Infeasible rows_set proof; line = 12 } ∷ [];
+}
+
+reduced_has_lines : report_lines two_rows reduced_report
+    ≡ codes "iisan report 2" ∷ codes "command reduce" ∷ codes "reduced"
+    ∷ codes "empty c1" ∷ codes "singleton c1" ∷ codes "fixed x 0" ∷ codes "redundant c2" ∷ codes "forcing c2 up" ∷ codes "doubleton c1 y"
+    ∷ codes "left rows 1 columns 0" ∷ codes "end"
+    ∷ codes "command reduce" ∷ codes "infeasible" ∷ codes "member rowup c1" ∷ codes "member rowlo c2"
+    ∷ codes "proof" ∷ codes "leaf" ∷ codes "use rowup c1 1" ∷ codes "use rowlo c2 3/2" ∷ codes "end"
+    ∷ codes "report end" ∷ []
+unfolding frac gcd gcd_within digits
+reduced_has_lines = refl
+
+-- a tree that is no leaf is no answer to it
+no_tree_reduced : can_answer Reduce (Infeasible rows_set tree) ≡ false
+no_tree_reduced = refl
 
 -- ---- edits, some of which are refused
 abbrev asked : List ℕ → EditKind → Command

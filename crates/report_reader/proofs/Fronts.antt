@@ -26,7 +26,9 @@ use Rattle.frac128.specs.declared.Wide.{Wide as Operation}
 use Rattle.certs.specs.declared.solving.Stop.{Stop}
 use Rattle.certs.specs.declared.solving.Stop.TheVariants.{Wide as TooWide, Pivots as Spent, Nodes as NodesSpent}
 use Rattle.report_text.specs.declared.report.Command.{Command}
-use Rattle.report_text.specs.declared.report.Command.TheVariants.{Check, Iis, Edit, Undo, Pivots, Nodes}
+use Rattle.report_text.specs.declared.report.Command.TheVariants.{Check, Iis, Reduce, Edit, Undo, Pivots, Nodes}
+use Rattle.reductions.specs.declared.steps.ReduceStep.{ReduceStep}
+use Rattle.report_text.specs.declared.report.Reduced.{Reduced}
 use Rattle.report_text.specs.declared.report.Answer.{Answer}
 use Rattle.report_text.specs.declared.report.Entry.{Entry}
 use Rattle.report_text.specs.declared.phrases.Phrase.{Phrase}
@@ -43,11 +45,11 @@ use Rattle.report_text.specs.Turns.{after, entry_commands}
 use Rattle.report_text.specs.Grammar.{column_name, entries_phrases, value_phrases, point_phrases, node_phrases, witness_phrases, without_phrase, branch_phrase, site_phrases, answer_front, answer_end, entry_phrases, body_phrases}
 use Rattle.report_text.proofs.InTurn.{gathered-push, AllEntries-push, numbered-push}
 use Rattle.certs.specs.Order.{source_before}
-use Rattle.report_text.specs.Form.{is_word, IsNamedColumn, IsNamedMember, IsWithinLimit, IsUse, AreUses, IsListed, IsPointFor, IsAnswerFor, IsEntryFor, can_answer}
-use Rattle.report_reader.specs.Phrases.{IsNamedBranch, IsPhraseFor}
-use Rattle.report_reader.specs.Drafts.{filled, point_of, leaf_of, set_of, answer_of, only_if, proof_with, witnessed_with, site_without, stop_begun, stop_with, reply_said, extended, placed, between, advanced, AreValues, AreMembers, AreWitnesses, IsFound, IsOneMore, AreLeftOut, IsTold, IsStopPart, AreNodes, Asks, IsPartFor, IsDraftFor}
-use Rattle.report_reader.proofs.Named.{told}
-use Rattle.report_reader.proofs.DueTrees.{whole_due, split_due, leaf_due, none_due}
+use Rattle.report_text.specs.Form.{is_word, IsNamedColumn, IsNamedMember, IsWithinLimit, IsUse, AreUses, IsListed, IsPointFor, IsStepFor, IsAnswerFor, IsEntryFor, can_answer}
+use Rattle.phrase_reader.specs.Phrases.{IsNamedBranch, IsPhraseFor}
+use Rattle.report_reader.specs.Drafts.{filled, point_of, leaf_of, set_of, answer_of, only_if, may_split, proof_with, witnessed_with, site_without, stop_begun, stop_with, reply_said, extended, placed, between, advanced, AreValues, AreMembers, AreWitnesses, IsFound, IsOneMore, AreLeftOut, IsTold, IsStopPart, AreNodes, Asks, Reduces, IsPartFor, IsDraftFor}
+use Rattle.phrase_reader.proofs.Named.{told}
+use Rattle.report_reader.proofs.DueTrees.{whole_due, split_due, leaf_due, none_due, one_leaf_due}
 use Rattle.report_reader.proofs.LeftOut.{none_told, left_twice, site_in_form}
 
 -- ---- what is read, as phrases
@@ -88,6 +90,8 @@ part_phrases (Part.Member members witnesses m) = found_phrases (Found.Witnessed 
 part_phrases (Part.Witness members witnesses m values) = found_phrases (Found.Witnessed members witnesses) ++ Phrase.Member m ∷ Phrase.Point ∷ value_phrases 0 values
 part_phrases (Part.Proof found nodes due) = nodes_phrases found nodes
 part_phrases (Part.Leaf found nodes due shares) = nodes_phrases found nodes ++ Phrase.Leaf ∷ map Phrase.Use shares
+part_phrases (Part.Reduced steps) = Phrase.Reduced ∷ map Phrase.Reduction steps
+part_phrases (Part.Left steps rows columns) = Phrase.Reduced ∷ (map Phrase.Reduction steps ++ Phrase.Left rows columns ∷ [])
 part_phrases (Part.Stop part) = stop_part_phrases part
 
 abbrev pub draft_phrases : Program → Draft → List Phrase
@@ -273,9 +277,20 @@ module _ (model : Program) where
       subst (λ q. IsPartFor model (Iis method) q × (part_phrases q ≡ found_phrases (Found.Witnessed members witnesses) ++ Phrase.Member m ∷ [])) (same_more (Part.Member members witnesses m) next t.1)
       ((member_taken members m h.0 k t.0, h.1), refl)
   witnessed_taken (Iis method) members witnesses Phrase.Proof next h k e =
-      subst (λ q. IsPartFor model (Iis method) q × (part_phrases q ≡ found_phrases (Found.Witnessed members witnesses) ++ Phrase.Proof ∷ [])) (more_is (Part.Proof (Found.Witnessed members witnesses) [] 1) next e) ((h, whole_due model), refl)
+      subst (λ q. IsPartFor model (Iis method) q × (part_phrases q ≡ found_phrases (Found.Witnessed members witnesses) ++ Phrase.Proof ∷ [])) (more_is (Part.Proof (Found.Witnessed members witnesses) [] 1) next e) ((h, whole_due model (Iis method)), refl)
   witnessed_taken (Iis method) members witnesses _ next h k e = absurd (cc)
   witnessed_taken c members witnesses p next h k e = absurd h
+
+  -- members alone
+  members_told : (c : Command) (members : List Member) → IsFound model c (Found.Members members) → AreMembers model members
+  members_told Check members h = h
+  members_told Reduce members h = h
+  members_told c members h = absurd h
+
+  members_found : (c : Command) (members more : List Member) → IsFound model c (Found.Members members) → AreMembers model more → IsFound model c (Found.Members more)
+  members_found Check members more h k = k
+  members_found Reduce members more h k = k
+  members_found c members more h k = absurd h
 
   -- what is found with one member more
   one_more_found : (c : Command) (members : List Member) (witnesses : List Point) (m : Member) (values : List ℚ) → IsOneMore model c members witnesses m → AreValues model values
@@ -336,13 +351,14 @@ module _ (model : Program) where
   no_more : (found : Found) (nodes : List Node) (b : Bool) (next : Part) → only_if b (Next.Whole (answer_of model found nodes)) ≡ Some (Next.More next) → ⊥
   no_more found nodes b next e = let t = only_told b (Next.Whole (answer_of model found nodes)) (Next.More next) e in let s : Next.Whole (answer_of model found nodes) ≡ Next.More next = t.1 in cc
 
-  nodes_taken : (c : Command) (found : Found) (nodes : List Node) (due : ℕ) (p : Phrase) (next : Part) → IsFound model c found → AreNodes model nodes due → IsPhraseFor model p
-      → proof_with model found nodes due p ≡ Some (Next.More next) → IsPartFor model c next × (part_phrases next ≡ nodes_phrases found nodes ++ p ∷ [])
+  nodes_taken : (c : Command) (found : Found) (nodes : List Node) (due : ℕ) (p : Phrase) (next : Part) → IsFound model c found → AreNodes model c nodes due → IsPhraseFor model p
+      → proof_with model c found nodes due p ≡ Some (Next.More next) → IsPartFor model c next × (part_phrases next ≡ nodes_phrases found nodes ++ p ∷ [])
   nodes_taken c found nodes due (Phrase.Split j k) next f h named e =
       let more = Part.Proof found (nodes ++ Split j k ∷ []) (due + 1) in
-      let t = only_told (nat_lt 0 due) (Next.More more) (Next.More next) e in
+      let t = only_told (may_split c && nat_lt 0 due) (Next.More more) (Next.More next) e in
+      let both = and_parts (may_split c) (nat_lt 0 due) t.0 in
       subst (λ q. IsPartFor model c q × (part_phrases q ≡ nodes_phrases found nodes ++ Phrase.Split j k ∷ [])) (same_more more next t.1) (
-        (f, split_due model nodes due j k h named (ltb-true 0 due t.0)),
+        (f, split_due model c nodes due j k h named both.0 (ltb-true 0 due both.1)),
         ap (λ l. found_phrases found ++ Phrase.Proof ∷ l) (flat_map-append node_phrases nodes (Split j k ∷ []))
             ∙ sym (append_assoc (found_phrases found) (Phrase.Proof ∷ flat_map node_phrases nodes) (Phrase.Split j k ∷ [])),
       )
@@ -351,7 +367,7 @@ module _ (model : Program) where
       let t = only_told (nat_lt 0 due) (Next.More more) (Next.More next) e in
       let some : 0 < due = ltb-true 0 due t.0 in
       subst (λ q. IsPartFor model c q × (part_phrases q ≡ nodes_phrases found nodes ++ Phrase.Leaf ∷ [])) (same_more more next t.1)
-      ((f, (subst (AreNodes model nodes) (let e : due ≡ (due - 1) + 1 = omega arith in e) h, no_uses)), refl)
+      ((f, (subst (AreNodes model c nodes) (let e : due ≡ (due - 1) + 1 = omega arith in e) h, no_uses)), refl)
   nodes_taken c found nodes due Phrase.End next f h named e = absurd (no_more found nodes (due == 0) next e)
   nodes_taken c found nodes due _ next f h named e = absurd (cc)
 
@@ -379,20 +395,22 @@ module _ (model : Program) where
   more_taken (Nodes n) Part.Nothing p next h k e = absurd (no_more_reply (Nodes n) p next e)
   more_taken c (Part.Stop part) p next h k e = stop_taken c part p next h k e
   more_taken Check Part.Nothing Phrase.Infeasible next h k e = subst (Took Check Part.Nothing Phrase.Infeasible) (more_is (Part.Listed (Found.Members [])) next e) (no_members, refl)
+  more_taken Reduce Part.Nothing Phrase.Infeasible next h k e = subst (Took Reduce Part.Nothing Phrase.Infeasible) (more_is (Part.Listed (Found.Members [])) next e) (no_members, refl)
+  more_taken Reduce Part.Nothing Phrase.Reduced next h k e = subst (Took Reduce Part.Nothing Phrase.Reduced) (more_is (Part.Reduced []) next e) ((tt, All-nil (IsStepFor model)), refl)
+  more_taken c (Part.Reduced steps) (Phrase.Reduction s) next h k e =
+      subst (Took c (Part.Reduced steps) (Phrase.Reduction s)) (more_is (Part.Reduced (steps ++ s ∷ [])) next e) ((h.0, All-push (IsStepFor model) steps s h.1 k), ap (λ l. Phrase.Reduced ∷ l) (map_push Phrase.Reduction steps s))
+  more_taken c (Part.Reduced steps) (Phrase.Left rows columns) next h k e =
+      subst (Took c (Part.Reduced steps) (Phrase.Left rows columns)) (more_is (Part.Left steps rows columns) next e) ((h.0, (h.1, k)), refl)
+  more_taken c (Part.Left steps rows columns) Phrase.End next h k e = absurd (cc)
   more_taken (Iis method) Part.Nothing Phrase.Irreducible next h k e = subst (Took (Iis method) Part.Nothing Phrase.Irreducible) (more_is (Part.Listed (Found.Witnessed [] [])) next e) ((no_members, no_witnesses), refl)
   more_taken c Part.Feasible Phrase.Point next h k e = subst (Took c Part.Feasible Phrase.Point) (more_is (Part.Point []) next e) ((h, no_values), refl)
   more_taken c (Part.Point values) (Phrase.Value j v) next h k e =
       list_taken c (Part.Point values) (Phrase.Value j v) (λ vs. Part.Point vs) (nat_le (length values) j) (filled j values ++ v ∷ []) next
       (λ t. (let le : length values ≤ j = leb-true (length values) j t in ((h.0, value_taken values j v h.1 k le), ap (λ l. Phrase.Feasible ∷ Phrase.Point ∷ l) (value_said values j v le k.1.1)))) e
-  more_taken Check (Part.Listed (Found.Members members)) (Phrase.Member m) next h k e =
-      list_taken Check (Part.Listed (Found.Members members)) (Phrase.Member m) (λ ms. Part.Listed (Found.Members ms)) (list_all (λ n. comes_before n m) members) (members ++ m ∷ []) next
-      (λ t. (member_taken members m h k t, ap (λ l. Phrase.Infeasible ∷ l) (map_push Phrase.Member members m))) e
-  more_taken (Iis method) (Part.Listed (Found.Members members)) p next h k e = absurd h
-  more_taken (Edit edit) (Part.Listed (Found.Members members)) p next h k e = absurd h
-  more_taken Undo (Part.Listed (Found.Members members)) p next h k e = absurd h
-  more_taken (Pivots n) (Part.Listed (Found.Members members)) p next h k e = absurd h
-  more_taken (Nodes n) (Part.Listed (Found.Members members)) p next h k e = absurd h
-  more_taken c (Part.Listed (Found.Members members)) Phrase.Proof next h k e = subst (Took c (Part.Listed (Found.Members members)) Phrase.Proof) (more_is (Part.Proof (Found.Members members) [] 1) next e) ((h, whole_due model), refl)
+  more_taken c (Part.Listed (Found.Members members)) (Phrase.Member m) next h k e =
+      list_taken c (Part.Listed (Found.Members members)) (Phrase.Member m) (λ ms. Part.Listed (Found.Members ms)) (list_all (λ n. comes_before n m) members) (members ++ m ∷ []) next
+      (λ t. (members_found c members (members ++ m ∷ []) h (member_taken members m (members_told c members h) k t), ap (λ l. Phrase.Infeasible ∷ l) (map_push Phrase.Member members m))) e
+  more_taken c (Part.Listed (Found.Members members)) Phrase.Proof next h k e = subst (Took c (Part.Listed (Found.Members members)) Phrase.Proof) (more_is (Part.Proof (Found.Members members) [] 1) next e) ((h, whole_due model c), refl)
   more_taken c (Part.Listed (Found.Witnessed members witnesses)) p next h k e = witnessed_taken c members witnesses p next h k e
   more_taken c (Part.Member members witnesses m) Phrase.Point next h k e =
       subst (Took c (Part.Member members witnesses m) Phrase.Point) (more_is (Part.Witness members witnesses m []) next e)
@@ -416,7 +434,7 @@ module _ (model : Program) where
         ap (λ l. front ++ Phrase.Leaf ∷ l) (map_push Phrase.Use shares s) ∙ sym (append_assoc front (Phrase.Leaf ∷ map Phrase.Use shares) (Phrase.Use s ∷ [])),
       )) e
   more_taken c (Part.Leaf found nodes due shares) p next h k e =
-      let t = nodes_taken c found (nodes ++ leaf_of shares ∷ []) due p next h.0 (leaf_due model nodes due shares h.1.0 h.1.1) k e in
+      let t = nodes_taken c found (nodes ++ leaf_of shares ∷ []) due p next h.0 (leaf_due model c nodes due shares h.1.0 h.1.1) k e in
       (t.0, t.1 ∙ ap (λ l. l ++ p ∷ []) (leaf_said found nodes shares))
   more_taken c part p next h k e = absurd (cc)
 
@@ -434,16 +452,18 @@ module _ (model : Program) where
   listed_taken : (members : List Member) → AreMembers model members → IsListed model (set_of model members)
   listed_taken members h = record { of_model = record { rows = refl; columns = refl }; named = h.named; in_order = h.in_order }
 
-  proof_ends : (c : Command) (found : Found) (nodes : List Node) → IsFound model c found → AreNodes model nodes 0
+  proof_ends : (c : Command) (found : Found) (nodes : List Node) → IsFound model c found → AreNodes model c nodes 0
       → (can_answer c (answer_of model found nodes) ≡ true) × (IsAnswerFor model (answer_of model found nodes) × ((answer_front model (answer_of model found nodes) ≡ nodes_phrases found nodes) × (answer_end (answer_of model found nodes) ≡ Phrase.End)))
-  proof_ends Check (Found.Members members) nodes h k = (refl, ((listed_taken members h, none_due model nodes k), (refl, refl)))
+  proof_ends Check (Found.Members members) nodes h k = (refl, ((listed_taken members h, none_due model Check nodes k), (refl, refl)))
+  proof_ends Reduce (Found.Members members) nodes h k = (one_leaf_due model nodes k, ((listed_taken members h, none_due model Reduce nodes k), (refl, refl)))
   proof_ends (Iis method) (Found.Witnessed members witnesses) nodes h k =
-      (refl, (record { members = listed_taken members h.0; each = h.1.each; points = h.1.points; proof = none_due model nodes k; rounds = refl; price = refl }, (refl, refl)))
+      (refl, (record { members = listed_taken members h.0; each = h.1.each; points = h.1.points; proof = none_due model (Iis method) nodes k; rounds = refl; price = refl }, (refl, refl)))
   proof_ends c found nodes h k = absurd h
 
   point_ends : (c : Command) (values : List ℚ) → IsPartFor model c (Part.Point values) → Ends c (Part.Point values) Phrase.End (Answer.Feasible (point_of model values))
   point_ends Check values h = record { ended = refl; kind = refl; form = point_taken values h.1; said = ap (λ l. Phrase.Feasible ∷ l) (point_said values) }
   point_ends (Iis method) values h = record { ended = refl; kind = refl; form = point_taken values h.1; said = ap (λ l. Phrase.Feasible ∷ l) (point_said values) }
+  point_ends Reduce values h = absurd h.0
   point_ends (Edit edit) values h = absurd h.0
   point_ends Undo values h = absurd h.0
   point_ends (Pivots n) values h = absurd h.0
@@ -462,10 +482,25 @@ module _ (model : Program) where
   can_stop : (c : Command) (stop : Stop) → Asks c → can_answer c (Answer.Stopped stop) ≡ true
   can_stop Check stop h = refl
   can_stop (Iis method) stop h = refl
+  can_stop Reduce stop h = absurd h
   can_stop (Edit edit) stop h = absurd h
   can_stop Undo stop h = absurd h
   can_stop (Pivots n) stop h = absurd h
   can_stop (Nodes n) stop h = absurd h
+
+  -- steps answer what asks for them
+  can_reduce : (c : Command) (r : Reduced) → Reduces c → can_answer c (Answer.Reduced r) ≡ true
+  can_reduce Reduce r h = refl
+  can_reduce c r h = absurd h
+
+  left_ends : (c : Command) (steps : List ReduceStep) (rows columns : ℕ) → IsPartFor model c (Part.Left steps rows columns)
+      → Ends c (Part.Left steps rows columns) Phrase.End (Answer.Reduced (record { steps = steps; rows = rows; columns = columns }))
+  left_ends c steps rows columns h = record {
+    ended = refl;
+    kind = can_reduce c (record { steps = steps; rows = rows; columns = columns }) h.0;
+    form = record { steps = h.1.0; rows = h.1.1.0; columns = h.1.1.1 };
+    said = refl;
+  }
 
   -- the site of a stop is no more than what is read of it
   site_said : (cause : StopCause) (left : List Member) (path : List Branch) → IsTold model left path → Phrase.Stop (opening cause) ∷ site_phrases model (site_without model left path) ≡ begun_phrases cause left path
@@ -506,15 +541,15 @@ module _ (model : Program) where
   no_answer members witnesses _ a e = cc
 
   -- the nodes of a proof that end with a phrase
-  nodes_end : (c : Command) (found : Found) (nodes : List Node) (due : ℕ) (part : Part) (p : Phrase) (a : Answer) → part_phrases part ≡ nodes_phrases found nodes → IsFound model c found → AreNodes model nodes due
-      → proof_with model found nodes due p ≡ Some (Next.Whole a) → Ends c part p a
+  nodes_end : (c : Command) (found : Found) (nodes : List Node) (due : ℕ) (part : Part) (p : Phrase) (a : Answer) → part_phrases part ≡ nodes_phrases found nodes → IsFound model c found → AreNodes model c nodes due
+      → proof_with model c found nodes due p ≡ Some (Next.Whole a) → Ends c part p a
   nodes_end c found nodes due part Phrase.End a same h k e =
       let t = only_told (due == 0) (Next.Whole (answer_of model found nodes)) (Next.Whole a) e in
       let none : due ≡ 0 = eqb-true due 0 t.0 in
-      let r = proof_ends c found nodes h (subst (AreNodes model nodes) none k) in
+      let r = proof_ends c found nodes h (subst (AreNodes model c nodes) none k) in
       subst (Ends c part Phrase.End) (whole_is (answer_of model found nodes) a (ap Some t.1)) (record { ended = sym r.1.1.1; kind = r.0; form = r.1.0; said = r.1.1.0 ∙ sym same })
   nodes_end c found nodes due part (Phrase.Split j n) a same h k e =
-      absurd (let t = only_told (nat_lt 0 due) (Next.More (Part.Proof found (nodes ++ Split j n ∷ []) (due + 1))) (Next.Whole a) e in let s : Next.More (Part.Proof found (nodes ++ Split j n ∷ []) (due + 1)) ≡ Next.Whole a = t.1 in cc)
+      absurd (let t = only_told (may_split c && nat_lt 0 due) (Next.More (Part.Proof found (nodes ++ Split j n ∷ []) (due + 1))) (Next.Whole a) e in let s : Next.More (Part.Proof found (nodes ++ Split j n ∷ []) (due + 1)) ≡ Next.Whole a = t.1 in cc)
   nodes_end c found nodes due part Phrase.Leaf a same h k e =
       absurd (let t = only_told (nat_lt 0 due) (Next.More (Part.Leaf found nodes (due - 1) [])) (Next.Whole a) e in let s : Next.More (Part.Leaf found nodes (due - 1) []) ≡ Next.Whole a = t.1 in cc)
   nodes_end c found nodes due part _ a same h k e = absurd (cc)
@@ -536,13 +571,17 @@ module _ (model : Program) where
   whole_taken c (Part.Leaf found nodes due shares) (Phrase.Use s) a h e =
       absurd (not_whole (λ ss. Next.More (Part.Leaf found nodes due ss)) (list_all (λ u. source_before u.source s.source) shares) (shares ++ s ∷ []) a (λ y s. cc) e)
   whole_taken c (Part.Leaf found nodes due shares) p a h e =
-      nodes_end c found (nodes ++ leaf_of shares ∷ []) due (Part.Leaf found nodes due shares) p a (sym (leaf_said found nodes shares)) h.0 (leaf_due model nodes due shares h.1.0 h.1.1) e
+      nodes_end c found (nodes ++ leaf_of shares ∷ []) due (Part.Leaf found nodes due shares) p a (sym (leaf_said found nodes shares)) h.0 (leaf_due model c nodes due shares h.1.0 h.1.1) e
   whole_taken c (Part.Listed (Found.Members members)) (Phrase.Member m) a h e =
       absurd (not_whole (λ ms. Next.More (Part.Listed (Found.Members ms))) (list_all (λ n. comes_before n m) members) (members ++ m ∷ []) a (λ y s. cc) e)
   whole_taken c (Part.Listed (Found.Witnessed members witnesses)) p a h e = absurd (no_answer members witnesses p a e)
   whole_taken c (Part.Witness members witnesses m values) (Phrase.Value j v) a h e =
       absurd (not_whole (λ vs. Next.More (Part.Witness members witnesses m vs)) (nat_le (length values) j) (filled j values ++ v ∷ []) a (λ y s. cc) e)
   whole_taken c (Part.Witness members witnesses m values) p a h e = absurd (no_answer (members ++ m ∷ []) (witnesses ++ point_of model values ∷ []) p a e)
+  whole_taken c (Part.Left steps rows columns) Phrase.End a h e =
+      subst (Ends c (Part.Left steps rows columns) Phrase.End) (whole_is (Answer.Reduced (record { steps = steps; rows = rows; columns = columns })) a e) (left_ends c steps rows columns h)
+  whole_taken c (Part.Reduced steps) (Phrase.Reduction s) a h e = absurd (cc)
+  whole_taken c (Part.Reduced steps) (Phrase.Left rows columns) a h e = absurd (cc)
   whole_taken c (Part.Stop part) p a h e = stop_ends c part p a h e
   whole_taken (Edit edit) Part.Nothing p a h e = reply_ends (Edit edit) p a e
   whole_taken Undo Part.Nothing p a h e = reply_ends Undo p a e
@@ -552,6 +591,7 @@ module _ (model : Program) where
   whole_taken (Iis method) Part.Nothing (Phrase.Stop s) a h e = absurd (begun_ends s a e)
   whole_taken Check Part.Nothing Phrase.Feasible a h e = absurd (cc)
   whole_taken (Iis method) Part.Nothing Phrase.Feasible a h e = absurd (cc)
+  whole_taken Reduce Part.Nothing Phrase.Reduced a h e = absurd (cc)
   whole_taken c Part.Feasible Phrase.Point a h e = absurd (cc)
   whole_taken c (Part.Member members witnesses m) Phrase.Point a h e = absurd (cc)
   whole_taken c part p a h e = absurd (cc)

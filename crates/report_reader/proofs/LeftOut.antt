@@ -16,7 +16,7 @@ use Rattle.certs.specs.declared.evidence.Branch.{Branch}
 use Rattle.certs.specs.declared.solving.SiteKind.TheVariants.{Settle}
 use Rattle.report_text.specs.Grammar.{left_out}
 use Rattle.report_text.specs.Form.{IsNamedColumn, IsNamedMember, IsSiteFor}
-use Rattle.report_reader.specs.Phrases.{IsNamedBranch}
+use Rattle.phrase_reader.specs.Phrases.{IsNamedBranch}
 use Rattle.report_reader.specs.Drafts.{set_of, site_without, AreLeftOut, IsTold}
 use Rattle.report_text.proofs.Filters.{filter_twice}
 use Rattle.report_reader.proofs.Listed.{one_list, has_push, same_flip}

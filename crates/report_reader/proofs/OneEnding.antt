@@ -5,7 +5,7 @@ use Rattle.report_text.specs.declared.report.Report.{Report}
 use Rattle.report_text.specs.Grammar.{Line, report_lines}
 use Rattle.report_reader.specs.Reading.{Reads, IsFront, IsWhole, IsBadLine, IsTruncated}
 use Rattle.report_reader.proofs.Endings.{shorter_front, whole_ends}
-use Rattle.report_reader.proofs.Spelling.{parts_of_read}
+use Rattle.report_reader.proofs.Said.{parts_of_read}
 
 not_empty : (a b : List Line) (x : Line) → a ++ x ∷ b ≡ [] → ⊥
 not_empty [] b x e = cc

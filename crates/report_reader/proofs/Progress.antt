@@ -3,7 +3,7 @@ use Rattle.std.proofs.Common.{◌≡◌, ◌≢◌, ◌<◌, ◌≤◌, refl, sy
 use Rattle.std.specs.Prelude.{map, All, option_and_then, option_map, Result, Ok, Err}
 use Rattle.std.proofs.lemmas.List.{length-append, length-map, map-append, append_cancel_left, append_cancel_right}
 use Rattle.std.proofs.lemmas.List.Elements.{All-nil, All-cons, All-head, All-tail}
-use Rattle.report_reader.specs.Parts.{parts}
+use Rattle.phrase_reader.specs.Parts.{parts}
 use Rattle.lp_model.specs.Program.{Program}
 use Rattle.lp_model.specs.declared.parts.Note.{Note}
 use Rattle.lp_model.specs.declared.members.Member.{Member}
@@ -18,7 +18,8 @@ use Rattle.frac128.specs.declared.Wide.{Wide as Operation}
 use Rattle.algebra.specs.Gcd.{gcd, gcd_within}
 use Rattle.rational.specs.Rational.{ℚ, frac, zero_ℚ}
 use Rattle.report_text.specs.declared.report.Command.{Command}
-use Rattle.report_text.specs.declared.report.Command.TheVariants.{Check, Iis, Edit, Undo, Pivots, Nodes}
+use Rattle.report_text.specs.declared.report.Command.TheVariants.{Check, Iis, Reduce, Edit, Undo, Pivots, Nodes}
+use Rattle.reductions.specs.declared.steps.ReduceStep.{ReduceStep}
 use Rattle.report_text.specs.declared.report.Answer.{Answer}
 use Rattle.report_text.specs.declared.report.Entry.{Entry}
 use Rattle.report_text.specs.declared.report.Report.{Report}
@@ -36,11 +37,11 @@ use Rattle.report_text.specs.Turns.{after, entry_commands}
 use Rattle.report_text.specs.Grammar.{Line, text_of, report_lines, phrase_line, report_phrases, lines_of}
 use Rattle.report_text.specs.Form.{IsReportFor, IsOperation}
 use Rattle.report_reader.specs.Reading.{Reads, IsFront, IsWhole, IsBadLine, IsTruncated, IsReportStop}
-use Rattle.report_reader.specs.Phrases.{IsPhraseFor, Says}
+use Rattle.phrase_reader.specs.Phrases.{IsPhraseFor, Says}
 use Rattle.report_reader.specs.Drafts.{point_of, leaf_of, answer_of, site_without, extended, placed, program_now, advanced, nothing_read, Takes, IsLineStop, ended, IsDraftFor}
-use Rattle.report_reader.proofs.Said.{report_for}
+use Rattle.report_reader.proofs.Said.{report_for, parts_of_read}
 use Rattle.report_reader.proofs.Alike.{same_line, says_after}
-use Rattle.report_reader.proofs.Spelling.{some_parts, parts_of_read, text_of_parts}
+use Rattle.phrase_reader.proofs.Spelling.{some_parts, text_of_parts}
 use Rattle.report_reader.proofs.Runs.{run, run_append, run_step, leaf_opens, done, report_read}
 use Rattle.report_reader.proofs.Fronts.{draft_phrases, taken}
 use Rattle.report_reader.specs.declared.reader.ReportStop.{ReportStop}
@@ -121,11 +122,11 @@ module _ (model : Program) where
     front_leaf found nodes zero shares = end_back (Part.Leaf found nodes 0 shares) (answer_of now found (nodes ++ leaf_of shares ∷ [])) refl
     front_leaf found nodes (suc due) shares =
         more_back (Part.Leaf found nodes (suc due) shares) (Part.Leaf found (nodes ++ leaf_of shares ∷ []) due []) Phrase.Leaf tt
-        (leaf_opens now found (nodes ++ leaf_of shares ∷ []) (suc due) due (omega arith)) (front_leaf found (nodes ++ leaf_of shares ∷ []) due [])
+        (leaf_opens now question.command found (nodes ++ leaf_of shares ∷ []) (suc due) due (omega arith)) (front_leaf found (nodes ++ leaf_of shares ∷ []) due [])
 
     front_nodes : (found : Found) (nodes : List Node) (due : ℕ) → Within (Part.Proof found nodes due)
     front_nodes found nodes zero = end_back (Part.Proof found nodes 0) (answer_of now found nodes) refl
-    front_nodes found nodes (suc due) = more_back (Part.Proof found nodes (suc due)) (Part.Leaf found nodes due []) Phrase.Leaf tt (leaf_opens now found nodes (suc due) due (omega arith)) (front_leaf found nodes due [])
+    front_nodes found nodes (suc due) = more_back (Part.Proof found nodes (suc due)) (Part.Leaf found nodes due []) Phrase.Leaf tt (leaf_opens now question.command found nodes (suc due) due (omega arith)) (front_leaf found nodes due [])
 
     front_proof : (found : Found) → Within (Part.Proof found [] 1)
     front_proof found = front_nodes found [] 1
@@ -138,10 +139,18 @@ module _ (model : Program) where
     front_feasible : Within Part.Feasible
     front_feasible = more_back Part.Feasible (Part.Point []) Phrase.Point tt refl (front_point [])
 
+    front_left : (steps : List ReduceStep) (rows columns : ℕ) → Within (Part.Left steps rows columns)
+    front_left steps rows columns = end_back (Part.Left steps rows columns) (Answer.Reduced (record { steps = steps; rows = rows; columns = columns })) refl
+
+    -- nothing may be left
+    front_steps : (steps : List ReduceStep) → Within (Part.Reduced steps)
+    front_steps steps = more_back (Part.Reduced steps) (Part.Left steps 0 0) (Phrase.Left 0 0) (omega arith, omega arith) refl (front_left steps 0 0)
+
     -- by the command
     front_nothing : (c : Command) → question.command ≡ c → Within Part.Nothing
     front_nothing Check e = more_back Part.Nothing Part.Feasible Phrase.Feasible tt (ap (λ d. extended now d Part.Nothing Phrase.Feasible) e) front_feasible
     front_nothing (Iis method) e = more_back Part.Nothing Part.Feasible Phrase.Feasible tt (ap (λ d. extended now d Part.Nothing Phrase.Feasible) e) front_feasible
+    front_nothing Reduce e = more_back Part.Nothing (Part.Reduced []) Phrase.Reduced tt (ap (λ d. extended now d Part.Nothing Phrase.Reduced) e) (front_steps [])
     front_nothing (Edit edit) e = last_back Part.Nothing Phrase.Done Answer.Done tt (ap (λ d. extended now d Part.Nothing Phrase.Done) e)
     front_nothing Undo e = last_back Part.Nothing Phrase.Done Answer.Done tt (ap (λ d. extended now d Part.Nothing Phrase.Done) e)
     front_nothing (Pivots n) e = last_back Part.Nothing Phrase.Done Answer.Done tt (ap (λ d. extended now d Part.Nothing Phrase.Done) e)
@@ -168,6 +177,8 @@ module _ (model : Program) where
     front_part Part.Nothing = front_nothing question.command refl
     front_part Part.Feasible = front_feasible
     front_part (Part.Stop part) = front_stop part
+    front_part (Part.Reduced steps) = front_steps steps
+    front_part (Part.Left steps rows columns) = front_left steps rows columns
     front_part (Part.Point values) = front_point values
     front_part (Part.Listed (Found.Members members)) = more_back (Part.Listed (Found.Members members)) (Part.Proof (Found.Members members) [] 1) Phrase.Proof tt refl (front_proof (Found.Members members))
     front_part (Part.Listed (Found.Witnessed members witnesses)) = more_back (Part.Listed (Found.Witnessed members witnesses)) (Part.Proof (Found.Witnessed members witnesses) [] 1) Phrase.Proof tt refl (front_proof (Found.Witnessed members witnesses))

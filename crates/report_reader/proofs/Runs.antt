@@ -3,7 +3,7 @@ use Rattle.std.proofs.Common.{◌≡◌, ◌≤◌, refl, sym, ap, subst, ◌∙
 use Rattle.std.specs.Prelude.{map, flat_map, zip, replicate, option_and_then, option_map, All, AllPairs, nat_lt, nat_le}
 use Rattle.std.specs.List.{list_all}
 use Rattle.std.proofs.lemmas.List.{replicate_more, length-append, length-map}
-use Rattle.std.proofs.lemmas.List.Elements.{All-head, All-tail, All-contains, Contains-append_right}
+use Rattle.std.proofs.lemmas.List.Elements.{All-nil, All-cons, All-head, All-tail, All-contains, Contains-append_right}
 use Rattle.std.proofs.lemmas.List.Concat.{flat_map-append}
 use Rattle.std.proofs.lemmas.Bool.{and_from, le-leb, lt-ltb}
 use Rattle.rational.proofs.Compare.{eq-Decides}
@@ -16,7 +16,7 @@ use Rattle.lp_model.specs.Members.{comes_before, is_active, IsInOrder}
 use Rattle.certs.specs.declared.evidence.Point.{Point}
 use Rattle.certs.specs.declared.evidence.Share.{Share}
 use Rattle.certs.specs.declared.evidence.Node.{Node}
-use Rattle.certs.specs.declared.evidence.Node.TheVariants.{Split}
+use Rattle.certs.specs.declared.evidence.Node.TheVariants.{Split, Leaf}
 use Rattle.certs.specs.declared.evidence.Proof.{Proof}
 use Rattle.certs.specs.Proof.{Tree, Tip, Fork, preorder}
 use Rattle.certs.proofs.Lists.{all_front, all_back}
@@ -26,10 +26,12 @@ use Rattle.certs.specs.declared.solving.SiteKind.TheVariants.{Settle}
 use Rattle.certs.specs.declared.solving.Site.{Site}
 use Rattle.certs.specs.declared.solving.Stop.{Stop}
 use Rattle.certs.specs.declared.solving.Stop.TheVariants.{Wide as TooWide, Pivots as Spent, Nodes as NodesSpent}
+use Rattle.reductions.specs.declared.steps.ReduceStep.{ReduceStep}
+use Rattle.report_text.specs.declared.report.Reduced.{Reduced}
 use Rattle.report_text.specs.declared.report.Command.{Command}
-use Rattle.report_text.specs.declared.report.Command.TheVariants.{Check, Iis, Edit, Undo, Pivots, Nodes}
+use Rattle.report_text.specs.declared.report.Command.TheVariants.{Check, Iis, Reduce, Edit, Undo, Pivots, Nodes}
 use Rattle.report_text.specs.declared.report.Answer.{Answer}
-use Rattle.report_text.specs.declared.report.Answer.TheVariants.{Feasible, Infeasible, Irreducible, Done, Refused, Stopped}
+use Rattle.report_text.specs.declared.report.Answer.TheVariants.{Feasible, Infeasible, Irreducible, Reduced as ReducedTo, Done, Refused, Stopped}
 use Rattle.report_text.specs.declared.report.Entry.{Entry}
 use Rattle.report_text.specs.declared.report.Report.{Report}
 use Rattle.report_text.specs.declared.phrases.Phrase.{Phrase}
@@ -47,8 +49,8 @@ use Rattle.report_text.specs.Grammar.{left_out, value_phrases, point_phrases, no
 use Rattle.report_text.specs.Turns.{after, entry_commands}
 use Rattle.report_text.proofs.InTurn.{commands_push}
 use Rattle.certs.specs.Order.{source_before}
-use Rattle.report_text.specs.Form.{AreUses, IsListed, IsNodeFor, IsProofFor, IsPointFor, IsSettleSite, IsStopFor, IsAnswerFor, IsEntryFor, AreEntriesFor, AreNumbered, IsReportFor, can_answer}
-use Rattle.report_reader.specs.Drafts.{filled, point_of, leaf_of, set_of, answer_of, only_if, with_value, with_next, proof_begun, proof_with, witnessed_with, site_without, stop_begun, stop_with, extended, placed, program_now, advanced, nothing_read}
+use Rattle.report_text.specs.Form.{AreUses, IsListed, IsNodeFor, IsProofFor, IsPointFor, IsSettleSite, IsStopFor, IsAnswerFor, IsEntryFor, AreEntriesFor, AreNumbered, IsReportFor, is_one_leaf, can_answer}
+use Rattle.report_reader.specs.Drafts.{filled, point_of, leaf_of, set_of, answer_of, only_if, with_value, with_next, may_split, may_stand, proof_begun, proof_with, witnessed_with, site_without, stop_begun, stop_with, extended, placed, program_now, advanced, nothing_read}
 use Rattle.report_reader.proofs.LeftOut.{left_in_order, left_active, set_twice}
 
 -- ---- runs
@@ -247,16 +249,18 @@ module _ (model : Program) (c : Command) where
 -- ---- proofs
 -- a part that takes a node, or the end of the proof, as these nodes with so many subtrees due do
 record TakesNodes (model : Program) (c : Command) (part : Part) (found : Found) (nodes : List Node) (due : ℕ) : Type 0 where
-  split : (j : ℕ) (k : ℤ) → extended model c part (Phrase.Split j k) ≡ proof_with model found nodes due (Phrase.Split j k)
-  leaf : extended model c part Phrase.Leaf ≡ proof_with model found nodes due Phrase.Leaf
-  end : extended model c part Phrase.End ≡ proof_with model found nodes due Phrase.End
+  split : (j : ℕ) (k : ℤ) → extended model c part (Phrase.Split j k) ≡ proof_with model c found nodes due (Phrase.Split j k)
+  leaf : extended model c part Phrase.Leaf ≡ proof_with model c found nodes due Phrase.Leaf
+  end : extended model c part Phrase.End ≡ proof_with model c found nodes due Phrase.End
 
 -- a node where a subtree is due
-split_opens : (model : Program) (found : Found) (nodes : List Node) (due : ℕ) (j : ℕ) (k : ℤ) → 0 < due → proof_with model found nodes due (Phrase.Split j k) ≡ Some (Next.More (Part.Proof found (nodes ++ Split j k ∷ []) (due + 1)))
-split_opens model found nodes due j k h = only_true (nat_lt 0 due) (Next.More (Part.Proof found (nodes ++ Split j k ∷ []) (due + 1))) (lt-ltb 0 due h)
+split_opens : (model : Program) (c : Command) (found : Found) (nodes : List Node) (due : ℕ) (j : ℕ) (k : ℤ) → may_split c ≡ true → 0 < due
+    → proof_with model c found nodes due (Phrase.Split j k) ≡ Some (Next.More (Part.Proof found (nodes ++ Split j k ∷ []) (due + 1)))
+split_opens model c found nodes due j k may h =
+    only_true (may_split c && nat_lt 0 due) (Next.More (Part.Proof found (nodes ++ Split j k ∷ []) (due + 1))) (and_from (may_split c) (nat_lt 0 due) may (lt-ltb 0 due h))
 
-pub leaf_opens : (model : Program) (found : Found) (nodes : List Node) (due behind : ℕ) → due ≡ behind + 1 → proof_with model found nodes due Phrase.Leaf ≡ Some (Next.More (Part.Leaf found nodes behind []))
-leaf_opens model found nodes due behind e =
+pub leaf_opens : (model : Program) (c : Command) (found : Found) (nodes : List Node) (due behind : ℕ) → due ≡ behind + 1 → proof_with model c found nodes due Phrase.Leaf ≡ Some (Next.More (Part.Leaf found nodes behind []))
+leaf_opens model c found nodes due behind e =
     only_true (nat_lt 0 due) (Next.More (Part.Leaf found nodes (due - 1) [])) (lt-ltb 0 due (omega arith)) ∙ ap (λ n. Some (Next.More (Part.Leaf found nodes n []))) (let less : due - 1 ≡ behind = omega arith in less)
 
 module _ (model : Program) (c : Command) (found : Found) where
@@ -268,26 +272,31 @@ module _ (model : Program) (c : Command) (found : Found) where
   leaf_read : (part : Part) (nodes : List Node) (due : ℕ) (shares : List Share) → TakesNodes model c part found nodes (due + 1) → AreUses model shares
       → grown model c part (Phrase.Leaf ∷ (map Phrase.Use shares ++ [])) ≡ Some (Part.Leaf found nodes due shares)
   leaf_read part nodes due shares takes uses =
-      grown_step model c part (Part.Leaf found nodes due []) Phrase.Leaf (map Phrase.Use shares ++ []) (takes.leaf ∙ leaf_opens model found nodes (due + 1) due refl)
+      grown_step model c part (Part.Leaf found nodes due []) Phrase.Leaf (map Phrase.Use shares ++ []) (takes.leaf ∙ leaf_opens model c found nodes (due + 1) due refl)
       ∙ ap (grown model c (Part.Leaf found nodes due [])) (append-nil (map Phrase.Use shares))
       ∙ list_read model c (λ s. true) (λ s t. source_before s.source t.source) (λ ss. Part.Leaf found nodes due ss) Phrase.Use (λ ss s. refl) [] shares uses.in_order (λ k d l. refl)
+
+  -- a node that may stand in a proof of an answer to the command
+  abbrev MayStand : Node → Type 0
+  MayStand node = may_stand node c ≡ true
 
   -- what the nodes of a tree lead to, where a subtree is due: they stand behind the others, and one subtree less is due
   abbrev TreeRead : Part → List Node → ℕ → List Node → Type 0
   TreeRead part nodes due tree = (end : Part) × ((grown model c part (flat_map node_phrases tree) ≡ Some end) × TakesNodes model c end found (nodes ++ tree) due)
 
-  tree_read : (tree : Tree) (part : Part) (nodes : List Node) (due : ℕ) → TakesNodes model c part found nodes (due + 1) → All (IsNodeFor model) (preorder tree) → TreeRead part nodes due (preorder tree)
-  tree_read (Tip shares) part nodes due takes h =
+  tree_read : (tree : Tree) (part : Part) (nodes : List Node) (due : ℕ) → TakesNodes model c part found nodes (due + 1) → All (IsNodeFor model) (preorder tree) → All MayStand (preorder tree) → TreeRead part nodes due (preorder tree)
+  tree_read (Tip shares) part nodes due takes h may =
       (Part.Leaf found nodes due shares, (leaf_read part nodes due shares takes (All-head (IsNodeFor model) (leaf_of shares) [] h), record { split = λ j k. refl; leaf = refl; end = refl }))
-  tree_read (Fork j k lower upper) part nodes due takes h =
+  tree_read (Fork j k lower upper) part nodes due takes h may =
       let more : List Node = nodes ++ Split j k ∷ [] in
       let start = Part.Proof found more ((due + 1) + 1) in
       let below = preorder lower in
       let above = preorder upper in
       let rest = All-tail (IsNodeFor model) (Split j k) (below ++ above) h in
-      let first = tree_read lower start more (due + 1) (own_part more ((due + 1) + 1)) (all_front (IsNodeFor model) below above rest) in
-      let second = tree_read upper first.0 (more ++ below) due first.1.1 (all_back (IsNodeFor model) below above rest) in
-      let opened = takes.split j k ∙ split_opens model found nodes (due + 1) j k (omega arith) in (
+      let others = All-tail MayStand (Split j k) (below ++ above) may in
+      let first = tree_read lower start more (due + 1) (own_part more ((due + 1) + 1)) (all_front (IsNodeFor model) below above rest) (all_front MayStand below above others) in
+      let second = tree_read upper first.0 (more ++ below) due first.1.1 (all_back (IsNodeFor model) below above rest) (all_back MayStand below above others) in
+      let opened = takes.split j k ∙ split_opens model c found nodes (due + 1) j k (All-head MayStand (Split j k) (below ++ above) may) (omega arith) in (
         second.0,
         (
           grown_step model c part start (Phrase.Split j k) (flat_map node_phrases (below ++ above)) opened
@@ -299,12 +308,23 @@ module _ (model : Program) (c : Command) (found : Found) where
       )
 
   -- the lines of a proof lead to a part that the end makes the answer
-  proof_read : (part : Part) (proof : Proof) → IsProofFor model proof → extended model c part Phrase.Proof ≡ Some (proof_begun found)
+  proof_read : (part : Part) (proof : Proof) → IsProofFor model proof → All MayStand proof.nodes → extended model c part Phrase.Proof ≡ Some (proof_begun found)
       → (end : Part) × ((grown model c part (proof_phrases proof) ≡ Some end) × (extended model c end Phrase.End ≡ Some (Next.Whole (answer_of model found proof.nodes))))
-  proof_read part proof h e =
+  proof_read part proof h may e =
       let start = Part.Proof found [] 1 in
-      let r = subst (TreeRead start [] 0) h.one.listed (tree_read h.one.tree start [] 0 (own_part [] 1) (subst (All (IsNodeFor model)) (sym h.one.listed) h.each)) in
+      let r = subst (TreeRead start [] 0) h.one.listed (tree_read h.one.tree start [] 0 (own_part [] 1) (subst (All (IsNodeFor model)) (sym h.one.listed) h.each) (subst (All MayStand) (sym h.one.listed) may)) in
       (r.0, (grown_step model c part start Phrase.Proof (flat_map node_phrases proof.nodes) e ∙ r.1.0, r.1.1.end))
+
+-- any node may stand in a proof that may have splits
+any_stands : (c : Command) → may_split c ≡ true → (nodes : List Node) → All (λ node. may_stand node c ≡ true) nodes
+any_stands c may [] = All-nil (λ node. may_stand node c ≡ true)
+any_stands c may (Split j k ∷ nodes) = All-cons (λ node. may_stand node c ≡ true) (Split j k) nodes may (any_stands c may nodes)
+any_stands c may (Leaf combo ∷ nodes) = All-cons (λ node. may_stand node c ≡ true) (Leaf combo) nodes refl (any_stands c may nodes)
+
+-- and one leaf in each
+leaf_stands : (nodes : List Node) → is_one_leaf nodes ≡ true → All (λ node. may_stand node Reduce ≡ true) nodes
+leaf_stands (Leaf combo ∷ []) e = All-cons (λ node. may_stand node Reduce ≡ true) (Leaf combo) [] refl (All-nil (λ node. may_stand node Reduce ≡ true))
+leaf_stands nodes e = absurd (true≢false (sym e))
 
 -- ---- answers
 -- the set that stands there
@@ -402,6 +422,46 @@ feasible_read model c p h e =
       ),
     )
 
+-- members, and a proof
+infeasible_read : (model : Program) (c : Command) (set : SetValue) (proof : Proof) → IsListed model set → IsProofFor model proof → All (λ node. may_stand node c ≡ true) proof.nodes
+    → extended model c Part.Nothing Phrase.Infeasible ≡ Some (Next.More (Part.Listed (Found.Members []))) → AnswerRead model c (Infeasible set proof)
+unfolding AnswerRead
+infeasible_read model c set proof listed form may e =
+    let members = set.members in
+    let found = Found.Members members in
+    let start = Part.Listed (Found.Members []) in
+    let read = list_read model c (λ m. true) comes_before (λ ms. Part.Listed (Found.Members ms)) Phrase.Member (λ ms m. refl) [] members listed.in_order (λ k d l. refl) in
+    let proved = proof_read model c found (Part.Listed found) proof form may refl in (
+      proved.0,
+      (
+        grown_step model c Part.Nothing start Phrase.Infeasible (map Phrase.Member members ++ proof_phrases proof) e
+            ∙ grown_append model c start (Part.Listed found) (map Phrase.Member members) (proof_phrases proof) read
+            ∙ proved.1.0,
+        proved.1.1 ∙ ap (λ s. Some (Next.Whole (Infeasible s proof))) (same_set model set listed),
+      ),
+    )
+
+-- steps, and what is left
+steps_read : (model : Program) (c : Command) (steps rest : List ReduceStep) → grown model c (Part.Reduced steps) (map Phrase.Reduction rest) ≡ Some (Part.Reduced (steps ++ rest))
+steps_read model c steps [] = ap (λ l. Some (Part.Reduced l)) (sym (append-nil steps))
+steps_read model c steps (s ∷ rest) =
+    grown_step model c (Part.Reduced steps) (Part.Reduced (steps ++ s ∷ [])) (Phrase.Reduction s) (map Phrase.Reduction rest) refl
+    ∙ steps_read model c (steps ++ s ∷ []) rest
+    ∙ ap (λ l. Some (Part.Reduced l)) (append_assoc steps (s ∷ []) rest)
+
+reduced_read : (model : Program) (r : Reduced) → AnswerRead model Reduce (ReducedTo r)
+unfolding AnswerRead
+reduced_read model r =
+    let left = Phrase.Left r.rows r.columns in (
+      Part.Left r.steps r.rows r.columns,
+      (
+        grown_step model Reduce Part.Nothing (Part.Reduced []) Phrase.Reduced (map Phrase.Reduction r.steps ++ left ∷ []) refl
+            ∙ grown_append model Reduce (Part.Reduced []) (Part.Reduced r.steps) (map Phrase.Reduction r.steps) (left ∷ []) (steps_read model Reduce [] r.steps)
+            ∙ grown_step model Reduce (Part.Reduced r.steps) (Part.Left r.steps r.rows r.columns) left [] refl,
+        refl,
+      ),
+    )
+
 answer_read : (model : Program) (c : Command) (a : Answer) → can_answer c a ≡ true → IsAnswerFor model a → AnswerRead model c a
 unfolding AnswerRead
 answer_read model Check (Feasible p) can h = feasible_read model Check p h refl
@@ -414,24 +474,14 @@ answer_read model (Pivots n) Done can h = (Part.Nothing, (refl, refl))
 answer_read model (Nodes n) Done can h = (Part.Nothing, (refl, refl))
 answer_read model Check (Stopped stop) can h = stop_read model Check stop h (λ s. refl)
 answer_read model (Iis method) (Stopped stop) can h = stop_read model (Iis method) stop h (λ s. refl)
-answer_read model Check (Infeasible set proof) can h =
-    let members = set.members in
-    let found = Found.Members members in
-    let listed = list_read model Check (λ m. true) comes_before (λ ms. Part.Listed (Found.Members ms)) Phrase.Member (λ ms m. refl) [] members h.0.in_order (λ k d l. refl) in
-    let proved = proof_read model Check found (Part.Listed found) proof h.1 refl in (
-      proved.0,
-      (
-        grown_step model Check Part.Nothing (Part.Listed (Found.Members [])) Phrase.Infeasible (map Phrase.Member members ++ proof_phrases proof) refl
-            ∙ grown_append model Check (Part.Listed (Found.Members [])) (Part.Listed found) (map Phrase.Member members) (proof_phrases proof) listed
-            ∙ proved.1.0,
-        proved.1.1 ∙ ap (λ s. Some (Next.Whole (Infeasible s proof))) (same_set model set h.0),
-      ),
-    )
+answer_read model Check (Infeasible set proof) can h = infeasible_read model Check set proof h.0 h.1 (any_stands Check refl proof.nodes) refl
+answer_read model Reduce (Infeasible set proof) can h = infeasible_read model Reduce set proof h.0 h.1 (leaf_stands proof.nodes can) refl
+answer_read model Reduce (ReducedTo r) can h = reduced_read model r
 answer_read model (Iis method) (Irreducible core) can h =
     let members = core.members.members in
     let found = Found.Witnessed members core.witnesses in
     let w = witnesses_read model (Iis method) (Part.Listed (Found.Witnessed [] [])) [] members [] core.witnesses ((λ m. refl), refl) h.members.in_order h.each h.points in
-    let proved = proof_read model (Iis method) found w.0 core.proof h.proof w.1.1.1 in (
+    let proved = proof_read model (Iis method) found w.0 core.proof h.proof (any_stands (Iis method) refl core.proof.nodes) w.1.1.1 in (
       proved.0,
       (
         grown_step model (Iis method) Part.Nothing (Part.Listed (Found.Witnessed [] [])) Phrase.Irreducible (flat_map witness_phrases (zip members core.witnesses) ++ proof_phrases core.proof) refl

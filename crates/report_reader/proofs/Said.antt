@@ -1,5 +1,5 @@
--- Each phrase of a report is one for the program, and only the last is the foot.
-use Rattle.std.proofs.Common.{◌≡◌, ◌≢◌, ◌<◌, refl, subst, ℕ, zero, suc, ◌+◌, Bool, true, false, cond, List, [], ◌∷◌, ◌++◌, length, arith}
+-- Each phrase of a report is one for the program, and only the last is the foot; the parts of its bytes are its lines.
+use Rattle.std.proofs.Common.{◌≡◌, ◌≢◌, ◌<◌, refl, subst, ap, ◌∙◌, ℕ, zero, suc, ◌+◌, Bool, true, false, cond, List, [], ◌∷◌, ◌++◌, length, arith}
 use Rattle.std.specs.Prelude.{map, flat_map, zip, All}
 use Rattle.std.proofs.lemmas.Bool.Decides.{not_from_Decides}
 use Rattle.std.proofs.lemmas.List.Elements.{All-head, All-tail, All-nil, All-cons, All-append, All-push, All-weaker}
@@ -18,16 +18,19 @@ use Rattle.certs.specs.declared.solving.Stop.{Stop}
 use Rattle.certs.specs.declared.solving.Stop.TheVariants.{Wide as TooWide, Pivots as Spent, Nodes as NodesSpent}
 use Rattle.report_text.specs.declared.report.Command.{Command}
 use Rattle.report_text.specs.declared.report.Answer.{Answer}
-use Rattle.report_text.specs.declared.report.Answer.TheVariants.{Feasible, Infeasible, Irreducible, Done, Refused, Stopped}
+use Rattle.report_text.specs.declared.report.Answer.TheVariants.{Feasible, Infeasible, Irreducible, Reduced as ReducedTo, Done, Refused, Stopped}
 use Rattle.report_text.specs.declared.report.Entry.{Entry}
 use Rattle.report_text.specs.declared.report.Report.{Report}
 use Rattle.report_text.specs.declared.phrases.Phrase.{Phrase}
 use Rattle.report_text.specs.declared.phrases.StopPhrase.{StopPhrase}
 use Rattle.lp_model.specs.Satisfaction.{values_at}
-use Rattle.report_text.specs.Form.{is_word, IsWithinLimit, IsNamedColumn, IsNamedMember, IsUse, IsNodeFor, IsProofFor, IsPointFor, IsSiteFor, IsStopFor, IsAnswerFor, IsEntryFor, AreEntriesFor, IsReportFor}
-use Rattle.report_text.specs.Grammar.{column_name, left_out, value_phrases, point_phrases, node_phrases, proof_phrases, witness_phrases, without_phrase, branch_phrase, site_phrases, stop_phrases, answer_front, answer_end, entry_phrases, entries_phrases, body_phrases, report_phrases}
+use Rattle.report_text.specs.Form.{is_word, IsWithinLimit, IsNamedColumn, IsNamedMember, IsUse, IsNodeFor, IsProofFor, IsPointFor, IsSiteFor, IsStopFor, IsStepFor, IsAnswerFor, IsEntryFor, AreEntriesFor, IsReportFor}
+use Rattle.report_text.specs.Grammar.{column_name, left_out, value_phrases, point_phrases, node_phrases, proof_phrases, witness_phrases, without_phrase, branch_phrase, site_phrases, stop_phrases, answer_front, answer_end, entry_phrases, entries_phrases, body_phrases, report_phrases, report_lines}
 use Rattle.report_text.specs.Turns.{after}
-use Rattle.report_reader.specs.Phrases.{IsNamedBranch, IsPhraseFor}
+use Rattle.phrase_reader.specs.Phrases.{IsNamedBranch, IsPhraseFor}
+use Rattle.phrase_reader.specs.Parts.{parts}
+use Rattle.phrase_reader.proofs.Spelling.{lines_no_mark, parts_of_text}
+use Rattle.report_reader.specs.Reading.{Reads}
 use Rattle.report_reader.proofs.Alike.{phrase_before}
 
 -- ---- each phrase of a report is one for the program
@@ -145,6 +148,11 @@ module _ (model : Program) where
       (All-append For (flat_map witness_phrases (zip core.members.members core.witnesses)) (proof_phrases core.proof)
       (flat_for (λ w. IsNamedMember model w.0 × IsPointFor model w.1) witness_phrases witness_for (zip core.members.members core.witnesses) (zipped core.members.members core.witnesses h.members.named h.points))
       (proof_for core.proof h.proof))
+  answer_for (ReducedTo r) h =
+      let steps = map Phrase.Reduction r.steps in
+      let left = Phrase.Left r.rows r.columns in
+      All-cons For Phrase.Reduced (steps ++ left ∷ []) (own Phrase.Reduced tt refl)
+      (All-push For steps left (each_for (IsStepFor model) Phrase.Reduction (λ s k. own (Phrase.Reduction s) k refl) r.steps h.steps) (own left (h.rows, h.columns) refl))
 
   entry_for : (e : Entry) → IsEntryFor model e → All For (entry_phrases model e)
   unfolding For
@@ -174,3 +182,10 @@ pub report_for : (model : Program) (report : Report) → IsReportFor model repor
 report_for model report h =
     All-push (IsPhraseFor model) (body_phrases model report.notes report.entries) Phrase.Foot
     (All-weaker (IsBefore model) (IsPhraseFor model) (λ p k. k.form) (body_phrases model report.notes report.entries) (body_for model report h)) tt
+
+-- ---- its bytes
+-- the parts of bytes that are read are the report's lines
+pub parts_of_read : (model : Program) (bytes : List ℕ) (report : Report) → Reads model bytes report → parts 10 bytes ≡ report_lines model report ++ [] ∷ []
+parts_of_read model bytes report h =
+    ap (parts 10) h.text
+    ∙ parts_of_text (report_lines model report) (lines_no_mark model (report_phrases model report) (report_for model report h.form))

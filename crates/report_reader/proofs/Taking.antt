@@ -5,8 +5,8 @@ use Rattle.lp_model.specs.Program.{Program}
 use Rattle.report_text.specs.declared.phrases.Phrase.{Phrase}
 use Rattle.report_text.specs.Grammar.{Line}
 use Rattle.report_reader.specs.declared.drafts.Draft.{Draft}
-use Rattle.report_reader.specs.Phrases.{Says}
-use Rattle.report_reader.specs.Words.{Finds}
+use Rattle.phrase_reader.specs.Phrases.{Says}
+use Rattle.phrase_reader.specs.Words.{Finds}
 use Rattle.report_reader.specs.Drafts.{program_now, advanced, Takes}
 
 module _ (first now : Program) (n : ℕ) (draft : Draft) (line : Line) (same : now ≡ program_now first draft) (found : Option Phrase) (finds : Finds (Says now line) found) where

@@ -9,8 +9,8 @@ use Rattle.lane_scan.specs.Bytes.{is_end}
 use Rattle.lane_scan.proofs.Firsts.{length-range}
 use Rattle.text_fields.specs.declared.spans.Line.{Line}
 use Rattle.text_fields.specs.Lines.{lines_of, ended, line_text, IsLineAt}
-use Rattle.report_reader.specs.Parts.{parts}
-use Rattle.report_reader.proofs.Cuts.{Cuts, cut_parts}
+use Rattle.phrase_reader.specs.Parts.{parts}
+use Rattle.phrase_reader.proofs.Cuts.{Cuts, cut_parts}
 
 abbrev head_of : List (List ℕ) → List ℕ
 head_of [] = []

@@ -20,7 +20,7 @@ use Rattle.certs.specs.declared.solving.SiteKind.TheVariants.{Settle}
 use Rattle.certs.specs.declared.solving.Site.{Site}
 use Rattle.certs.specs.declared.solving.Stop.{Stop}
 use Rattle.report_text.specs.declared.report.Command.{Command}
-use Rattle.report_text.specs.declared.report.Command.TheVariants.{Check, Iis, Edit, Undo, Pivots, Nodes}
+use Rattle.report_text.specs.declared.report.Command.TheVariants.{Check, Iis, Reduce, Edit, Undo, Pivots, Nodes}
 use Rattle.report_text.specs.declared.report.Answer.{Answer}
 use Rattle.report_text.specs.declared.report.Entry.{Entry}
 use Rattle.report_text.specs.declared.phrases.Phrase.{Phrase}
@@ -36,11 +36,11 @@ use Rattle.report_reader.specs.declared.drafts.Draft.{Draft}
 use Rattle.report_text.specs.declared.report.Report.{Report}
 use Rattle.report_reader.specs.declared.reader.ReportStop.{ReportStop}
 use Rattle.report_reader.specs.declared.reader.ReportStop.TheVariants.{BadLine, Truncated, Memory}
-use Rattle.report_reader.specs.Phrases.{IsNamedBranch, Says}
+use Rattle.phrase_reader.specs.Phrases.{IsNamedBranch, Says}
 use Rattle.report_text.specs.Turns.{after, entry_commands}
 use Rattle.report_text.specs.Grammar.{Line, column_name, left_out, entries_phrases}
 use Rattle.certs.specs.Order.{source_before}
-use Rattle.report_text.specs.Form.{is_word, IsNamedColumn, IsNamedMember, IsWithinLimit, IsPointFor, AreEntriesFor, IsCommand, IsCount, IsOperation, AreUses, IsNodeFor, IsOneTree, AreNumbered, can_answer}
+use Rattle.report_text.specs.Form.{is_word, IsNamedColumn, IsNamedMember, IsWithinLimit, IsPointFor, AreEntriesFor, IsCommand, IsCount, IsOperation, AreUses, IsStepFor, IsNodeFor, IsOneTree, AreNumbered, can_answer}
 
 -- values with zeros behind them, up to so many
 abbrev pub filled : ℕ → List ℚ → List ℚ
@@ -96,16 +96,26 @@ abbrev pub with_left_out : Program → List Branch → List Member → Member �
 with_left_out model path left m = with_next (λ n. (length path == 0) && is_active model n) comes_before left m
 
 -- ---- answers
+-- whether a proof of an answer to the command may have a split: that of a reduction is one leaf
+abbrev pub may_split : Command → Bool
+may_split Reduce = false
+may_split command = true
+
+-- whether the node may stand in one
+abbrev pub may_stand : Node → Command → Bool
+may_stand (Split j k) command = may_split command
+may_stand (Leaf combo) command = true
+
 -- a proof without nodes: one subtree is due, the whole tree
 abbrev pub proof_begun : Found → Next
 proof_begun found = Next.More (Part.Proof found [] 1)
 
--- What the nodes of a proof, behind which so many subtrees are due, are with one phrase more. Where one is due a node is its root, and a split puts two in its place, a leaf none. Where none is due the proof ends.
-abbrev pub proof_with : Program → Found → List Node → ℕ → Phrase → Option Next
-proof_with model found nodes due (Phrase.Split j k) = only_if (nat_lt 0 due) (Next.More (Part.Proof found (nodes ++ Split j k ∷ []) (due + 1)))
-proof_with model found nodes due Phrase.Leaf = only_if (nat_lt 0 due) (Next.More (Part.Leaf found nodes (due - 1) []))
-proof_with model found nodes due Phrase.End = only_if (due == 0) (Next.Whole (answer_of model found nodes))
-proof_with model found nodes due _ = None
+-- What the nodes of a proof, behind which so many subtrees are due, are with one phrase more. Where one is due a node is its root, and a split, where there may be one, puts two in its place, a leaf none. Where none is due the proof ends.
+abbrev pub proof_with : Program → Command → Found → List Node → ℕ → Phrase → Option Next
+proof_with model command found nodes due (Phrase.Split j k) = only_if (may_split command && nat_lt 0 due) (Next.More (Part.Proof found (nodes ++ Split j k ∷ []) (due + 1)))
+proof_with model command found nodes due Phrase.Leaf = only_if (nat_lt 0 due) (Next.More (Part.Leaf found nodes (due - 1) []))
+proof_with model command found nodes due Phrase.End = only_if (due == 0) (Next.Whole (answer_of model found nodes))
+proof_with model command found nodes due _ = None
 
 -- what a list with witnesses is with one phrase more: a member, or the start of the proof
 abbrev pub witnessed_with : List Member → List Point → Phrase → Option Next
@@ -149,6 +159,8 @@ extended model Check Part.Nothing Phrase.Feasible = Some (Next.More Part.Feasibl
 extended model (Iis method) Part.Nothing Phrase.Feasible = Some (Next.More Part.Feasible)
 extended model Check Part.Nothing Phrase.Infeasible = Some (Next.More (Part.Listed (Found.Members [])))
 extended model (Iis method) Part.Nothing Phrase.Irreducible = Some (Next.More (Part.Listed (Found.Witnessed [] [])))
+extended model Reduce Part.Nothing Phrase.Reduced = Some (Next.More (Part.Reduced []))
+extended model Reduce Part.Nothing Phrase.Infeasible = Some (Next.More (Part.Listed (Found.Members [])))
 extended model Check Part.Nothing (Phrase.Stop s) = stop_begun s
 extended model (Iis method) Part.Nothing (Phrase.Stop s) = stop_begun s
 extended model (Edit e) Part.Nothing p = reply_said (Edit e) p
@@ -163,9 +175,12 @@ extended model command (Part.Listed (Found.Witnessed members witnesses)) p = wit
 extended model command (Part.Member members witnesses m) Phrase.Point = Some (Next.More (Part.Witness members witnesses m []))
 extended model command (Part.Witness members witnesses m values) (Phrase.Value j v) = option_map (λ vs. Next.More (Part.Witness members witnesses m vs)) (with_value values j v)
 extended model command (Part.Witness members witnesses m values) p = witnessed_with (members ++ m ∷ []) (witnesses ++ point_of model values ∷ []) p
-extended model command (Part.Proof found nodes due) p = proof_with model found nodes due p
+extended model command (Part.Proof found nodes due) p = proof_with model command found nodes due p
 extended model command (Part.Leaf found nodes due shares) (Phrase.Use s) = option_map (λ ss. Next.More (Part.Leaf found nodes due ss)) (with_share shares s)
-extended model command (Part.Leaf found nodes due shares) p = proof_with model found (nodes ++ leaf_of shares ∷ []) due p
+extended model command (Part.Leaf found nodes due shares) p = proof_with model command found (nodes ++ leaf_of shares ∷ []) due p
+extended model command (Part.Reduced steps) (Phrase.Reduction s) = Some (Next.More (Part.Reduced (steps ++ s ∷ [])))
+extended model command (Part.Reduced steps) (Phrase.Left rows columns) = Some (Next.More (Part.Left steps rows columns))
+extended model command (Part.Left steps rows columns) Phrase.End = Some (Next.Whole (Answer.Reduced (record { steps = steps; rows = rows; columns = columns })))
 extended model command (Part.Stop part) p = stop_with model part p
 extended model command _ _ = None
 
@@ -265,12 +280,14 @@ pub record AreWitnesses (model : Program) (members : List Member) (witnesses : L
 -- a set of the kind that the command may be answered with
 abbrev pub IsFound : Program → Command → Found → Type 0
 IsFound model Check (Found.Members members) = AreMembers model members
+IsFound model Reduce (Found.Members members) = AreMembers model members
 IsFound model (Iis method) (Found.Witnessed members witnesses) = AreMembers model members × AreWitnesses model members witnesses
 IsFound model command _ = ⊥
 
 -- members with witnesses, and one member more
 abbrev pub IsOneMore : Program → Command → List Member → List Point → Member → Type 0
 IsOneMore model Check members witnesses m = ⊥
+IsOneMore model Reduce members witnesses m = ⊥
 IsOneMore model (Edit e) members witnesses m = ⊥
 IsOneMore model Undo members witnesses m = ⊥
 IsOneMore model (Pivots n) members witnesses m = ⊥
@@ -293,19 +310,26 @@ IsStopPart model (StopPart.Site cause left path) = IsTold model left path
 IsStopPart model (StopPart.Step left path k) = IsTold model left path × IsCount k
 IsStopPart model (StopPart.Operation left path k o) = IsTold model left path × (IsCount k × IsOperation o)
 
--- The nodes are the front of a proof, and so many subtrees are due: with any such trees behind them they are one tree.
-pub record AreNodes (model : Program) (nodes : List Node) (due : ℕ) : Type 0 where
+-- The nodes are the front of a proof of an answer to the command, and so many subtrees are due: with any such trees behind them they are one tree.
+pub record AreNodes (model : Program) (command : Command) (nodes : List Node) (due : ℕ) : Type 0 where
   pub each : All (IsNodeFor model) nodes
+  pub may : All (λ node. may_stand node command ≡ true) nodes
   pub one : (trees : List Tree) → length trees ≡ due → IsOneTree (nodes ++ flat_map preorder trees)
   pub few : due ≤ length nodes + 1
 
--- only a check, or the search for an irreducible set, is answered by more than one line
+-- only a check, or the search for an irreducible set, is answered by a point or a stop
 abbrev pub Asks : Command → Type 0
+Asks Reduce = ⊥
 Asks (Edit e) = ⊥
 Asks Undo = ⊥
 Asks (Pivots n) = ⊥
 Asks (Nodes n) = ⊥
 Asks command = ⊤
+
+-- only a reduction is answered by steps
+abbrev pub Reduces : Command → Type 0
+Reduces Reduce = ⊤
+Reduces command = ⊥
 
 -- a part of an answer to the command
 abbrev pub IsPartFor : Program → Command → Part → Type 0
@@ -315,8 +339,10 @@ IsPartFor model command (Part.Point values) = Asks command × AreValues model va
 IsPartFor model command (Part.Listed found) = IsFound model command found
 IsPartFor model command (Part.Member members witnesses m) = IsOneMore model command members witnesses m
 IsPartFor model command (Part.Witness members witnesses m values) = IsOneMore model command members witnesses m × AreValues model values
-IsPartFor model command (Part.Proof found nodes due) = IsFound model command found × AreNodes model nodes due
-IsPartFor model command (Part.Leaf found nodes due shares) = IsFound model command found × (AreNodes model nodes (due + 1) × AreUses model shares)
+IsPartFor model command (Part.Proof found nodes due) = IsFound model command found × AreNodes model command nodes due
+IsPartFor model command (Part.Leaf found nodes due shares) = IsFound model command found × (AreNodes model command nodes (due + 1) × AreUses model shares)
+IsPartFor model command (Part.Reduced steps) = Reduces command × All (IsStepFor model) steps
+IsPartFor model command (Part.Left steps rows columns) = Reduces command × (All (IsStepFor model) steps × (IsCount rows × IsCount columns))
 IsPartFor model command (Part.Stop part) = Asks command × IsStopPart model part
 
 -- nothing is read at the start; a command stands on the line after what is read before it

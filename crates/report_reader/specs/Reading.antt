@@ -1,6 +1,6 @@
 -- What bytes say: a report, or where they cease to be one.
 use Rattle.std.specs.Prelude.{◌≡◌, ◌≢◌, ◌⊎◌, ⊤, ℕ, suc, List, [], ◌∷◌, ◌++◌, length}
-use Rattle.report_reader.specs.Parts.{parts}
+use Rattle.phrase_reader.specs.Parts.{parts}
 use Rattle.lp_model.specs.Program.{Program, IsWellFormed}
 use Rattle.report_text.specs.declared.report.Report.{Report}
 use Rattle.report_reader.specs.declared.reader.ReportStop.{ReportStop}

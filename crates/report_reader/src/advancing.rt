@@ -4,7 +4,7 @@ ghost use Rattle.lp_model.specs.Program.{Program};
 ghost use Rattle.model_session.specs.Session.{first_of, IsSessionAt};
 ghost use Rattle.report_text.specs.Form.{IsCommand};
 ghost use Rattle.report_text.specs.Turns.{entry_commands};
-ghost use Rattle.report_reader.specs.Phrases.{IsPhraseFor};
+ghost use Rattle.phrase_reader.specs.Phrases.{IsPhraseFor};
 ghost use Rattle.report_reader.specs.Drafts.{between as between_drafts, placed, extended, advanced, nothing_read, entries_now, IsTaken, Replays, StaysOn, IsPartFor, IsDraftFor};
 
 use crate::drafts::{Draft, Next, Part, Question, Stage};

@@ -14,7 +14,8 @@ use certs::{
 };
 use frac128::Frac;
 use lp_model::{Member, MemberSet, Model};
-use report_text::{Answer, Command, Core};
+use reductions::ReduceStep;
+use report_text::{Answer, Command, Core, ReduceSteps};
 use std::alloc::{AllocError, Global};
 
 // Values with zeros behind them, up to so many.
@@ -110,6 +111,15 @@ pub(crate) fn add_share(shares: Shares, share: Share) -> Result<Option<Shares>, 
     let mut items = shares.into_vec();
     items.push(share)?;
     Ok(Some(Shares::new(items)))
+}
+
+/// The steps with one more.
+pub(crate) fn add_step(steps: ReduceSteps, step: ReduceStep) -> Result<ReduceSteps, AllocError>
+    ensures { IfOk result (λ s. s ≡ steps ++ step ∷ []) }
+{
+    let mut items = steps.into_vec();
+    items.push(step)?;
+    Ok(ReduceSteps::new(items))
 }
 
 // The set of the members.

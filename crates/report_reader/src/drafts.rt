@@ -4,7 +4,7 @@ ghost use Rattle.std.specs.Prelude.{◌≡◌};
 use certs::{Nodes, Path, Shares, Values};
 use frac128::Wide;
 use lp_model::Member;
-use report_text::{Answer, Command, Entries, Notes, Witnesses};
+use report_text::{Answer, Command, Entries, Notes, ReduceSteps, Witnesses};
 use std::marker::Model;
 
 /// Members, as a list.
@@ -99,6 +99,10 @@ pub(crate) enum Part {
     Proof(Found, Nodes, u64),
     /// The same, a leaf, and its shares so far; the count is of the subtrees that are due behind the leaf.
     Leaf(Found, Nodes, u64, Shares),
+    /// `reduced`, and its steps so far.
+    Reduced(ReduceSteps),
+    /// The same, and how many rows and columns are left.
+    Left(ReduceSteps, u64, u64),
     /// A stop.
     Stop(StopPart),
 }

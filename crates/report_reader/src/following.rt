@@ -2,8 +2,8 @@
 ghost use Rattle.std.specs.Prelude.{◌≡◌, ℕ, ◌+◌, ◌≤◌, ◌++◌, ◌∷◌, [], IfOk, length};
 ghost use Rattle.certs.specs.Order.{AreSharesInOrder};
 ghost use Rattle.lp_model.specs.Members.{IsInOrder};
-ghost use Rattle.report_reader.specs.Phrases.{IsPhraseFor};
-ghost use Rattle.report_reader.specs.Drafts.{members_of, point_of, proof_begun, proof_with, witnessed_with, extended, IsFound, IsPartFor};
+ghost use Rattle.phrase_reader.specs.Phrases.{IsPhraseFor};
+ghost use Rattle.report_reader.specs.Drafts.{members_of, point_of, may_split, proof_begun, proof_with, witnessed_with, extended, IsFound, IsPartFor};
 ghost use Rattle.lp_model.specs.Program.{Program};
 ghost use Rattle.report_text.specs.declared.report.Method.{Method};
 ghost use Rattle.report_text.specs.declared.report.Command.TheVariants.{Check, Iis, Edit, Undo, Pivots, Nodes};
@@ -14,6 +14,7 @@ use crate::building::{
 };
 use crate::drafts::{Found, Members, Next, Part};
 use crate::ordering::member_follows;
+use crate::reducing::{begin_reduction, follow_left, follow_steps};
 use crate::stopping::{begin_stop, follow_stop};
 use certs::{Nodes, Shares, Values};
 use lp_model::{Member, Model};
@@ -102,6 +103,7 @@ fn follow_command(alloc: Global, command: &Command, phrase: Phrase) -> Option<Ne
     match command {
         Command::Check => follow_check(alloc, phrase),
         Command::Iis(_) => follow_search(alloc, phrase),
+        Command::Reduce => begin_reduction(alloc, phrase),
         Command::Edit(_) => follow_edit(phrase),
         Command::Undo => follow_undo(phrase),
         Command::Pivots(_) => follow_budget(phrase),
@@ -260,8 +262,16 @@ fn follow_witness(
     Ok(follow_witnessed(alloc, members, witnesses, phrase))
 }
 
-// A split in the place of a subtree that is due.
+// Whether a proof of an answer to the command may have a split: that of a reduction is one leaf.
+fn allows_split(command: &Command) -> bool
+    ensures { result ≡ may_split command.now }
+{
+    !matches!(command, Command::Reduce)
+}
+
+// A split in the place of a subtree that is due, where there may be one.
 fn open_split(
+    command: &Command,
     found: Found,
     nodes: Nodes,
     due: u64,
@@ -269,8 +279,12 @@ fn open_split(
     at: i128,
 ) -> Result<Option<Next>, AllocError>
     requires { due ≤ length nodes + 1 }
-    ensures { (model : Program) → IfOk result (λ n. n ≡ proof_with model found nodes due (Phrase.Split column at)) }
+    ensures { (model : Program) → IfOk result (λ n.
+        n ≡ proof_with model command.now found nodes due (Phrase.Split column at)) }
 {
+    if !allows_split(command) {
+        return Ok(None);
+    }
     if due == 0 {
         return Ok(None);
     }
@@ -280,7 +294,7 @@ fn open_split(
 
 // A leaf in the place of a subtree that is due.
 fn open_leaf(alloc: Global, found: Found, nodes: Nodes, due: u64) -> Option<Next>
-    ensures { (model : Program) → result ≡ proof_with model found nodes due Phrase.Leaf }
+    ensures { (model : Program) (command : Command) → result ≡ proof_with model command found nodes due Phrase.Leaf }
 {
     if due == 0 {
         return None;
@@ -299,7 +313,7 @@ fn close_proof(
     due: u64,
 ) -> Result<Option<Next>, AllocError>
     requires { IsFound model.now command.now found }
-    ensures { IfOk result (λ n. n ≡ proof_with model.now found nodes due Phrase.End) }
+    ensures { IfOk result (λ n. n ≡ proof_with model.now command.now found nodes due Phrase.End) }
 {
     if due != 0 {
         return Ok(None);
@@ -321,10 +335,10 @@ fn follow_nodes(
     requires found { IsFound model.now command.now found }
     requires few { due ≤ length nodes + 1 }
     requires phrase { IsPhraseFor model.now phrase }
-    ensures { IfOk result (λ n. n ≡ proof_with model.now found nodes due phrase) }
+    ensures { IfOk result (λ n. n ≡ proof_with model.now command.now found nodes due phrase) }
 {
     match phrase {
-        Phrase::Split(column, at) => open_split(found, nodes, due, column, at),
+        Phrase::Split(column, at) => open_split(command, found, nodes, due, column, at),
         Phrase::Leaf => Ok(open_leaf(alloc, found, nodes, due)),
         Phrase::End => close_proof(alloc, model, command, found, nodes, due),
         _ => Ok(None),
@@ -385,6 +399,8 @@ pub(crate) fn follow(
         Part::Leaf(found, nodes, due, shares) => {
             follow_leaf(alloc, model, command, found, nodes, due, shares, phrase)
         }
+        Part::Reduced(steps) => follow_steps(steps, phrase),
+        Part::Left(steps, rows, columns) => Ok(follow_left(steps, rows, columns, phrase)),
         Part::Stop(part) => follow_stop(alloc, model, part, phrase),
     }
 }

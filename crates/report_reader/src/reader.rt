@@ -1,6 +1,6 @@
 //! The reader of reports.
 ghost use Rattle.std.specs.Prelude.{◌≡◌, ◌+◌, ◌<◌, ◌∷◌, [], length, IfOk, IfErr, IfSome, MatchOption, MatchResult};
-ghost use Rattle.report_reader.specs.Parts.{parts};
+ghost use Rattle.phrase_reader.specs.Parts.{parts};
 ghost use Rattle.report_text.specs.declared.report.Report.{Report};
 ghost use Rattle.report_reader.specs.Reading.{Reads, IsReportStop};
 ghost use Rattle.report_reader.specs.Drafts.{Takes, IsLineStop, Replays, StaysOn, ended, IsDraftFor};
@@ -9,8 +9,8 @@ ghost use Rattle.model_session.specs.Session.{first_of, IsSessionAt};
 
 use crate::advancing::{advance, nothing};
 use crate::drafts::{Draft, Stage};
-use crate::lexing::read_phrase;
 use model_session::Session;
+use phrase_reader::read_phrase;
 use report_text::Report;
 use std::alloc::Global;
 use text_fields::next_line;

@@ -2,7 +2,7 @@
 ghost use Rattle.std.specs.Prelude.{◌≡◌, IfOk};
 ghost use Rattle.lp_model.specs.Program.{Program};
 ghost use Rattle.report_text.specs.Form.{IsNamedMember};
-ghost use Rattle.report_reader.specs.Phrases.{IsStopPhrase, IsPhraseFor};
+ghost use Rattle.phrase_reader.specs.Phrases.{IsStopPhrase, IsPhraseFor};
 ghost use Rattle.report_reader.specs.Drafts.{stop_begun, stop_with, AreLeftOut, IsStopPart};
 
 use crate::building::{add_branch, add_left_out, make_site};

@@ -29,15 +29,18 @@ use Rattle.certs.specs.declared.solving.Site.{Site}
 use Rattle.certs.specs.declared.solving.Stop.{Stop}
 use Rattle.certs.specs.declared.solving.Stop.TheVariants.{Wide as TooWide, Pivots as Spent, Nodes as NodesSpent, Large, Memory}
 use Rattle.frac128.specs.declared.Wide.{Wide as Operation}
+use Rattle.reductions.specs.declared.steps.ReduceStep.{ReduceStep}
+use Rattle.reductions.specs.declared.steps.ReduceStep.TheVariants.{Empty, Singleton, Fixed, Redundant, Forcing, Doubleton}
 use Rattle.report_text.specs.declared.report.Command.{Command}
-use Rattle.report_text.specs.declared.report.Command.TheVariants.{Check, Iis, Edit, Undo, Pivots, Nodes}
+use Rattle.report_text.specs.declared.report.Command.TheVariants.{Check, Iis, Reduce, Edit, Undo, Pivots, Nodes}
 use Rattle.report_text.specs.declared.report.TargetKind.{TargetKind}
 use Rattle.report_text.specs.declared.report.EditKind.{EditKind}
 use Rattle.report_text.specs.declared.report.NamedEdit.{NamedEdit}
 use Rattle.report_text.specs.declared.report.Refusal.{Refusal}
 use Rattle.report_text.specs.declared.report.Core.{Core}
+use Rattle.report_text.specs.declared.report.Reduced.{Reduced}
 use Rattle.report_text.specs.declared.report.Answer.{Answer}
-use Rattle.report_text.specs.declared.report.Answer.TheVariants.{Feasible, Infeasible, Irreducible, Done, Refused, Stopped}
+use Rattle.report_text.specs.declared.report.Answer.TheVariants.{Feasible, Infeasible, Irreducible, Reduced as ReducedTo, Done, Refused, Stopped}
 use Rattle.report_text.specs.declared.report.Entry.{Entry}
 use Rattle.report_text.specs.declared.report.Report.{Report}
 use Rattle.report_text.specs.Turns.{after, AllEntries}
@@ -156,11 +159,27 @@ pub record IsCoreFor (model : Program) (core : Core) : Type 0 where
   pub rounds : core.rounds ≡ None
   pub price : core.price ≡ None
 
+-- the rows and columns of a step are there, their names are words, and the value of a fixed column fits
+abbrev pub IsStepFor : Program → ReduceStep → Type 0
+IsStepFor model (Empty i) = IsNamedRow model i
+IsStepFor model (Singleton i) = IsNamedRow model i
+IsStepFor model (Fixed j v) = IsNamedColumn model j × IsWithinLimit v
+IsStepFor model (Redundant i) = IsNamedRow model i
+IsStepFor model (Forcing i side) = IsNamedRow model i
+IsStepFor model (Doubleton i j) = IsNamedRow model i × IsNamedColumn model j
+
+-- such steps, and counts of 64 bits
+pub record IsReducedFor (model : Program) (r : Reduced) : Type 0 where
+  pub steps : All (IsStepFor model) r.steps
+  pub rows : IsCount r.rows
+  pub columns : IsCount r.columns
+
 -- what is asked of each answer
 abbrev pub IsAnswerFor : Program → Answer → Type 0
 IsAnswerFor model (Feasible p) = IsPointFor model p
 IsAnswerFor model (Infeasible set proof) = IsListed model set × IsProofFor model proof
 IsAnswerFor model (Irreducible core) = IsCoreFor model core
+IsAnswerFor model (ReducedTo r) = IsReducedFor model r
 IsAnswerFor model Done = Unit {0}
 IsAnswerFor model (Refused r) = Unit {0}
 IsAnswerFor model (Stopped stop) = IsStopFor model stop
@@ -197,10 +216,16 @@ pub record IsNamedEdit (e : NamedEdit) : Type 0 where
 abbrev pub IsCommand : Command → Type 0
 IsCommand Check = Unit {0}
 IsCommand (Iis method) = Unit {0}
+IsCommand Reduce = Unit {0}
 IsCommand (Edit e) = IsNamedEdit e
 IsCommand Undo = Unit {0}
 IsCommand (Pivots n) = n ≤ most_budget
 IsCommand (Nodes n) = n ≤ most_budget
+
+-- whether nodes are one leaf: a proof without splits, as it is of a reduction
+abbrev pub is_one_leaf : List Node → Bool
+is_one_leaf (Leaf combo ∷ []) = true
+is_one_leaf _ = false
 
 -- whether the answer is of a kind that the command may have
 abbrev pub can_answer : Command → Answer → Bool
@@ -210,6 +235,8 @@ can_answer Check (Stopped stop) = true
 can_answer (Iis method) (Feasible p) = true
 can_answer (Iis method) (Irreducible core) = true
 can_answer (Iis method) (Stopped stop) = true
+can_answer Reduce (Infeasible set proof) = is_one_leaf proof.nodes
+can_answer Reduce (ReducedTo r) = true
 can_answer (Edit e) Done = true
 can_answer (Edit e) (Refused Refusal.UnknownName) = true
 can_answer (Edit e) (Refused Refusal.NoChange) = true

@@ -29,15 +29,18 @@ use Rattle.certs.specs.declared.evidence.Point.{Point}
 use Rattle.certs.specs.declared.evidence.Node.{Node}
 use Rattle.certs.specs.declared.evidence.Node.TheVariants.{Split, Leaf}
 use Rattle.certs.specs.declared.evidence.Proof.{Proof}
+use Rattle.reductions.specs.declared.steps.ReduceStep.{ReduceStep}
+use Rattle.reductions.specs.declared.steps.ReduceStep.TheVariants.{Empty, Singleton, Fixed, Redundant, Forcing, Doubleton}
 use Rattle.report_text.specs.declared.report.Method.{Method}
 use Rattle.report_text.specs.declared.report.Method.TheVariants.{Deletion, Additive, Sensitivity}
 use Rattle.report_text.specs.declared.report.Command.{Command}
-use Rattle.report_text.specs.declared.report.Command.TheVariants.{Check, Iis, Edit, Undo, Pivots, Nodes}
+use Rattle.report_text.specs.declared.report.Command.TheVariants.{Check, Iis, Reduce, Edit, Undo, Pivots, Nodes}
 use Rattle.report_text.specs.declared.report.TargetKind.{TargetKind}
 use Rattle.report_text.specs.declared.report.EditKind.{EditKind}
 use Rattle.report_text.specs.declared.report.Refusal.{Refusal}
+use Rattle.report_text.specs.declared.report.Reduced.{Reduced}
 use Rattle.report_text.specs.declared.report.Answer.{Answer}
-use Rattle.report_text.specs.declared.report.Answer.TheVariants.{Feasible, Infeasible, Irreducible, Done, Refused, Stopped}
+use Rattle.report_text.specs.declared.report.Answer.TheVariants.{Feasible, Infeasible, Irreducible, Reduced as ReducedTo, Done, Refused, Stopped}
 use Rattle.report_text.specs.declared.report.Entry.{Entry}
 use Rattle.report_text.specs.declared.report.Report.{Report}
 use Rattle.report_text.specs.Turns.{after, gathered}
@@ -123,6 +126,11 @@ abbrev pub side_word : Side → List ℕ
 side_word Lo = codes "lower"
 side_word Up = codes "upper"
 
+-- the word for the side of a row that is met
+abbrev pub met_word : Side → List ℕ
+met_word Lo = codes "lo"
+met_word Up = codes "up"
+
 -- the number of a side or a bound that is set, or that there is to be none
 abbrev pub limit_word : Option ℚ → List ℕ
 limit_word None = codes "none"
@@ -151,6 +159,7 @@ edit_words name (EditKind.SetMark whole) = codes "mark" ∷ name ∷ mark_word w
 abbrev pub command_words : Command → List (List ℕ)
 command_words Check = codes "check" ∷ []
 command_words (Iis method) = codes "iis" ∷ method_word method ∷ []
+command_words Reduce = codes "reduce" ∷ []
 command_words (Edit e) = edit_words e.name e.kind
 command_words Undo = codes "undo" ∷ []
 command_words (Pivots n) = codes "budget" ∷ codes "pivots" ∷ decimal n ∷ []
@@ -164,6 +173,7 @@ keyword_text Keyword.Command = codes "command"
 keyword_text Keyword.Feasible = codes "feasible"
 keyword_text Keyword.Infeasible = codes "infeasible"
 keyword_text Keyword.Irreducible = codes "irreducible"
+keyword_text Keyword.Reduced = codes "reduced"
 keyword_text Keyword.Done = codes "done"
 keyword_text Keyword.Unknown = codes "unknown"
 keyword_text Keyword.No = codes "no"
@@ -175,6 +185,13 @@ keyword_text Keyword.Proof = codes "proof"
 keyword_text Keyword.Split = codes "split"
 keyword_text Keyword.Leaf = codes "leaf"
 keyword_text Keyword.Use = codes "use"
+keyword_text Keyword.Empty = codes "empty"
+keyword_text Keyword.Singleton = codes "singleton"
+keyword_text Keyword.Fixed = codes "fixed"
+keyword_text Keyword.Redundant = codes "redundant"
+keyword_text Keyword.Forcing = codes "forcing"
+keyword_text Keyword.Doubleton = codes "doubleton"
+keyword_text Keyword.Left = codes "left"
 keyword_text Keyword.Too = codes "too"
 keyword_text Keyword.Pivots = codes "pivots"
 keyword_text Keyword.Nodes = codes "nodes"
@@ -215,6 +232,23 @@ stop_keyword (StopPhrase.Branch b) = branch_keyword b.upper
 stop_keyword (StopPhrase.Step k) = Keyword.Step
 stop_keyword (StopPhrase.Operation o) = Keyword.Operation
 
+-- the keyword of a step of a reduction, and the words after it
+abbrev pub step_keyword : ReduceStep → Keyword
+step_keyword (Empty i) = Keyword.Empty
+step_keyword (Singleton i) = Keyword.Singleton
+step_keyword (Fixed j v) = Keyword.Fixed
+step_keyword (Redundant i) = Keyword.Redundant
+step_keyword (Forcing i side) = Keyword.Forcing
+step_keyword (Doubleton i j) = Keyword.Doubleton
+
+abbrev pub step_details : Program → ReduceStep → List (List ℕ)
+step_details model (Empty i) = (row_at model i).name ∷ []
+step_details model (Singleton i) = (row_at model i).name ∷ []
+step_details model (Fixed j v) = column_name model j ∷ printed v ∷ []
+step_details model (Redundant i) = (row_at model i).name ∷ []
+step_details model (Forcing i side) = (row_at model i).name ∷ met_word side ∷ []
+step_details model (Doubleton i j) = (row_at model i).name ∷ column_name model j ∷ []
+
 -- the keyword of what is said
 abbrev pub keyword_of : Phrase → Keyword
 keyword_of Phrase.Head = Keyword.Iisan
@@ -223,6 +257,7 @@ keyword_of (Phrase.Command command) = Keyword.Command
 keyword_of Phrase.Feasible = Keyword.Feasible
 keyword_of Phrase.Infeasible = Keyword.Infeasible
 keyword_of Phrase.Irreducible = Keyword.Irreducible
+keyword_of Phrase.Reduced = Keyword.Reduced
 keyword_of Phrase.Done = Keyword.Done
 keyword_of (Phrase.Refused r) = refusal_keyword r
 keyword_of (Phrase.Stop s) = stop_keyword s
@@ -233,6 +268,8 @@ keyword_of Phrase.Proof = Keyword.Proof
 keyword_of (Phrase.Split j k) = Keyword.Split
 keyword_of Phrase.Leaf = Keyword.Leaf
 keyword_of (Phrase.Use s) = Keyword.Use
+keyword_of (Phrase.Reduction s) = step_keyword s
+keyword_of (Phrase.Left rows columns) = Keyword.Left
 keyword_of Phrase.End = Keyword.End
 keyword_of Phrase.Foot = Keyword.Report
 
@@ -257,6 +294,7 @@ details model (Phrase.Command command) = command_words command
 details model Phrase.Feasible = []
 details model Phrase.Infeasible = []
 details model Phrase.Irreducible = []
+details model Phrase.Reduced = []
 details model Phrase.Done = []
 details model (Phrase.Refused r) = refusal_details r
 details model (Phrase.Stop s) = stop_details model s
@@ -267,6 +305,8 @@ details model Phrase.Proof = []
 details model (Phrase.Split j k) = column_name model j ∷ signed_decimal k ∷ []
 details model Phrase.Leaf = []
 details model (Phrase.Use s) = source_word s.source ∷ source_name model s.source ∷ printed s.weight ∷ []
+details model (Phrase.Reduction s) = step_details model s
+details model (Phrase.Left rows columns) = codes "rows" ∷ decimal rows ∷ codes "columns" ∷ decimal columns ∷ []
 details model Phrase.End = []
 details model Phrase.Foot = codes "end" ∷ []
 
@@ -311,6 +351,10 @@ proof_phrases proof = Phrase.Proof ∷ flat_map node_phrases proof.nodes
 abbrev pub witness_phrases : Member × Point → List Phrase
 witness_phrases w = Phrase.Member w.0 ∷ point_phrases w.1
 
+-- of how far a program is reduced: the steps, and what is left
+abbrev pub reduced_phrases : Reduced → List Phrase
+reduced_phrases r = Phrase.Reduced ∷ (map Phrase.Reduction r.steps ++ Phrase.Left r.rows r.columns ∷ [])
+
 -- the active members that are not in a set
 abbrev pub left_out : Program → List Member → List Member
 left_out model set = filter (λ m. not (has set m)) (active_members model)
@@ -340,6 +384,7 @@ abbrev pub answer_front : Program → Answer → List Phrase
 answer_front model (Feasible p) = Phrase.Feasible ∷ point_phrases p
 answer_front model (Infeasible set proof) = Phrase.Infeasible ∷ (map Phrase.Member set.members ++ proof_phrases proof)
 answer_front model (Irreducible core) = Phrase.Irreducible ∷ (flat_map witness_phrases (zip core.members.members core.witnesses) ++ proof_phrases core.proof)
+answer_front model (ReducedTo r) = reduced_phrases r
 answer_front model Done = []
 answer_front model (Refused r) = []
 answer_front model (Stopped stop) = stop_phrases model stop

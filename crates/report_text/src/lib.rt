@@ -10,6 +10,6 @@ pub use layout::{
 };
 pub use phrases::{Keyword, Phrase, StopPhrase};
 pub use report::{
-    Answer, Command, Core, EditKind, Entries, Entry, Method, NamedEdit, Notes, Refusal, Report,
-    Script, TargetKind, Witnesses,
+    Answer, Command, Core, EditKind, Entries, Entry, Method, NamedEdit, Notes, ReduceSteps,
+    Reduced, Refusal, Report, Script, TargetKind, Witnesses,
 };

@@ -4,6 +4,7 @@ use crate::report::{Command, Refusal};
 use certs::{Branch, Share, SiteKind};
 use frac128::{Frac, Wide};
 use lp_model::{Member, Note};
+use reductions::ReduceStep;
 
 /// The word that a line begins with.
 #[derive(Clone, Copy, PartialEq, Eq, Debug)]
@@ -14,6 +15,7 @@ pub enum Keyword {
     Feasible,
     Infeasible,
     Irreducible,
+    Reduced,
     Done,
     Unknown,
     No,
@@ -25,6 +27,13 @@ pub enum Keyword {
     Split,
     Leaf,
     Use,
+    Empty,
+    Singleton,
+    Fixed,
+    Redundant,
+    Forcing,
+    Doubleton,
+    Left,
     Too,
     Pivots,
     Nodes,
@@ -61,6 +70,7 @@ pub enum Phrase {
     Feasible,
     Infeasible,
     Irreducible,
+    Reduced,
     Done,
     Refused(Refusal),
     Stop(StopPhrase),
@@ -71,6 +81,8 @@ pub enum Phrase {
     Split(u32, i128),
     Leaf,
     Use(Share),
+    Reduction(ReduceStep),
+    Left(u64, u64),
     End,
     Foot,
 }

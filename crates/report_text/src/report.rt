@@ -4,6 +4,7 @@ ghost use Rattle.std.specs.Prelude.{◌≡◌};
 use certs::{Point, Proof, Stop};
 use frac128::Frac;
 use lp_model::{Items, MemberSet, Name, Note, Side, Weight};
+use reductions::ReduceStep;
 use std::marker::Model;
 
 /// How an irreducible set of members is looked for.
@@ -45,12 +46,14 @@ pub struct NamedEdit {
 }
 
 /// What is asked of a program: whether some point satisfies its active members, or which of them no point satisfies
-/// though each part of them has one; an edit of it, or that the last edit that stands is taken back. Or how many pivots
-/// each later run may make, or how many nodes each later tree may have, up to 1,000,000.
+/// though each part of them has one; how far its linear relaxation is reduced before any run; an edit of it, or that the
+/// last edit that stands is taken back. Or how many pivots each later run may make, or how many nodes each later tree may
+/// have, up to 1,000,000.
 #[derive(Drop)]
 pub enum Command {
     Check,
     Iis(Method),
+    Reduce,
     Edit(NamedEdit),
     Undo,
     Pivots(u64),
@@ -87,6 +90,18 @@ pub struct Core {
     pub price: Option<(Frac, Point)>,
 }
 
+/// Steps of a reduction, as a list.
+pub type ReduceSteps = Items<ReduceStep>;
+
+/// How far a program is reduced: the steps in order, by the numbers of its rows and columns, and how many rows and columns
+/// are left.
+#[derive(Drop)]
+pub struct Reduced {
+    pub steps: ReduceSteps,
+    pub rows: u64,
+    pub columns: u64,
+}
+
 /// Why an edit is refused, or an undo: the program has no row or column of the name; the program would stay as it is; or no
 /// edit stands.
 #[derive(Clone, Copy, PartialEq, Eq, Debug)]
@@ -97,13 +112,14 @@ pub enum Refusal {
 }
 
 /// What a report answers to a command: a point, members with a proof that no point satisfies them, or an irreducible
-/// set; that a command is done, or refused; or why a solve stopped, which is never for want of memory. Members are the
-/// printed ones.
+/// set; how far the program is reduced; that a command is done, or refused; or why a solve stopped, which is never for
+/// want of memory. Members are the printed ones.
 #[derive(Drop)]
 pub enum Answer {
     Feasible(Point),
     Infeasible(MemberSet, Proof),
     Irreducible(Core),
+    Reduced(Reduced),
     Done,
     Refused(Refusal),
     Stopped(Stop),

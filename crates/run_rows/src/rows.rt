@@ -30,26 +30,27 @@ impl Row {
         is_analysis && self.status < 2
     }
 
-    /// Whether the check of the report accepts it, with status 1 just where it has a stop, or comes to a sum that is too
-    /// wide.
+    /// Whether the check of the report accepts it, with status 1 just where it has a stop or a reduction, or comes to a sum
+    /// that is too wide.
     pub fn is_accepted(&self, checked: &Outcome) -> bool {
-        let status = u8::from(has_stop(self.written.as_slice()));
+        let status = u8::from(has_unsettled(self.written.as_slice()));
         let written = checked.written.as_slice();
         let accepted = checked.status == status && written.starts_with(b"accepted settled ");
         accepted || checked.status == 8 && written.starts_with(b"wide line ")
     }
 }
 
-// Whether a line of a report says that a solve stopped.
-fn is_stop(line: &[u8]) -> bool {
-    line == b"too wide".as_slice()
+// Whether a line of a report says that a solve stopped, or how far a program is reduced.
+fn is_unsettled(line: &[u8]) -> bool {
+    line == b"reduced".as_slice()
+        || line == b"too wide".as_slice()
         || line == b"pivots spent".as_slice()
         || line == b"nodes spent".as_slice()
 }
 
-// Whether some answer of a report is a stop.
-fn has_stop(report: &[u8]) -> bool {
-    report.split(|byte| *byte == b'\n').any(is_stop)
+// Whether some answer of a report is one that no check looks into.
+fn has_unsettled(report: &[u8]) -> bool {
+    report.split(|byte| *byte == b'\n').any(is_unsettled)
 }
 
 // The words of a line.

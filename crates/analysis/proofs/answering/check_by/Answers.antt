@@ -6,8 +6,9 @@ use Rattle.quick_oracle.specs.Answers.{IsAsked}
 use Rattle.analysis.specs.Answers.{budgets_of}
 use Rattle.analysis.specs.Right.{IsWhole}
 use Rattle.analysis.proofs.Asked.{InnerAnswers, QuickAnswers, all_served, asked_holds, asked_run, proof_fits, proof_ordered}
+use Rattle.analysis.proofs.Refuting.{checked_refuted}
 use Rattle.analysis.proofs.Searched.{branch_state, fresh_answer, fresh_tree}
-use Rattle.analysis.proofs.Stopping.{checked_stop, run_answer}
+use Rattle.analysis.proofs.Stopping.{checked_stop, known_stopped, run_answer}
 use Rattle.analysis.proofs.answering.check_by.Goals as goal
 
 pub ask-requires-clause-served : goal.ask-requires-clause-served
@@ -69,7 +70,7 @@ returns-in-Ok-Infeasible-clause-right c =
     let set = c.args.set.now in
     let verdict = Infeasible c.in-Ok-Infeasible.proof in
     let alone = subst (λ (v : Verdict). stands_alone (branch_state inner).model set.members c.args.oracle.now.nodes ≡ true → IsAsked InnerAnswers (branch_state inner) after set.members (Ok v)) c.in-Ok-Infeasible.field-0-is c.in-Ok-Infeasible.ensures.alone in
-    c.refuted.ensures.right budgets (λ marked. (fresh_tree model budgets inner c.requires.fresh set c.args.oracle.now.nodes verdict after c.requires.no_trees c.requires.whole marked alone).ends.0)
+    checked_refuted model budgets c.in-Ok-Infeasible.proof c.refuted.result c.refuted.ensures.refutes (λ marked. (fresh_tree model budgets inner c.requires.fresh set c.args.oracle.now.nodes verdict after c.requires.no_trees c.requires.whole marked alone).ends.0)
 
 pub returns-in-Err-clause-right : goal.returns-in-Err-clause-right
 returns-in-Err-clause-right c =
@@ -77,3 +78,10 @@ returns-in-Err-clause-right c =
     let budgets = budgets_of c.args.budgets in
     let run = asked_run model budgets c.args.set.now c.in-Err.stop c.requires.whole (fresh_answer model budgets c.args.oracle.now.inner c.requires.fresh c.args.set.now (Err c.in-Err.stop) c.in-Err.ensures.answered) in
     checked_stop model budgets c.stopped.result (run_answer (IsWhole model) model budgets c.in-Err.stop c.stopped.result run c.stopped.ensures)
+
+pub returns-in-Err-clause-known : goal.returns-in-Err-clause-known
+returns-in-Err-clause-known c =
+    let model = c.args.model.now in
+    let budgets = budgets_of c.args.budgets in
+    let run = asked_run model budgets c.args.set.now c.in-Err.stop c.requires.whole (fresh_answer model budgets c.args.oracle.now.inner c.requires.fresh c.args.set.now (Err c.in-Err.stop) c.in-Err.ensures.answered) in
+    known_stopped (IsWhole model) model budgets c.stopped.result (run_answer (IsWhole model) model budgets c.in-Err.stop c.stopped.result run c.stopped.ensures)

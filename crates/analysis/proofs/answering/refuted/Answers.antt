@@ -1,4 +1,4 @@
-use Rattle.std.proofs.Common.{◌≡◌, sym, subst}
+use Rattle.std.proofs.Common.{◌≡◌, refl, sym, subst}
 use Rattle.lp_model.specs.MemberSets.{SetValue}
 use Rattle.certs.specs.Named.{used_set}
 use Rattle.certs.specs.Proof.{IsProof}
@@ -14,8 +14,11 @@ members_used-requires c =
     known_nodes c.args.model.now c.args.set.now c.args.proof.nodes c.stands_in_order.ensures.possible
     (subst (λ (s : SetValue). IsProof c.args.model.now s.members c.args.proof.nodes) (sym c.requires.whole) c.requires.proof)
 
-pub returns-clause-right : goal.returns-clause-right
-returns-clause-right c = λ budgets closes. (refutes c.args.model.now c.args.proof c.in_ok-used.used c.requires.proof c.requires.ordered c.requires.fits (subst (λ s. c.in_ok-used.used ≡ used_set s c.args.proof.nodes) c.requires.whole c.in_ok-used.ensures), closes)
+pub returns-clause-refutes : goal.returns-clause-refutes
+returns-clause-refutes c = (
+  c.in_ok-used.used,
+  (refl, refutes c.args.model.now c.args.proof c.in_ok-used.used c.requires.proof c.requires.ordered c.requires.fits (subst (λ s. c.in_ok-used.used ≡ used_set s c.args.proof.nodes) c.requires.whole c.in_ok-used.ensures)),
+)
 
 pub returns-clause-known : goal.returns-clause-known
 returns-clause-known c =

@@ -1,7 +1,7 @@
 use Rattle.std.proofs.Common.{◌≡◌, false, sym, ◌∙◌, arith}
 use Rattle.std.proofs.lemmas.Bool.Decides.{nat_tests}
 use Rattle.text_fields.specs.Fields.{is_long}
-use Rattle.report_reader.specs.Commands.{command_of}
+use Rattle.phrase_reader.specs.Commands.{command_of}
 use Rattle.iis_session.specs.Scripts.{said_by, saying_of}
 use Rattle.iis_session.proofs.Fronts.{line_said, said_same}
 use Rattle.iis_session.proofs.scripts.read_line.Goals as goal

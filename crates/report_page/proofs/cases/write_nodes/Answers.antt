@@ -1,4 +1,4 @@
-use Rattle.std.proofs.Common.{◌≡◌, ◌+◌, ◌<◌, ◌≤◌, sym, ◌∙◌, ap, subst, FitsSigned, rules, ℕ, List, [], ◌∷◌, ◌++◌, flat_map, drop, reverse, length, Option, Some, None, vec_len, true≢false, inl, inr, arith}
+use Rattle.std.proofs.Common.{◌≡◌, ◌+◌, ◌<◌, sym, ◌∙◌, ap, FitsSigned, rules, [], ◌∷◌, ◌++◌, flat_map, drop, reverse, length, Option, Some, vec_len, true≢false, inl, inr, arith}
 use Rattle.std.proofs.lemmas.Bool.{cases_lt}
 use Rattle.std.proofs.lemmas.Int.{to_z-of_z}
 use lib.IntN.{ℤ}
@@ -7,8 +7,8 @@ use Rattle.std.proofs.lemmas.List.{at_drop_more, nil_from_length, reverse-append
 use Rattle.std.proofs.Math.ListN.{drop_of_length-le}
 use Rattle.certs.specs.declared.evidence.Node.{Node}
 use Rattle.report_page.specs.declared.cases.Choice.{Choice}
-use Rattle.report_page.specs.Pieces.{Piece, piece_bytes, bytes_of}
-use Rattle.report_page.specs.Cases.{case_end, choice_of, first_case, left_open, next_case, nodes_pieces, sum_pieces}
+use Rattle.report_page.specs.Pieces.{bytes_of}
+use Rattle.report_page.specs.Cases.{case_end, choice_of, first_case, nodes_pieces, sum_pieces}
 use Rattle.report_page.proofs.Nested.{split_step, leaf_step}
 use Rattle.report_page.proofs.cases.write_nodes.Goals.{in-Split+in_ok-write_first-in-Split+in_ok-push-in-Split, in-Leaf+in_ok-write_sum-in-Leaf+in_ok-write_next-in-Leaf}
 use Rattle.report_page.proofs.cases.write_nodes.Goals as goal

@@ -22,5 +22,11 @@ returns-in-Member c = c.follow_member.ensures c.args.model.now c.args.command.no
 pub returns-in-Witness : goal.returns-in-Witness
 returns-in-Witness c = subst (λ (p : Part). IfOk c.follow_witness.result (λ n. n ≡ extended c.args.model.now c.args.command.now p c.args.phrase)) (sym c.in-Witness.is) (c.follow_witness.ensures c.args.command.now)
 
+pub returns-in-Reduced : goal.returns-in-Reduced
+returns-in-Reduced c = subst (λ (p : Part). IfOk c.follow_steps.result (λ n. n ≡ extended c.args.model.now c.args.command.now p c.args.phrase)) (sym c.in-Reduced.is) (c.follow_steps.ensures c.args.model.now c.args.command.now)
+
+pub returns-in-Left : goal.returns-in-Left
+returns-in-Left c = c.follow_left.ensures c.args.model.now c.args.command.now ∙ ap (λ p. extended c.args.model.now c.args.command.now p c.args.phrase) (sym c.in-Left.is)
+
 pub returns-in-Proof : goal.returns-in-Proof
 returns-in-Proof c = subst (λ (p : Part). IfOk c.follow_nodes.result (λ n. n ≡ extended c.args.model.now c.args.command.now p c.args.phrase)) (sym c.in-Proof.is) c.follow_nodes.ensures

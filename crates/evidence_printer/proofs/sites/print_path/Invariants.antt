@@ -1,0 +1,11 @@
+use Rattle.std.proofs.Common.{◌≡◌, ◌++◌, map, drop}
+use Rattle.report_text.specs.Grammar.{branch_phrase, phrases_text}
+use Rattle.evidence_printer.specs.Printing.{Keeps}
+use Rattle.evidence_printer.proofs.sites.print_path.Given as goal
+
+-- what was there stays, and the lines that are left complete the text
+abbrev pub invariant-loop-branch : goal.invariant-loop-branch
+invariant-loop-branch l = record {
+  kept : Keeps l.fn.into.items l.into.items;
+  left : l.into.items ++ phrases_text l.model (map branch_phrase (drop l.branch-index l.path)) ≡ l.initial.into.items ++ phrases_text l.model (map branch_phrase l.path);
+}

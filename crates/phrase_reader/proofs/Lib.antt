@@ -1,0 +1,13 @@
+pub mod Cuts
+pub mod Wholes
+pub mod Spelling
+pub mod Named
+pub mod Lexed
+pub mod OnePhrase
+pub mod Budgets
+pub mod Quotients
+pub mod Fits
+pub mod Values
+pub mod Asked
+pub mod Scripted
+pub mod Samples

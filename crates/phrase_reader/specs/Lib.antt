@@ -1,0 +1,5 @@
+pub mod Parts
+pub mod Phrases
+pub mod Words
+pub mod Numerals
+pub mod Commands

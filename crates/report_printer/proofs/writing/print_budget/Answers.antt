@@ -1,9 +1,0 @@
-use Rattle.std.proofs.Common.{◌++◌, ◌∷◌, [], ◌∙◌, ap, append_assoc, decimal}
-use Rattle.report_printer.proofs.writing.print_budget.Goals as goal
-
-pub returns-clause-text : goal.returns-clause-text
-returns-clause-text c =
-    let start = c.args.into.now.items in
-    let what = c.args.what.now in
-    let number = decimal c.args.most in
-    c.in_ok-push_decimal.ensures.text ∙ (ap (λ t. t ++ number) c.in_ok-push_word.ensures.text ∙ (append_assoc start (what ++ 32 ∷ []) number ∙ ap (λ t. start ++ t) (append_assoc what (32 ∷ []) number)))

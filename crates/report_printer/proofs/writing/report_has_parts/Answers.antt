@@ -1,5 +1,0 @@
-use Rattle.report_printer.proofs.Printed.{parts_of}
-use Rattle.report_printer.proofs.writing.report_has_parts.Goals as goal
-
-pub returns : goal.returns
-returns c = parts_of

@@ -1,0 +1,143 @@
+//! The printed lines of answers.
+#![tactic(auto, using(crate::proofs::Kept::keeps_on, crate::proofs::Kept::keeps_more, crate::proofs::Kept::keeps_same))]
+
+ghost use Rattle.std.specs.Prelude.{◌≡◌, ◌++◌, OnErr, OnOk};
+ghost use Rattle.certs.specs.Checks.{IsSetOf};
+ghost use Rattle.lp_model.specs.Program.{Program};
+ghost use Rattle.report_text.specs.Grammar.{phrase_line, answer_front, answer_end, answer_phrases, phrases_text};
+ghost use Rattle.evidence_printer.specs.Numbers.{HasValuesWithin, IsProofWithin};
+ghost use Rattle.evidence_printer.specs.Printing.{Keeps, IsKnownProof, IsKnownPoint};
+ghost use Rattle.report_printer.specs.Numbers.{HasNumbersWithin, IsCoreWithin};
+ghost use Rattle.report_printer.specs.Printing.{CanPrintLaw, IsKnownCore, IsKnownAnswer};
+
+use crate::back::take_back;
+use certs::{Point, Proof};
+use evidence_printer::{
+    print_members, print_point, print_proof, print_reduced, print_stop, print_witnesses, push_line,
+};
+use lp_model::{MemberSet, Model};
+use report_text::{Answer, Command, Core, Phrase, Refusal};
+use std::alloc::AllocError;
+
+// Appends the lines of a point that is an answer, but for its end.
+fn print_feasible(model: &Model, point: &Point, into: &mut Vec<u8>) -> Result<(), AllocError>
+    requires { IsKnownPoint model.now point.now }
+    ensures text { OnOk result (into.new.items ≡ into.old.items ++ phrases_text model.now (answer_front model.now (Answer.Feasible point.now))) }
+    ensures front { Keeps into.old.items into.new.items }
+    ensures within { OnOk result (HasValuesWithin point.now) }
+{
+    push_line(b"feasible", into)?;
+    print_point(model, point, into)
+}
+
+// Appends the lines of members and a proof that are an answer, but for its end.
+fn print_infeasible(
+    model: &Model,
+    set: &MemberSet,
+    proof: &Proof,
+    into: &mut Vec<u8>,
+) -> Result<(), AllocError>
+    requires set { IsSetOf model.now set.now }
+    requires proof { IsKnownProof model.now proof.now }
+    ensures text { OnOk result (into.new.items ≡ into.old.items ++ phrases_text model.now (answer_front model.now (Answer.Infeasible set.now proof.now))) }
+    ensures front { Keeps into.old.items into.new.items }
+    ensures within { OnOk result (IsProofWithin proof.now) }
+{
+    push_line(b"infeasible", into)?;
+    print_members(model, set, into)?;
+    print_proof(model, proof, into)?;
+    Ok(())
+}
+
+// Appends the lines of an irreducible set that is an answer, but for its end.
+fn print_irreducible(model: &Model, core: &Core, into: &mut Vec<u8>) -> Result<(), AllocError>
+    requires { IsKnownCore model.now core.now }
+    ensures text { OnOk result (into.new.items ≡ into.old.items ++ phrases_text model.now (answer_front model.now (Answer.Irreducible core.now))) }
+    ensures front { Keeps into.old.items into.new.items }
+    ensures within { OnOk result (IsCoreWithin core.now) }
+{
+    push_line(b"irreducible", into)?;
+    print_witnesses(model, &core.members, core.witnesses.as_slice(), into)?;
+    print_proof(model, &core.proof, into)?;
+    Ok(())
+}
+
+// Appends the lines of an answer, but for the last.
+fn print_front(model: &Model, answer: &Answer, into: &mut Vec<u8>) -> Result<(), AllocError>
+    requires { IsKnownAnswer model.now answer.now }
+    ensures text { OnOk result (into.new.items ≡ into.old.items ++ phrases_text model.now (answer_front model.now answer.now)) }
+    ensures front { Keeps into.old.items into.new.items }
+    ensures within { OnOk result (HasNumbersWithin answer.now) }
+{
+    match answer {
+        Answer::Feasible(point) => print_feasible(model, point, into),
+        Answer::Infeasible(set, proof) => print_infeasible(model, set, proof, into),
+        Answer::Irreducible(core) => print_irreducible(model, core, into),
+        Answer::Reduced(reduced) => print_reduced(model, reduced, into),
+        Answer::Done => Ok(()),
+        Answer::Refused(_) => Ok(()),
+        Answer::Stopped(stop) => print_stop(model, stop, into),
+    }
+}
+
+// The line of a refusal.
+fn refusal_line(refusal: Refusal) -> &'static str
+    ensures { (model : Program) → result.now ≡ phrase_line model (Phrase.Refused refusal) }
+{
+    match refusal {
+        Refusal::UnknownName => "unknown name",
+        Refusal::NoChange => "no change",
+        Refusal::NothingToUndo => "nothing to undo",
+    }
+}
+
+// The last line of an answer.
+fn last_word(answer: &Answer) -> &'static str
+    ensures { (model : Program) → result.now ≡ phrase_line model (answer_end answer.now) }
+{
+    match answer {
+        Answer::Done => "done",
+        Answer::Refused(refusal) => refusal_line(*refusal),
+        _ => "end",
+    }
+}
+
+/// Appends the lines of an answer.
+pub(crate) fn put_answer(
+    model: &Model,
+    answer: &Answer,
+    into: &mut Vec<u8>,
+) -> Result<(), AllocError>
+    requires { IsKnownAnswer model.now answer.now }
+    ensures text { OnOk result (into.new.items ≡ into.old.items ++ phrases_text model.now (answer_phrases model.now answer.now)) }
+    ensures front { Keeps into.old.items into.new.items }
+    ensures within { OnOk result (HasNumbersWithin answer.now) }
+{
+    print_front(model, answer, into)?;
+    push_line(last_word(answer).as_bytes(), into)?;
+    Ok(())
+}
+
+/// Appends the lines of an answer to a command. As yet none is printed otherwise for one command than for another.
+/// Fractions are printed whose parts are at most 2^127 - 1, and counts below 2^64. Where memory is refused, the bytes are
+/// those that were there.
+pub fn print_answer(
+    model: &Model,
+    _command: &Command,
+    answer: &Answer,
+    into: &mut Vec<u8>,
+) -> Result<(), AllocError>
+    requires { IsKnownAnswer model.now answer.now }
+    ensures text { OnOk result (into.new.items ≡ into.old.items ++ phrases_text model.now (answer_phrases model.now answer.now)) }
+    ensures kept { OnErr result (into.new.items ≡ into.old.items) }
+    ensures within { OnOk result (HasNumbersWithin answer.now) }
+{
+    let start = into.len();
+    let printed = put_answer(model, answer, into);
+    take_back(printed, start, into)
+}
+
+/// What is in the form of an answer can be printed.
+pub fn answers_can_be_printed()
+    ensures { CanPrintLaw }
+{}

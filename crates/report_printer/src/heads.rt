@@ -1,0 +1,82 @@
+//! What stands before the entries of a report, and behind them.
+#![tactic(auto, using(crate::proofs::Kept::keeps_on, crate::proofs::Kept::keeps_more, crate::proofs::Kept::keeps_same))]
+
+ghost use Rattle.std.specs.Prelude.{◌≡◌, ◌++◌, ◌∷◌, [], ◌<◌, OnErr, OnOk, codes, length};
+ghost use Rattle.lp_model.specs.Program.{Program, noted_column};
+ghost use Rattle.report_text.specs.Grammar.{◌then◌, column_name, phrase_line, phrases_text};
+ghost use Rattle.evidence_printer.specs.Printing.{ended, Keeps};
+ghost use Rattle.report_printer.specs.Printing.{PartsLaw, head_phrases};
+
+use crate::back::take_back;
+use evidence_printer::{push_line, push_word};
+use lp_model::{Model, Note};
+use report_text::Phrase;
+use std::alloc::AllocError;
+
+// Appends a note on a column.
+fn print_noted(
+    model: &Model,
+    column: u32,
+    what: &[u8],
+    into: &mut Vec<u8>,
+) -> Result<(), AllocError>
+    requires { column < length model.now.columns }
+    ensures text { OnOk result (into.new.items ≡ into.old.items ++ ended (codes "note" then column_name model.now column then what.now)) }
+    ensures front { Keeps into.old.items into.new.items }
+{
+    push_word(b"note", into)?;
+    push_word(model.column_name(column), into)?;
+    push_line(what, into)
+}
+
+// Appends the line of a note.
+fn print_note(model: &Model, note: Note, into: &mut Vec<u8>) -> Result<(), AllocError>
+    requires { noted_column note < length model.now.columns }
+    ensures text { OnOk result (into.new.items ≡ into.old.items ++ ended (phrase_line model.now (Phrase.Note note))) }
+    ensures front { Keeps into.old.items into.new.items }
+{
+    match note {
+        Note::LowerRemoved(column) => print_noted(model, column, b"lower removed", into),
+        Note::LowerKept(column) => print_noted(model, column, b"lower kept", into),
+    }
+}
+
+// Appends the lines of a report that stand before its entries.
+fn put_head(model: &Model, into: &mut Vec<u8>) -> Result<(), AllocError>
+    ensures text { OnOk result (into.new.items ≡ into.old.items ++ phrases_text model.now (head_phrases model.now.notes)) }
+    ensures front { Keeps into.old.items into.new.items }
+{
+    // That the notes name columns that there are is told with the count.
+    let _rows = model.row_count();
+    push_line(b"iisan report 2", into)?;
+    for note in model.notes() {
+        print_note(model, *note, into)?;
+    }
+    Ok(())
+}
+
+/// Appends the lines of a report that stand before its entries: the notes are those of the program's reader. Where memory
+/// is refused, the bytes are those that were there.
+pub fn print_head(model: &Model, into: &mut Vec<u8>) -> Result<(), AllocError>
+    ensures text { OnOk result (into.new.items ≡ into.old.items ++ phrases_text model.now (head_phrases model.now.notes)) }
+    ensures kept { OnErr result (into.new.items ≡ into.old.items) }
+{
+    let start = into.len();
+    let printed = put_head(model, into);
+    take_back(printed, start, into)
+}
+
+/// Appends the last line of a report. Where memory is refused, the bytes are those that were there.
+pub fn print_foot(into: &mut Vec<u8>) -> Result<(), AllocError>
+    ensures text { (model : Program) → OnOk result (into.new.items ≡ into.old.items ++ phrases_text model (Phrase.Foot ∷ [])) }
+    ensures kept { OnErr result (into.new.items ≡ into.old.items) }
+{
+    let start = into.len();
+    let printed = push_line(b"report end", into);
+    take_back(printed, start, into)
+}
+
+/// The text of a report is its head, its entries and its foot.
+pub fn report_has_parts()
+    ensures { PartsLaw }
+{}
