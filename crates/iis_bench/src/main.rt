@@ -1,6 +1,6 @@
-//! Asks whether a point satisfies a model, or looks for an irreducible set of it by a filter, with quick runs and trees of them
-//! or by the reference runs and trees alone: what `bench/iis.sh`, `bench/quick.sh`, `bench/alone.sh`, `bench/memory.sh` and
-//! `bench/marks.sh` measure.
+//! Asks whether a point satisfies a model, or looks for an irreducible set of it by a filter, with quick runs and trees of them,
+//! or by the reference runs and trees alone, with reductions before the runs or without: what `bench/iis.sh`, `bench/quick.sh`,
+//! `bench/alone.sh`, `bench/memory.sh`, `bench/marks.sh` and `bench/presolve.sh` measure.
 #![tactic(auto)]
 
 ghost use Rattle.std.specs.Prelude.{◌≡◌, true, None, IfOk};
@@ -14,6 +14,7 @@ use iis_edge::{HostShelf, Shelf};
 use linear_oracle::LinearOracle;
 use lp_model::Model;
 use model_files::read_model;
+use presolve_oracle::PresolveOracle;
 use quick_oracle::{Kept, QuickOracle};
 use std::alloc::{AllocError, Global};
 use std::{env, io};
@@ -44,13 +45,21 @@ enum Question {
     Sensitivity,
 }
 
+// Which oracle is asked: the quick one, or the reference, with reductions before its runs or without.
+#[derive(Clone, Copy)]
+enum Runs {
+    Quick,
+    Presolved,
+    Reference,
+}
+
 // What the words ask for.
 #[derive(Drop)]
 struct Request {
     name: String,
     bytes: Vec<u8>,
     question: Question,
-    is_quick: bool,
+    runs: Runs,
 }
 
 // What a question came to: nothing was asked, a verdict, a set of so many members, or a stop.
@@ -177,6 +186,21 @@ fn ask_alone(alloc: Global, model: &Model, question: Question) -> Result<Told, A
     })
 }
 
+// The same with reductions before its runs.
+fn ask_presolved(alloc: Global, model: &Model, question: Question) -> Result<Told, AllocError> {
+    let set = active(alloc, model)?;
+    let inner = PresolveOracle::new(alloc, model, PIVOTS);
+    let mut oracle = BranchOracle::new(alloc, model, inner, NODES);
+    let end = asked(alloc, question, &mut oracle, &set);
+    Ok(Told {
+        asks: oracle.tale().asks(),
+        reference: oracle.tale().asks(),
+        pivots: oracle.inner().pivots_made(),
+        nodes: oracle.nodes_taken(),
+        end,
+    })
+}
+
 // A question of the active members, with quick runs.
 fn ask_quick(alloc: Global, model: &Model, question: Question) -> Result<Told, AllocError> {
     let set = active(alloc, model)?;
@@ -226,14 +250,23 @@ fn read_file(rt: &HostRuntime, name: &str, bytes: &mut Vec<u8>) {
     }
 }
 
-// The model's file, the question, and `reference` where no quick runs are to be made, in this order.
+// The oracle that a word stands for.
+fn oracle_named(word: &str) -> Runs {
+    match word {
+        "reference" => Runs::Reference,
+        "presolved" => Runs::Presolved,
+        _ => Runs::Quick,
+    }
+}
+
+// The model's file, the question, and `reference` or `presolved` where no quick runs are to be made, in this order.
 fn read_words(rt: &HostRuntime) -> Result<Request, AllocError> {
     let alloc = rt.alloc();
     let mut request = Request {
         name: String::new(alloc),
         bytes: SAMPLE.to_vec(alloc)?,
         question: Question::Deletion,
-        is_quick: true,
+        runs: Runs::Quick,
     };
     let Ok(args) = env::args(rt) else {
         return Ok(request);
@@ -247,7 +280,7 @@ fn read_words(rt: &HostRuntime) -> Result<Request, AllocError> {
         request.question = named(question.as_str());
     }
     if let Some(runs) = words.next() {
-        request.is_quick = runs.as_str() != "reference";
+        request.runs = oracle_named(runs.as_str());
     }
     Ok(request)
 }
@@ -260,11 +293,12 @@ fn answer(alloc: Global, request: &Request) -> Option<Told> {
     let Ok(model) = read_model(alloc, request.name.as_bytes(), request.bytes.as_slice()) else {
         return None;
     };
-    if request.is_quick {
-        ask_quick(alloc, &model, request.question).ok()
-    } else {
-        ask_alone(alloc, &model, request.question).ok()
-    }
+    let told = match request.runs {
+        Runs::Quick => ask_quick(alloc, &model, request.question),
+        Runs::Presolved => ask_presolved(alloc, &model, request.question),
+        Runs::Reference => ask_alone(alloc, &model, request.question),
+    };
+    told.ok()
 }
 
 fn main(rt: HostRuntime) -> io::Result<()> {
