@@ -94,22 +94,25 @@ upper_side s h = by s.side h
     by Lo e = cc
     by Up e = refl
 
-pub end_law : EndLaw
-end_law system t i side =
-    let c = blocked_multiple t i side in
-    let n = length system.columns in
+-- the shares of rows and then of the sides of columns, where each variable counts so often
+pub taken_once : (c : ℕ → ℚ) (n m : ℕ)
+    → AreOnce (shares_for c (numbers_from n m) ++ (filter (λ s. not (is_upper s)) (shares_for c (numbers_from 0 n)) ++ filter is_upper (shares_for c (numbers_from 0 n))))
+taken_once c n m =
     let columns = shares_for c (numbers_from 0 n) in
     let lower = filter (λ (s : VariableShare). not (is_upper s)) columns in
     let upper = filter is_upper columns in
-    let rows = shares_within c n (length system.rows) in
+    let rows = shares_within c n m in
     let all = shares_within c 0 n in
     let sides = each_once lower upper (AllPairs-filter AreApart (λ (s : VariableShare). not (is_upper s)) columns all.1) (AllPairs-filter AreApart is_upper columns all.1)
     (across (λ (s : VariableShare). s.side ≡ Lo) (λ (t : VariableShare). t.side ≡ Up) other_side lower upper
     (All-weaker (λ (s : VariableShare). not (is_upper s) ≡ true) (λ (s : VariableShare). s.side ≡ Lo) lower_side lower (filter_passes (λ (s : VariableShare). not (is_upper s)) columns))
     (All-weaker (λ (s : VariableShare). is_upper s ≡ true) (λ (s : VariableShare). s.side ≡ Up) upper_side upper (filter_passes is_upper columns))) in
-    each_once (shares_for c (numbers_from n (length system.rows))) (lower ++ upper) rows.1 sides
-    (across (IsIn n (length system.rows)) (IsIn 0 n) (λ s t h k. other_variable s t (λ d. past n s.variable t.variable h.0 k.1 d)) (shares_for c (numbers_from n (length system.rows))) (lower ++ upper) rows.0
+    each_once (shares_for c (numbers_from n m)) (lower ++ upper) rows.1 sides
+    (across (IsIn n m) (IsIn 0 n) (λ s t h k. other_variable s t (λ d. past n s.variable t.variable h.0 k.1 d)) (shares_for c (numbers_from n m)) (lower ++ upper) rows.0
     (All-append (IsIn 0 n) lower upper (All-filter (λ (s : VariableShare). not (is_upper s)) (IsIn 0 n) columns all.0) (All-filter is_upper (IsIn 0 n) columns all.0)))
   where
     past : (n v w : ℕ) → n ≤ v → w < 0 + n → v ≡ w → ⊥
     past n v w a b d = omega arith
+
+pub end_law : EndLaw
+end_law system t i side = taken_once (blocked_multiple t i side) (length system.columns) (length system.rows)

@@ -64,8 +64,8 @@ fn all_back(alloc: Global, steps: &[Step], weights: &mut Weights) -> Result<(), 
     Ok(())
 }
 
-// Brings the weights back over a step.
-fn step_back(alloc: Global, step: &Step, weights: &mut Weights) -> Result<(), BackStop>
+/// Brings the weights back over a step.
+pub fn step_back(alloc: Global, step: &Step, weights: &mut Weights) -> Result<(), BackStop>
     requires held { IsHeld weights.old }
     requires known { IsKnownStep weights.old.columns weights.old.rows step.now }
     ensures { let w = weights_in weights.old in

@@ -15,12 +15,12 @@ use frac128::{Frac, Op, Wide};
 use lp_model::Side;
 use reductions::{Doubleton, Step};
 
-// What a limit of x gives where it was made: how often the equation is taken with it, and how often a limit of y
-// is, but for the sign.
+/// What a limit of x gives where it was made: how often the equation is taken with it, and how often a limit of y
+/// is, but for the sign.
 #[derive(Clone, Copy)]
-struct Part {
-    times: Frac,
-    worth: Frac,
+pub struct Part {
+    pub times: Frac,
+    pub worth: Frac,
 }
 
 /// The equation and the limits of y take over from the limits of x that they made.
@@ -50,8 +50,8 @@ pub(crate) fn pair_back(weights: &mut Weights, pair: &Doubleton) -> Result<(), W
     Ok(())
 }
 
-// The part of the lower limit of x, which is taken away.
-fn lower_part(pair: &Doubleton, so_far: Frac, weight: Frac) -> Result<Part, Wide>
+/// The part of the lower limit of x, which is taken away.
+pub fn lower_part(pair: &Doubleton, so_far: Frac, weight: Frac) -> Result<Part, Wide>
     requires { pair.now.a ≢ zero_ℚ }
     ensures { let q = back.made_quotient pair.now.a pair.now.lower weight in
         let work = back.made_work Op.Minus pair.now so_far pair.now.lower weight in
@@ -72,8 +72,8 @@ fn lower_part(pair: &Doubleton, so_far: Frac, weight: Frac) -> Result<Part, Wide
     Ok(Part { times, worth })
 }
 
-// The part of the upper limit of x, which is added.
-fn upper_part(pair: &Doubleton, so_far: Frac, weight: Frac) -> Result<Part, Wide>
+/// The part of the upper limit of x, which is added.
+pub fn upper_part(pair: &Doubleton, so_far: Frac, weight: Frac) -> Result<Part, Wide>
     requires { pair.now.a ≢ zero_ℚ }
     ensures { let q = back.made_quotient pair.now.a pair.now.upper weight in
         let work = back.made_work Op.Plus pair.now so_far pair.now.upper weight in

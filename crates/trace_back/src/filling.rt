@@ -7,7 +7,7 @@ use certs::{Share, Source};
 use lp_model::Member;
 
 /// Gives the limits of shares their weights, in order.
-pub(crate) fn fill(weights: &mut Weights, shares: &[Share])
+pub fn fill(weights: &mut Weights, shares: &[Share])
     requires held { writing.IsHeld weights.old }
     requires known { All (λ s. writing.source_variable weights.old.columns s.source
         < weights.old.columns + weights.old.rows) shares.now }

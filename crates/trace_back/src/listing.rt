@@ -14,7 +14,7 @@ use std::alloc::{AllocError, Global};
 
 /// The shares of weights: the sides of the rows, the lower side first, then the lower limits of the columns, then
 /// their upper ones, each where it is taken.
-pub(crate) fn shares_of(alloc: Global, weights: &Weights) -> Result<Vec<Share>, AllocError>
+pub fn shares_of(alloc: Global, weights: &Weights) -> Result<Vec<Share>, AllocError>
     requires { IsHeld weights.now }
     ensures { IfOk result (λ shares. shares.items ≡ map (named weights.now.columns)
         (back.shares_of weights.now.columns weights.now.rows (weights_in weights.now))) }

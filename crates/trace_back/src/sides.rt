@@ -16,7 +16,7 @@ pub(crate) fn is_less(a: Frac, b: Frac) -> bool
 }
 
 /// The magnitude of a number.
-pub(crate) fn magnitude(a: Frac) -> Frac
+pub fn magnitude(a: Frac) -> Frac
     ensures { result ≡ improves.magnitude a }
 {
     if is_less(a, Frac::whole(0)) {

@@ -15,7 +15,7 @@ use reductions::Change;
 
 /// How often changed rows are taken, each as often as what it was changed by: on the upper side plus, on the lower
 /// one minus.
-pub(crate) fn taken_of(weights: &Weights, changes: &[Change]) -> Result<Frac, Wide>
+pub fn taken_of(weights: &Weights, changes: &[Change]) -> Result<Frac, Wide>
     requires held { IsHeld weights.now }
     requires known { AreKnownChanges weights.now.rows changes.now }
     ensures { let w = weights_in weights.now in
@@ -45,7 +45,7 @@ fn taken_with(weights: &Weights, change: &Change, so_far: Frac) -> Result<Frac, 
 }
 
 /// The opposite of how often changed rows are taken: on the lower side plus, on the upper one minus.
-pub(crate) fn given_of(weights: &Weights, changes: &[Change]) -> Result<Frac, Wide>
+pub fn given_of(weights: &Weights, changes: &[Change]) -> Result<Frac, Wide>
     requires held { IsHeld weights.now }
     requires known { AreKnownChanges weights.now.rows changes.now }
     ensures { let w = weights_in weights.now in

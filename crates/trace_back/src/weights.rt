@@ -10,7 +10,7 @@ use std::alloc::{AllocError, Global};
 
 /// How often each limit of a system is taken: the limits of the columns come first, then the sides of the rows.
 #[derive(Drop)]
-pub(crate) struct Weights {
+pub struct Weights {
     columns: u32,
     rows: u32,
     lower: Vec<Frac>,
@@ -19,7 +19,7 @@ pub(crate) struct Weights {
 
 impl Weights {
     /// No limit of a system of so many columns and rows is taken.
-    pub(crate) fn zeros(alloc: Global, columns: u32, rows: u32) -> Result<Weights, AllocError>
+    pub fn zeros(alloc: Global, columns: u32, rows: u32) -> Result<Weights, AllocError>
         requires { columns + rows < 2 ^ 31 }
         ensures { IfOk result (λ weights. (weights.columns ≡ columns) × ((weights.rows ≡ rows)
             × (IsHeld weights × (weights_in weights ≡ back.weights_of [])))) }
@@ -36,7 +36,7 @@ impl Weights {
     }
 
     /// How many columns there are.
-    pub(crate) fn columns(&self) -> u32
+    pub fn columns(&self) -> u32
         ensures { result ≡ self.now.columns }
     {
         self.columns
@@ -50,7 +50,7 @@ impl Weights {
     }
 
     /// The variable that a row is.
-    pub(crate) fn variable(&self, row: u32) -> u32
+    pub fn variable(&self, row: u32) -> u32
         requires held { IsHeld self.now }
         requires known { row < self.now.rows }
         ensures { result ≡ self.now.columns + row }
@@ -59,7 +59,7 @@ impl Weights {
     }
 
     /// The weight of a limit.
-    pub(crate) fn at(&self, side: Side, variable: u32) -> Frac
+    pub fn at(&self, side: Side, variable: u32) -> Frac
         requires held { IsHeld self.now }
         requires known { variable < self.now.columns + self.now.rows }
         ensures { result ≡ weights_in self.now side variable }
@@ -107,7 +107,7 @@ impl Weights {
     }
 
     /// Takes a variable so often: the upper limit where the number is above 0, and the lower one where it is below.
-    pub(crate) fn put_parts(&mut self, variable: u32, times: Frac)
+    pub fn put_parts(&mut self, variable: u32, times: Frac)
         requires held { IsHeld self.old }
         requires known { variable < self.old.columns + self.old.rows }
         ensures { IsNow self.old self.new
@@ -117,7 +117,7 @@ impl Weights {
     }
 
     /// Gives the limit that made a lower one the first weight, and that which made an upper one the second.
-    pub(crate) fn put_made(
+    pub fn put_made(
         &mut self,
         variable: u32,
         lower: Option<Side>,
@@ -138,7 +138,7 @@ impl Weights {
     }
 
     /// Takes each limit of a variable that was made no more.
-    pub(crate) fn unmake(&mut self, variable: u32, lower: Option<Side>, upper: Option<Side>)
+    pub fn unmake(&mut self, variable: u32, lower: Option<Side>, upper: Option<Side>)
         requires held { IsHeld self.old }
         requires known { variable < self.old.columns + self.old.rows }
         ensures { IsNow self.old self.new (unmade variable lower upper (weights_in self.old)) }
