@@ -1,3 +1,4 @@
 pub mod Factors
 pub mod Shown
 pub mod Kept
+pub mod Apart

@@ -3,10 +3,15 @@
 
 mod bounds;
 mod outcomes;
+mod parts;
 mod rays;
 mod sources;
 mod sums;
+mod values;
 
 pub use bounds::{Dual, check_bound};
 pub use certs::{Checked, Combo, Ray};
+pub use parts::{check_columns, check_right_side, parts_show_bound};
 pub use rays::check_ray;
+pub use sums::directed;
+pub use values::{check_value, checked_value, has_mark, objective_value};

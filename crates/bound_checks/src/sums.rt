@@ -222,7 +222,7 @@ fn are_zero(sums: &[Frac]) -> bool
 }
 
 /// A value of the objective, negated when minimising.
-pub(crate) fn directed(model: &Model, number: Frac) -> Frac
+pub fn directed(model: &Model, number: Frac) -> Frac
     ensures { result ≡ directed_of model.now number }
 {
     if model.maximise() {

@@ -5,3 +5,4 @@ mod Rays
 mod Settled
 mod Running
 mod Ending
+pub mod Ordered

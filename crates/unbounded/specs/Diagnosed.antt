@@ -1,9 +1,10 @@
 -- What is diagnosed of a program's objective, and what the diagnosis rests on.
 use Rattle.std.specs.Prelude.{◌≡◌, ◌⊎◌, ⊤, ℕ, true, false, List, [], length, Option, Some, None, Result, Ok, Err}
 use Rattle.rational.specs.Rational.{ℚ}
+use Rattle.rational.specs.Linear.{Assignment}
 use Rattle.lp_model.specs.declared.members.Member.{Member}
 use Rattle.lp_model.specs.Program.{Program}
-use Rattle.lp_model.specs.Satisfaction.{values_at}
+use Rattle.lp_model.specs.Satisfaction.{values_at, Satisfies}
 use Rattle.lp_model.specs.Evaluation.{value_operations}
 use Rattle.frac128.specs.Limit.{limit}
 use Rattle.frac128.specs.declared.Wide.{Wide as Operation}
@@ -19,6 +20,7 @@ use Rattle.certs.specs.declared.solving.Verdict.TheVariants.{Feasible, Infeasibl
 use Rattle.certs.specs.Bound.{objective_value, without_marks, IsBoundDual, IsImproving}
 use Rattle.certs.specs.Checks.{IsSetOf}
 use Rattle.certs.specs.Improves.ImproveEnd.{AtOptimum, Unbounded as WithoutEnd}
+use Rattle.certs.specs.Order.{AreSharesInOrder}
 use Rattle.certs.specs.Proof.{IsProof}
 use Rattle.certs.specs.Sites.{IsStopped}
 use Rattle.certs.specs.Tales.{IsPointOf, OracleState, asked_after}
@@ -40,10 +42,18 @@ pub record IsUnboundedBy (model : Program) (set : List Member) (point : Point) (
   pub each_column : length ray.values ≡ length model.columns
   pub improving : IsImproving model (without_marks set) (values_at ray.values)
 
--- A point of the set, and a bound by the members but the marks. Without a mark the point reaches the bound; with one its value is told where no operation of it is too wide.
+-- some assignment that satisfies the set has this value of the objective
+pub record Reaches (model : Program) (set : List Member) (v : ℚ) : Type 0 where
+  pub at : Assignment
+  pub satisfies : Satisfies model set at
+  pub value : objective_value model at ≡ v
+
+-- A point of the set, and a bound by the members but the marks, with its shares in order, that is reached where marks do not count. Without a mark the point reaches the bound; with one its value is told where no operation of it is too wide.
 pub record IsBoundedBy (model : Program) (set : List Member) (point : Point) (value : Option ℚ) (dual : Dual) : Type 0 where
   pub point_of : IsPointOf model set point
   pub dual_of : IsBoundDual model (without_marks set) dual.combo.shares dual.bound
+  pub ordered : AreSharesInOrder dual.combo.shares
+  pub tight : Reaches model (without_marks set) dual.bound
   pub reached : has_mark set ≡ false → (value ≡ Some dual.bound) × (objective_value model (values_at point.values) ≡ dual.bound)
   pub marked : has_mark set ≡ true
       → value ≡ if_narrow (first_wide limit (value_operations model.objective (values_at point.values))) (objective_value model (values_at point.values))

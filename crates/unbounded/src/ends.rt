@@ -19,8 +19,8 @@ ghost use Rattle.unbounded.specs.Diagnosed.{HasLastPoint, IsDiagnosis, IsImprove
 ghost use Rattle.unbounded.specs.Runs.{EndsSo, IsEndOf, StopsSo};
 
 use crate::diagnosing::Diagnosis;
-use crate::values::{directed, has_mark, value_told};
-use bound_checks::Dual;
+use crate::values::value_told;
+use bound_checks::{Dual, directed, has_mark};
 use certs::{MemberSet, Path, Point, Site, SiteKind, Stop, named_combo};
 use dictionary::Dictionary;
 use frac128::Frac;

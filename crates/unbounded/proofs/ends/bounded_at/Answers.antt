@@ -1,9 +1,15 @@
-use Rattle.std.proofs.Common.{refl, sym, ◌∙◌, ap, subst, ◌<◌}
+use Rattle.std.proofs.Common.{refl, sym, ◌∙◌, ap, subst, ◌<◌, map}
 use Rattle.certs.specs.Bound.{directed, without_marks, IsBoundDual}
+use Rattle.lp_model.specs.Satisfaction.{values_at}
+use Rattle.certs.specs.Named.{named}
+use Rattle.certs.specs.Order.{AreSharesInOrder}
 use Rattle.certs.specs.Plain.{greatest_objective}
-use Rattle.improve_ends.specs.Duals.{IsNamedDual}
+use Rattle.certs.specs.Tableau.{value_of}
+use Rattle.improve_ends.specs.Duals.{IsNamedDual, optimal_shares}
+use Rattle.presolve_laws.proofs.Placed.{placed_in_order}
 use Rattle.dictionary.specs.Value.{tableau_of}
-use Rattle.unbounded.proofs.Ending.{count, reaches, system, within}
+use Rattle.unbounded.proofs.Ending.{count, reaches, satisfies_relaxed, system, within}
+use Rattle.unbounded.proofs.Ordered.{optimal_in_order}
 use Rattle.unbounded.proofs.Duals.{known_sources, program_dual}
 use Rattle.unbounded.proofs.ends.bounded_at.Goals as goal
 
@@ -28,17 +34,26 @@ returns-clause-found c =
     let stands = c.requires.stands in
     let dual = c.in_ok-dual.dual in
     let point = c.in_ok-point.point in
-    let named : IsNamedDual (system model set now stands) (greatest_objective model) dual.combo.shares dual.bound =
+    let is_named : IsNamedDual (system model set now stands) (greatest_objective model) dual.combo.shares dual.bound =
     c.in_ok-dual.ensures.dual (system model set now stands) (greatest_objective model) stands.system_formed refl (count model set now stands) stands.is_of in
+    let value = ap (directed model) (sym c.in_ok-dual.ensures.bound) ∙ sym c.directed-bound.ensures in
+    let order : AreSharesInOrder dual.combo.shares =
+    subst AreSharesInOrder (sym (c.in_ok-dual.ensures.shares (system model set now stands) (count model set now stands) stands.is_of ∙ ap (λ n. map (named n) (optimal_shares (system model set now stands) (tableau_of now))) (sym (count model set now stands))))
+    (optimal_in_order (system model set now stands) (tableau_of now)) in
     record {
       point_of = c.in_ok-point.ensures.point;
       dual_of = subst (IsBoundDual model (without_marks set) c.in_ok-combo.combo.shares) (sym c.directed-bound.ensures)
-          (subst (λ z. IsBoundDual model (without_marks set) z (directed model dual.bound)) (sym c.in_ok-combo.ensures.shares) (program_dual model set dual.combo.shares dual.bound stands.formed named));
+          (subst (λ z. IsBoundDual model (without_marks set) z (directed model dual.bound)) (sym c.in_ok-combo.ensures.shares) (program_dual model set dual.combo.shares dual.bound stands.formed is_named));
+      ordered = subst AreSharesInOrder (sym c.in_ok-combo.ensures.shares)
+          (placed_in_order model set dual.combo.shares (known_sources model set dual.combo.shares dual.bound is_named) order);
+      tight = record {
+        at = value_of (tableau_of now);
+        satisfies = satisfies_relaxed model set now stands (value_of (tableau_of now)) (λ j l. refl);
+        value = reaches model set now stands (value_of (tableau_of now)) (λ j l. refl) ∙ value;
+      };
       reached = λ none. (
         c.value_told-value.ensures.unmarked none,
-        reaches model set now stands point.values (λ j l. c.in_ok-point.ensures.unmarked none j (subst (λ n. j < n) stands.columns l))
-            ∙ ap (directed model) (sym c.in_ok-dual.ensures.bound)
-            ∙ sym c.directed-bound.ensures,
+        reaches model set now stands (values_at point.values) (λ j l. c.in_ok-point.ensures.unmarked none j (subst (λ n. j < n) stands.columns l)) ∙ value,
       );
       marked = c.value_told-value.ensures.marked;
     }

@@ -1,7 +1,7 @@
 use Rattle.std.proofs.Common.{sym, subst, ap, ◌<◌, ◌∙◌, length}
 use Rattle.std.specs.Prelude.{All}
 use Rattle.lp_model.specs.declared.parts.Term.{Term}
-use Rattle.unbounded.proofs.values.value_told.Goals as goal
+use Rattle.bound_checks.proofs.values.objective_value.Goals as goal
 
 pub value_of-requires : goal.value_of-requires
 value_of-requires c =

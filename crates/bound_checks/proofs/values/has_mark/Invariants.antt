@@ -1,6 +1,6 @@
 use Rattle.std.proofs.Common.{◌≡◌}
 use Rattle.certs.specs.Trees.{has_mark}
-use Rattle.unbounded.proofs.values.has_mark.Given as goal
+use Rattle.bound_checks.proofs.values.has_mark.Given as goal
 
 -- the members that are still to come decide
 abbrev pub invariant-loop-member : goal.invariant-loop-member

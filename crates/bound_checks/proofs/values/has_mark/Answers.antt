@@ -1,6 +1,6 @@
 use Rattle.std.proofs.Common.{sym, ◌∙◌, ap, Bool, ◌||◌}
 use Rattle.certs.specs.Trees.{has_mark}
-use Rattle.unbounded.proofs.values.has_mark.Goals as goal
+use Rattle.bound_checks.proofs.values.has_mark.Goals as goal
 
 pub loop-member-init : goal.loop-member-init
 loop-member-init c = ap has_mark (c.into_iter-member-iterator.ensures.into_iter_gives ∙ c.iter-member-items.ensures)
