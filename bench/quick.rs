@@ -214,6 +214,9 @@ fn product(first: i128, second: i128) -> Option<i128> {
 }
 
 fn quotient(number: i128, divisor: i128) -> Option<i128> {
+    if divisor == 1 {
+        return Some(number);
+    }
     if let Ok(left) = i64::try_from(number)
         && let Ok(right) = i64::try_from(divisor)
         && let Some(quotient) = left.checked_div(right)
@@ -223,11 +226,103 @@ fn quotient(number: i128, divisor: i128) -> Option<i128> {
     number.checked_div(divisor)
 }
 
-fn common_divisor(divisor: i128, number: i128) -> Option<i128> {
+fn divides(divisor: i128, number: i128) -> bool {
     if divisor == 1 {
-        return Some(1);
+        return true;
+    }
+    if let Ok(left) = i64::try_from(number)
+        && let Ok(right) = i64::try_from(divisor)
+    {
+        return left.checked_rem(right) == Some(0);
+    }
+    number.checked_rem(divisor) == Some(0)
+}
+
+fn common_divisor(divisor: i128, number: i128) -> Option<i128> {
+    if divides(divisor, number) {
+        return Some(divisor);
     }
     quotient(divisor, Frac::new(number, divisor)?.den as i128)
+}
+
+// ---- in which rows variables count
+
+#[derive(Clone, Copy)]
+struct Link {
+    place: u32,
+    next: u32,
+}
+
+#[derive(Clone, Copy)]
+struct Head {
+    count: u32,
+    first: u32,
+}
+
+const END: u32 = u32::MAX;
+
+struct Columns {
+    heads: Vec<Head>,
+    links: Vec<Link>,
+    spare: u32,
+}
+
+impl Columns {
+    fn with_room(count: usize, room: usize) -> Columns {
+        Columns { heads: vec![Head { count: 0, first: END }; count], links: Vec::with_capacity(room), spare: END }
+    }
+
+    fn head(&self, variable: u32) -> Head {
+        self.heads[variable as usize]
+    }
+
+    fn link(&self, index: u32) -> Link {
+        self.links[index as usize]
+    }
+
+    fn add(&mut self, variable: u32, place: u32) {
+        let head = &mut self.heads[variable as usize];
+        let link = Link { place, next: head.first };
+        if let Some(spare) = self.links.get_mut(self.spare as usize) {
+            head.first = self.spare;
+            self.spare = spare.next;
+            *spare = link;
+        } else {
+            head.first = self.links.len() as u32;
+            self.links.push(link);
+        }
+        head.count += 1;
+    }
+
+    fn remove(&mut self, variable: u32, place: u32) {
+        let head = self.head(variable);
+        let mut before = None;
+        let mut index = head.first;
+        for _ in 0..head.count {
+            let link = self.link(index);
+            if link.place == place {
+                self.unlink(variable, before, index, link.next);
+                return;
+            }
+            before = Some(index);
+            index = link.next;
+        }
+    }
+
+    fn unlink(&mut self, variable: u32, before: Option<u32>, index: u32, next: u32) {
+        let head = &mut self.heads[variable as usize];
+        head.count -= 1;
+        match before {
+            Some(before) => self.links[before as usize].next = next,
+            None => head.first = next,
+        }
+        self.links[index as usize].next = self.spare;
+        self.spare = index;
+    }
+
+    fn swap(&mut self, variable: u32, other: u32) {
+        self.heads.swap(variable as usize, other as usize);
+    }
 }
 
 // ---- rows of the table
@@ -273,12 +368,58 @@ impl Entries {
     }
 
     fn factor_of(&self, variable: u32) -> Option<i128> {
-        let found = self.variables.binary_search(&variable);
-        Some(self.factors[found.ok()?])
+        let mut first = 0;
+        let mut count = self.variables.len();
+        while count > 1 {
+            let half = count / 2;
+            let middle = first + half;
+            if self.variables[middle] <= variable {
+                first = middle;
+            }
+            count -= half;
+        }
+        if *self.variables.get(first)? != variable {
+            return None;
+        }
+        Some(self.factors[first])
     }
 
     fn rest(&self) -> Rest<'_> {
         Rest { variables: &self.variables, factors: &self.factors }
+    }
+
+    fn divisor_with(&self, number: i128) -> Option<i128> {
+        let mut divisor = number;
+        for factor in &self.factors {
+            if divisor == 1 {
+                break;
+            }
+            if !divides(divisor, *factor) {
+                divisor = common_divisor(divisor, *factor)?;
+            }
+        }
+        Some(divisor)
+    }
+
+    fn divide(&mut self, divisor: i128) -> Option<()> {
+        if divisor != 1 {
+            for factor in &mut self.factors {
+                *factor = quotient(*factor, divisor)?;
+            }
+        }
+        Some(())
+    }
+
+    fn store(&mut self, others: &Entries) {
+        let count = others.len();
+        let room = self.factors.capacity();
+        if count <= room && room <= 2 * count {
+            self.clear();
+        } else {
+            *self = Entries::with_room(count);
+        }
+        self.variables.extend_from_slice(&others.variables);
+        self.factors.extend_from_slice(&others.factors);
     }
 }
 
@@ -292,27 +433,29 @@ struct TableRow {
     base: u32,
     scale: i128,
     entries: Entries,
-    residues: u64,
+}
+
+struct Sum {
+    entries: Entries,
+    came: Vec<u32>,
+    gone: Vec<u32>,
+}
+
+impl Sum {
+    fn new() -> Sum {
+        Sum { entries: Entries::new(), came: Vec::new(), gone: Vec::new() }
+    }
+
+    fn clear(&mut self) {
+        self.entries.clear();
+        self.came.clear();
+        self.gone.clear();
+    }
 }
 
 impl TableRow {
-    fn new(base: u32, scale: i128, entries: Entries) -> TableRow {
-        let mut residues = 0;
-        for variable in &entries.variables {
-            residues |= residue(*variable);
-        }
-        TableRow { base, scale, entries, residues }
-    }
-
-    fn factor_of(&self, variable: u32) -> Option<i128> {
-        if self.residues & residue(variable) == 0 {
-            return None;
-        }
-        self.entries.factor_of(variable)
-    }
-
     fn solved_for(&self, variable: u32) -> Option<TableRow> {
-        let pivot = self.factor_of(variable)?;
+        let pivot = self.entries.factor_of(variable)?;
         let rises = pivot > 0;
         let mut entries = Entries::with_room(self.entries.len());
         let mut left = Some(Entry { variable: self.base, factor: signed(self.scale, rises)? });
@@ -323,19 +466,24 @@ impl TableRow {
             }
         }
         push_before(&mut entries, left, u32::MAX);
-        Some(TableRow::new(variable, pivot.checked_abs()?, entries))
+        Some(TableRow { base: variable, scale: pivot.checked_abs()?, entries })
     }
 
-    fn with_row(&self, sum: &mut Entries, other: &TableRow, factor: i128) -> Option<TableRow> {
+    fn put_in(&mut self, sum: &mut Sum, other: &TableRow) -> Option<()> {
+        let factor = self.entries.factor_of(other.base)?;
         let shared = common_divisor(other.scale, factor)?;
         let times = quotient(other.scale, shared)?;
-        let other_times = quotient(factor, shared)?;
         sum.clear();
-        self.put_sum(sum, times, other, other_times)?;
-        divided(self.base, product(times, self.scale)?, sum)
+        self.put_sum(sum, times, other, quotient(factor, shared)?)?;
+        let scale = product(times, self.scale)?;
+        let divisor = sum.entries.divisor_with(self.scale)?;
+        sum.entries.divide(divisor)?;
+        self.scale = quotient(scale, divisor)?;
+        self.entries.store(&sum.entries);
+        Some(())
     }
 
-    fn put_sum(&self, sum: &mut Entries, times: i128, other: &TableRow, other_times: i128) -> Option<()> {
+    fn put_sum(&self, sum: &mut Sum, times: i128, other: &TableRow, other_times: i128) -> Option<()> {
         let mut rest = other.entries.rest();
         for (variable, factor) in self.entries.iter() {
             if *variable == other.base {
@@ -348,16 +496,15 @@ impl TableRow {
             {
                 factor = factor.checked_add(product(other_times, *number)?)?;
                 rest = Rest { variables, factors };
+                if factor == 0 {
+                    sum.gone.push(*variable);
+                }
             }
-            sum.push(*variable, factor);
+            sum.entries.push(*variable, factor);
         }
         push_scaled(sum, rest, other_times, u32::MAX)?;
         Some(())
     }
-}
-
-fn residue(variable: u32) -> u64 {
-    1 << (variable % 64)
 }
 
 fn signed(number: i128, same: bool) -> Option<i128> {
@@ -374,39 +521,17 @@ fn push_before(entries: &mut Entries, entry: Option<Entry>, variable: u32) -> Op
     }
 }
 
-fn push_scaled<'a>(sum: &mut Entries, others: Rest<'a>, times: i128, variable: u32) -> Option<Rest<'a>> {
+fn push_scaled<'a>(sum: &mut Sum, others: Rest<'a>, times: i128, variable: u32) -> Option<Rest<'a>> {
     let mut rest = others;
     while let Rest { variables: [first, variables @ ..], factors: [factor, factors @ ..] } = rest {
         if *first >= variable {
             return Some(rest);
         }
-        sum.push(*first, product(times, *factor)?);
+        sum.entries.push(*first, product(times, *factor)?);
+        sum.came.push(*first);
         rest = Rest { variables, factors };
     }
     Some(rest)
-}
-
-fn divided(base: u32, scale: i128, entries: &Entries) -> Option<TableRow> {
-    let divisor = divisor_of(scale, &entries.factors)?;
-    let variables = entries.variables.to_vec();
-    let mut factors = entries.factors.to_vec();
-    if divisor > 1 {
-        for factor in &mut factors {
-            *factor = quotient(*factor, divisor)?;
-        }
-    }
-    Some(TableRow::new(base, quotient(scale, divisor)?, Entries { variables, factors }))
-}
-
-fn divisor_of(scale: i128, factors: &[i128]) -> Option<i128> {
-    let mut divisor = scale;
-    for factor in factors {
-        if divisor == 1 {
-            break;
-        }
-        divisor = common_divisor(divisor, *factor)?;
-    }
-    Some(divisor)
 }
 
 // ---- limits
@@ -447,34 +572,72 @@ fn missed(limits: Limits, value: Frac) -> Option<Side> {
 
 // ---- moves
 
+#[derive(Clone, Copy)]
+struct Ratio {
+    num: i128,
+    den: i128,
+}
+
 fn moved(value: Frac, factor: i128, scale: i128, step: Frac) -> Option<Frac> {
+    if let Some(after) = ratio_after(value, factor, scale, step)
+        && let Some(after) = Frac::new(after.num, after.den)
+    {
+        return Some(after);
+    }
+    moved_in_lowest_terms(value, factor, scale, step)
+}
+
+fn moved_in_lowest_terms(value: Frac, factor: i128, scale: i128, step: Frac) -> Option<Frac> {
     value.plus(Frac::new(factor, scale)?.times(step)?)
 }
 
-fn would_miss(limits: Limits, value: Frac, factor: i128, scale: i128, step: Frac) -> Option<bool> {
-    if let Some(misses) = would_miss_by_products(limits, value, factor, scale, step) {
+fn would_miss(limits: &Limits, value: Frac, factor: i128, scale: i128, step: Frac) -> Option<bool> {
+    if let Some(after) = ratio_after(value, factor, scale, step)
+        && let Some(misses) = ratio_misses(limits, after)
+    {
         return Some(misses);
     }
-    let value = moved(value, factor, scale, step)?;
-    Some(missed(limits, value).is_some())
+    let value = moved_in_lowest_terms(value, factor, scale, step)?;
+    Some(missed(*limits, value).is_some())
 }
 
-fn would_miss_by_products(limits: Limits, value: Frac, factor: i128, scale: i128, step: Frac) -> Option<bool> {
-    let share = product(scale, step.den as i128)?;
-    let way = product(product(factor, step.num)?, value.den as i128)?;
-    let num = product(value.num, share)?.checked_add(way)?;
-    let den = product(value.den as i128, share)?;
+fn ratio_after(value: Frac, factor: i128, scale: i128, step: Frac) -> Option<Ratio> {
+    let (value_den, step_den) = (value.den as i128, step.den as i128);
+    let den = product(scale, step_den)?;
+    let way = product(factor, step.num)?;
+    if value_den == 1 {
+        let num = product(value.num, den)?.checked_add(way)?;
+        return Some(Ratio { num, den });
+    }
+    if divides(value_den, scale) {
+        let times = product(quotient(scale, value_den)?, step_den)?;
+        let num = product(value.num, times)?.checked_add(way)?;
+        return Some(Ratio { num, den });
+    }
+    let num = product(value.num, den)?.checked_add(product(way, value_den)?)?;
+    let den = product(den, value_den)?;
+    Some(Ratio { num, den })
+}
+
+fn ratio_misses(limits: &Limits, ratio: Ratio) -> Option<bool> {
     if let Some(lo) = limits.lo
-        && product(num, lo.den as i128)? < product(lo.num, den)?
+        && over(ratio.num, lo)? < product(lo.num, ratio.den)?
     {
         return Some(true);
     }
     if let Some(up) = limits.up
-        && product(num, up.den as i128)? > product(up.num, den)?
+        && over(ratio.num, up)? > product(up.num, ratio.den)?
     {
         return Some(true);
     }
     Some(false)
+}
+
+fn over(number: i128, limit: Frac) -> Option<i128> {
+    if limit.den == 1 {
+        return Some(number);
+    }
+    product(number, limit.den as i128)
 }
 
 // ---- the table
@@ -485,7 +648,6 @@ struct Variable {
     limits: Limits,
     missed: Option<Side>,
     row: Option<usize>,
-    count: u32,
 }
 
 #[derive(Clone, Copy)]
@@ -497,6 +659,8 @@ struct Blocked {
 struct Table {
     variables: Vec<Variable>,
     rows: Vec<TableRow>,
+    columns: Columns,
+    sum: Sum,
     stored: usize,
     most_stored: usize,
     blocked: Option<Blocked>,
@@ -536,12 +700,16 @@ impl Table {
     }
 
     fn shift(&mut self, variable: u32, step: Frac) -> Option<()> {
-        for row in &self.rows {
-            if let Some(factor) = row.factor_of(variable) {
-                let basic = &mut self.variables[row.base as usize];
-                basic.value = moved(basic.value, factor, row.scale, step)?;
-                basic.missed = missed(basic.limits, basic.value);
-            }
+        let head = self.columns.head(variable);
+        let mut index = head.first;
+        for _ in 0..head.count {
+            let link = self.columns.link(index);
+            index = link.next;
+            let row = &self.rows[link.place as usize];
+            let factor = row.entries.factor_of(variable)?;
+            let basic = &mut self.variables[row.base as usize];
+            basic.value = moved(basic.value, factor, row.scale, step)?;
+            basic.missed = missed(basic.limits, basic.value);
         }
         let known = &mut self.variables[variable as usize];
         known.value = known.value.plus(step)?;
@@ -560,44 +728,49 @@ impl Table {
     fn missed_after(&self, variable: u32, step: Frac, now: u32, most: u32) -> Option<u32> {
         let known = self.variables[variable as usize];
         let value = known.value.plus(step)?;
-        let mut count = now.saturating_add(u32::from(missed(known.limits, value).is_some()));
-        let mut left = known.count;
-        for row in &self.rows {
-            let Some(factor) = row.factor_of(variable) else {
-                continue;
-            };
-            if count >= most.saturating_add(left) {
+        let own = u32::from(missed(known.limits, value).is_some());
+        let mended = self.changed_by(variable, step, true, u32::MAX)?;
+        let count = now.saturating_add(own).saturating_sub(mended);
+        let broken = self.changed_by(variable, step, false, most.saturating_sub(count))?;
+        Some(count.saturating_add(broken))
+    }
+
+    fn changed_by(&self, variable: u32, step: Frac, misses: bool, most: u32) -> Option<u32> {
+        let mut count: u32 = 0;
+        let head = self.columns.head(variable);
+        let mut index = head.first;
+        for _ in 0..head.count {
+            if count >= most {
                 break;
             }
-            let basic = self.variables[row.base as usize];
-            let misses = would_miss(basic.limits, basic.value, factor, row.scale, step)?;
-            count = count.saturating_add(u32::from(misses));
-            count = count.saturating_sub(u32::from(basic.missed.is_some()));
-            left = left.saturating_sub(1);
-            if left == 0 {
-                break;
+            let link = self.columns.link(index);
+            index = link.next;
+            let row = &self.rows[link.place as usize];
+            let basic = &self.variables[row.base as usize];
+            if basic.missed.is_some() == misses {
+                let factor = row.entries.factor_of(variable)?;
+                let after = would_miss(&basic.limits, basic.value, factor, row.scale, step)?;
+                count = count.saturating_add(u32::from(after != misses));
             }
         }
         Some(count)
     }
 
-    fn replace(&mut self, place: usize, row: TableRow) {
-        let old = &mut self.rows[place];
-        for variable in &old.entries.variables {
-            self.variables[*variable as usize].count -= 1;
-        }
-        self.stored -= old.entries.len();
-        *old = row;
-        self.count(place);
-    }
-
-    fn count(&mut self, place: usize) {
-        let row = &self.rows[place];
-        for variable in &row.entries.variables {
-            self.variables[*variable as usize].count += 1;
-        }
+    fn put_in(&mut self, place: u32, solved: &TableRow, basic: u32) -> Option<()> {
+        let row = &mut self.rows[place as usize];
+        self.stored -= row.entries.len();
+        row.put_in(&mut self.sum, solved)?;
         self.stored += row.entries.len();
         self.most_stored = self.most_stored.max(self.stored);
+        for variable in &self.sum.came {
+            if *variable != basic {
+                self.columns.add(*variable, place);
+            }
+        }
+        for variable in &self.sum.gone {
+            self.columns.remove(*variable, place);
+        }
+        Some(())
     }
 }
 
@@ -617,6 +790,8 @@ fn start(model: &Model, set: &MemberSet) -> Option<Table> {
     let mut table = Table {
         variables: Vec::with_capacity(columns as usize + rows as usize),
         rows: Vec::with_capacity(rows as usize),
+        columns: Columns::with_room(columns as usize + rows as usize, model.rows.iter().map(|row| row.terms.len()).sum()),
+        sum: Sum::new(),
         stored: 0,
         most_stored: 0,
         blocked: None,
@@ -635,7 +810,7 @@ fn start(model: &Model, set: &MemberSet) -> Option<Table> {
 
 fn at_start(limits: Limits) -> Variable {
     let value = limits.lo.or(limits.up).unwrap_or(Frac::whole(0));
-    Variable { value, limits, missed: missed(limits, value), row: None, count: 0 }
+    Variable { value, limits, missed: missed(limits, value), row: None }
 }
 
 fn put_row(table: &mut Table, base: u32, terms: &[Term]) -> Option<()> {
@@ -645,8 +820,13 @@ fn put_row(table: &mut Table, base: u32, terms: &[Term]) -> Option<()> {
     known.value = value;
     known.missed = missed(known.limits, value);
     known.row = Some(place);
-    table.rows.push(whole_row(base, terms)?);
-    table.count(place);
+    let row = whole_row(base, terms)?;
+    for variable in &row.entries.variables {
+        table.columns.add(*variable, place as u32);
+    }
+    table.stored += row.entries.len();
+    table.most_stored = table.most_stored.max(table.stored);
+    table.rows.push(row);
     Some(())
 }
 
@@ -669,10 +849,9 @@ fn whole_row(base: u32, terms: &[Term]) -> Option<TableRow> {
         let times = quotient(scale, term.factor.den as i128)?;
         entries.push(term.column, product(term.factor.num, times)?);
     }
-    if scale == 1 {
-        return Some(TableRow::new(base, scale, entries));
-    }
-    divided(base, scale, &entries)
+    let divisor = entries.divisor_with(scale)?;
+    entries.divide(divisor)?;
+    Some(TableRow { base, scale: quotient(scale, divisor)?, entries })
 }
 
 fn common_denominator(terms: &[Term]) -> Option<i128> {
@@ -706,19 +885,28 @@ struct Pivot {
     step: Frac,
 }
 
-fn leaving(table: &Table, rule: Rule) -> Option<usize> {
+#[derive(Clone, Copy)]
+struct LeavingRow {
+    place: usize,
+    missed: u32,
+}
+
+fn leaving(table: &Table, rule: Rule) -> Option<LeavingRow> {
     let mut best: Option<(usize, u32, usize)> = None;
+    let mut missed: u32 = 0;
     for (place, row) in table.rows.iter().enumerate() {
         if !table.misses(row) {
             continue;
         }
+        missed += 1;
         let length = if rule == Rule::Shortest { row.entries.len() } else { 0 };
         let key = (length, row.base, place);
         if best.is_none_or(|least| key < least) {
             best = Some(key);
         }
     }
-    best.map(|least| least.2)
+    let place = best?.2;
+    Some(LeavingRow { place, missed })
 }
 
 fn side_of(factor: i128, missed: Side) -> Side {
@@ -733,7 +921,7 @@ fn helping(table: &Table, row: &TableRow, side: Side, rule: Rule) -> Vec<(u32, u
         if limit.is_some_and(|limit| limit == known.value) {
             continue;
         }
-        keep(&mut best, (known.count, *variable));
+        keep(&mut best, (table.columns.head(*variable).count, *variable));
         if rule == Rule::Bland {
             break;
         }
@@ -750,10 +938,10 @@ fn keep(best: &mut Vec<(u32, u32)>, candidate: (u32, u32)) {
     best.truncate(CANDIDATES);
 }
 
-fn entering(table: &Table, place: usize, side: Side, candidates: &[(u32, u32)]) -> Option<Pivot> {
+fn entering(table: &Table, leaving: LeavingRow, side: Side, candidates: &[(u32, u32)]) -> Option<Pivot> {
+    let LeavingRow { place, missed: now } = leaving;
     let row = &table.rows[place];
     let way = way_to(table, row, side)?;
-    let now = table.missed_now();
     let mut best = None;
     let mut least = u32::MAX;
     for (_, variable) in candidates {
@@ -773,7 +961,7 @@ fn entering(table: &Table, place: usize, side: Side, candidates: &[(u32, u32)]) 
 }
 
 fn after(table: &Table, row: &TableRow, way: Frac, variable: u32, now: u32, most: u32) -> Option<(Frac, u32)> {
-    let step = step_for(way, row, row.factor_of(variable)?)?;
+    let step = step_for(way, row, row.entries.factor_of(variable)?)?;
     Some((step, table.missed_after(variable, step, now, most)?))
 }
 
@@ -789,16 +977,17 @@ enum Turn {
 
 fn choose(table: &Table, turn: u64) -> Option<Turn> {
     let rule = rule_of(table.rows.len() as u64, turn);
-    let Some(place) = leaving(table, rule) else {
+    let Some(leaves) = leaving(table, rule) else {
         return Some(Turn::Settled);
     };
+    let place = leaves.place;
     let row = &table.rows[place];
     let side = table.variables[row.base as usize].missed?;
     let candidates = helping(table, row, side, rule);
     if candidates.is_empty() {
         return Some(Turn::Blocked(Blocked { place, side }));
     }
-    Some(Turn::Pivot(entering(table, place, side, &candidates)?))
+    Some(Turn::Pivot(entering(table, leaves, side, &candidates)?))
 }
 
 fn rule_of(rows: u64, turn: u64) -> Rule {
@@ -821,27 +1010,21 @@ fn make_pivot(table: &mut Table, pivot: Pivot) -> Option<()> {
     let leaves = &table.rows[pivot.place];
     let base = leaves.base;
     let solved = leaves.solved_for(pivot.variable)?;
-    put_in(table, pivot, &solved)?;
-    table.replace(pivot.place, solved);
+    let head = table.columns.head(pivot.variable);
+    let mut index = head.first;
+    for _ in 0..head.count {
+        let link = table.columns.link(index);
+        index = link.next;
+        if link.place as usize != pivot.place {
+            table.put_in(link.place, &solved, base)?;
+        }
+    }
+    table.columns.swap(base, pivot.variable);
+    table.rows[pivot.place] = solved;
     table.variables[base as usize].row = None;
     table.variables[pivot.variable as usize].row = Some(pivot.place);
     if table.stored > MOST_ENTRIES {
         return None;
-    }
-    Some(())
-}
-
-fn put_in(table: &mut Table, pivot: Pivot, solved: &TableRow) -> Option<()> {
-    let mut sum = Entries::new();
-    for place in 0..table.rows.len() {
-        if place == pivot.place {
-            continue;
-        }
-        let row = &table.rows[place];
-        if let Some(factor) = row.factor_of(pivot.variable) {
-            let changed = row.with_row(&mut sum, solved, factor)?;
-            table.replace(place, changed);
-        }
     }
     Some(())
 }
@@ -874,7 +1057,7 @@ fn value_after(table: &Table, variable: u32, step: Option<Step>) -> Option<Frac>
         return Some(known.value);
     };
     let row = &table.rows[place];
-    match row.factor_of(step.variable) {
+    match row.entries.factor_of(step.variable) {
         Some(factor) => moved(known.value, factor, row.scale, step.step),
         None => Some(known.value),
     }

@@ -28,13 +28,22 @@ pub(crate) struct Pivot {
     pub step: Frac,
 }
 
-/// The place of the row whose variable leaves: one that misses a limit, by the rule; none where no variable does.
-pub(crate) fn leaving(table: &Table, rule: Rule) -> Option<usize> {
+/// A row whose variable leaves, and how many basic variables miss a limit.
+#[derive(Clone, Copy)]
+pub(crate) struct LeavingRow {
+    pub place: usize,
+    pub missed: u32,
+}
+
+/// The row whose variable leaves: one that misses a limit, by the rule; none where no variable does.
+pub(crate) fn leaving(table: &Table, rule: Rule) -> Option<LeavingRow> {
     let mut best: Option<(usize, u32, usize)> = None;
+    let mut missed: u32 = 0;
     for (place, row) in table.rows.iter().enumerate() {
         if !table.misses(row) {
             continue;
         }
+        missed = missed.saturating_add(1);
         let length = match rule {
             Rule::Shortest => row.entries.len(),
             Rule::Least | Rule::Bland => 0,
@@ -44,7 +53,8 @@ pub(crate) fn leaving(table: &Table, rule: Rule) -> Option<usize> {
             best = Some(key);
         }
     }
-    best.map(|least| least.2)
+    let place = best?.2;
+    Some(LeavingRow { place, missed })
 }
 
 /// The side of its limit in whose direction a variable with this factor counts for a basic variable that misses a side.
@@ -69,7 +79,7 @@ pub(crate) fn helping(
         if limit.is_some_and(|limit| limit == known.value) {
             continue;
         }
-        keep(&mut best, (known.count, *variable))?;
+        keep(&mut best, (table.columns.head(*variable)?.count, *variable))?;
         if rule == Rule::Bland {
             break;
         }
@@ -92,13 +102,13 @@ fn keep(best: &mut Vec<(u32, u32)>, candidate: (u32, u32)) -> Option<()> {
 /// these. None where each step is too wide.
 pub(crate) fn entering(
     table: &Table,
-    place: usize,
+    leaving: LeavingRow,
     side: Side,
     candidates: &[(u32, u32)],
 ) -> Option<Pivot> {
+    let LeavingRow { place, missed: now } = leaving;
     let row = table.rows.get(place)?;
     let way = way_to(table, row, side)?;
-    let now = table.missed_now();
     let mut best = None;
     let mut least = u32::MAX;
     for candidate in candidates {
@@ -131,6 +141,6 @@ fn after(
     now: u32,
     most: u32,
 ) -> Option<(Frac, u32)> {
-    let step = step_for(way, row, row.factor_of(variable)?)?;
+    let step = step_for(way, row, row.entries.factor_of(variable)?)?;
     Some((step, table.missed_after(variable, step, now, most)?))
 }

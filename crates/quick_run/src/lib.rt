@@ -3,6 +3,7 @@
 
 mod arithmetic;
 mod choices;
+mod columns;
 mod combinations;
 mod entries;
 mod limits;

@@ -1,52 +1,92 @@
 //! What becomes of a basic variable when a nonbasic one moves.
-use crate::arithmetic::product;
+use crate::arithmetic::{divides, product, quotient};
 use crate::limits::missed;
 use certs::Limits;
 use frac128::Frac;
 
+// A number over a denominator above 0, with which it may share divisors.
+#[derive(Clone, Copy)]
+struct Ratio {
+    num: i128,
+    den: i128,
+}
+
 /// A basic variable's value after a nonbasic one, which counts `factor / scale` times in it, moved by a step.
 pub(crate) fn moved(value: Frac, factor: i128, scale: i128, step: Frac) -> Option<Frac> {
+    if let Some(after) = ratio_after(value, factor, scale, step)
+        && let Ok(after) = Frac::new(after.num, after.den)
+    {
+        return Some(after);
+    }
+    moved_in_lowest_terms(value, factor, scale, step)
+}
+
+// The same where each number on the way is brought to lowest terms, so that none is wider than it need be.
+fn moved_in_lowest_terms(value: Frac, factor: i128, scale: i128, step: Frac) -> Option<Frac> {
     let slope = Frac::new(factor, scale).ok()?;
     value.plus(slope.times(step).ok()?).ok()
 }
 
 /// Whether that value would miss a limit; none where it is too wide.
 pub(crate) fn would_miss(
-    limits: Limits,
+    limits: &Limits,
     value: Frac,
     factor: i128,
     scale: i128,
     step: Frac,
 ) -> Option<bool> {
-    if let Some(misses) = would_miss_by_products(limits, value, factor, scale, step) {
+    if let Some(after) = ratio_after(value, factor, scale, step)
+        && let Some(misses) = ratio_misses(limits, after)
+    {
         return Some(misses);
     }
-    let value = moved(value, factor, scale, step)?;
-    Some(missed(limits, value).is_some())
+    let value = moved_in_lowest_terms(value, factor, scale, step)?;
+    Some(missed(*limits, value).is_some())
 }
 
-// The same by products alone, which is faster, where each of them fits: the value is then not too wide either, since it is no
-// wider in lowest terms than over the product of all denominators.
-fn would_miss_by_products(
-    limits: Limits,
-    value: Frac,
-    factor: i128,
-    scale: i128,
-    step: Frac,
-) -> Option<bool> {
-    let share = product(scale, step.den())?;
-    let way = product(product(factor, step.num())?, value.den())?;
-    let num = product(value.num(), share)?.checked_add(way)?;
-    let den = product(value.den(), share)?;
+// That value by products alone, which is faster, where each of them fits: the value is then not too wide either, since it is
+// no wider in lowest terms. It is over the scale and the step's denominator, where the denominator of the value so far
+// divides the scale, as it does while nonbasic variables stand at whole numbers, and else over all three.
+#[inline(always)]
+fn ratio_after(value: Frac, factor: i128, scale: i128, step: Frac) -> Option<Ratio> {
+    let den = product(scale, step.den())?;
+    let way = product(factor, step.num())?;
+    if value.den() == 1 {
+        let own = product(value.num(), den)?;
+        let num = own.checked_add(way)?;
+        return Some(Ratio { num, den });
+    }
+    if divides(value.den(), scale) {
+        let times = product(quotient(scale, value.den())?, step.den())?;
+        let own = product(value.num(), times)?;
+        let num = own.checked_add(way)?;
+        return Some(Ratio { num, den });
+    }
+    let own = product(value.num(), den)?;
+    let num = own.checked_add(product(way, value.den())?)?;
+    let den = product(den, value.den())?;
+    Some(Ratio { num, den })
+}
+
+// Whether a ratio misses a limit; none where a product does not fit.
+fn ratio_misses(limits: &Limits, ratio: Ratio) -> Option<bool> {
     if let Some(lo) = limits.lo
-        && product(num, lo.den())? < product(lo.num(), den)?
+        && over(ratio.num, lo)? < product(lo.num(), ratio.den)?
     {
         return Some(true);
     }
     if let Some(up) = limits.up
-        && product(num, up.den())? > product(up.num(), den)?
+        && over(ratio.num, up)? > product(up.num(), ratio.den)?
     {
         return Some(true);
     }
     Some(false)
+}
+
+// A number times the denominator of a limit.
+fn over(number: i128, limit: Frac) -> Option<i128> {
+    if limit.den() == 1 {
+        return Some(number);
+    }
+    product(number, limit.den())
 }

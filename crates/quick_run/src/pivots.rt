@@ -1,7 +1,5 @@
 //! Pivots and turns.
 use crate::choices::{Pivot, Rule, entering, helping, leaving};
-use crate::entries::Entries;
-use crate::rows::TableRow;
 use crate::tables::{Blocked, Table};
 use std::alloc::Global;
 
@@ -19,16 +17,17 @@ pub(crate) enum Turn {
 /// What comes next in a turn; none where each pivot is too wide.
 pub(crate) fn choose(alloc: Global, table: &Table, turn: u64) -> Option<Turn> {
     let rule = rule_of(table.rows.len() as u64, turn);
-    let Some(place) = leaving(table, rule) else {
+    let Some(leaves) = leaving(table, rule) else {
         return Some(Turn::Settled);
     };
+    let place = leaves.place;
     let row = table.rows.get(place)?;
     let side = table.variable(row.base)?.missed?;
     let candidates = helping(alloc, table, row, side, rule)?;
     if candidates.is_empty() {
         return Some(Turn::Blocked(Blocked { place, side }));
     }
-    Some(Turn::Pivot(entering(table, place, side, candidates.as_slice())?))
+    Some(Turn::Pivot(entering(table, leaves, side, candidates.as_slice())?))
 }
 
 // The rule of a turn: the shortest row for as many turns as there are rows, and Bland's after twenty times as many.
@@ -56,28 +55,22 @@ pub(crate) fn make_pivot(alloc: Global, table: &mut Table, pivot: Pivot) -> Opti
     let leaves = table.rows.get(pivot.place)?;
     let base = leaves.base;
     let solved = leaves.solved_for(alloc, pivot.variable)?;
-    put_in(alloc, table, pivot, &solved)?;
-    table.replace(pivot.place, solved)?;
+    let head = table.columns.head(pivot.variable)?;
+    let mut index = head.first;
+    for _ in 0..head.count {
+        let link = table.columns.link(index)?;
+        index = link.next;
+        if link.place as usize != pivot.place {
+            table.put_in(alloc, link.place, &solved, base)?;
+        }
+    }
+    // The variables change places: that which leaves counts where the other did.
+    table.columns.swap(base, pivot.variable)?;
+    *table.rows.get_mut(pivot.place)? = solved;
     table.variables.get_mut(base as usize)?.row = None;
     table.variables.get_mut(pivot.variable as usize)?.row = Some(pivot.place);
     if table.stored > MOST_ENTRIES {
         return None;
-    }
-    Some(())
-}
-
-// Puts the row of the entering variable in for it, in each other row in which it counts.
-fn put_in(alloc: Global, table: &mut Table, pivot: Pivot, solved: &TableRow) -> Option<()> {
-    let mut sum = Entries::new(alloc);
-    for place in 0..table.rows.len() {
-        if place == pivot.place {
-            continue;
-        }
-        let row = table.rows.get(place)?;
-        if let Some(factor) = row.factor_of(pivot.variable) {
-            let changed = row.with_row(alloc, &mut sum, solved, factor)?;
-            table.replace(place, changed)?;
-        }
     }
     Some(())
 }

@@ -50,7 +50,7 @@ fn value_after(table: &Table, variable: u32, step: Option<Step>) -> Option<Frac>
         return Some(known.value);
     };
     let row = table.rows.get(place)?;
-    match row.factor_of(step.variable) {
+    match row.entries.factor_of(step.variable) {
         Some(factor) => moved(known.value, factor, row.scale, step.step),
         None => Some(known.value),
     }

@@ -5,42 +5,45 @@ use std::alloc::Global;
 
 /// A basic variable as a sum of nonbasic ones: `scale` times `base` is the sum of the entries.
 ///
-/// The scale is above 0, and no number above 1 divides the scale and all factors. The residues of the entries' variables by
-/// 64 are marked, so that of most variables that do not count this is told from the marks alone.
+/// The scale is above 0, and no number above 1 divides the scale and all factors.
 #[derive(Drop)]
 pub(crate) struct TableRow {
     pub base: u32,
     pub scale: i128,
     pub entries: Entries,
-    residues: u64,
+}
+
+/// A row as it is made from two, in memory that is used again and again: its entries, the variables that count in it and did
+/// not before, and those that did and count no more.
+#[derive(Drop)]
+pub(crate) struct Sum {
+    pub entries: Entries,
+    pub came: Vec<u32>,
+    pub gone: Vec<u32>,
+}
+
+impl Sum {
+    /// Nothing yet.
+    pub(crate) fn new(alloc: Global) -> Sum {
+        Sum {
+            entries: Entries::new(alloc),
+            came: Vec::new(alloc),
+            gone: Vec::new(alloc),
+        }
+    }
+
+    // Takes all out.
+    fn clear(&mut self) {
+        self.entries.clear();
+        self.came.clear();
+        self.gone.clear();
+    }
 }
 
 impl TableRow {
-    /// The row of these entries, which no number above 1 divides with the scale.
-    pub(crate) fn new(base: u32, scale: i128, entries: Entries) -> TableRow {
-        let mut residues: u64 = 0;
-        for variable in entries.variables.iter() {
-            residues |= residue(*variable);
-        }
-        TableRow {
-            base,
-            scale,
-            entries,
-            residues,
-        }
-    }
-
-    /// How often a variable counts; none where it does not.
-    pub(crate) fn factor_of(&self, variable: u32) -> Option<i128> {
-        if self.residues & residue(variable) == 0 {
-            return None;
-        }
-        self.entries.factor_of(variable)
-    }
-
     /// The row of a nonbasic variable in place of the basic one.
     pub(crate) fn solved_for(&self, alloc: Global, variable: u32) -> Option<TableRow> {
-        let pivot = self.factor_of(variable)?;
+        let pivot = self.entries.factor_of(variable)?;
         let rises = pivot > 0;
         let mut entries = Entries::with_room(alloc, self.entries.len())?;
         let mut left = Some(Entry {
@@ -55,30 +58,34 @@ impl TableRow {
             }
         }
         push_before(&mut entries, left, u32::MAX)?;
-        Some(TableRow::new(variable, pivot.checked_abs()?, entries))
+        Some(TableRow {
+            base: variable,
+            scale: pivot.checked_abs()?,
+            entries,
+        })
     }
 
-    /// This row, with the row of a variable put in for it. The variable counts `factor` times. The sum is made in entries
-    /// that are used again and again, and then stored at its size.
-    pub(crate) fn with_row(
-        &self,
-        alloc: Global,
-        sum: &mut Entries,
-        other: &TableRow,
-        factor: i128,
-    ) -> Option<TableRow> {
+    /// Puts the row of a variable in for it. The sum tells which variables came and went, that one aside.
+    ///
+    /// A prime that divides the scale and all factors of the sum divides neither of the numbers with which the two rows are
+    /// multiplied: else it would divide one of these rows. So what divides them all divides the scale of this row.
+    pub(crate) fn put_in(&mut self, alloc: Global, sum: &mut Sum, other: &TableRow) -> Option<()> {
+        let factor = self.entries.factor_of(other.base)?;
         let shared = common_divisor(other.scale, factor)?;
         let times = quotient(other.scale, shared)?;
-        let other_times = quotient(factor, shared)?;
         sum.clear();
-        self.put_sum(sum, times, other, other_times)?;
-        divided(alloc, self.base, product(times, self.scale)?, sum)
+        self.put_sum(sum, times, other, quotient(factor, shared)?)?;
+        let scale = product(times, self.scale)?;
+        let divisor = sum.entries.divisor_with(self.scale)?;
+        sum.entries.divide(divisor)?;
+        self.scale = quotient(scale, divisor)?;
+        self.entries.store(alloc, &sum.entries)
     }
 
     // Puts so many times the entries of this row, without that of the other's variable, and so many times the other's.
     fn put_sum(
         &self,
-        sum: &mut Entries,
+        sum: &mut Sum,
         times: i128,
         other: &TableRow,
         other_times: i128,
@@ -97,17 +104,15 @@ impl TableRow {
             {
                 factor = factor.checked_add(product(other_times, *first)?)?;
                 rest = Rest { variables, factors };
+                if factor == 0 {
+                    sum.gone.push(*variable).ok()?;
+                }
             }
-            sum.push(*variable, factor)?;
+            sum.entries.push(*variable, factor)?;
         }
         push_scaled(sum, rest, other_times, u32::MAX)?;
         Some(())
     }
-}
-
-// The mark of the residue of a variable by 64.
-fn residue(variable: u32) -> u64 {
-    1 << (variable % 64)
 }
 
 // The number, or its opposite.
@@ -134,9 +139,11 @@ fn push_before(
     }
 }
 
-// Pushes so many times those of the entries that come before a variable, and gives the rest.
+// Pushes so many times those of the entries that come before a variable, whose variables come to count by this, and gives the
+// rest.
+#[inline(always)]
 fn push_scaled<'a>(
-    sum: &mut Entries,
+    sum: &mut Sum,
     others: Rest<'a>,
     times: i128,
     variable: u32,
@@ -149,40 +156,9 @@ fn push_scaled<'a>(
         let [factor, factors @ ..] = rest.factors else {
             return None;
         };
-        sum.push(*first, product(times, *factor)?)?;
+        sum.entries.push(*first, product(times, *factor)?)?;
+        sum.came.push(*first).ok()?;
         rest = Rest { variables, factors };
     }
     Some(rest)
-}
-
-/// The row of these entries over a scale, divided by the greatest number that divides the scale and all factors, and stored
-/// at its size.
-pub(crate) fn divided(
-    alloc: Global,
-    base: u32,
-    scale: i128,
-    entries: &Entries,
-) -> Option<TableRow> {
-    let divisor = divisor_of(scale, entries.factors.as_slice())?;
-    let variables = Vec::from_slice(alloc, entries.variables.as_slice()).ok()?;
-    let mut factors = Vec::from_slice(alloc, entries.factors.as_slice()).ok()?;
-    if divisor > 1 {
-        for factor in factors.iter_mut() {
-            *factor = quotient(*factor, divisor)?;
-        }
-    }
-    let stored = Entries { variables, factors };
-    Some(TableRow::new(base, quotient(scale, divisor)?, stored))
-}
-
-// The greatest number that divides a scale and all factors.
-fn divisor_of(scale: i128, factors: &[i128]) -> Option<i128> {
-    let mut divisor = scale;
-    for factor in factors {
-        if divisor == 1 {
-            break;
-        }
-        divisor = common_divisor(divisor, *factor)?;
-    }
-    Some(divisor)
 }

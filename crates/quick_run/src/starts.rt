@@ -3,9 +3,10 @@ ghost use Rattle.std.specs.Prelude.{◌≡◌};
 ghost use Rattle.certs.specs.Checks.{IsSetOf};
 
 use crate::arithmetic::{common_divisor, product, quotient};
+use crate::columns::Columns;
 use crate::entries::Entries;
 use crate::limits::{column_limits, missed, row_limits};
-use crate::rows::{TableRow, divided};
+use crate::rows::{Sum, TableRow};
 use crate::tables::{Table, Variable};
 use certs::{Limits, MemberSet};
 use frac128::Frac;
@@ -22,6 +23,8 @@ pub(crate) fn start(alloc: Global, model: &Model, set: &MemberSet) -> Option<Tab
     let mut table = Table {
         variables: Vec::with_capacity(alloc, count).ok()?,
         rows: Vec::with_capacity(alloc, rows as usize).ok()?,
+        columns: Columns::with_room(alloc, count, term_count(model)?)?,
+        sum: Sum::new(alloc),
         stored: 0,
         blocked: None,
     };
@@ -40,6 +43,15 @@ pub(crate) fn start(alloc: Global, model: &Model, set: &MemberSet) -> Option<Tab
     Some(table)
 }
 
+// How many terms all rows have.
+fn term_count(model: &Model) -> Option<usize> {
+    let mut count: usize = 0;
+    for index in 0..model.row_count() {
+        count = count.checked_add(model.row(index).terms.as_slice().len())?;
+    }
+    Some(count)
+}
+
 // A nonbasic variable at its limit.
 fn at_start(limits: Limits) -> Variable {
     let value = limits.lo.or(limits.up).unwrap_or(Frac::whole(0));
@@ -50,7 +62,6 @@ fn at_start(limits: Limits) -> Variable {
         is_lowered: false,
         missed: missed(limits, value),
         row: None,
-        count: 0,
     }
 }
 
@@ -62,8 +73,12 @@ fn put_row(alloc: Global, table: &mut Table, base: u32, terms: &[Term]) -> Optio
     known.value = value;
     known.missed = missed(known.limits, value);
     known.row = Some(place);
-    table.rows.push(whole_row(alloc, base, terms)?).ok()?;
-    table.count(place)
+    let row = whole_row(alloc, base, terms)?;
+    for variable in row.entries.variables.iter() {
+        table.columns.add(*variable, u32::try_from(place).ok()?)?;
+    }
+    table.stored = table.stored.checked_add(row.entries.len())?;
+    table.rows.push(row).ok()
 }
 
 // The sum of the terms.
@@ -88,10 +103,13 @@ fn whole_row(alloc: Global, base: u32, terms: &[Term]) -> Option<TableRow> {
         let times = quotient(scale, term.factor.den())?;
         entries.push(term.column, product(term.factor.num(), times)?)?;
     }
-    if scale == 1 {
-        return Some(TableRow::new(base, scale, entries));
-    }
-    divided(alloc, base, scale, &entries)
+    let divisor = entries.divisor_with(scale)?;
+    entries.divide(divisor)?;
+    Some(TableRow {
+        base,
+        scale: quotient(scale, divisor)?,
+        entries,
+    })
 }
 
 // The least common multiple of the denominators.

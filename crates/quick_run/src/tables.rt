@@ -2,15 +2,17 @@
 ghost use Rattle.std.specs.Prelude.{◌≡◌};
 ghost use Rattle.certs.specs.Checks.{IsSetOf};
 
+use crate::columns::Columns;
 use crate::limits::{are_crossed, column_limits, limit_on, missed, row_limits};
 use crate::moves::{moved, would_miss};
-use crate::rows::TableRow;
+use crate::rows::{Sum, TableRow};
 use certs::{Branch, Limits, MemberSet, Side};
 use frac128::Frac;
 use lp_model::Model;
+use std::alloc::Global;
 
 /// What the table has of a variable: where it stands, its limits and whether a branch gives them, the side whose limit it
-/// misses, its row where it is basic, and in how many rows it counts.
+/// misses, and its row where it is basic.
 #[derive(Clone, Copy)]
 pub(crate) struct Variable {
     pub value: Frac,
@@ -19,7 +21,6 @@ pub(crate) struct Variable {
     pub is_lowered: bool,
     pub missed: Option<Side>,
     pub row: Option<usize>,
-    pub count: u32,
 }
 
 /// A row that showed that its variable cannot come to its limit on a side.
@@ -35,6 +36,8 @@ pub(crate) struct Blocked {
 pub(crate) struct Table {
     pub variables: Vec<Variable>,
     pub rows: Vec<TableRow>,
+    pub columns: Columns,
+    pub sum: Sum,
     pub stored: usize,
     pub blocked: Option<Blocked>,
 }
@@ -130,12 +133,16 @@ impl Table {
 
     /// Moves a nonbasic variable by a step, and the basic ones with it.
     pub(crate) fn shift(&mut self, variable: u32, step: Frac) -> Option<()> {
-        for row in self.rows.iter() {
-            if let Some(factor) = row.factor_of(variable) {
-                let basic = self.variables.get_mut(row.base as usize)?;
-                basic.value = moved(basic.value, factor, row.scale, step)?;
-                basic.missed = missed(basic.limits, basic.value);
-            }
+        let head = self.columns.head(variable)?;
+        let mut index = head.first;
+        for _ in 0..head.count {
+            let link = self.columns.link(index)?;
+            index = link.next;
+            let row = self.rows.get(link.place as usize)?;
+            let factor = row.entries.factor_of(variable)?;
+            let basic = self.variables.get_mut(row.base as usize)?;
+            basic.value = moved(basic.value, factor, row.scale, step)?;
+            basic.missed = missed(basic.limits, basic.value);
         }
         let known = self.variables.get_mut(variable as usize)?;
         known.value = known.value.plus(step).ok()?;
@@ -159,7 +166,7 @@ impl Table {
     }
 
     /// How many variables would miss a limit after a nonbasic one moved by a step, where `now` basic ones do before; `most` or
-    /// more where they are not fewer than that. Only the rows in which it counts are looked at.
+    /// more where they are not fewer than that.
     pub(crate) fn missed_after(
         &self,
         variable: u32,
@@ -169,48 +176,57 @@ impl Table {
     ) -> Option<u32> {
         let known = self.variable(variable)?;
         let value = known.value.plus(step).ok()?;
-        let mut count = now.saturating_add(u32::from(missed(known.limits, value).is_some()));
-        let mut left = known.count;
-        for row in self.rows.iter() {
-            let Some(factor) = row.factor_of(variable) else {
-                continue;
-            };
-            if count >= most.saturating_add(left) {
+        let own = u32::from(missed(known.limits, value).is_some());
+        let mended = self.changed_by(variable, step, true, u32::MAX)?;
+        let count = now.saturating_add(own).saturating_sub(mended);
+        let broken = self.changed_by(variable, step, false, most.saturating_sub(count))?;
+        Some(count.saturating_add(broken))
+    }
+
+    // After a nonbasic variable moved by a step, how many of the basic ones that miss a limit would miss none, or of those that
+    // miss none how many would miss one; `most` where they are as many or more.
+    fn changed_by(&self, variable: u32, step: Frac, misses: bool, most: u32) -> Option<u32> {
+        let mut count: u32 = 0;
+        let head = self.columns.head(variable)?;
+        let mut index = head.first;
+        for _ in 0..head.count {
+            if count >= most {
                 break;
             }
+            let link = self.columns.link(index)?;
+            index = link.next;
+            let row = self.rows.get(link.place as usize)?;
             let basic = self.variable(row.base)?;
-            let misses = would_miss(basic.limits, basic.value, factor, row.scale, step)?;
-            count = count
-                .saturating_add(u32::from(misses))
-                .saturating_sub(u32::from(basic.missed.is_some()));
-            left = left.saturating_sub(1);
-            if left == 0 {
-                break;
+            if basic.missed.is_some() == misses {
+                let factor = row.entries.factor_of(variable)?;
+                let after = would_miss(&basic.limits, basic.value, factor, row.scale, step)?;
+                count = count.saturating_add(u32::from(after != misses));
             }
         }
         Some(count)
     }
 
-    /// Puts a row in the place of another, and counts anew.
-    pub(crate) fn replace(&mut self, place: usize, row: TableRow) -> Option<()> {
-        let old = self.rows.get_mut(place)?;
-        for variable in old.entries.variables.iter() {
-            let known = self.variables.get_mut(*variable as usize)?;
-            known.count = known.count.saturating_sub(1);
-        }
-        self.stored = self.stored.saturating_sub(old.entries.len());
-        *old = row;
-        self.count(place)
-    }
-
-    /// Counts the entries of a row that is put in.
-    pub(crate) fn count(&mut self, place: usize) -> Option<()> {
-        let row = self.rows.get(place)?;
-        for variable in row.entries.variables.iter() {
-            let known = self.variables.get_mut(*variable as usize)?;
-            known.count = known.count.saturating_add(1);
-        }
+    /// Puts the row of a nonbasic variable in for it, in the row at a place. The one that was basic there comes to count in
+    /// this row too, which is not put down yet.
+    pub(crate) fn put_in(
+        &mut self,
+        alloc: Global,
+        place: u32,
+        solved: &TableRow,
+        basic: u32,
+    ) -> Option<()> {
+        let row = self.rows.get_mut(place as usize)?;
+        self.stored = self.stored.saturating_sub(row.entries.len());
+        row.put_in(alloc, &mut self.sum, solved)?;
         self.stored = self.stored.checked_add(row.entries.len())?;
+        for variable in self.sum.came.iter() {
+            if *variable != basic {
+                self.columns.add(*variable, place)?;
+            }
+        }
+        for variable in self.sum.gone.iter() {
+            self.columns.remove(*variable, place)?;
+        }
         Some(())
     }
 }
