@@ -3,11 +3,11 @@
 
 Each `verify` of examples/runs.txt is made as a page. Where the report is accepted, the page is parsed by the standard
 library's HTML parser: every tag is closed in its turn, no id stands twice, and nothing is loaded from elsewhere; the
-members that stand on it are those of the report, in its order, under their own names; and where examples/ has the page
-of the report (NAME.html for NAME.report), it is that page byte by byte. Where it is refused, the line and the status are
-those of `verify`. Then come a model whose names are markup, and a report of 401 members. Without words the program is
-the one that ./iisan-page proves and builds. The last line is 'N pages passed, M failed', and the status 1 where some page
-is not as it is to be.
+members that stand on it are those of the report and of its duals, in its order, under their own names; and where
+examples/ has the page of the report (NAME.html for NAME.report), it is that page byte by byte. Where it is refused, the
+line and the status are those of `verify`. Then come a model whose names are markup, and a report of 401 members.
+Without words the program is the one that ./iisan-page proves and builds. The last line is 'N pages passed, M failed',
+and the status 1 where some page is not as it is to be.
 """
 
 import os
@@ -59,6 +59,17 @@ class Page(HTMLParser):
             self.titles[-1] += data
 
 
+def members_of(report):
+    """The kind and the name of each member that is to stand on the page of a report: those listed, and those a dual uses."""
+    found, in_dual = [], False
+    for line in report.decode().splitlines():
+        word, *rest = line.split(" ")
+        in_dual = word == "dual" or (in_dual and word == "use")
+        if word == "member" or (in_dual and word == "use"):
+            found.append(rest[:2])
+    return found
+
+
 def faults_of(page, report):
     """What is wrong with the page of a report."""
     if not page.startswith(b"<!doctype html>\n"):
@@ -66,8 +77,7 @@ def faults_of(page, report):
     found = Page()
     found.feed(page.decode())
     found.close()
-    members = [line.split(" ")[1:] for line in report.decode().splitlines() if line.startswith("member ")]
-    wanted = [TITLES[kind] + name for kind, name in members]
+    wanted = [TITLES[kind] + name for kind, name in members_of(report)]
     wrong = [] if found.titles == wanted else ["other members than those of the report"]
     return found.faults + [f"{tag} is not closed" for tag in found.open] + wrong
 

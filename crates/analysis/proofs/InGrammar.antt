@@ -3,6 +3,7 @@ use Rattle.std.proofs.Common.{◌≡◌, ◌≢◌, ◌<◌, ◌≤◌, ◌+◌,
 use Rattle.std.specs.Prelude.{All, Contains, IsTrue}
 use Rattle.std.specs.List.{list_any}
 use Rattle.std.proofs.lemmas.Bool.{cases_lt}
+use Rattle.rational.specs.Rational.{ℚ}
 use Rattle.std.proofs.lemmas.List.{get_or_past, get_or_default}
 use Rattle.std.proofs.lemmas.List.Elements.{All-append, All-contains, All-contains_itself, All-cons, All-filter, All-head, All-nil, All-tail, All-weaker}
 use Rattle.std.proofs.lemmas.List.Kept.{AllPairs-filter}
@@ -19,13 +20,16 @@ use Rattle.certs.specs.declared.evidence.Node.{Node}
 use Rattle.certs.specs.declared.evidence.Node.TheVariants.{Split, Leaf}
 use Rattle.certs.specs.declared.evidence.Point.{Point}
 use Rattle.certs.specs.declared.evidence.Proof.{Proof}
+use Rattle.certs.specs.declared.evidence.Ray.{Ray}
+use Rattle.certs.specs.declared.evidence.Share.{Share}
+use Rattle.certs.specs.Bound.{IsBoundDual, without_marks}
 use Rattle.certs.specs.declared.evidence.Source.{Source}
 use Rattle.certs.specs.declared.evidence.Source.TheVariants.{Member as Of, Below, Above}
 use Rattle.certs.specs.declared.solving.Site.{Site}
 use Rattle.certs.specs.declared.solving.Stop.{Stop}
 use Rattle.certs.specs.declared.solving.Stop.TheVariants.{Wide as TooWide, Pivots as Spent, Nodes, Large, Memory}
 use Rattle.certs.specs.Named.{node_uses, used_set}
-use Rattle.certs.specs.Order.{AreLeavesInOrder, IsNodeInOrder}
+use Rattle.certs.specs.Order.{AreLeavesInOrder, AreSharesInOrder, IsNodeInOrder}
 use Rattle.certs.specs.Proof.{IsFittingNode, IsProof}
 use Rattle.certs.specs.Sites.{Budgets}
 use Rattle.certs.specs.Tales.{IsPointOf}
@@ -33,10 +37,11 @@ use Rattle.filter_steps.specs.Isolated.{without}
 use Rattle.report_text.specs.declared.report.Method.{Method}
 use Rattle.report_text.specs.declared.report.Method.TheVariants.{Deletion, Additive, Sensitivity}
 use Rattle.report_text.specs.declared.report.Core.{Core}
+use Rattle.report_text.specs.declared.report.Bounded.{Bounded}
 use Rattle.report_text.specs.declared.report.Command.{Command}
-use Rattle.report_text.specs.declared.report.Command.TheVariants.{Check, Iis, Reduce, Edit, Undo, Pivots, Nodes as MostNodes}
+use Rattle.report_text.specs.declared.report.Command.TheVariants.{Check, Iis, Unbounded, Reduce, Edit, Undo, Pivots, Nodes as MostNodes}
 use Rattle.report_text.specs.declared.report.Answer.{Answer}
-use Rattle.report_text.specs.declared.report.Answer.TheVariants.{Feasible, Infeasible, Irreducible, Reduced, Done, Refused, Stopped}
+use Rattle.report_text.specs.declared.report.Answer.TheVariants.{Feasible, Infeasible, Irreducible, Unbounded as RunsAway, Bounded as BoundedBy, Reduced, Done, Refused, Stopped}
 use Rattle.report_text.specs.declared.report.Entry.{Entry}
 use Rattle.lp_model.specs.declared.edits.Edit.{Edit as OneEdit}
 use Rattle.model_history.specs.History.{changes}
@@ -47,18 +52,21 @@ use Rattle.report_text.specs.Turns.{after, edits_after, AllEntries, entry_comman
 use Rattle.model_session.proofs.Standing.{after_well_formed}
 use Rattle.model_session.proofs.Unchanged.{same_names, rows_same, columns_same, row_name_same, column_name_same}
 use Rattle.report_text.specs.Grammar.{column_name}
-use Rattle.report_text.specs.Form.{is_one_leaf, is_word, IsNamedColumn, IsNamedMember, IsNamedRow, IsListed, IsPointFor, IsNamedSource, IsNodeFor, IsProofFor, IsSettleSite, IsSiteFor, IsStopFor, IsStepFor, IsCoreFor, IsAnswerFor, IsCommand, IsEntryFor, IsReportFor, AreEntriesFor, AreNumbered, can_answer}
+use Rattle.report_text.specs.Form.{is_one_leaf, is_word, AreUses, IsBoundedFor, IsRayFor, IsWithinLimit, IsNamedColumn, IsNamedMember, IsNamedRow, IsListed, IsPointFor, IsNamedSource, IsNodeFor, IsProofFor, IsRunSite, IsSiteFor, IsStopFor, IsStepFor, IsCoreFor, IsAnswerFor, IsCommand, IsEntryFor, IsReportFor, AreEntriesFor, AreNumbered, can_answer}
 use Rattle.evidence_printer.specs.Numbers.{IsStepWithin}
 use Rattle.reductions.specs.declared.steps.ReduceStep.{ReduceStep}
 use Rattle.reductions.specs.declared.steps.ReduceStep.TheVariants.{Empty, Singleton, Fixed, Redundant, Forcing, Doubleton}
 use Rattle.report_printer.specs.Printing.{IsKnownSource, IsKnownStep}
-use Rattle.report_printer.specs.Numbers.{HasNumbersWithin, HasValuesWithin, HasWeightsWithin, HasWitnessesWithin, IsCoreWithin, IsProofWithin, IsStopWithin}
+use Rattle.report_printer.specs.Numbers.{HasNumbersWithin, HasValuesWithin, IsBoundedWithin, IsRayWithin, HasWeightsWithin, HasWitnessesWithin, IsCoreWithin, IsProofWithin, IsStopWithin}
 use Rattle.analysis.specs.NamesAreWords.{HasWords}
+use Rattle.unbounded.specs.Diagnosed.{IsBoundedBy, IsUnboundedBy}
+use Rattle.analysis.specs.Objectives.{IsDiagnosed, IsImproveStop, IsTold, diagnosis_size, most_entries}
 use Rattle.analysis.specs.Right.{AreRight, IsChecked, IsIsolated, IsReduction, IsRefutation, IsRightAfter, IsRightCore, IsRightStop, IsWhole, Right, RightAfter, budgets_in_force}
 use Rattle.analysis.specs.Pieces.{Answers}
 use Rattle.analysis.proofs.Leaving.{known_steps}
 use Rattle.analysis.specs.Written.{report_of}
 use Rattle.analysis.proofs.Found.{part_possible, possible_members_are}
+use Rattle.analysis.proofs.Objectives.{dual_sources}
 use Rattle.analysis.proofs.Refuting.{IsSoundNode, sound_nodes}
 
 -- ---- lists
@@ -161,17 +169,17 @@ module _ (model : Program) (words : HasWords model) where
   }
 
   -- ---- stops
-  site_form : (site : Site) → IsSettleSite model site → IsSiteFor model site
+  site_form : (site : Site) → IsRunSite model site → IsSiteFor model site
   site_form site h = record {
-    settle = h;
+    run = h;
     named = All-filter (λ (m : Member). not (has site.set.members m)) (IsNamedMember model) (active_members model) active_named;
     path = All-weaker (λ (b : Branch). b.column < length model.columns) (λ (b : Branch). IsNamedColumn model b.column) (λ b l. named_column b.column l) site.path h.known;
   }
 
   stop_form : (IsTest : List Member → Type 0) (budgets : Budgets) (stop : Stop) → IsRightStop IsTest model budgets stop → IsStopWithin stop → IsStopFor model stop
-  stop_form IsTest budgets (TooWide site k o) h within = (site_form site h.0.settle, within)
-  stop_form IsTest budgets (Spent site) h within = site_form site h.0.settle
-  stop_form IsTest budgets (Nodes site) h within = site_form site h.0.settle
+  stop_form IsTest budgets (TooWide site k o) h within = (site_form site h.0.run, within)
+  stop_form IsTest budgets (Spent site) h within = site_form site h.0.run
+  stop_form IsTest budgets (Nodes site) h within = site_form site h.0.run
   stop_form IsTest budgets (Large size) h within = absurd h
   stop_form IsTest budgets Memory h within = absurd h
 
@@ -184,6 +192,8 @@ module _ (model : Program) (words : HasWords model) where
   checked_form budgets (Feasible p) h within = (refl, point_form (active_members model) p h.0 within)
   checked_form budgets (Infeasible printed proof) h within = (refl, refutation_form printed proof h.0 within)
   checked_form budgets (Irreducible core) h within = absurd h
+  checked_form budgets (RunsAway p ray) h within = absurd h
+  checked_form budgets (BoundedBy b) h within = absurd h
   checked_form budgets (Reduced r) h within = absurd h
   checked_form budgets Done h within = absurd h
   checked_form budgets (Refused r) h within = absurd h
@@ -193,10 +203,59 @@ module _ (model : Program) (words : HasWords model) where
   isolated_form IsKept IsTest method budgets (Feasible p) h within = (refl, point_form (active_members model) p h within)
   isolated_form IsKept IsTest method budgets (Infeasible printed proof) h within = absurd h
   isolated_form IsKept IsTest method budgets (Irreducible core) h within = (refl, core_form core h.0 within)
+  isolated_form IsKept IsTest method budgets (RunsAway p ray) h within = absurd h
+  isolated_form IsKept IsTest method budgets (BoundedBy b) h within = absurd h
   isolated_form IsKept IsTest method budgets (Reduced r) h within = absurd h
   isolated_form IsKept IsTest method budgets Done h within = absurd h
   isolated_form IsKept IsTest method budgets (Refused r) h within = absurd h
   isolated_form IsKept IsTest method budgets (Stopped stop) h within = (refl, stop_form IsTest budgets stop h within)
+
+  -- ---- the objective
+  ray_form : (p : Point) (ray : Ray) → IsUnboundedBy model (active_members model) p ray → IsRayWithin ray → IsRayFor model ray
+  ray_form p ray h within = record { len = h.each_column; fits = within; named = value_named (record { values = ray.values }) h.each_column }
+
+  uses_form : (shares : List Share) (b : ℚ) → IsBoundDual model (without_marks (active_members model)) shares b → AreSharesInOrder shares → All (λ s. IsWithinLimit s.weight) shares → AreUses model shares
+  uses_form shares b h ordered within = record {
+    each = λ k d l. record {
+      named = source_named (get_or shares k d).source (dual_sources model shares b h k d l);
+      positive = h.positive k d l;
+      fits = within k d l;
+    };
+    in_order = ordered;
+  }
+
+  bounded_form : (b : Bounded) → IsBoundedBy model (active_members model) b.point b.objective b.dual → IsBoundedWithin b → IsBoundedFor model b
+  bounded_form b h within = record {
+    point = point_form (active_members model) b.point h.point_of within.point;
+    objective = within.objective;
+    bound = within.dual.bound;
+    uses = uses_form b.dual.combo.shares b.dual.bound h.dual_of h.ordered within.dual.weights;
+  }
+
+  improve_form : (budgets : Budgets) (stop : Stop) → IsImproveStop model budgets stop → IsStopWithin stop → IsStopFor model stop
+  improve_form budgets (TooWide site k o) h within = (site_form site h.0, within)
+  improve_form budgets (Spent site) h within = site_form site h.0
+  improve_form budgets (Nodes site) h within = absurd h
+  improve_form budgets (Large size) h within = absurd h
+  improve_form budgets Memory h within = absurd h
+
+  told_form : (budgets : Budgets) (answer : Answer) → IsTold model budgets answer → HasNumbersWithin answer → IsAnswerTo Unbounded answer
+  told_form budgets (Feasible p) h within = absurd h
+  told_form budgets (Infeasible printed proof) h within = (refl, refutation_form printed proof h within)
+  told_form budgets (Irreducible core) h within = absurd h
+  told_form budgets (RunsAway p ray) h within = (refl, (point_form (active_members model) p h.0.point_of within.0, ray_form p ray h.0 within.1))
+  told_form budgets (BoundedBy b) h within = (refl, bounded_form b h.0 within)
+  told_form budgets (Reduced r) h within = absurd h
+  told_form budgets Done h within = absurd h
+  told_form budgets (Refused r) h within = absurd h
+  told_form budgets (Stopped stop) (inl h) within = (refl, stop_form (IsWhole model) budgets stop h within)
+  told_form budgets (Stopped stop) (inr h) within = (refl, improve_form budgets stop h within)
+
+  diagnosed_form : (budgets : Budgets) (answer : Answer) → IsDiagnosed model budgets answer → HasNumbersWithin answer → IsAnswerTo Unbounded answer
+  diagnosed_form budgets answer h within = elim (cases_lt most_entries (diagnosis_size model)) [
+    | inl l ↦ subst (IsAnswerTo Unbounded) (sym (h.large l)) (refl, subst HasNumbersWithin (h.large l) within)
+    | inr l ↦ told_form budgets answer (h.told l) within
+  ]
 
   -- ---- reductions
   named_row : (i : ℕ) → i < length model.rows → IsNamedRow model i
@@ -217,11 +276,14 @@ module _ (model : Program) (words : HasWords model) where
   reduction_form formed (Infeasible printed proof) h within = (ap is_one_leaf h.1.1.1.leaf, refutation_form printed proof h.0 within)
   reduction_form formed (Feasible p) h within = absurd h
   reduction_form formed (Irreducible core) h within = absurd h
+  reduction_form formed (RunsAway p ray) h within = absurd h
+  reduction_form formed (BoundedBy b) h within = absurd h
   reduction_form formed Done h within = absurd h
   reduction_form formed (Refused r) h within = absurd h
   reduction_form formed (Stopped stop) h within = absurd h
 
   answer_form : IsWellFormed model → (budgets : Budgets) (command : Command) (answer : Answer) → Right model budgets command answer → HasNumbersWithin answer → IsAnswerTo command answer
+  answer_form formed budgets Unbounded answer h within = diagnosed_form budgets answer h within
   answer_form formed budgets Reduce answer h within = reduction_form formed answer h within
   answer_form formed budgets Check answer h within = checked_form budgets answer h within
   answer_form formed budgets (Iis Deletion) answer h within = isolated_form _ _ Deletion budgets answer h within
@@ -264,6 +326,7 @@ module _ (model : Program) (words : HasWords model) where
   right_form before formed (Iis method) answer h within = answer_form (after model before) (words_stand model before words) formed (budgets_in_force before) (Iis method) answer h within
   right_form before formed (Edit e) answer h within = subst (IsAnswerTo (after model before) (words_stand model before words) (Edit e)) (sym h) (edit_form (after model before) (words_stand model before words) e (after model before) (named_edit model e))
   right_form before formed Undo answer h within = subst (IsAnswerTo (after model before) (words_stand model before words) Undo) (sym h) (undo_form (after model before) (words_stand model before words) (edits_after model before))
+  right_form before formed Unbounded answer h within = answer_form (after model before) (words_stand model before words) formed (budgets_in_force before) Unbounded answer h within
   right_form before formed Reduce answer h within = answer_form (after model before) (words_stand model before words) formed (budgets_in_force before) Reduce answer h within
   right_form before formed (Pivots n) answer h within = answer_form (after model before) (words_stand model before words) formed (budgets_in_force before) (Pivots n) answer h within
   right_form before formed (MostNodes n) answer h within = answer_form (after model before) (words_stand model before words) formed (budgets_in_force before) (MostNodes n) answer h within

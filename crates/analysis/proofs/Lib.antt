@@ -11,3 +11,4 @@ pub mod Searched
 pub mod Sofar
 pub mod Report
 pub mod InGrammar
+pub mod Objectives

@@ -9,9 +9,9 @@ use Rattle.report_text.specs.declared.report.Method.{Method}
 use Rattle.report_text.specs.declared.report.NamedEdit.{NamedEdit}
 use Rattle.report_text.specs.declared.report.Refusal.{Refusal}
 use Rattle.report_text.specs.declared.report.Command.{Command}
-use Rattle.report_text.specs.declared.report.Command.TheVariants.{Check, Iis, Reduce, Edit, Undo, Pivots, Nodes}
+use Rattle.report_text.specs.declared.report.Command.TheVariants.{Check, Iis, Unbounded, Reduce, Edit, Undo, Pivots, Nodes}
 use Rattle.report_text.specs.declared.report.Answer.{Answer}
-use Rattle.report_text.specs.declared.report.Answer.TheVariants.{Feasible, Infeasible, Irreducible, Reduced, Done, Refused, Stopped}
+use Rattle.report_text.specs.declared.report.Answer.TheVariants.{Feasible, Infeasible, Irreducible, Unbounded as RunsAway, Bounded as BoundedBy, Reduced, Done, Refused, Stopped}
 use Rattle.report_text.specs.declared.phrases.Phrase.{Phrase}
 use Rattle.report_text.specs.Edits.{named_edit, edit_answer, undo_answer}
 use Rattle.report_text.specs.Turns.{after, edits_after}
@@ -21,6 +21,7 @@ use Rattle.model_session.proofs.Standing.{edits_after-push}
 use Rattle.model_session.proofs.Taken.{session_stays}
 use Rattle.model_session.proofs.Unchanged.{same_names, phrases_text_same}
 use Rattle.report_printer.specs.Printing.{IsKnownAnswer}
+use Rattle.analysis.specs.Objectives.{IsDiagnosed}
 use Rattle.analysis.specs.Right.{IsChecked, IsFound, IsReduction, RightAfter, budgets_in_force}
 use Rattle.analysis.specs.Answers.{IsNext}
 use Rattle.analysis.specs.Pieces.{entry_text}
@@ -41,6 +42,12 @@ module _ (old : HistoryValue) (budgets : Budgets) where
   search_next method answer h = record {
     goes_on = λ first before e. e ∙ session_stays first before (Iis method) refl;
     right = λ first before e b. here (λ p c. IsFound method p c answer) old budgets first before e b h;
+  }
+
+  pub diagnosis_next : (answer : Answer) → IsDiagnosed old.model budgets answer → IsNext old old budgets Unbounded answer
+  diagnosis_next answer h = record {
+    goes_on = λ first before e. e ∙ session_stays first before Unbounded refl;
+    right = λ first before e b. here (λ p c. IsDiagnosed p c answer) old budgets first before e b h;
   }
 
   pub reduce_next : (answer : Answer) → IsReduction old.model answer → IsNext old old budgets Reduce answer
@@ -76,6 +83,8 @@ pub known_reply : (model : Program) (answer : Answer) → IsReply answer → IsK
 known_reply model (Feasible p) h = absurd h
 known_reply model (Infeasible set proof) h = absurd h
 known_reply model (Irreducible core) h = absurd h
+known_reply model (RunsAway p ray) h = absurd h
+known_reply model (BoundedBy b) h = absurd h
 known_reply model (Reduced r) h = absurd h
 known_reply model Done h = tt
 known_reply model (Refused r) h = tt
@@ -96,6 +105,11 @@ pub search_nexts : {E : Type 0} (old : HistoryValue) (budgets : Budgets) (method
     → model ≡ old.model → IfOk result (IsFound method model budgets) → IfOk result (IsNext old old budgets (Iis method))
 search_nexts old budgets method model (Ok answer) e h = search_next old budgets method answer (subst (λ p. IsFound method p budgets answer) e h)
 search_nexts old budgets method model (Err error) e h = tt
+
+pub diagnosis_nexts : {E : Type 0} (old : HistoryValue) (budgets : Budgets) (model : Program) (result : Result Answer E)
+    → model ≡ old.model → IfOk result (IsDiagnosed model budgets) → IfOk result (IsNext old old budgets Unbounded)
+diagnosis_nexts old budgets model (Ok answer) e h = diagnosis_next old budgets answer (subst (λ p. IsDiagnosed p budgets answer) e h)
+diagnosis_nexts old budgets model (Err error) e h = tt
 
 pub reduce_nexts : {E : Type 0} (old : HistoryValue) (budgets : Budgets) (model : Program) (result : Result Answer E)
     → model ≡ old.model → IfOk result (IsReduction model) → IfOk result (IsNext old old budgets Reduce)
@@ -132,6 +146,7 @@ module _ (first : Program) (before : List Command) where
   same_phrases : (c : Command) (a : Answer) → RightAfter first before c a → answer_phrases (after first (before ++ c ∷ [])) a ≡ answer_phrases (after first before) a
   same_phrases Check a h = left Check a (edits_after-push first before Check)
   same_phrases (Iis method) a h = left (Iis method) a (edits_after-push first before (Iis method))
+  same_phrases Unbounded a h = left Unbounded a (edits_after-push first before Unbounded)
   same_phrases Reduce a h = left Reduce a (edits_after-push first before Reduce)
   same_phrases (Pivots n) a h = left (Pivots n) a (edits_after-push first before (Pivots n))
   same_phrases (Nodes n) a h = left (Nodes n) a (edits_after-push first before (Nodes n))

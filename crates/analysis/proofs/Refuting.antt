@@ -73,7 +73,7 @@ lower_known n j (b ∷ path) h s = by (λ z. lower_known n j path (All-tail (λ 
 
 -- ---- what a proof of some members of the program names
 module _ (model : Program) (part : List Member) (possible : All (IsPossibleIn (active_set model)) part) where
-  known_source : (path : List Branch) (source : Source) → All (λ b. b.column < length model.columns) path → IsFrom part source → IsSome (source_number model path source) → IsKnownSource model source
+  pub known_source : (path : List Branch) (source : Source) → All (λ b. b.column < length model.columns) path → IsFrom part source → IsSome (source_number model path source) → IsKnownSource model source
   known_source path (Of m) known from number = All-contains (IsPossibleIn (active_set model)) part m possible from
   known_source path (Below j) known from number = upper_known (length model.columns) j path known number
   known_source path (Above j) known from number = lower_known (length model.columns) j path known number

@@ -25,7 +25,8 @@ use Rattle.branch_proof.proofs.TreeStops.{reference_stopped}
 use Rattle.presolve_laws.specs.Answers.{IsPresolvedReference, IsPresolvedVerdict, IsUneased, set_system}
 use Rattle.presolve_laws.specs.Eased.{IsEased}
 use Rattle.report_text.specs.declared.report.Answer.{Answer}
-use Rattle.report_text.specs.declared.report.Answer.TheVariants.{Feasible, Infeasible, Irreducible, Reduced, Done, Refused, Stopped}
+use Rattle.report_text.specs.declared.report.Answer.TheVariants.{Feasible, Infeasible, Irreducible, Unbounded as RunsAway, Bounded as BoundedBy, Reduced, Done, Refused, Stopped}
+use Rattle.report_text.specs.Form.{is_run_kind}
 use Rattle.report_printer.specs.Printing.{IsKnownAnswer, IsKnownSite, IsKnownStop}
 use Rattle.analysis.specs.Answers.{IsPossibleSite, IsStopAnswer, IsToldStop}
 use Rattle.analysis.specs.Right.{IsChecked, IsIsolated, IsRightStop, IsSiteOf, IsWhole}
@@ -54,7 +55,7 @@ active_site model set of possible part =
     by m true e = sym (ap (λ a. a && has set.members m) (active m e))
     by m false e = e ∙ sym (ap (λ b. is_active model m && b) e ∙ and_false (is_active model m))
 
-empty_is : (model : Program) (set : SetValue) → IsSetOf model set → set.members ≡ [] → set ≡ empty_set model
+pub empty_is : (model : Program) (set : SetValue) → IsSetOf model set → set.members ≡ [] → set ≡ empty_set model
 empty_is model set of none =
     ap (λ (n : ℕ). record set { rows = n }) of.rows
     ∙ ap (λ (n : ℕ). record set { rows = length model.rows; columns = n }) of.columns
@@ -67,14 +68,15 @@ IsUneasedSet model budgets set = has_mark set ≡ false → IsEased (set_system 
 -- the site of a node, whose path is known and fits
 site_of : (model : Program) (budgets : Budgets) (asked : List Member) (site : Site) → IsTreeSite model asked site → IsUneasedSet model budgets asked → IsPossibleSite site → IsPart asked (active_members model) → IsSiteOf (λ s. s ≡ asked) model budgets site
 site_of model budgets asked site h uneased possible part = record {
-  settle = record {
-    kind = h.node.kind;
+  run = record {
+    kind = ap is_run_kind h.node.kind;
     of_model = h.node.set_of;
     active = active_site model site.set h.node.set_of possible (subst (λ l. IsPart l (active_members model)) (sym h.node.set_is) part);
     enforced_is = empty_is model site.enforced h.node.enforced_of h.node.none_enforced;
     known = h.known;
     fits = h.fits;
   };
+  settles = h.node.kind;
   test = h.node.set_is;
   uneased = subst (IsUneasedSet model budgets) (sym h.node.set_is) uneased;
 }
@@ -139,7 +141,7 @@ right_stop model budgets asked Memory answer h part told = absurd told
 
 -- ---- stops that pass a test
 site_passes : (IsTest : List Member → Type 0) (model : Program) (budgets : Budgets) (asked : List Member) (site : Site) → IsTest asked → IsSiteOf (λ s. s ≡ asked) model budgets site → IsSiteOf IsTest model budgets site
-site_passes IsTest model budgets asked site test h = record { settle = h.settle; test = subst IsTest (sym h.test) test; uneased = h.uneased }
+site_passes IsTest model budgets asked site test h = record { run = h.run; settles = h.settles; test = subst IsTest (sym h.test) test; uneased = h.uneased }
 
 stop_passes : (IsTest : List Member → Type 0) (model : Program) (budgets : Budgets) (asked : List Member) → IsTest asked → (stop : Stop) → IsRightStop (λ s. s ≡ asked) model budgets stop → IsRightStop IsTest model budgets stop
 stop_passes IsTest model budgets asked test (Wide site turn wide) h = (site_passes IsTest model budgets asked site test h.0, h.1)
@@ -152,6 +154,8 @@ passes : (IsTest : List Member → Type 0) (model : Program) (budgets : Budgets)
 passes IsTest model budgets asked test (Feasible point) h = absurd h
 passes IsTest model budgets asked test (Infeasible printed proof) h = absurd h
 passes IsTest model budgets asked test (Irreducible core) h = absurd h
+passes IsTest model budgets asked test (RunsAway p ray) h = absurd h
+passes IsTest model budgets asked test (BoundedBy b) h = absurd h
 passes IsTest model budgets asked test (Reduced r) h = absurd h
 passes IsTest model budgets asked test Done h = absurd h
 passes IsTest model budgets asked test (Refused r) h = absurd h
@@ -168,6 +172,8 @@ isolated_answer : (IsKept IsTest : List Member → Type 0) (model : Program) (bu
 isolated_answer IsKept IsTest model budgets (Feasible point) h = absurd h
 isolated_answer IsKept IsTest model budgets (Infeasible printed proof) h = absurd h
 isolated_answer IsKept IsTest model budgets (Irreducible core) h = absurd h
+isolated_answer IsKept IsTest model budgets (RunsAway p ray) h = absurd h
+isolated_answer IsKept IsTest model budgets (BoundedBy b) h = absurd h
 isolated_answer IsKept IsTest model budgets (Reduced r) h = absurd h
 isolated_answer IsKept IsTest model budgets Done h = absurd h
 isolated_answer IsKept IsTest model budgets (Refused r) h = absurd h
@@ -181,6 +187,8 @@ checked_answer : (model : Program) (budgets : Budgets) (answer : Answer) → IsS
 checked_answer model budgets (Feasible point) h = absurd h
 checked_answer model budgets (Infeasible printed proof) h = absurd h
 checked_answer model budgets (Irreducible core) h = absurd h
+checked_answer model budgets (RunsAway p ray) h = absurd h
+checked_answer model budgets (BoundedBy b) h = absurd h
 checked_answer model budgets (Reduced r) h = absurd h
 checked_answer model budgets Done h = absurd h
 checked_answer model budgets (Refused r) h = absurd h
@@ -192,7 +200,7 @@ checked_stop model budgets (Err error) h = tt
 
 -- ---- and can be printed
 known_site : (IsTest : List Member → Type 0) (model : Program) (budgets : Budgets) (site : Site) → IsSiteOf IsTest model budgets site → IsKnownSite model site
-known_site IsTest model budgets site h = record { set = h.settle.of_model; path = h.settle.known }
+known_site IsTest model budgets site h = record { set = h.run.of_model; path = h.run.known }
 
 pub known_stop : (IsTest : List Member → Type 0) (model : Program) (budgets : Budgets) (stop : Stop) → IsRightStop IsTest model budgets stop → IsKnownStop model stop
 known_stop IsTest model budgets (Wide site turn wide) h = known_site IsTest model budgets site h.0
@@ -205,6 +213,8 @@ known_answer : (IsTest : List Member → Type 0) (model : Program) (budgets : Bu
 known_answer IsTest model budgets (Feasible point) h = absurd h
 known_answer IsTest model budgets (Infeasible printed proof) h = absurd h
 known_answer IsTest model budgets (Irreducible core) h = absurd h
+known_answer IsTest model budgets (RunsAway p ray) h = absurd h
+known_answer IsTest model budgets (BoundedBy b) h = absurd h
 known_answer IsTest model budgets (Reduced r) h = absurd h
 known_answer IsTest model budgets Done h = tt
 known_answer IsTest model budgets (Refused r) h = tt

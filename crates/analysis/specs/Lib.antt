@@ -1,3 +1,5 @@
+pub mod Stops
+pub mod Objectives
 pub mod Puts
 pub mod NamesAreWords
 pub mod Reduced

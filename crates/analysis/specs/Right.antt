@@ -1,9 +1,9 @@
 -- What it is for an answer to be right: of the program, within the budgets in force, to its command.
-use Rattle.std.specs.Prelude.{◌≡◌, ◌≢◌, ◌⊎◌, ◌*◌, ◌≤◌, true, false, List, [], ◌++◌, fold, Option, Some, None, All}
+use Rattle.std.specs.Prelude.{◌≡◌, ◌≢◌, ◌⊎◌, ◌*◌, ◌≤◌, true, List, [], ◌++◌, fold, Option, Some, None, All}
 use Rattle.lp_model.specs.Program.{Program}
 use Rattle.lp_model.specs.declared.members.Member.{Member}
 use Rattle.lp_model.specs.Members.{active_members, IsInOrder}
-use Rattle.lp_model.specs.MemberSets.{SetValue, active_set}
+use Rattle.lp_model.specs.MemberSets.{SetValue}
 use Rattle.lp_model.specs.Satisfaction.{IsPart, IsIrreducible}
 use Rattle.certs.specs.declared.evidence.Point.{Point}
 use Rattle.certs.specs.declared.evidence.Proof.{Proof}
@@ -13,56 +13,30 @@ use Rattle.certs.specs.Order.{AreLeavesInOrder}
 use Rattle.certs.specs.Tales.{IsPointOf}
 use Rattle.certs.specs.Filter.{Late, Early, IsLateTest, IsEarlyTest}
 use Rattle.certs.specs.declared.solving.Site.{Site}
-use Rattle.certs.specs.declared.solving.Stop.{Stop}
-use Rattle.certs.specs.declared.solving.Stop.TheVariants.{Wide, Pivots as Spent, Nodes, Large, Memory}
+use Rattle.certs.specs.declared.solving.Stop.TheVariants.{Nodes}
 use Rattle.certs.specs.Proof.{IsProof, IsFittingNode}
-use Rattle.certs.specs.Named.{used_set}
-use Rattle.certs.specs.Sites.{Budgets, IsStopped}
+use Rattle.certs.specs.Sites.{Budgets}
 use Rattle.certs.specs.System.{VariableShare}
 use Rattle.certs.specs.Trees.{TreeEnd, HasTree, IsTree, has_mark}
 use Rattle.filter_steps.specs.Isolated.{AreWitnesses}
 use Rattle.presolve_laws.specs.Answers.{IsLeafOf, IsPresolvedReference, set_system}
-use Rattle.presolve_laws.specs.Eased.{DecidesBy, IsEased}
+use Rattle.presolve_laws.specs.Eased.{DecidesBy}
 use Rattle.tree_laws.specs.Boxes.{Box, IsBoxOf, volume}
 use Rattle.report_text.specs.declared.report.Method.{Method}
 use Rattle.report_text.specs.declared.report.Method.TheVariants.{Deletion, Additive, Sensitivity}
 use Rattle.report_text.specs.declared.report.Core.{Core}
 use Rattle.report_text.specs.declared.report.Command.{Command}
-use Rattle.report_text.specs.declared.report.Command.TheVariants.{Check, Iis, Reduce, Edit, Undo, Pivots, Nodes as MostNodes}
+use Rattle.report_text.specs.declared.report.Command.TheVariants.{Check, Iis, Unbounded, Reduce, Edit, Undo, Pivots, Nodes as MostNodes}
 use Rattle.report_text.specs.declared.report.Answer.{Answer}
 use Rattle.report_text.specs.declared.report.Answer.TheVariants.{Feasible, Infeasible, Irreducible, Reduced, Done, Stopped}
 use Rattle.report_text.specs.declared.report.Entry.{Entry}
 use Rattle.report_text.specs.Turns.{after, answer_after, entry_commands, AllEntries}
-use Rattle.report_text.specs.Form.{IsSettleSite}
 use Rattle.report_printer.specs.Numbers.{HasNumbersWithin}
 use Rattle.analysis.specs.Reduced.{IsReducedTo}
+use Rattle.analysis.specs.Objectives.{IsDiagnosed}
+pub use Rattle.analysis.specs.Stops.{IsRefutation, IsSiteOf, IsRightStop, IsWhole}
 
 -- ---- answers
--- The proof is one of the printed members, the shares of each leaf stand in order, the numbers of its splits fit, and these are the active members that it uses.
-pub record IsRefutation (model : Program) (printed : SetValue) (proof : Proof) : Type 0 where
-  pub proves : IsProof model printed.members proof.nodes
-  pub ordered : AreLeavesInOrder proof.nodes
-  pub fits : All IsFittingNode proof.nodes
-  pub used : printed ≡ used_set (active_set model) proof.nodes
-
--- The site is a settle run of a set of active members that passes the test; and where none of them is a mark, their plain system is not eased.
-pub record IsSiteOf (IsTest : List Member → Type 0) (model : Program) (budgets : Budgets) (site : Site) : Type 0 where
-  pub settle : IsSettleSite model site
-  pub test : IsTest site.set.members
-  pub uneased : has_mark site.set.members ≡ false → IsEased (set_system model site.set.members) budgets.pivots → ⊥
-
--- the stop's site is one of such a set, and its own run stops so within the budgets
-abbrev pub IsRightStop : (List Member → Type 0) → Program → Budgets → Stop → Type 0
-IsRightStop IsTest model budgets (Wide site k o) = IsSiteOf IsTest model budgets site × IsStopped model budgets (Wide site k o)
-IsRightStop IsTest model budgets (Spent site) = IsSiteOf IsTest model budgets site × IsStopped model budgets (Spent site)
-IsRightStop IsTest model budgets (Nodes site) = IsSiteOf IsTest model budgets site × IsStopped model budgets (Nodes site)
-IsRightStop IsTest model budgets (Large size) = ⊥
-IsRightStop IsTest model budgets Memory = ⊥
-
--- a check asks for all active members
-abbrev pub IsWhole : Program → List Member → Type 0
-IsWhole model set = set ≡ active_members model
-
 -- where some active member is a mark, the tree of the active members ends so
 abbrev pub TreeFinds : Program → Budgets → Point → Type 0
 TreeFinds model budgets point = has_mark (active_members model) ≡ true → HasTree model (active_members model) budgets.pivots budgets.nodes (TreeEnd.Found point.values)
@@ -137,6 +111,7 @@ IsReduction model _ = ⊥
 abbrev pub Right : Program → Budgets → Command → Answer → Type 0
 Right model budgets Check answer = IsChecked model budgets answer
 Right model budgets (Iis method) answer = IsFound method model budgets answer
+Right model budgets Unbounded answer = IsDiagnosed model budgets answer
 Right model budgets Reduce answer = IsReduction model answer
 Right model budgets (Edit e) answer = ⊥
 Right model budgets Undo answer = ⊥

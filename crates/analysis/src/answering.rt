@@ -10,6 +10,7 @@ ghost use Rattle.analysis.specs.Answers.{IsNext, IsRefutedBy, budgets_of, fresh_
 ghost use Rattle.analysis.specs.Right.{HasNodesInBox, IsChecked, budgets_after, first_budgets as budgets_at_first};
 
 use crate::asking::{Reference, quick_oracle};
+use crate::diagnosing::diagnosis;
 use crate::reducing::reduction;
 use crate::searching::{search, stopped};
 use certs::{MemberSet, Oracle, Proof, Verdict, members_used};
@@ -70,6 +71,7 @@ pub(crate) fn answer(
     match command {
         Command::Check => check(alloc, session.model(), budgets, kept),
         Command::Iis(method) => search(alloc, session.model(), budgets, *method, kept),
+        Command::Unbounded => diagnosis(alloc, session.model(), budgets, kept),
         Command::Reduce => reduction(alloc, session.model()),
         Command::Edit(edit) => session.take_edit(edit),
         Command::Undo => Ok(session.take_undo()),

@@ -3,6 +3,7 @@
 
 mod answering;
 mod asking;
+mod diagnosing;
 mod pieces;
 mod reducing;
 mod searching;

@@ -127,7 +127,11 @@ fn steps_by(alloc: Global, rows: &[u32], told: &[ReduceStep]) -> Result<Vec<Redu
 }
 
 // The numbers of the rows of which the set has a side.
-fn set_rows(alloc: Global, model: &Model, set: &MemberSet) -> Result<Vec<u32>, AllocError>
+pub(crate) fn set_rows(
+    alloc: Global,
+    model: &Model,
+    set: &MemberSet,
+) -> Result<Vec<u32>, AllocError>
     requires same { IsSetOf model.now set.now }
     ensures { IfOk result (λ rows. rows.items ≡ rows_in model.now set.now.members) }
 {

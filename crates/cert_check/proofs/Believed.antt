@@ -15,6 +15,7 @@ use Rattle.lp_model.proofs.Walk.{list_without}
 use Rattle.certs.specs.declared.evidence.Checked.{Checked}
 use Rattle.certs.specs.declared.evidence.Checked.TheVariants.{Yes, No, Wide}
 use Rattle.certs.specs.declared.evidence.Point.{Point}
+use Rattle.certs.specs.Bound.{RayLaw, ValidBoundLaw}
 use Rattle.certs.specs.Checks.{outcome, point_steps}
 use Rattle.certs.proofs.Passed.{point_check_law}
 use Rattle.certs.proofs.Sound.{satisfiable_law}
@@ -24,7 +25,7 @@ use Rattle.branch_proof.specs.declared.checks.Judged.{Judged}
 use Rattle.branch_proof.specs.Walk.{judgement}
 use Rattle.branch_proof.proofs.Judgements.{told}
 use Rattle.report_text.specs.declared.report.Answer.{Answer}
-use Rattle.report_text.specs.declared.report.Answer.TheVariants.{Feasible, Infeasible, Irreducible, Reduced, Done, Refused, Stopped}
+use Rattle.report_text.specs.declared.report.Answer.TheVariants.{Feasible, Infeasible, Irreducible, Unbounded as RunsAway, Bounded as BoundedBy, Reduced, Done, Refused, Stopped}
 use Rattle.report_text.specs.declared.report.Command.{Command}
 use Rattle.report_text.specs.declared.report.Entry.{Entry}
 use Rattle.report_text.specs.contracts.report.RefusalPartialEq.TheImpl.{ghosts as refusal_test}
@@ -36,6 +37,7 @@ use Rattle.report_text.specs.Grammar.{witness_phrases}
 use Rattle.cert_check.specs.Trials.{said, paired_trials, same_note, is_active_use, judged_trials, proof_members, proof_trials, others, witness_trials, witnesses_of, answer_trials, same_reply, reply_trials, entry_trials, entries_trials, Trial, trials, unless_failed, outcome_of, IsAccepted}
 use Rattle.cert_check.specs.Stops.{first_stop, stop_or}
 use Rattle.cert_check.specs.Truth.{IsTrueAnswer, AreTrue, AcceptedLaw}
+use Rattle.cert_check.proofs.Bounding.{unbounded_at, bounded_at}
 use Rattle.cert_check.proofs.Firsts.{found_yes, parts_pass}
 
 said_yes : (b : Bool) → said b ≡ Yes → b ≡ true
@@ -116,18 +118,18 @@ believed_proof model set n proof f e =
     let judged = judgement model set proof.nodes in
     (told model set proof.nodes judged f refl).unsatisfiable (judged_yes n proof.nodes judged e)
 
--- ---- answers
-pub true_answer : (model : Program) (n : ℕ) (a : Answer) → IsWellFormed model → IsAnswerFor model a → first_stop (answer_trials model n a) ≡ None → IsTrueAnswer model a
-true_answer model n (Feasible p) f h e =
+-- ---- answers, by the laws of rays and bounds
+pub true_answer : (rays : RayLaw) (bounds : ValidBoundLaw) (model : Program) (n : ℕ) (a : Answer) → IsWellFormed model → IsAnswerFor model a → first_stop (answer_trials model n a) ≡ None → IsTrueAnswer model a
+true_answer rays bounds model n (Feasible p) f h e =
     point_check_law limit model (active_members model) (values_at p.values) (found_yes (n + 2) (outcome (point_steps model (active_members model) (values_at p.values))) None e).0
-true_answer model n (Infeasible set proof) f h e =
+true_answer rays bounds model n (Infeasible set proof) f h e =
     let line = n + (3 + length set.members) in
     let both = parts_pass (paired_trials (is_active_use model) (n + 2) set.members (proof_members model proof)) (proof_trials model set.members line proof) e in
     record {
       active = part_of_active model set.members (pairs_on model (n + 2) set.members (proof_members model proof) both.0);
       unsatisfiable = believed_proof model set.members line proof f both.1;
     }
-true_answer model n (Irreducible core) f h e =
+true_answer rays bounds model n (Irreducible core) f h e =
     let set = core.members.members in
     let line = n + (3 + length (flat_map witness_phrases (witnesses_of core))) in
     let both = parts_pass (witness_trials model set (n + 2) (witnesses_of core)) (proof_trials model set line core.proof) e in
@@ -139,10 +141,12 @@ true_answer model n (Irreducible core) f h e =
       witnessed = All-weaker (Tried model set) (λ w. Satisfies model (others set w.0) (values_at w.1.values)) (λ w t. point_check_law limit model (others set w.0) (values_at w.1.values) t.1) (witnesses_of core) each;
       irreducible = record { cannot = cannot; minimal = irreducible_by model set core.witnesses h.members.in_order h.each each };
     }
-true_answer model n (Reduced r) f h e = tt
-true_answer model n Done f h e = tt
-true_answer model n (Refused r) f h e = tt
-true_answer model n (Stopped stop) f h e = tt
+true_answer rays bounds model n (RunsAway p ray) f h e = unbounded_at model rays bounds n p ray e
+true_answer rays bounds model n (BoundedBy b) f h e = bounded_at model rays bounds n b f e
+true_answer rays bounds model n (Reduced r) f h e = tt
+true_answer rays bounds model n Done f h e = tt
+true_answer rays bounds model n (Refused r) f h e = tt
+true_answer rays bounds model n (Stopped stop) f h e = tt
 
 -- ---- edits and undos
 same_refusal : (r s : Refusal) → refusal_test.eq r s ≡ true → s ≡ r
@@ -163,19 +167,19 @@ right_reply (Some given) n a e right is =
     same_reply_same given a (said_yes (same_reply given a) (found_yes (n + 1) (said (same_reply given a)) None e).0) ∙ same
 
 -- ---- entries
-pub true_entries : (model : Program) (before : List Command) (entries : List Entry) → IsWellFormed model → All IsCommand before → AreEntriesFor model before entries → first_stop (entries_trials model before entries) ≡ None → AreTrue model before entries
-true_entries model before [] f asked h e = tt
-true_entries model before (t ∷ entries) f asked h e =
+pub true_entries : (rays : RayLaw) (bounds : ValidBoundLaw) (model : Program) (before : List Command) (entries : List Entry) → IsWellFormed model → All IsCommand before → AreEntriesFor model before entries → first_stop (entries_trials model before entries) ≡ None → AreTrue model before entries
+true_entries rays bounds model before [] f asked h e = tt
+true_entries rays bounds model before (t ∷ entries) f asked h e =
     let now = after model before in
     let next = before ++ t.command ∷ [] in
     let both = parts_pass (entry_trials model before t) (entries_trials model next entries) e in
     let own = parts_pass (answer_trials now t.line t.answer) (reply_trials (answer_after model before t.command) t.line t.answer) both.0 in
     let more : All IsCommand next = All-append IsCommand before (t.command ∷ []) asked (All-cons IsCommand t.command [] h.0.command (All-nil IsCommand)) in (
       record {
-        answer = true_answer now t.line t.answer (after_well_formed model before f asked) h.0.answer own.0;
+        answer = true_answer rays bounds now t.line t.answer (after_well_formed model before f asked) h.0.answer own.0;
         reply = right_reply (answer_after model before t.command) t.line t.answer own.1;
       },
-      true_entries model next entries f more h.1 both.1,
+      true_entries rays bounds model next entries f more h.1 both.1,
     )
 
 -- where a check accepts, nothing stops it
@@ -188,7 +192,7 @@ accepted_passes entries (t ∷ list) a = by t.found a (accepted_passes entries l
     by No b rest = absurd b
     by (Wide o) b rest = absurd b
 
-pub accepted_is_true : AcceptedLaw
-accepted_is_true model report f form a =
+pub accepted_is_true : RayLaw → ValidBoundLaw → AcceptedLaw
+accepted_is_true rays bounds model report f form a =
     let both = parts_pass (paired_trials same_note 2 report.notes model.notes) (entries_trials model [] report.entries) (accepted_passes report.entries (trials model report) a) in
-    (same_notes 2 report.notes model.notes both.0, true_entries model [] report.entries f (All-nil IsCommand) form.entries both.1)
+    (same_notes 2 report.notes model.notes both.0, true_entries rays bounds model [] report.entries f (All-nil IsCommand) form.entries both.1)

@@ -6,5 +6,6 @@ pub mod Witnessed
 pub mod Entered
 pub mod Ended
 pub mod Counted
+pub mod Bounding
 pub mod Believed
 mod Examples

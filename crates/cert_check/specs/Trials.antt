@@ -1,5 +1,5 @@
 -- The trials of a report: which lines can fail against a program, in the order of the lines, and what is found there.
-use Rattle.std.specs.Prelude.{ℕ, ◌+◌, ◌==◌, Bool, true, false, ◌&&◌, not, List, [], ◌∷◌, ◌++◌, length, take, zip, filter, flat_map, Option, Some, None}
+use Rattle.std.specs.Prelude.{ℕ, ◌+◌, ◌==◌, Bool, true, false, ◌&&◌, ◌||◌, not, is_some, List, [], ◌∷◌, ◌++◌, length, take, zip, filter, flat_map, Option, Some, None}
 use Rattle.lp_model.specs.declared.parts.Note.{Note}
 use Rattle.lp_model.specs.declared.parts.Note.TheVariants.{LowerRemoved, LowerKept}
 use Rattle.lp_model.specs.declared.members.Member.{Member}
@@ -7,25 +7,34 @@ use Rattle.lp_model.specs.Program.{Program}
 use Rattle.lp_model.specs.Members.{is_same, is_active, possible_members, active_members}
 use Rattle.lp_model.specs.MemberSets.{SetValue}
 use Rattle.lp_model.specs.Satisfaction.{values_at}
+use Rattle.lp_model.specs.Evaluation.{value_operations}
+use Rattle.rational.specs.Rational.{ℚ, eq_ℚ}
+use Rattle.frac128.specs.Calculation.{first_wide}
+use Rattle.frac128.specs.Limit.{limit}
 use Rattle.certs.specs.declared.evidence.Point.{Point}
 use Rattle.certs.specs.declared.evidence.Node.{Node}
 use Rattle.certs.specs.declared.evidence.Proof.{Proof}
+use Rattle.certs.specs.declared.evidence.Ray.{Ray}
 use Rattle.certs.specs.declared.evidence.Checked.{Checked}
 use Rattle.certs.specs.declared.evidence.Checked.TheVariants.{Yes, No, Wide}
-use Rattle.certs.specs.Checks.{outcome, point_steps}
+use Rattle.certs.specs.Checks.{outcome, point_steps, ray_steps}
 use Rattle.certs.specs.Named.{used_members}
+use Rattle.certs.specs.Trees.{has_mark}
+use Rattle.bound_checks.specs.declared.bounds.Dual.{Dual}
+use Rattle.bound_checks.specs.Parts.{value_steps, right_steps, factor_steps}
 use Rattle.branch_proof.specs.declared.checks.Judged.{Judged}
 use Rattle.branch_proof.specs.Walk.{judgement}
 use Rattle.report_text.specs.declared.report.Core.{Core}
+use Rattle.report_text.specs.declared.report.Bounded.{Bounded}
 use Rattle.report_text.specs.declared.report.Answer.{Answer}
-use Rattle.report_text.specs.declared.report.Answer.TheVariants.{Feasible, Infeasible, Irreducible, Reduced, Done, Refused, Stopped}
+use Rattle.report_text.specs.declared.report.Answer.TheVariants.{Feasible, Infeasible, Irreducible, Unbounded as RunsAway, Bounded as BoundedBy, Reduced, Done, Refused, Stopped}
 use Rattle.report_text.specs.contracts.report.RefusalPartialEq.TheImpl.{ghosts as refusal_test}
 use Rattle.report_text.specs.declared.report.Entry.{Entry}
 use Rattle.report_text.specs.declared.report.Report.{Report}
 use Rattle.report_text.specs.declared.report.Command.{Command}
-use Rattle.report_text.specs.declared.layout.TheConstants.{HEAD_LINES, OPENING_LINES, MEMBER_LINES, PROOF_LINES}
+use Rattle.report_text.specs.declared.layout.TheConstants.{HEAD_LINES, OPENING_LINES, MEMBER_LINES, PROOF_LINES, BOUND_LINES}
 use Rattle.report_text.specs.Turns.{after, answer_after, gathered}
-use Rattle.report_text.specs.Grammar.{node_phrases, witness_phrases}
+use Rattle.report_text.specs.Grammar.{point_phrases, objective_phrases, node_phrases, witness_phrases}
 use Rattle.cert_check.specs.declared.outcome.Outcome.{Outcome}
 use Rattle.cert_check.specs.declared.outcome.Outcome.TheVariants.{Accepted, Rejected, Wide as TooWide, Memory}
 
@@ -119,11 +128,50 @@ irreducible_trials model n core =
     witness_trials model core.members.members (n + OPENING_LINES) (witnesses_of core)
     ++ proof_trials model core.members.members (n + ((OPENING_LINES + PROOF_LINES) + length (flat_map witness_phrases (witnesses_of core)))) core.proof
 
+-- ---- what the objective does
+-- the ray against the active members, on the line of its `ray`; marks have no part in it
+abbrev pub ray_trial : Program → ℕ → Ray → Trial
+ray_trial model n ray = on_line n (outcome (ray_steps model (active_members model) (values_at ray.values)))
+
+-- the point, and the ray on the line behind the point's
+abbrev pub unbounded_trials : Program → ℕ → Point → Ray → List Trial
+unbounded_trials model n p ray =
+    point_trial model (active_members model) (n + OPENING_LINES) p ∷ ray_trial model (n + (OPENING_LINES + length (point_phrases p))) ray ∷ []
+
+-- whether the objective's value may be left out: an active member is a mark, and the sum at the point is too wide
+abbrev pub may_be_left_out : Program → Point → Bool
+may_be_left_out model p = has_mark (active_members model) && is_some (first_wide limit (value_operations model.objective (values_at p.values)))
+
+-- the line behind the point: the objective's value against its sum; or that of the bound, where the value is left out
+abbrev pub value_trials : Program → ℕ → Point → Option ℚ → List Trial
+value_trials model n p None = on_line n (said (may_be_left_out model p)) ∷ []
+value_trials model n p (Some v) = on_line n (outcome (value_steps model (values_at p.values) v)) ∷ []
+
+-- without an active mark the value that is told is the bound, on the line of the bound
+abbrev pub reached_trials : Program → ℕ → Option ℚ → ℚ → List Trial
+reached_trials model n None b = []
+reached_trials model n (Some v) b = on_line n (said (has_mark (active_members model) || eq_ℚ v b)) ∷ []
+
+-- a dual against the active members: the right side on the line of its `bound`, and then that the value reaches it; the columns on the line of its `dual`
+abbrev pub dual_trials : Program → ℕ → Option ℚ → Dual → List Trial
+dual_trials model n value dual =
+    on_line n (outcome (right_steps model (active_members model) dual.combo.shares dual.bound))
+    ∷ (reached_trials model n value dual.bound ++ on_line (n + BOUND_LINES) (outcome (factor_steps model dual.combo.shares)) ∷ [])
+
+-- the point, the value behind it, and the dual
+abbrev pub bounded_trials : Program → ℕ → Bounded → List Trial
+bounded_trials model n b =
+    let next = n + (OPENING_LINES + length (point_phrases b.point)) in
+    point_trial model (active_members model) (n + OPENING_LINES) b.point
+    ∷ (value_trials model next b.point b.objective ++ dual_trials model (next + length (objective_phrases b.objective)) b.objective b.dual)
+
 -- those of an answer; nothing is tried of the program where a command is done or refused, nor of a stop, nor of how far the program is reduced
 abbrev pub answer_trials : Program → ℕ → Answer → List Trial
 answer_trials model n (Feasible p) = feasible_trials model n p
 answer_trials model n (Infeasible set proof) = infeasible_trials model n set proof
 answer_trials model n (Irreducible core) = irreducible_trials model n core
+answer_trials model n (RunsAway p ray) = unbounded_trials model n p ray
+answer_trials model n (BoundedBy b) = bounded_trials model n b
 answer_trials model n (Reduced r) = []
 answer_trials model n Done = []
 answer_trials model n (Refused r) = []

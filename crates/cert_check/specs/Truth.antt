@@ -1,18 +1,23 @@
 -- What a report claims of a program, apart from any check.
-use Rattle.std.specs.Prelude.{◌≡◌, List, [], All, zip, Some}
+use Rattle.std.specs.Prelude.{◌≡◌, true, false, List, [], All, zip, None, Some}
+use Rattle.rational.specs.Rational.{ℚ}
 use Rattle.lp_model.specs.Program.{Program, IsWellFormed}
 use Rattle.lp_model.specs.declared.members.Member.{Member}
 use Rattle.lp_model.specs.Members.{active_members}
 use Rattle.lp_model.specs.Satisfaction.{values_at, Satisfies, IsUnsatisfiable, IsIrreducible, IsPart}
 use Rattle.certs.specs.declared.evidence.Point.{Point}
+use Rattle.certs.specs.declared.evidence.Ray.{Ray}
+use Rattle.certs.specs.Bound.{objective_value, Unbounded, IsBoundDual, IsImproving, IsValidBound}
+use Rattle.certs.specs.Trees.{has_mark}
+use Rattle.report_text.specs.declared.report.Bounded.{Bounded}
 use Rattle.report_text.specs.declared.report.Answer.{Answer}
-use Rattle.report_text.specs.declared.report.Answer.TheVariants.{Feasible, Infeasible, Irreducible, Reduced, Done, Refused, Stopped}
+use Rattle.report_text.specs.declared.report.Answer.TheVariants.{Feasible, Infeasible, Irreducible, Unbounded as RunsAway, Bounded as BoundedBy, Reduced, Done, Refused, Stopped}
 use Rattle.report_text.specs.declared.report.Command.{Command}
 use Rattle.report_text.specs.declared.report.Entry.{Entry}
 use Rattle.report_text.specs.Turns.{after, answer_after, AllEntries}
 use Rattle.report_text.specs.declared.report.Report.{Report}
 use Rattle.report_text.specs.Form.{IsReportFor}
-use Rattle.cert_check.specs.Trials.{others, trials, outcome_of, IsAccepted}
+use Rattle.cert_check.specs.Trials.{others, may_be_left_out, trials, outcome_of, IsAccepted}
 
 -- members that are active, and that no point satisfies
 pub record IsRefuted (model : Program) (set : List Member) : Type 0 where
@@ -26,11 +31,28 @@ pub record IsIrreducibleBy (model : Program) (set : List Member) (witnesses : Li
   pub witnessed : All (λ w. Satisfies model (others set w.0) (values_at w.1.values)) (zip set witnesses)
   pub irreducible : IsIrreducible model set
 
--- What an answer claims: its point satisfies the active members, or its members are refuted, or irreducible by its witnesses. Where a command is done or refused, or a solve stopped, nothing is claimed of the program; nor where it is told how far the program is reduced.
+-- A point that satisfies the active members, and a ray that keeps them and improves the objective: so for every number some point of them has a better value.
+pub record IsUnboundedAt (model : Program) (p : Point) (ray : Ray) : Type 0 where
+  pub satisfies : Satisfies model (active_members model) (values_at p.values)
+  pub improving : IsImproving model (active_members model) (values_at ray.values)
+  pub unbounded : Unbounded model (active_members model)
+
+-- A point that satisfies the active members; a value that is told is the objective's there, and one is left out only where an active member is a mark and its sum is too wide; the dual shows a bound, which no point passes; and without an active mark the value is told and reaches it.
+pub record IsBoundedAt (model : Program) (b : Bounded) : Type 0 where
+  pub satisfies : Satisfies model (active_members model) (values_at b.point.values)
+  pub value : (v : ℚ) → b.objective ≡ Some v → objective_value model (values_at b.point.values) ≡ v
+  pub left_out : b.objective ≡ None → may_be_left_out model b.point ≡ true
+  pub dual : IsBoundDual model (active_members model) b.dual.combo.shares b.dual.bound
+  pub valid : IsValidBound model (active_members model) b.dual.bound
+  pub reached : has_mark (active_members model) ≡ false → b.objective ≡ Some b.dual.bound
+
+-- What an answer claims: its point satisfies the active members, or its members are refuted, or irreducible by its witnesses; or the objective is unbounded along its ray, or bounded by its dual. Where a command is done or refused, or a solve stopped, nothing is claimed of the program; nor where it is told how far the program is reduced.
 abbrev pub IsTrueAnswer : Program → Answer → Type 0
 IsTrueAnswer model (Feasible p) = Satisfies model (active_members model) (values_at p.values)
 IsTrueAnswer model (Infeasible set proof) = IsRefuted model set.members
 IsTrueAnswer model (Irreducible core) = IsIrreducibleBy model core.members.members core.witnesses
+IsTrueAnswer model (RunsAway p ray) = IsUnboundedAt model p ray
+IsTrueAnswer model (BoundedBy b) = IsBoundedAt model b
 IsTrueAnswer model (Reduced r) = Unit {0}
 IsTrueAnswer model Done = Unit {0}
 IsTrueAnswer model (Refused r) = Unit {0}

@@ -10,6 +10,7 @@ ghost use Rattle.cert_check.specs.Uses.{IsShort, AreShort};
 ghost use Rattle.cert_check.specs.Replay.{Replays};
 
 use crate::members::{check_members, used_members};
+use crate::objectives::{check_bounded, check_unbounded};
 use crate::outcome::{Stop, settle};
 use crate::trees::check_tree;
 use crate::witnesses::check_witnesses;
@@ -96,6 +97,8 @@ fn check_answer(alloc: Global, model: &Model, answer: &Answer, line: u32) -> Res
             check_infeasible(alloc, model, members, proof, line)
         }
         Answer::Irreducible(core) => check_core(alloc, model, core, line),
+        Answer::Unbounded(point, ray) => check_unbounded(alloc, model, point, ray, line),
+        Answer::Bounded(bounded) => check_bounded(alloc, model, bounded, line),
         Answer::Reduced(_) | Answer::Done | Answer::Refused(_) | Answer::Stopped(_) => Ok(()),
     }
 }

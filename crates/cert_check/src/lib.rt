@@ -4,6 +4,7 @@
 mod entries;
 mod members;
 mod notes;
+mod objectives;
 mod outcome;
 mod reports;
 mod trees;

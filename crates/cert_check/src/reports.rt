@@ -10,6 +10,7 @@ ghost use Rattle.cert_check.specs.Truth.{AreTrue, AcceptedLaw};
 use crate::entries::check_entries;
 use crate::notes::check_notes;
 use crate::outcome::{Outcome, Stop};
+use evidence_laws::{bound_is_valid, ray_is_unbounded};
 use lp_model::Model;
 use model_session::Session;
 use report_text::{Answer, Entry, Report};
@@ -23,7 +24,10 @@ use std::alloc::Global;
 /// satisfy the other members of its set. A member fails on its line where it is not active, and in `infeasible` also
 /// where it is not the one that the proof uses in its place; where one is missing, the line in its place fails, which
 /// may be the `proof` line. A proof fails on its `leaf` line where its shares are no combination of the printed
-/// members. The answer to an edit or an undo fails on its line where it is not the right one: that it is done, or the
+/// members. A ray fails on its `ray` line where it leaves an active member or does not improve the objective. A value of the
+/// objective fails on its line where it is not the sum at the point. A dual fails on its `bound` line where it uses what is not
+/// active, where its numbers do not add up to the bound, where the value is left out without cause, or where no active member
+/// is a mark and the value is not the bound; and on its `dual` line where its columns are not the objective. The answer to an edit or an undo fails on its line where it is not the right one: that it is done, or the
 /// reason for which it is refused.
 ///
 /// `Accepted` shows that the notes are those of the program, and that what each entry says is so. Each entry is settled
@@ -41,6 +45,8 @@ pub fn verify(alloc: Global, model: Model, report: Report) -> Outcome
 {
     // That the program is well formed is told with the count.
     let _rows = model.row_count();
+    ray_is_unbounded();
+    bound_is_valid();
     let mut session = Session::new(alloc, model);
     match check_report(alloc, &mut session, &report) {
         Ok(()) => accepted(report.entries.as_slice()),
@@ -51,7 +57,10 @@ pub fn verify(alloc: Global, model: Model, report: Report) -> Outcome
 /// What a check accepts is true, whatever program ran it. It does nothing when it runs.
 pub fn accepted_reports_are_true()
     ensures { AcceptedLaw }
-{}
+{
+    ray_is_unbounded();
+    bound_is_valid();
+}
 
 // Checks the notes, and then the entries.
 fn check_report(alloc: Global, session: &mut Session, report: &Report) -> Result<(), Stop>

@@ -5,12 +5,15 @@ use Rattle.certs.specs.declared.evidence.Point.{Point}
 use Rattle.certs.specs.declared.evidence.Node.{Node}
 use Rattle.certs.specs.declared.evidence.Node.TheVariants.{Split, Leaf}
 use Rattle.certs.specs.declared.evidence.Proof.{Proof}
+use Rattle.certs.specs.declared.evidence.Ray.{Ray}
+use Rattle.bound_checks.specs.declared.bounds.Dual.{Dual}
 use Rattle.certs.specs.declared.solving.Stop.{Stop}
 use Rattle.certs.specs.declared.solving.Stop.TheVariants.{Wide as TooWide, Pivots as Spent, Nodes, Large, Memory}
 use Rattle.reductions.specs.declared.steps.ReduceStep.{ReduceStep}
 use Rattle.reductions.specs.declared.steps.ReduceStep.TheVariants.{Fixed}
+use Rattle.report_text.specs.declared.report.Bounded.{Bounded}
 use Rattle.report_text.specs.declared.report.Reduced.{Reduced}
-use Rattle.report_text.specs.Form.{IsWithinLimit, IsCount, IsOperation}
+use Rattle.report_text.specs.Form.{IsWithinLimit, IsValueWithin, IsCount, IsOperation}
 
 -- the values of a point are within the limit
 abbrev pub HasValuesWithin : Point → Type 0
@@ -36,6 +39,21 @@ IsStopWithin (Spent site) = Unit {0}
 IsStopWithin (Nodes site) = Unit {0}
 IsStopWithin (Large size) = IsCount size
 IsStopWithin Memory = Unit {0}
+
+-- the changes of a ray
+abbrev pub IsRayWithin : Ray → Type 0
+IsRayWithin ray = All IsWithinLimit ray.values
+
+-- the weights and the bound of a dual
+pub record IsDualWithin (dual : Dual) : Type 0 where
+  pub weights : All (λ s. IsWithinLimit s.weight) dual.combo.shares
+  pub bound : IsWithinLimit dual.bound
+
+-- the values of the point and of the objective, and those of the dual
+pub record IsBoundedWithin (b : Bounded) : Type 0 where
+  pub point : HasValuesWithin b.point
+  pub objective : IsValueWithin b.objective
+  pub dual : IsDualWithin b.dual
 
 -- the value of a fixed column
 abbrev pub IsStepWithin : ReduceStep → Type 0

@@ -10,12 +10,14 @@ use Rattle.certs.specs.declared.evidence.Point.{Point}
 use Rattle.certs.specs.declared.evidence.Node.{Node}
 use Rattle.certs.specs.declared.evidence.Node.TheVariants.{Split, Leaf}
 use Rattle.certs.specs.declared.evidence.Proof.{Proof}
+use Rattle.certs.specs.declared.evidence.Ray.{Ray}
 use Rattle.certs.specs.Checks.{IsSetOf}
 use Rattle.certs.specs.declared.solving.Site.{Site}
 use Rattle.certs.specs.declared.solving.Stop.{Stop}
 use Rattle.certs.specs.declared.solving.Stop.TheVariants.{Wide as TooWide, Pivots as Spent, Nodes, Large, Memory}
 use Rattle.reductions.specs.declared.steps.ReduceStep.{ReduceStep}
 use Rattle.reductions.specs.declared.steps.ReduceStep.TheVariants.{Empty, Singleton, Fixed, Redundant, Forcing, Doubleton}
+use Rattle.report_text.specs.declared.report.Bounded.{Bounded}
 use Rattle.report_text.specs.Grammar.{Line, without_phrase, phrases_text}
 
 -- a line with the byte that ends it
@@ -54,6 +56,15 @@ IsKnownProof model proof = All (IsKnownNode model) proof.nodes
 -- a value for each column
 abbrev pub IsKnownPoint : Program → Point → Type 0
 IsKnownPoint model p = length p.values ≡ length model.columns
+
+-- a change for each column
+abbrev pub IsKnownRay : Program → Ray → Type 0
+IsKnownRay model ray = length ray.values ≡ length model.columns
+
+-- such a point, and a dual of known sources
+pub record IsKnownBounded (model : Program) (b : Bounded) : Type 0 where
+  pub point : IsKnownPoint model b.point
+  pub sources : All (λ s. IsKnownSource model s.source) b.dual.combo.shares
 
 -- a set of members of the program, and branches on columns that there are
 pub record IsKnownSite (model : Program) (site : Site) : Type 0 where

@@ -1,8 +1,9 @@
-//! The printed lines of evidence: members, points, proofs, stops, and the steps of reductions.
+//! The printed lines of evidence: members, points, rays, proofs, duals, stops, and the steps of reductions.
 #![tactic(auto)]
 
 mod members;
 mod nodes;
+mod objectives;
 mod points;
 mod sites;
 mod steps;
@@ -11,6 +12,7 @@ mod words;
 
 pub use members::print_members;
 pub use nodes::print_proof;
+pub use objectives::{print_bounded, print_unbounded};
 pub use points::{print_point, print_witnesses};
 pub use steps::print_reduced;
 pub use stops::print_stop;

@@ -54,6 +54,23 @@ fn print_use(model: &Model, share: &Share, into: &mut Vec<u8>) -> Result<(), All
     Ok(())
 }
 
+/// Appends the lines of shares.
+pub(crate) fn print_uses(
+    model: &Model,
+    shares: &[Share],
+    into: &mut Vec<u8>,
+) -> Result<(), AllocError>
+    requires { All (λ s. IsKnownSource model.now s.source) shares.now }
+    ensures text { OnOk result (into.new.items ≡ into.old.items ++ phrases_text model.now (map Phrase.Use shares.now)) }
+    ensures front { Keeps into.old.items into.new.items }
+    ensures within { OnOk result (All (λ s. IsWithinLimit s.weight) shares.now) }
+{
+    for share in shares {
+        print_use(model, share, into)?;
+    }
+    Ok(())
+}
+
 // Appends the lines of a leaf.
 fn print_leaf(model: &Model, shares: &[Share], into: &mut Vec<u8>) -> Result<(), AllocError>
     requires { All (λ s. IsKnownSource model.now s.source) shares.now }
@@ -62,10 +79,7 @@ fn print_leaf(model: &Model, shares: &[Share], into: &mut Vec<u8>) -> Result<(),
     ensures within { OnOk result (All (λ s. IsWithinLimit s.weight) shares.now) }
 {
     push_line(b"leaf", into)?;
-    for share in shares {
-        print_use(model, share, into)?;
-    }
-    Ok(())
+    print_uses(model, shares, into)
 }
 
 // Appends the line of a split.

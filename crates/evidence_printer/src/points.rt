@@ -52,6 +52,23 @@ fn print_nonzero(
     print_value(model, column, value, into)
 }
 
+/// Appends the lines of values, one for each column: each that is not 0 has one.
+pub(crate) fn print_values(
+    model: &Model,
+    values: &[Frac],
+    into: &mut Vec<u8>,
+) -> Result<(), AllocError>
+    requires { length values.now ≡ length model.now.columns }
+    ensures text { OnOk result (into.new.items ≡ into.old.items ++ phrases_text model.now (value_phrases 0 values.now)) }
+    ensures front { Keeps into.old.items into.new.items }
+    ensures within { OnOk result (All IsWithinLimit values.now) }
+{
+    for column in 0..model.column_count() {
+        print_nonzero(model, column, values[column as usize], into)?;
+    }
+    Ok(())
+}
+
 /// Appends the lines of a point: each value that is not 0 has one.
 /// Where memory is refused, a front of them may stand behind what was there.
 pub fn print_point(model: &Model, point: &Point, into: &mut Vec<u8>) -> Result<(), AllocError>
@@ -61,11 +78,7 @@ pub fn print_point(model: &Model, point: &Point, into: &mut Vec<u8>) -> Result<(
     ensures within { OnOk result (HasValuesWithin point.now) }
 {
     push_line(b"point", into)?;
-    let values = point.values.as_slice();
-    for column in 0..model.column_count() {
-        print_nonzero(model, column, values[column as usize], into)?;
-    }
-    Ok(())
+    print_values(model, point.values.as_slice(), into)
 }
 
 // Appends the lines of a member and its witness.

@@ -15,7 +15,7 @@ use Rattle.report_text.specs.declared.report.Report.{Report as Entries}
 use Rattle.report_reader.specs.Reading.{Reads}
 use Rattle.report_text.specs.Form.{IsReportFor}
 use Rattle.cert_check.specs.Trials.{trials, outcome_of, IsAccepted as IsPassed}
-use Rattle.cert_check.proofs.Believed.{accepted_is_true}
+use Rattle.cert_check.specs.Truth.{AcceptedLaw}
 use Rattle.model_files.proofs.Meaning.{meaning}
 use Rattle.iis_run.specs.declared.endings.Which.{Which}
 use Rattle.iis_run.specs.declared.endings.Which.TheVariants.{Model, Report, Script}
@@ -479,14 +479,14 @@ module _ {S K : Type 0} (file : S → List ℕ → Option (List ℕ)) (fetch_fau
   unsettled_clause request status (inr run) h = done request status true (IsUnsettled (file shelf_old) put_faults taken out_old out_new) run h (λ model script d. d)
 
   -- what a check accepts is so
-  is_true : (bytes name : List ℕ) (program : Program) (report : Entries) → Declares name bytes program → IsReportFor program report → IsPassed (outcome_of report.entries (trials program report)) → IsTrueReport program report
-  is_true bytes name program report declares form passed =
-      let both = accepted_is_true program report (meaning.well_formed name bytes program declares) form passed in
+  is_true : AcceptedLaw → (bytes name : List ℕ) (program : Program) (report : Entries) → Declares name bytes program → IsReportFor program report → IsPassed (outcome_of report.entries (trials program report)) → IsTrueReport program report
+  is_true law bytes name program report declares form passed =
+      let both = law program report (meaning.well_formed name bytes program declares) form passed in
       record { notes = both.0; entries = both.1 }
 
   -- what an accepted report says is so
-  accepted_so : (request : Option Request) (settled unsettled : ℕ) → AskedFor (file shelf_old) request (Checked (Accepted settled unsettled)) → IsBorneOut (file shelf_old) request
-  accepted_so request settled unsettled h = by request h
+  accepted_so : AcceptedLaw → (request : Option Request) (settled unsettled : ℕ) → AskedFor (file shelf_old) request (Checked (Accepted settled unsettled)) → IsBorneOut (file shelf_old) request
+  accepted_so law request settled unsettled h = by request h
     where
       so : (name : List ℕ) (m r : Option (List ℕ)) → AreReported name m r (Checked (Accepted settled unsettled)) → IfSome m (λ mb. IfSome r (λ rb. (program : Program) (report : Entries) → Declares name mb program → Reads program rb report → IsTrueReport program report))
       so name None r a = tt
@@ -494,18 +494,18 @@ module _ {S K : Type 0} (file : S → List ℕ → Option (List ℕ)) (fetch_fau
       so name (Some mb) (Some rb) a = λ program report declares reads.
           let at = a.1 in
           let same = the_report name mb rb at.program program at.comes.1.report report at.declares declares at.comes.1.reads reads in
-          subst (λ (x : Entries). IsTrueReport program x) same.1 (subst (λ (p : Program). IsTrueReport p at.comes.1.report) same.0 (is_true mb name at.program at.comes.1.report at.declares at.comes.1.reads.form (subst IsPassed at.comes.1.found tt)))
+          subst (λ (x : Entries). IsTrueReport program x) same.1 (subst (λ (p : Program). IsTrueReport p at.comes.1.report) same.0 (is_true law mb name at.program at.comes.1.report at.declares at.comes.1.reads.form (subst IsPassed at.comes.1.found tt)))
 
       by : (r : Option Request) → AskedFor (file shelf_old) r (Checked (Accepted settled unsettled)) → IsBorneOut (file shelf_old) r
       by None a = absurd a
       by (Some (Request.Verify model report)) a = so model (file shelf_old model) (file shelf_old report) a.1
       by (Some (Request.Analyse model script)) a = absurd a
 
-  pub borne_out_clause : (request : Option Request) (status : ℕ) → Run request status → (status ≡ 0) ⊎ (status ≡ 1) → IsBorneOut (file shelf_old) request
-  borne_out_clause request status (inl run) (inl h) = let a = accepts request status run h in accepted_so request a.0 0 a.1
-  borne_out_clause request status (inl run) (inr h) = let a = leaves request status run h in accepted_so request a.0 a.1.0 a.1.1.1
-  borne_out_clause request status (inr run) (inl h) = done request status false (IsBorneOut (file shelf_old)) run h (λ model script d. tt)
-  borne_out_clause request status (inr run) (inr h) = done request status true (IsBorneOut (file shelf_old)) run h (λ model script d. tt)
+  pub borne_out_clause : AcceptedLaw → (request : Option Request) (status : ℕ) → Run request status → (status ≡ 0) ⊎ (status ≡ 1) → IsBorneOut (file shelf_old) request
+  borne_out_clause law request status (inl run) (inl h) = let a = accepts request status run h in accepted_so law request a.0 0 a.1
+  borne_out_clause law request status (inl run) (inr h) = let a = leaves request status run h in accepted_so law request a.0 a.1.0 a.1.1.1
+  borne_out_clause law request status (inr run) (inl h) = done request status false (IsBorneOut (file shelf_old)) run h (λ model script d. tt)
+  borne_out_clause law request status (inr run) (inr h) = done request status true (IsBorneOut (file shelf_old)) run h (λ model script d. tt)
 
   -- what an analysis writes whole is read
   done_read : (model script : List ℕ) (stopped : Bool) → IsDone (file shelf_old) put_faults taken out_old out_new model script stopped → IsReadBack (file shelf_old) taken out_old out_new (Some (Request.Analyse model script))

@@ -12,6 +12,7 @@ use crate::reading::{check_file, fetch_model, fetch_script};
 use crate::saying::say;
 use crate::words::{self, Verb};
 use analysis::analyse;
+use cert_check::accepted_reports_are_true;
 use iis_edge::{Shelf, Sink};
 use lp_model::Model;
 use std::alloc::Global;
@@ -134,6 +135,7 @@ pub fn run<S: Shelf, W: Sink>(alloc: Global, words: &[String], shelf: &mut S, ou
     // Each status comes with its cause, and its line, or a front of it after a fault, is what is written; or the answers are.
     ensures ran { IsRun S.file S.faults W.faults W.taken shelf.old shelf.new out.old out.new (request_of words.now) result }
 {
+    accepted_reports_are_true();
     let plan = decide(alloc, words, shelf);
     follow(alloc, plan, out)
 }

@@ -9,7 +9,7 @@ use Rattle.rational.specs.Rational.{ℚ}
 use Rattle.lp_model.specs.declared.members.Side.{Side}
 use Rattle.lp_model.specs.declared.members.Side.TheVariants.{Lo, Up}
 use Rattle.report_text.specs.declared.report.Command.{Command}
-use Rattle.report_text.specs.declared.report.Command.TheVariants.{Check, Iis, Reduce, Edit, Undo, Pivots, Nodes}
+use Rattle.report_text.specs.declared.report.Command.TheVariants.{Check, Iis, Unbounded, Reduce, Edit, Undo, Pivots, Nodes}
 use Rattle.report_text.specs.declared.report.Method.TheVariants.{Deletion, Additive, Sensitivity}
 use Rattle.report_text.specs.declared.report.TargetKind.{TargetKind}
 use Rattle.report_text.specs.declared.report.TargetKind.TheVariants.{Row, RowLo, RowUp, Lower, Upper, Whole}
@@ -37,6 +37,7 @@ AreAsked words name (SetMark whole) = words ≡ edit_words name (SetMark whole)
 unfoldable pub AreSaid : List (List ℕ) → Command → Type 0
 AreSaid words Check = words ≡ codes "check" ∷ []
 AreSaid words (Iis method) = words ≡ codes "iis" ∷ method_word method ∷ []
+AreSaid words Unbounded = words ≡ codes "unbounded" ∷ []
 AreSaid words Reduce = words ≡ codes "reduce" ∷ []
 AreSaid words (Edit e) = (is_word e.name ≡ true) × AreAsked words e.name e.kind
 AreSaid words Undo = words ≡ codes "undo" ∷ []
@@ -143,14 +144,23 @@ setting_asked a b name d last k e =
     words = a ∷ b ∷ name ∷ d ∷ last ∷ []
 
 -- ---- commands
+-- what may stand in the place of `reduce`, of `unbounded` and of `check`
+abbrev behind_reduce : List ℕ → Option Command
+behind_reduce a = cond (bytes_eq a (codes "undo")) (Some Undo) None
+
+abbrev behind_unbounded : List ℕ → Option Command
+behind_unbounded a = cond (bytes_eq a (codes "reduce")) (Some Reduce) (behind_reduce a)
+
+abbrev behind_check : List ℕ → Option Command
+behind_check a = cond (bytes_eq a (codes "unbounded")) (Some Unbounded) (behind_unbounded a)
+
 lone_said : (a : List ℕ) (c : Command) → lone_command a ≡ Some c → AreSaid (a ∷ []) c
 unfolding AreSaid
 lone_said a c e =
-    split_if (AreSaid (a ∷ []) c) a (codes "check") (Some Check) (cond (bytes_eq a (codes "reduce")) (Some Reduce) (cond (bytes_eq a (codes "undo")) (Some Undo) None)) c e
-    (λ w g. subst (AreSaid (a ∷ [])) (same_Some Check c g) (ap (λ w. w ∷ []) w))
-    (λ f. split_if (AreSaid (a ∷ []) c) a (codes "reduce") (Some Reduce) (cond (bytes_eq a (codes "undo")) (Some Undo) None) c f
-    (λ w g. subst (AreSaid (a ∷ [])) (same_Some Reduce c g) (ap (λ w. w ∷ []) w))
-    (λ g. split_if (AreSaid (a ∷ []) c) a (codes "undo") (Some Undo) None c g (λ w h. subst (AreSaid (a ∷ [])) (same_Some Undo c h) (ap (λ w. w ∷ []) w)) (nothing (AreSaid (a ∷ []) c) c)))
+    split_if (AreSaid (a ∷ []) c) a (codes "check") (Some Check) (behind_check a) c e (λ w g. subst (AreSaid (a ∷ [])) (same_Some Check c g) (ap (λ w. w ∷ []) w))
+    (λ d. split_if (AreSaid (a ∷ []) c) a (codes "unbounded") (Some Unbounded) (behind_unbounded a) c d (λ w g. subst (AreSaid (a ∷ [])) (same_Some Unbounded c g) (ap (λ w. w ∷ []) w))
+    (λ f. split_if (AreSaid (a ∷ []) c) a (codes "reduce") (Some Reduce) (behind_reduce a) c f (λ w g. subst (AreSaid (a ∷ [])) (same_Some Reduce c g) (ap (λ w. w ∷ []) w))
+    (λ g. split_if (AreSaid (a ∷ []) c) a (codes "undo") (Some Undo) None c g (λ w h. subst (AreSaid (a ∷ [])) (same_Some Undo c h) (ap (λ w. w ∷ []) w)) (nothing (AreSaid (a ∷ []) c) c))))
 
 search_said : (a b : List ℕ) (c : Command) → iis_command a b ≡ Some c → AreSaid (a ∷ b ∷ []) c
 unfolding AreSaid
@@ -217,6 +227,7 @@ unfolding AreSaid
 said_built words Check e = tt
 said_built words (Iis method) e = tt
 said_built words (Edit n) e = let s = words_said words (Edit n) e in record { word = s.0; kind = asked_built words n.name n.kind s.1 }
+said_built words Unbounded e = tt
 said_built words Reduce e = tt
 said_built words Undo e = tt
 said_built words (Pivots n) e = let s = words_said words (Pivots n) e in budget_within s.0 n s.1.1
@@ -272,6 +283,7 @@ own_words (Iis Deletion) h = refl
 own_words (Iis Additive) h = refl
 own_words (Iis Sensitivity) h = refl
 own_words (Edit e) h = own_edit e.name e.kind h.word h.kind
+own_words Unbounded h = refl
 own_words Reduce h = refl
 own_words Undo h = refl
 own_words (Pivots n) h = ap (option_map Pivots) (own_number n h)

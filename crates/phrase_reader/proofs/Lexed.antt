@@ -62,6 +62,8 @@ leads model (Phrase.Stop (StopPhrase.Branch b)) h = by b.upper
 leads model (Phrase.Stop (StopPhrase.Step k)) h = refl
 leads model (Phrase.Stop (StopPhrase.Operation o)) h = refl
 leads model (Phrase.Value j v) h = refl
+leads model (Phrase.Objective v) h = refl
+leads model (Phrase.Bound v) h = refl
 leads model (Phrase.Member m) h = refl
 leads model (Phrase.Use s) h = refl
 leads model (Phrase.Reduction (Empty i)) h = refl
@@ -94,9 +96,13 @@ lone_is : (model : Program) (p : Phrase) → details model p ≡ [] → lone_sai
 lone_is model Phrase.Feasible e = refl
 lone_is model Phrase.Infeasible e = refl
 lone_is model Phrase.Irreducible e = refl
+lone_is model Phrase.Unbounded e = refl
+lone_is model Phrase.Bounded e = refl
 lone_is model Phrase.Reduced e = refl
 lone_is model Phrase.Done e = refl
 lone_is model Phrase.Point e = refl
+lone_is model Phrase.Ray e = refl
+lone_is model Phrase.Dual e = refl
 lone_is model Phrase.Proof e = refl
 lone_is model Phrase.Leaf e = refl
 lone_is model Phrase.End e = refl
@@ -121,16 +127,20 @@ IsLone model p = IsPhraseFor model p × (details model p ≡ [])
 
 lone_each : (model : Program) → All (IsLone model) lone_phrases
 lone_each model =
-    more Phrase.Feasible (Phrase.Infeasible ∷ Phrase.Irreducible ∷ Phrase.Reduced ∷ Phrase.Done ∷ Phrase.Point ∷ Phrase.Proof ∷ Phrase.Leaf ∷ Phrase.End ∷ []) (tt, refl)
-    (more Phrase.Infeasible (Phrase.Irreducible ∷ Phrase.Reduced ∷ Phrase.Done ∷ Phrase.Point ∷ Phrase.Proof ∷ Phrase.Leaf ∷ Phrase.End ∷ []) (tt, refl)
-    (more Phrase.Irreducible (Phrase.Reduced ∷ Phrase.Done ∷ Phrase.Point ∷ Phrase.Proof ∷ Phrase.Leaf ∷ Phrase.End ∷ []) (tt, refl)
-    (more Phrase.Reduced (Phrase.Done ∷ Phrase.Point ∷ Phrase.Proof ∷ Phrase.Leaf ∷ Phrase.End ∷ []) (tt, refl)
-    (more Phrase.Done (Phrase.Point ∷ Phrase.Proof ∷ Phrase.Leaf ∷ Phrase.End ∷ []) (tt, refl)
-    (more Phrase.Point (Phrase.Proof ∷ Phrase.Leaf ∷ Phrase.End ∷ []) (tt, refl)
+    more Phrase.Feasible (Phrase.Infeasible ∷ Phrase.Irreducible ∷ Phrase.Unbounded ∷ Phrase.Bounded ∷ Phrase.Reduced ∷ Phrase.Done ∷ Phrase.Point ∷ Phrase.Ray ∷ Phrase.Dual ∷ Phrase.Proof ∷ Phrase.Leaf ∷ Phrase.End ∷ []) (tt, refl)
+    (more Phrase.Infeasible (Phrase.Irreducible ∷ Phrase.Unbounded ∷ Phrase.Bounded ∷ Phrase.Reduced ∷ Phrase.Done ∷ Phrase.Point ∷ Phrase.Ray ∷ Phrase.Dual ∷ Phrase.Proof ∷ Phrase.Leaf ∷ Phrase.End ∷ []) (tt, refl)
+    (more Phrase.Irreducible (Phrase.Unbounded ∷ Phrase.Bounded ∷ Phrase.Reduced ∷ Phrase.Done ∷ Phrase.Point ∷ Phrase.Ray ∷ Phrase.Dual ∷ Phrase.Proof ∷ Phrase.Leaf ∷ Phrase.End ∷ []) (tt, refl)
+    (more Phrase.Unbounded (Phrase.Bounded ∷ Phrase.Reduced ∷ Phrase.Done ∷ Phrase.Point ∷ Phrase.Ray ∷ Phrase.Dual ∷ Phrase.Proof ∷ Phrase.Leaf ∷ Phrase.End ∷ []) (tt, refl)
+    (more Phrase.Bounded (Phrase.Reduced ∷ Phrase.Done ∷ Phrase.Point ∷ Phrase.Ray ∷ Phrase.Dual ∷ Phrase.Proof ∷ Phrase.Leaf ∷ Phrase.End ∷ []) (tt, refl)
+    (more Phrase.Reduced (Phrase.Done ∷ Phrase.Point ∷ Phrase.Ray ∷ Phrase.Dual ∷ Phrase.Proof ∷ Phrase.Leaf ∷ Phrase.End ∷ []) (tt, refl)
+    (more Phrase.Done (Phrase.Point ∷ Phrase.Ray ∷ Phrase.Dual ∷ Phrase.Proof ∷ Phrase.Leaf ∷ Phrase.End ∷ []) (tt, refl)
+    (more Phrase.Point (Phrase.Ray ∷ Phrase.Dual ∷ Phrase.Proof ∷ Phrase.Leaf ∷ Phrase.End ∷ []) (tt, refl)
+    (more Phrase.Ray (Phrase.Dual ∷ Phrase.Proof ∷ Phrase.Leaf ∷ Phrase.End ∷ []) (tt, refl)
+    (more Phrase.Dual (Phrase.Proof ∷ Phrase.Leaf ∷ Phrase.End ∷ []) (tt, refl)
     (more Phrase.Proof (Phrase.Leaf ∷ Phrase.End ∷ []) (tt, refl)
     (more Phrase.Leaf (Phrase.End ∷ []) (tt, refl)
     (more Phrase.End [] (tt, refl)
-    (All-nil (IsLone model))))))))))
+    (All-nil (IsLone model))))))))))))))
   where
     more : (p : Phrase) (ps : List Phrase) → IsPhraseFor model p × (details model p ≡ []) → All (IsLone model) ps → All (IsLone model) (p ∷ ps)
     more p ps h rest = All-cons (IsLone model) p ps h rest

@@ -12,7 +12,7 @@ use Rattle.text_fields.specs.declared.faults.FieldStop.{FieldStop}
 use Rattle.text_fields.specs.declared.faults.FieldStop.TheVariants.{Text as FieldText, Memory as FieldMemory}
 use Rattle.text_fields.specs.Fields.{fields_of, field_fault}
 use Rattle.report_text.specs.declared.report.Command.{Command}
-use Rattle.report_text.specs.declared.report.Command.TheVariants.{Check, Iis, Reduce, Edit, Undo, Pivots, Nodes}
+use Rattle.report_text.specs.declared.report.Command.TheVariants.{Check, Iis, Unbounded, Reduce, Edit, Undo, Pivots, Nodes}
 use Rattle.report_text.specs.declared.report.Method.{Method}
 use Rattle.report_text.specs.declared.report.Method.TheVariants.{Deletion, Additive, Sensitivity}
 use Rattle.report_text.specs.declared.report.TargetKind.{TargetKind}
@@ -77,8 +77,9 @@ edit_of kind name = cond (is_word name) (option_map (λ k. Edit (record { name =
 abbrev pub lone_command : List ℕ → Option Command
 lone_command word =
     cond (bytes_eq word (codes "check")) (Some Check)
+    (cond (bytes_eq word (codes "unbounded")) (Some Unbounded)
     (cond (bytes_eq word (codes "reduce")) (Some Reduce)
-    (cond (bytes_eq word (codes "undo")) (Some Undo) None))
+    (cond (bytes_eq word (codes "undo")) (Some Undo) None)))
 
 -- what two words say
 abbrev pub iis_command : List ℕ → List ℕ → Option Command

@@ -15,19 +15,21 @@ pub record IsNamedBranch (model : Program) (b : Branch) : Type 0 where
   pub named : IsNamedColumn model b.column
   pub fits : IsFitting b
 
--- the numbers of what is said of a stop fit, and names are words; a size that is too large is not read as yet
+-- the numbers of what is said of a stop fit, and names are words
 abbrev pub IsStopPhrase : Program → StopPhrase → Type 0
 IsStopPhrase model (StopPhrase.Without m) = IsNamedMember model m
 IsStopPhrase model (StopPhrase.Branch b) = IsNamedBranch model b
 IsStopPhrase model (StopPhrase.Step k) = IsCount k
 IsStopPhrase model (StopPhrase.Operation o) = IsOperation o
-IsStopPhrase model (StopPhrase.Large size) = ⊥
+IsStopPhrase model (StopPhrase.Large size) = IsCount size
 IsStopPhrase model _ = Unit {0}
 
 -- its names are words of the program, its numbers fit, a value of a point is not 0, a weight is above 0 and a budget within its bound
 abbrev pub IsPhraseFor : Program → Phrase → Type 0
 IsPhraseFor model (Phrase.Note note) = IsNamedColumn model (noted_column note)
 IsPhraseFor model (Phrase.Value j v) = IsNamedColumn model j × (IsWithinLimit v × (v ≢ zero_ℚ))
+IsPhraseFor model (Phrase.Objective v) = IsWithinLimit v
+IsPhraseFor model (Phrase.Bound v) = IsWithinLimit v
 IsPhraseFor model (Phrase.Member m) = IsNamedMember model m
 IsPhraseFor model (Phrase.Use s) = IsUse model s
 IsPhraseFor model (Phrase.Command c) = IsCommand c

@@ -37,12 +37,13 @@ impl From<FieldStop> for CommandStop {
     }
 }
 
-// `check`, `reduce` or `undo`.
+// `check`, `unbounded`, `reduce` or `undo`.
 fn read_lone(word: &[u8]) -> Option<Command>
     ensures { result ≡ lone_command word.now }
 {
     match word {
         _ if word == b"check".as_slice() => Some(Command::Check),
+        _ if word == b"unbounded".as_slice() => Some(Command::Unbounded),
         _ if word == b"reduce".as_slice() => Some(Command::Reduce),
         _ if word == b"undo".as_slice() => Some(Command::Undo),
         _ => None,
@@ -178,7 +179,7 @@ fn read_fields(alloc: Global, text: &[u8], spans: &[Span]) -> Result<Option<Comm
 ///
 /// Its fields, which blanks (32, 9 and 13) part, are one of these, in lower case:
 ///
-/// - `check`, `reduce` or `undo`;
+/// - `check`, `unbounded`, `reduce` or `undo`;
 /// - `iis` and `deletion`, `additive` or `sensitivity`;
 /// - `budget`, `pivots` or `nodes`, and a number of at most 1,000,000 in one digit or more;
 /// - `drop` or `keep`; `row`, `rowlo`, `rowup`, `lower`, `upper` or `whole`; and a name;

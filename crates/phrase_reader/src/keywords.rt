@@ -12,9 +12,13 @@ pub(crate) fn lone_phrase(word: &[u8]) -> Option<Phrase>
         _ if word == b"feasible".as_slice() => Some(Phrase::Feasible),
         _ if word == b"infeasible".as_slice() => Some(Phrase::Infeasible),
         _ if word == b"irreducible".as_slice() => Some(Phrase::Irreducible),
+        _ if word == b"unbounded".as_slice() => Some(Phrase::Unbounded),
+        _ if word == b"bounded".as_slice() => Some(Phrase::Bounded),
         _ if word == b"reduced".as_slice() => Some(Phrase::Reduced),
         _ if word == b"done".as_slice() => Some(Phrase::Done),
         _ if word == b"point".as_slice() => Some(Phrase::Point),
+        _ if word == b"ray".as_slice() => Some(Phrase::Ray),
+        _ if word == b"dual".as_slice() => Some(Phrase::Dual),
         _ if word == b"proof".as_slice() => Some(Phrase::Proof),
         _ if word == b"leaf".as_slice() => Some(Phrase::Leaf),
         _ if word == b"end".as_slice() => Some(Phrase::End),
@@ -28,6 +32,8 @@ pub(crate) fn leading_keyword(word: &[u8]) -> Option<Keyword>
 {
     match word {
         _ if word == b"value".as_slice() => Some(Keyword::Value),
+        _ if word == b"objective".as_slice() => Some(Keyword::Objective),
+        _ if word == b"bound".as_slice() => Some(Keyword::Bound),
         _ if word == b"use".as_slice() => Some(Keyword::Use),
         _ if word == b"member".as_slice() => Some(Keyword::Member),
         _ if word == b"command".as_slice() => Some(Keyword::Command),

@@ -17,8 +17,8 @@ use crate::step_words::{
     read_doubleton, read_empty, read_fixed, read_forcing, read_left, read_redundant, read_singleton,
 };
 use crate::stop_words::{
-    read_branch, read_nodes, read_operation, read_pivots, read_site, read_step, read_too,
-    read_without,
+    read_branch, read_large, read_nodes, read_operation, read_pivots, read_site, read_step,
+    read_too, read_without,
 };
 use certs::Share;
 use frac128::Frac;
@@ -36,6 +36,20 @@ fn read_foot(word: &[u8]) -> Option<Phrase>
     None
 }
 
+// The objective's value at the point.
+fn read_objective(number: &[u8]) -> Option<Phrase>
+    ensures { (model : Program) → Finds (IsSpelled model Keyword.Objective (number.now ∷ [])) result }
+{
+    Some(Phrase::Objective(fraction_of(number)?))
+}
+
+// The bound that a dual shows.
+fn read_bound(number: &[u8]) -> Option<Phrase>
+    ensures { (model : Program) → Finds (IsSpelled model Keyword.Bound (number.now ∷ [])) result }
+{
+    Some(Phrase::Bound(fraction_of(number)?))
+}
+
 // What one word says behind a keyword other than that of commands.
 fn read_one(model: &Model, keyword: Keyword, word: &[u8]) -> Option<Phrase>
     requires { keyword ≢ Keyword.Command }
@@ -43,6 +57,8 @@ fn read_one(model: &Model, keyword: Keyword, word: &[u8]) -> Option<Phrase>
 {
     match keyword {
         Keyword::Report => read_foot(word),
+        Keyword::Objective => read_objective(word),
+        Keyword::Bound => read_bound(word),
         Keyword::Unknown => read_unknown(word),
         Keyword::No => read_no(word),
         Keyword::Too => read_too(word),
@@ -114,6 +130,7 @@ fn read_two(model: &Model, keyword: Keyword, first: &[u8], second: &[u8]) -> Opt
     match keyword {
         Keyword::Iisan => read_head(first, second),
         Keyword::Nothing => read_nothing(first, second),
+        Keyword::Too => read_large(first, second),
         Keyword::Value => read_value(model, first, second),
         Keyword::Member => read_member(model, first, second),
         Keyword::Without => read_without(model, first, second),

@@ -58,6 +58,16 @@ pub(crate) fn read_nodes(word: &[u8]) -> Option<Phrase>
     (word == b"spent".as_slice()).then_some(Phrase::Stop(StopPhrase::Nodes))
 }
 
+/// `too large`, and a size.
+pub(crate) fn read_large(word: &[u8], size: &[u8]) -> Option<Phrase>
+    ensures { (model : Program) → Finds (IsSpelled model Keyword.Too (word.now ∷ size.now ∷ [])) result }
+{
+    if word != b"large".as_slice() {
+        return None;
+    }
+    Some(Phrase::Stop(StopPhrase::Large(count_of(size)?)))
+}
+
 /// The site of a stop.
 pub(crate) fn read_site(word: &[u8]) -> Option<Phrase>
     ensures { (model : Program) → Finds (IsSpelled model Keyword.Site (word.now ∷ [])) result }

@@ -7,6 +7,8 @@ pub mod Cases
 pub mod Reasons
 pub mod Drawing
 pub mod Steps
+pub mod Points
+pub mod Objectives
 pub mod Stops
 pub mod Edits
 pub mod Page

@@ -6,6 +6,7 @@ use Rattle.report_page.specs.declared.markup.Words.{Words}
 use Rattle.report_page.specs.declared.markup.Account.{Account}
 use Rattle.report_page.specs.declared.markup.Change.{Change}
 use Rattle.report_page.specs.declared.markup.Removal.{Removal}
+use Rattle.report_page.specs.declared.markup.Reach.{Reach}
 
 -- markup
 unfoldable pub tag_text : Tag → List ℕ
@@ -119,7 +120,9 @@ account_text Account.StoppedNodes = codes "This calculation stopped before there
 account_text Account.StoppedLarge = codes "This calculation stopped before there was an answer: it is too large, of size "
 account_text Account.StoppedMemory = codes "This calculation stopped before there was an answer: there was no memory."
 account_text Account.Asking = codes " It was asking whether "
+account_text Account.AskingReach = codes " It was asking how far the objective can go while "
 account_text Account.CanBeMet = codes " requirements can be met together"
+account_text Account.Hold = codes " requirements are met"
 account_text Account.Where = codes ", where "
 account_text Account.Step = codes " That was in turn "
 account_text Account.At = codes ", at "
@@ -158,3 +161,20 @@ removal_text Removal.Gives = codes " is an equation of two quantities: it gives 
 removal_text Removal.ByOther = codes " by the other one."
 removal_text Removal.RowsLeft = codes "Rows that are left: "
 removal_text Removal.ColumnsLeft = codes "; quantities that are left: "
+
+-- what is said of the objective
+unfoldable pub reach_text : Reach → List ℕ
+reach_text Reach.Asked = codes "Can the objective get better without end?"
+reach_text Reach.RunsAway = codes "All requirements can be met, and the objective gets better without end."
+reach_text Reach.Onward = codes "From these values the quantities can go on changing as below, in steps that keep whole values whole: no requirement stops them, and the objective gets better with each step."
+reach_text Reach.ChangesFold = codes "Changes (any other quantity stays as it is): "
+reach_text Reach.Rises = codes " rises by "
+reach_text Reach.Falls = codes " falls by "
+reach_text Reach.NeverBetter = codes "All requirements can be met, and then the objective is never better than "
+reach_text Reach.ValueIs = codes " With the values below it is "
+reach_text Reach.IsBest = codes ", and no values are better."
+reach_text Reach.MayBeBetter = codes ". Whether other values are better is not said."
+reach_text Reach.LeftOut = codes " What it is with the values below is left out: a number on the way to it is too long to be kept exactly."
+reach_text Reach.HoldersFold = codes "Requirements that hold the objective: "
+reach_text Reach.AddUpAtMost = codes "Take each as often as it says, turn round those with &gt;=, and add up: on the left this comes to the objective, and together they say that it is at most "
+reach_text Reach.AddUpAtLeast = codes "Take each as often as it says, turn round those with &lt;=, and add up: on the left this comes to the objective, and together they say that it is at least "

@@ -1,11 +1,9 @@
 -- The page of a report.
-use Rattle.std.specs.Prelude.{◌≡◌, ℕ, zero, suc, cond, List, [], ◌∷◌, ◌++◌, flat_map, length}
-use Rattle.rational.specs.Rational.{ℚ, zero_ℚ, eq_ℚ}
+use Rattle.std.specs.Prelude.{◌≡◌, ℕ, List, [], ◌∷◌, ◌++◌, flat_map}
 use Rattle.lp_model.specs.declared.parts.Note.{Note}
 use Rattle.lp_model.specs.declared.parts.Note.TheVariants.{LowerRemoved, LowerKept}
 use Rattle.lp_model.specs.declared.members.Member.{Member}
 use Rattle.lp_model.specs.Program.{Program}
-use Rattle.lp_model.specs.Satisfaction.{values_at}
 use Rattle.certs.specs.declared.evidence.Point.{Point}
 use Rattle.certs.specs.declared.evidence.Node.{Node}
 use Rattle.certs.specs.declared.solving.Stop.{Stop}
@@ -13,12 +11,12 @@ use Rattle.model_history.specs.History.{HistoryValue}
 use Rattle.report_text.specs.declared.report.Method.{Method}
 use Rattle.report_text.specs.declared.report.Method.TheVariants.{Deletion, Additive, Sensitivity}
 use Rattle.report_text.specs.declared.report.Command.{Command}
-use Rattle.report_text.specs.declared.report.Command.TheVariants.{Check, Iis, Reduce, Edit, Undo, Pivots, Nodes}
+use Rattle.report_text.specs.declared.report.Command.TheVariants.{Check, Iis, Unbounded, Reduce, Edit, Undo, Pivots, Nodes}
 use Rattle.report_text.specs.declared.report.Answer.{Answer}
-use Rattle.report_text.specs.declared.report.Answer.TheVariants.{Feasible, Infeasible, Irreducible, Reduced, Done, Refused, Stopped}
+use Rattle.report_text.specs.declared.report.Answer.TheVariants.{Feasible, Infeasible, Irreducible, Unbounded as RunsAway, Bounded as BoundedBy, Reduced, Done, Refused, Stopped}
 use Rattle.report_text.specs.declared.report.Entry.{Entry}
 use Rattle.report_text.specs.declared.report.Report.{Report}
-use Rattle.report_text.specs.Grammar.{column_name, value_phrases}
+use Rattle.report_text.specs.Grammar.{column_name}
 use Rattle.report_text.specs.Turns.{after, gathered}
 use Rattle.model_session.specs.Session.{session_at}
 use Rattle.cert_check.specs.Trials.{settled_count, unsettled_count}
@@ -27,12 +25,14 @@ use Rattle.report_page.specs.declared.markup.Sign.{Sign}
 use Rattle.report_page.specs.declared.markup.Words.{Words}
 use Rattle.report_page.specs.declared.markup.Change.{Change}
 use Rattle.report_page.specs.declared.markup.Removal.{Removal}
+use Rattle.report_page.specs.declared.markup.Reach.{Reach}
 use Rattle.report_page.specs.Pieces.{Piece, bytes_of}
-use Rattle.report_page.specs.Demands.{value_pieces}
-use Rattle.report_page.specs.Members.{fold_tag, list_pieces}
+use Rattle.report_page.specs.Members.{list_pieces}
 use Rattle.report_page.specs.Reasons.{leaf_shares, reason_pieces}
 use Rattle.report_page.specs.Drawing.{drawing_pieces}
 use Rattle.report_page.specs.Steps.{reduced_pieces}
+use Rattle.report_page.specs.Points.{feasible_pieces}
+use Rattle.report_page.specs.Objectives.{unbounded_pieces, bounded_pieces}
 use Rattle.report_page.specs.Stops.{stop_pieces}
 use Rattle.report_page.specs.Edits.{edit_pieces, refused_pieces}
 
@@ -47,6 +47,7 @@ method_words Sensitivity = Words.SensitivityAsked
 abbrev pub command_pieces : Command → List Piece
 command_pieces Check = Piece.Words Words.CheckAsked ∷ []
 command_pieces (Iis method) = Piece.Words (method_words method) ∷ []
+command_pieces Unbounded = Piece.Reach Reach.Asked ∷ []
 command_pieces Reduce = Piece.Removal Removal.Asked ∷ []
 command_pieces (Edit e) = edit_pieces e
 command_pieces Undo = Piece.Change Change.Undo ∷ []
@@ -54,26 +55,6 @@ command_pieces (Pivots n) = Piece.Words Words.PivotBudget ∷ Piece.Count n ∷ 
 command_pieces (Nodes n) = Piece.Words Words.NodeBudget ∷ Piece.Count n ∷ []
 
 -- ---- answers
--- an item with the value of a column
-abbrev pub valued_pieces : Program → ℕ → ℚ → List Piece
-valued_pieces model j v = Piece.Tag Tag.Item ∷ Piece.Tag Tag.Form ∷ (value_pieces model j v ++ Piece.Tag Tag.FormEnd ∷ Piece.Tag Tag.ItemEnd ∷ [])
-
--- the same, where it is not 0
-abbrev pub some_pieces : Program → ℕ → ℚ → List Piece
-some_pieces model j v = cond (eq_ℚ v zero_ℚ) [] (valued_pieces model j v)
-
--- an item for each of the first n columns whose value is not 0
-abbrev pub point_pieces : Program → List ℚ → ℕ → List Piece
-point_pieces model values zero = []
-point_pieces model values (suc n) = point_pieces model values n ++ some_pieces model n (values_at values n)
-
--- a point that meets all members, in a fold with the count of its items
-abbrev pub feasible_pieces : Program → List ℚ → List Piece
-feasible_pieces model values =
-    let n = length (value_phrases 0 values) in
-    Piece.Tag Tag.Paragraph ∷ Piece.Words Words.Feasible ∷ Piece.Tag Tag.ParagraphEnd ∷ Piece.Tag (fold_tag n) ∷ Piece.Words Words.ValuesFold ∷ Piece.Count n ∷ Piece.Tag Tag.FoldBody ∷ Piece.Tag Tag.Unordered
-    ∷ (point_pieces model values (length model.columns) ++ Piece.Tag Tag.UnorderedEnd ∷ Piece.Tag Tag.FoldEnd ∷ [])
-
 -- members that cannot all be met, and why, and what ties them together
 abbrev pub conflict_pieces : Program → List Member → List Point → List Node → List Piece
 conflict_pieces model members ws nodes = list_pieces model (leaf_shares nodes) members ws ++ (reason_pieces model nodes ++ drawing_pieces model members)
@@ -87,6 +68,8 @@ abbrev pub answer_pieces : Program → Answer → List Piece
 answer_pieces model (Feasible p) = feasible_pieces model p.values
 answer_pieces model (Infeasible set proof) = conflict_pieces model set.members [] proof.nodes
 answer_pieces model (Irreducible core) = conflict_pieces model core.members.members core.witnesses core.proof.nodes
+answer_pieces model (RunsAway p ray) = unbounded_pieces model p.values ray.values
+answer_pieces model (BoundedBy b) = bounded_pieces model b
 answer_pieces model (Reduced r) = reduced_pieces model r
 answer_pieces model Done = []
 answer_pieces model (Refused reason) = refused_pieces reason

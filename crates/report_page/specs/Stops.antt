@@ -5,6 +5,8 @@ use Rattle.frac128.specs.declared.Op.TheVariants.{Plus, Minus, Times, Over}
 use Rattle.frac128.specs.declared.Wide.{Wide as Operation}
 use Rattle.lp_model.specs.Program.{Program}
 use Rattle.certs.specs.declared.evidence.Branch.{Branch}
+use Rattle.certs.specs.declared.solving.SiteKind.{SiteKind}
+use Rattle.certs.specs.declared.solving.SiteKind.TheVariants.{Improve}
 use Rattle.certs.specs.declared.solving.Site.{Site}
 use Rattle.certs.specs.declared.solving.Stop.{Stop}
 use Rattle.certs.specs.declared.solving.Stop.TheVariants.{Wide as TooWide, Pivots as Spent, Nodes as NodesSpent, Large, Memory}
@@ -35,9 +37,18 @@ next_branch model b = Piece.Sign Sign.Comma ∷ branch_pieces model b
 abbrev pub path_pieces : Program → List Branch → List Piece
 path_pieces model path = first_then (first_branch model) (next_branch model) path
 
--- the site: how many members were asked about, and on which path
+-- what a run asks, and what of its members: how far the objective can go while they are met, or whether they can be met
+abbrev pub asking_words : SiteKind → Account
+asking_words Improve = Account.AskingReach
+asking_words _ = Account.Asking
+
+abbrev pub members_words : SiteKind → Account
+members_words Improve = Account.Hold
+members_words _ = Account.CanBeMet
+
+-- the site: what was asked, of how many members, and on which path
 abbrev pub site_pieces : Program → Site → List Piece
-site_pieces model site = Piece.Account Account.Asking ∷ Piece.Count (length site.set.members) ∷ Piece.Account Account.CanBeMet ∷ (path_pieces model site.path ++ Piece.Sign Sign.FullStop ∷ [])
+site_pieces model site = Piece.Account (asking_words site.kind) ∷ Piece.Count (length site.set.members) ∷ Piece.Account (members_words site.kind) ∷ (path_pieces model site.path ++ Piece.Sign Sign.FullStop ∷ [])
 
 -- an operation, in the turn with this number
 abbrev pub operation_pieces : Operation → List Piece

@@ -39,8 +39,12 @@ fn write_limit(
     )
 }
 
-// Writes what a share takes.
-fn write_source(model: &Model, source: Source, into: &mut Vec<u8>) -> Result<(), AllocError>
+/// Writes what a share takes.
+pub(crate) fn write_source(
+    model: &Model,
+    source: Source,
+    into: &mut Vec<u8>,
+) -> Result<(), AllocError>
     ensures { OnOk result (Writes into.old.items into.new.items (source_pieces model.now source)) }
 {
     match source {

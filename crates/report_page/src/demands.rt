@@ -16,8 +16,8 @@ use frac128::Frac;
 use lp_model::{Member, Model, Term};
 use std::alloc::AllocError;
 
-// Whether a number is below 0.
-fn is_negative(number: Frac) -> bool
+/// Whether a number is below 0.
+pub(crate) fn is_negative(number: Frac) -> bool
     ensures { result ≡ lt_q number zero_ℚ }
 {
     number < Frac::whole(0)
@@ -30,8 +30,8 @@ pub(crate) fn is_one(number: Frac) -> bool
     number == Frac::whole(1)
 }
 
-// A number without its sign.
-fn magnitude(number: Frac) -> Frac
+/// A number without its sign.
+pub(crate) fn magnitude(number: Frac) -> Frac
     ensures { result ≡ without_sign number }
 {
     if is_negative(number) {

@@ -8,14 +8,16 @@ mod drawing;
 mod edits;
 mod markup;
 mod members;
+mod objectives;
 mod pages;
 mod parts;
 mod pieces;
+mod points;
 mod reasons;
 mod steps;
 mod stops;
 mod totals;
 
-pub use markup::{Account, Change, Removal, Sign, Tag, Words};
+pub use markup::{Account, Change, Reach, Removal, Sign, Tag, Words};
 pub use pages::page;
 pub use pieces::{Piece, escape, escaping_law, write};

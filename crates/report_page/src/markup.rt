@@ -1,6 +1,6 @@
 //! The fixed parts of a page.
 ghost use Rattle.std.specs.Prelude.{◌≡◌};
-ghost use Rattle.report_page.specs.Markup.{tag_text, sign_text, words_text, account_text, change_text, removal_text};
+ghost use Rattle.report_page.specs.Markup.{tag_text, sign_text, words_text, account_text, change_text, removal_text, reach_text};
 
 /// What marks up a page.
 #[derive(Clone, Copy, PartialEq, Eq, Debug)]
@@ -263,7 +263,9 @@ pub enum Account {
     StoppedLarge,
     StoppedMemory,
     Asking,
+    AskingReach,
     CanBeMet,
+    Hold,
     Where,
     Step,
     At,
@@ -296,7 +298,9 @@ impl Account {
             Account::StoppedMemory =>
                 "This calculation stopped before there was an answer: there was no memory.",
             Account::Asking => " It was asking whether ",
+            Account::AskingReach => " It was asking how far the objective can go while ",
             Account::CanBeMet => " requirements can be met together",
+            Account::Hold => " requirements are met",
             Account::Where => ", where ",
             Account::Step => " That was in turn ",
             Account::At => ", at ",
@@ -394,6 +398,56 @@ impl Removal {
             Removal::ByOther => " by the other one.",
             Removal::RowsLeft => "Rows that are left: ",
             Removal::ColumnsLeft => "; quantities that are left: ",
+        }
+    }
+}
+
+/// What a page says of whether the objective runs away, and of how far it can go.
+#[derive(Clone, Copy, PartialEq, Eq, Debug)]
+pub enum Reach {
+    Asked,
+    RunsAway,
+    Onward,
+    ChangesFold,
+    Rises,
+    Falls,
+    NeverBetter,
+    ValueIs,
+    IsBest,
+    MayBeBetter,
+    LeftOut,
+    HoldersFold,
+    AddUpAtMost,
+    AddUpAtLeast,
+}
+
+impl Reach {
+    /// How it is written.
+    #[tactic(auto, unfolding(crate::specs::Markup::reach_text))]
+    pub fn text(self) -> &'static str
+        ensures { result.now ≡ reach_text self }
+    {
+        match self {
+            Reach::Asked => "Can the objective get better without end?",
+            Reach::RunsAway =>
+                "All requirements can be met, and the objective gets better without end.",
+            Reach::Onward =>
+                "From these values the quantities can go on changing as below, in steps that keep whole values whole: no requirement stops them, and the objective gets better with each step.",
+            Reach::ChangesFold => "Changes (any other quantity stays as it is): ",
+            Reach::Rises => " rises by ",
+            Reach::Falls => " falls by ",
+            Reach::NeverBetter =>
+                "All requirements can be met, and then the objective is never better than ",
+            Reach::ValueIs => " With the values below it is ",
+            Reach::IsBest => ", and no values are better.",
+            Reach::MayBeBetter => ". Whether other values are better is not said.",
+            Reach::LeftOut =>
+                " What it is with the values below is left out: a number on the way to it is too long to be kept exactly.",
+            Reach::HoldersFold => "Requirements that hold the objective: ",
+            Reach::AddUpAtMost =>
+                "Take each as often as it says, turn round those with &gt;=, and add up: on the left this comes to the objective, and together they say that it is at most ",
+            Reach::AddUpAtLeast =>
+                "Take each as often as it says, turn round those with &lt;=, and add up: on the left this comes to the objective, and together they say that it is at least ",
         }
     }
 }

@@ -57,8 +57,8 @@ fn write_times(weight: Frac, into: &mut Vec<u8>) -> Result<(), AllocError>
     )
 }
 
-// Writes how often a member is taken, where it is.
-fn write_taken(weight: Option<Frac>, into: &mut Vec<u8>) -> Result<(), AllocError>
+/// Writes how often a member is taken, where it is.
+pub(crate) fn write_taken(weight: Option<Frac>, into: &mut Vec<u8>) -> Result<(), AllocError>
     ensures { OnOk result (Writes into.old.items into.new.items (taken_pieces weight)) }
 {
     let Some(weight) = weight else {
@@ -92,8 +92,12 @@ fn write_witness(
     )
 }
 
-// Writes what a member is and what it asks for.
-fn write_asking(model: &Model, member: Member, into: &mut Vec<u8>) -> Result<(), AllocError>
+/// Writes what a member is and what it asks for.
+pub(crate) fn write_asking(
+    model: &Model,
+    member: Member,
+    into: &mut Vec<u8>,
+) -> Result<(), AllocError>
     ensures { OnOk result (Writes into.old.items into.new.items (asking_pieces model.now member)) }
 {
     write(&[Piece::Tag(Tag::Item), Piece::Tag(Tag::Title)], into)?;

@@ -178,6 +178,7 @@ fn write_page(session: &mut Session, report: &Report, into: &mut Vec<u8>) -> Res
 /// that a check accepted. It has, in the words of the model and in the order of the report, each note, and each command
 /// with its answer: the values of a point; the members that cannot all be met, each once, in order, with what it asks for,
 /// how often it is taken, and what its witness gives the columns of its form; and why they cannot, as a sum or as cases; or
+/// the point and the ray along which the objective gets better without end, or how far it can go, with what holds it there; or
 /// how far the program is reduced, step by step; or why an edit is refused; or why a calculation stopped, and where. Each
 /// answer is written of the program as the commands before it edited it. Names are escaped.
 ///

@@ -4,12 +4,12 @@
 ghost use Rattle.std.specs.Prelude.{◌≡◌, ◌∷◌, [], OnOk, flat_map, cond};
 ghost use Rattle.certs.specs.declared.solving.Stop.TheVariants.{Wide as TooWide};
 ghost use Rattle.report_page.specs.Pieces.{Piece as Shown, Writes};
-ghost use Rattle.report_page.specs.Stops.{op_sign, branch_pieces, first_branch, next_branch, path_pieces, site_pieces, operation_pieces, stop_pieces};
+ghost use Rattle.report_page.specs.Stops.{op_sign, branch_pieces, first_branch, next_branch, path_pieces, asking_words, members_words, site_pieces, operation_pieces, stop_pieces};
 
 use crate::markup::{Account, Sign};
 use crate::parts::column_name;
 use crate::pieces::{Piece, write};
-use certs::{Branch, Site, Stop};
+use certs::{Branch, Site, SiteKind, Stop};
 use frac128::{Op, Wide};
 use lp_model::Model;
 use std::alloc::AllocError;
@@ -88,15 +88,35 @@ fn write_path(model: &Model, path: &[Branch], into: &mut Vec<u8>) -> Result<(), 
     write_other_branches(model, others, into)
 }
 
+// What a run asks.
+fn asking(kind: SiteKind) -> Account
+    ensures { result ≡ asking_words kind }
+{
+    match kind {
+        SiteKind::Improve => Account::AskingReach,
+        _ => Account::Asking,
+    }
+}
+
+// What it asks of its members.
+fn asking_members(kind: SiteKind) -> Account
+    ensures { result ≡ members_words kind }
+{
+    match kind {
+        SiteKind::Improve => Account::Hold,
+        _ => Account::CanBeMet,
+    }
+}
+
 // Writes the site of a stop.
 fn write_site(model: &Model, site: &Site, into: &mut Vec<u8>) -> Result<(), AllocError>
     ensures { OnOk result (Writes into.old.items into.new.items (site_pieces model.now site.now)) }
 {
     write(
         &[
-            Piece::Account(Account::Asking),
+            Piece::Account(asking(site.kind)),
             Piece::Count(site.set.count()),
-            Piece::Account(Account::CanBeMet),
+            Piece::Account(asking_members(site.kind)),
         ],
         into,
     )?;

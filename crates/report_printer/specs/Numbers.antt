@@ -1,8 +1,8 @@
 -- Answers whose numbers are those of the code: fractions within the limit, and counts of 64 bits.
-pub use Rattle.evidence_printer.specs.Numbers.{HasValuesWithin, HasWitnessesWithin, HasWeightsWithin, IsProofWithin, IsStopWithin, IsReducedWithin}
+pub use Rattle.evidence_printer.specs.Numbers.{HasValuesWithin, HasWitnessesWithin, HasWeightsWithin, IsProofWithin, IsStopWithin, IsRayWithin, IsDualWithin, IsBoundedWithin, IsReducedWithin}
 use Rattle.report_text.specs.declared.report.Core.{Core}
 use Rattle.report_text.specs.declared.report.Answer.{Answer}
-use Rattle.report_text.specs.declared.report.Answer.TheVariants.{Feasible, Infeasible, Irreducible, Reduced as ReducedTo, Done, Refused, Stopped}
+use Rattle.report_text.specs.declared.report.Answer.TheVariants.{Feasible, Infeasible, Irreducible, Unbounded as RunsAway, Bounded as BoundedBy, Reduced as ReducedTo, Done, Refused, Stopped}
 
 -- those of the witnesses and of the proof
 pub record IsCoreWithin (core : Core) : Type 0 where
@@ -14,6 +14,8 @@ abbrev pub HasNumbersWithin : Answer → Type 0
 HasNumbersWithin (Feasible p) = HasValuesWithin p
 HasNumbersWithin (Infeasible set proof) = IsProofWithin proof
 HasNumbersWithin (Irreducible core) = IsCoreWithin core
+HasNumbersWithin (RunsAway p ray) = HasValuesWithin p × IsRayWithin ray
+HasNumbersWithin (BoundedBy b) = IsBoundedWithin b
 HasNumbersWithin (ReducedTo r) = IsReducedWithin r
 HasNumbersWithin Done = Unit {0}
 HasNumbersWithin (Refused r) = Unit {0}

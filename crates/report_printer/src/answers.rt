@@ -13,7 +13,8 @@ ghost use Rattle.report_printer.specs.Printing.{CanPrintLaw, IsKnownCore, IsKnow
 use crate::back::take_back;
 use certs::{Point, Proof};
 use evidence_printer::{
-    print_members, print_point, print_proof, print_reduced, print_stop, print_witnesses, push_line,
+    print_bounded, print_members, print_point, print_proof, print_reduced, print_stop,
+    print_unbounded, print_witnesses, push_line,
 };
 use lp_model::{MemberSet, Model};
 use report_text::{Answer, Command, Core, Phrase, Refusal};
@@ -73,6 +74,8 @@ fn print_front(model: &Model, answer: &Answer, into: &mut Vec<u8>) -> Result<(),
         Answer::Feasible(point) => print_feasible(model, point, into),
         Answer::Infeasible(set, proof) => print_infeasible(model, set, proof, into),
         Answer::Irreducible(core) => print_irreducible(model, core, into),
+        Answer::Unbounded(point, ray) => print_unbounded(model, point, ray, into),
+        Answer::Bounded(bounded) => print_bounded(model, bounded, into),
         Answer::Reduced(reduced) => print_reduced(model, reduced, into),
         Answer::Done => Ok(()),
         Answer::Refused(_) => Ok(()),

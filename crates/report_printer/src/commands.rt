@@ -180,6 +180,7 @@ pub(crate) fn put_command(command: &Command, into: &mut Vec<u8>) -> Result<(), A
     match command {
         Command::Check => into.extend_from_slice(b"check"),
         Command::Iis(method) => print_iis(*method, into),
+        Command::Unbounded => into.extend_from_slice(b"unbounded"),
         Command::Reduce => into.extend_from_slice(b"reduce"),
         Command::Edit(edit) => print_edit(edit, into),
         Command::Undo => into.extend_from_slice(b"undo"),

@@ -68,6 +68,7 @@ phrase_apart model (Phrase.Refused r) e = by r
     by Refusal.UnknownName = other_start (codes "unknown name") refl
     by Refusal.NoChange = other_start (codes "no change") refl
     by Refusal.NothingToUndo = other_start (codes "nothing to undo") refl
+phrase_apart model Phrase.Ray e = other_third (codes "ray") refl
 phrase_apart model Phrase.Reduced e = other_third (codes "reduced") refl
 phrase_apart model (Phrase.Reduction (Redundant i)) e = other_third (phrase_line model (Phrase.Reduction (Redundant i))) refl
 phrase_apart model (Phrase.Reduction (Empty i)) e = other_start (phrase_line model (Phrase.Reduction (Empty i))) refl

@@ -32,9 +32,9 @@ use Rattle.report_text.specs.declared.report.EditKind.TheVariants.{Drop, Weigh, 
 use Rattle.report_text.specs.declared.report.Refusal.TheVariants.{UnknownName, NoChange, NothingToUndo}
 use Rattle.reductions.specs.declared.steps.ReduceStep.TheVariants.{Empty, Singleton, Fixed, Redundant, Forcing, Doubleton}
 use Rattle.report_text.specs.declared.report.Command.{Command}
-use Rattle.report_text.specs.declared.report.Command.TheVariants.{Check, Iis, Reduce, Edit, Undo, Nodes}
+use Rattle.report_text.specs.declared.report.Command.TheVariants.{Check, Iis, Unbounded, Reduce, Edit, Undo, Nodes}
 use Rattle.report_text.specs.declared.report.Answer.{Answer}
-use Rattle.report_text.specs.declared.report.Answer.TheVariants.{Feasible, Infeasible, Irreducible, Reduced as ReducedTo, Done, Refused, Stopped}
+use Rattle.report_text.specs.declared.report.Answer.TheVariants.{Feasible, Infeasible, Irreducible, Unbounded as RunsAway, Bounded as BoundedBy, Reduced as ReducedTo, Done, Refused, Stopped}
 use Rattle.report_text.specs.declared.report.Report.{Report}
 use Rattle.report_text.specs.Grammar.{Line, report_lines, text_of}
 use Rattle.report_reader.proofs.Endings.{pair_in_order, nothing_is_front, foot, NotFoot, body, body_is, needs_foot, needs_head, whole_ends}
@@ -42,7 +42,7 @@ use Rattle.certs.specs.Order.{source_before}
 use Rattle.certs.specs.Proof.{Tip, at_most, at_least}
 use Rattle.certs.specs.declared.solving.SiteKind.TheVariants.{Settle}
 use Rattle.certs.specs.declared.solving.Site.{Site}
-use Rattle.certs.specs.declared.solving.Stop.TheVariants.{Nodes as NodesSpent}
+use Rattle.certs.specs.declared.solving.Stop.TheVariants.{Nodes as NodesSpent, Large}
 use Rattle.report_text.specs.Form.{IsNamedColumn, IsNamedMember, IsListed, IsUse, AreUses, IsNodeFor, IsReportFor, can_answer}
 use Rattle.report_reader.specs.Reading.{Reads, IsFront, IsWhole, IsBadLine, IsTruncated}
 
@@ -161,6 +161,29 @@ reduced_has_lines = refl
 -- a tree that is no leaf is no answer to it
 no_tree_reduced : can_answer Reduce (Infeasible rows_set tree) ≡ false
 no_tree_reduced = refl
+
+-- ---- a ray, a bound, and a size that is too large
+abbrev bounded : Answer
+bounded = BoundedBy (record { point = point (whole (pos 3) ∷ zero_ℚ ∷ []); objective = Some (whole (pos 6)); dual = record { combo = record { shares = use_of (RowUp 0) (frac (pos 1) 2) ∷ [] }; bound = whole (pos 6) } })
+
+abbrev bounded_report : Report
+bounded_report = record {
+  notes = [];
+  entries = record { command = Unbounded; answer = RunsAway (point (zero_ℚ ∷ one_ℚ ∷ [])) (record { values = zero_ℚ ∷ whole (pos 2) ∷ [] }); line = 2 } ∷ record { command = Unbounded; answer = bounded; line = 9 }
+      ∷ record { command = Unbounded; answer = Stopped (Large 8004000); line = 18 } ∷ [];
+}
+
+bounded_has_lines : report_lines two_rows bounded_report
+    ≡ codes "iisan report 2" ∷ codes "command unbounded" ∷ codes "unbounded" ∷ codes "point" ∷ codes "value y 1" ∷ codes "ray" ∷ codes "value y 2" ∷ codes "end"
+    ∷ codes "command unbounded" ∷ codes "bounded" ∷ codes "point" ∷ codes "value x 3" ∷ codes "objective 6" ∷ codes "bound 6" ∷ codes "dual" ∷ codes "use rowup c1 1/2" ∷ codes "end"
+    ∷ codes "command unbounded" ∷ codes "too large 8004000" ∷ codes "end"
+    ∷ codes "report end" ∷ []
+unfolding frac gcd gcd_within digits eq_ℚ
+bounded_has_lines = refl
+
+-- a point alone is no answer to it
+no_point_alone : can_answer Unbounded (Feasible (point (zero_ℚ ∷ one_ℚ ∷ []))) ≡ false
+no_point_alone = refl
 
 -- ---- edits, some of which are refused
 abbrev asked : List ℕ → EditKind → Command

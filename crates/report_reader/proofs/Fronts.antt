@@ -21,13 +21,14 @@ use Rattle.certs.specs.declared.evidence.Share.{Share}
 use Rattle.certs.specs.declared.evidence.Node.{Node}
 use Rattle.certs.specs.declared.evidence.Node.TheVariants.{Split}
 use Rattle.certs.specs.declared.evidence.Point.{Point}
-use Rattle.certs.specs.declared.solving.SiteKind.TheVariants.{Settle}
+use Rattle.certs.specs.declared.solving.SiteKind.{SiteKind}
 use Rattle.frac128.specs.declared.Wide.{Wide as Operation}
 use Rattle.certs.specs.declared.solving.Stop.{Stop}
-use Rattle.certs.specs.declared.solving.Stop.TheVariants.{Wide as TooWide, Pivots as Spent, Nodes as NodesSpent}
+use Rattle.certs.specs.declared.solving.Stop.TheVariants.{Wide as TooWide, Pivots as Spent, Nodes as NodesSpent, Large}
 use Rattle.report_text.specs.declared.report.Command.{Command}
-use Rattle.report_text.specs.declared.report.Command.TheVariants.{Check, Iis, Reduce, Edit, Undo, Pivots, Nodes}
+use Rattle.report_text.specs.declared.report.Command.TheVariants.{Check, Iis, Unbounded, Reduce, Edit, Undo, Pivots, Nodes}
 use Rattle.reductions.specs.declared.steps.ReduceStep.{ReduceStep}
+use Rattle.report_text.specs.declared.report.Bounded.{Bounded}
 use Rattle.report_text.specs.declared.report.Reduced.{Reduced}
 use Rattle.report_text.specs.declared.report.Answer.{Answer}
 use Rattle.report_text.specs.declared.report.Entry.{Entry}
@@ -36,18 +37,21 @@ use Rattle.report_text.specs.declared.phrases.StopPhrase.{StopPhrase}
 use Rattle.report_reader.specs.declared.drafts.Found.{Found}
 use Rattle.report_reader.specs.declared.drafts.Question.{Question}
 use Rattle.report_reader.specs.declared.drafts.StopCause.{StopCause}
+use Rattle.report_reader.specs.declared.drafts.SitePart.{SitePart}
 use Rattle.report_reader.specs.declared.drafts.StopPart.{StopPart}
+use Rattle.report_reader.specs.declared.drafts.Claim.{Claim}
+use Rattle.report_reader.specs.declared.drafts.BoundPart.{BoundPart}
 use Rattle.report_reader.specs.declared.drafts.Part.{Part}
 use Rattle.report_reader.specs.declared.drafts.Next.{Next}
 use Rattle.report_reader.specs.declared.drafts.Stage.{Stage}
 use Rattle.report_reader.specs.declared.drafts.Draft.{Draft}
 use Rattle.report_text.specs.Turns.{after, entry_commands}
-use Rattle.report_text.specs.Grammar.{column_name, entries_phrases, value_phrases, point_phrases, node_phrases, witness_phrases, without_phrase, branch_phrase, site_phrases, answer_front, answer_end, entry_phrases, body_phrases}
+use Rattle.report_text.specs.Grammar.{column_name, entries_phrases, value_phrases, point_phrases, objective_phrases, node_phrases, witness_phrases, without_phrase, branch_phrase, site_phrases, answer_front, answer_end, entry_phrases, body_phrases}
 use Rattle.report_text.proofs.InTurn.{gathered-push, AllEntries-push, numbered-push}
 use Rattle.certs.specs.Order.{source_before}
-use Rattle.report_text.specs.Form.{is_word, IsNamedColumn, IsNamedMember, IsWithinLimit, IsUse, AreUses, IsListed, IsPointFor, IsStepFor, IsAnswerFor, IsEntryFor, can_answer}
-use Rattle.phrase_reader.specs.Phrases.{IsNamedBranch, IsPhraseFor}
-use Rattle.report_reader.specs.Drafts.{filled, point_of, leaf_of, set_of, answer_of, only_if, may_split, proof_with, witnessed_with, site_without, stop_begun, stop_with, reply_said, extended, placed, between, advanced, AreValues, AreMembers, AreWitnesses, IsFound, IsOneMore, AreLeftOut, IsTold, IsStopPart, AreNodes, Asks, Reduces, IsPartFor, IsDraftFor}
+use Rattle.report_text.specs.Form.{is_word, IsNamedColumn, IsNamedMember, IsWithinLimit, IsUse, AreUses, IsListed, IsPointFor, IsRayFor, is_run_kind, IsStepFor, IsAnswerFor, IsEntryFor, can_answer}
+use Rattle.phrase_reader.specs.Phrases.{IsNamedBranch, IsStopPhrase, IsPhraseFor}
+use Rattle.report_reader.specs.Drafts.{filled, point_of, ray_of, leaf_of, set_of, answer_of, only_if, may_split, proof_with, witnessed_with, site_of, run_of, stop_begun, stop_with, claim_with, bound_with, reply_said, extended, placed, between, advanced, AreValues, AreMembers, AreWitnesses, IsFound, IsOneMore, AreLeftOut, IsTold, IsStopPart, AreNodes, Asks, Seeks, Bounds, IsBoundPart, Reduces, IsPartFor, IsDraftFor}
 use Rattle.phrase_reader.proofs.Named.{told}
 use Rattle.report_reader.proofs.DueTrees.{whole_due, split_due, leaf_due, none_due, one_leaf_due}
 use Rattle.report_reader.proofs.LeftOut.{none_told, left_twice, site_in_form}
@@ -57,10 +61,6 @@ abbrev pub found_phrases : Found → List Phrase
 found_phrases (Found.Members members) = Phrase.Infeasible ∷ map Phrase.Member members
 found_phrases (Found.Witnessed members witnesses) = Phrase.Irreducible ∷ flat_map witness_phrases (zip members witnesses)
 
--- the site of a whole run
-abbrev pub settle_phrase : Phrase
-settle_phrase = Phrase.Stop (StopPhrase.Site Settle)
-
 -- what a stop says first
 abbrev pub opening : StopCause → StopPhrase
 opening StopCause.Wide = StopPhrase.Wide
@@ -68,14 +68,27 @@ opening StopCause.Spent = StopPhrase.Spent
 opening StopCause.Nodes = StopPhrase.Nodes
 
 -- the same, the site of its run, the members left out, and the branches
-abbrev pub begun_phrases : StopCause → List Member → List Branch → List Phrase
-begun_phrases cause left path = Phrase.Stop (opening cause) ∷ settle_phrase ∷ (map without_phrase left ++ map branch_phrase path)
+abbrev pub begun_phrases : StopCause → SitePart → List Phrase
+begun_phrases cause site = Phrase.Stop (opening cause) ∷ Phrase.Stop (StopPhrase.Site site.kind) ∷ (map without_phrase site.left ++ map branch_phrase site.path)
 
 abbrev pub stop_part_phrases : StopPart → List Phrase
 stop_part_phrases (StopPart.Begun cause) = Phrase.Stop (opening cause) ∷ []
-stop_part_phrases (StopPart.Site cause left path) = begun_phrases cause left path
-stop_part_phrases (StopPart.Step left path k) = begun_phrases StopCause.Wide left path ++ Phrase.Stop (StopPhrase.Step k) ∷ []
-stop_part_phrases (StopPart.Operation left path k o) = begun_phrases StopCause.Wide left path ++ Phrase.Stop (StopPhrase.Step k) ∷ Phrase.Stop (StopPhrase.Operation o) ∷ []
+stop_part_phrases (StopPart.Large size) = Phrase.Stop (StopPhrase.Large size) ∷ []
+stop_part_phrases (StopPart.Site cause site) = begun_phrases cause site
+stop_part_phrases (StopPart.Step site k) = begun_phrases StopCause.Wide site ++ Phrase.Stop (StopPhrase.Step k) ∷ []
+stop_part_phrases (StopPart.Operation site k o) = begun_phrases StopCause.Wide site ++ Phrase.Stop (StopPhrase.Step k) ∷ Phrase.Stop (StopPhrase.Operation o) ∷ []
+
+-- what a point is to show
+abbrev pub claim_phrase : Claim → Phrase
+claim_phrase Claim.Feasible = Phrase.Feasible
+claim_phrase Claim.Unbounded = Phrase.Unbounded
+claim_phrase Claim.Bounded = Phrase.Bounded
+
+-- a point, and how far the objective can go
+abbrev pub bound_part_phrases : BoundPart → List Phrase
+bound_part_phrases (BoundPart.Objective p v) = Phrase.Bounded ∷ (point_phrases p ++ Phrase.Objective v ∷ [])
+bound_part_phrases (BoundPart.Bound p v b) = Phrase.Bounded ∷ (point_phrases p ++ (objective_phrases v ++ Phrase.Bound b ∷ []))
+bound_part_phrases (BoundPart.Dual p v b shares) = Phrase.Bounded ∷ (point_phrases p ++ (objective_phrases v ++ Phrase.Bound b ∷ Phrase.Dual ∷ map Phrase.Use shares))
 
 -- a set, and the nodes of its proof
 abbrev pub nodes_phrases : Found → List Node → List Phrase
@@ -83,8 +96,10 @@ nodes_phrases found nodes = found_phrases found ++ Phrase.Proof ∷ flat_map nod
 
 abbrev pub part_phrases : Part → List Phrase
 part_phrases Part.Nothing = []
-part_phrases Part.Feasible = Phrase.Feasible ∷ []
-part_phrases (Part.Point values) = Phrase.Feasible ∷ Phrase.Point ∷ value_phrases 0 values
+part_phrases (Part.Claimed claim) = claim_phrase claim ∷ []
+part_phrases (Part.Point claim values) = claim_phrase claim ∷ Phrase.Point ∷ value_phrases 0 values
+part_phrases (Part.Ray point values) = Phrase.Unbounded ∷ (point_phrases point ++ Phrase.Ray ∷ value_phrases 0 values)
+part_phrases (Part.Bounded part) = bound_part_phrases part
 part_phrases (Part.Listed found) = found_phrases found
 part_phrases (Part.Member members witnesses m) = found_phrases (Found.Witnessed members witnesses) ++ Phrase.Member m ∷ []
 part_phrases (Part.Witness members witnesses m values) = found_phrases (Found.Witnessed members witnesses) ++ Phrase.Member m ∷ Phrase.Point ∷ value_phrases 0 values
@@ -208,6 +223,11 @@ module _ (model : Program) where
   point_said : (values : List ℚ) → point_phrases (point_of model values) ≡ Phrase.Point ∷ value_phrases 0 values
   point_said values = ap (λ l. Phrase.Point ∷ l) (filled_says (length model.columns) values)
 
+  -- the ray of changes
+  ray_taken : (values : List ℚ) → AreValues model values → IsRayFor model (ray_of model values)
+  unfolding Named
+  ray_taken values h = record { len = filled_length (length model.columns) values h.few; fits = filled_fits (length model.columns) values h.fits; named = filled_named (length model.columns) values h.named }
+
   -- ---- members, witnesses and shares
   member_taken : (members : List Member) (m : Member) → AreMembers model members → IsNamedMember model m → list_all (λ n. comes_before n m) members ≡ true → AreMembers model (members ++ m ∷ [])
   member_taken members m h named after = record {
@@ -284,11 +304,13 @@ module _ (model : Program) where
   -- members alone
   members_told : (c : Command) (members : List Member) → IsFound model c (Found.Members members) → AreMembers model members
   members_told Check members h = h
+  members_told Unbounded members h = h
   members_told Reduce members h = h
   members_told c members h = absurd h
 
   members_found : (c : Command) (members more : List Member) → IsFound model c (Found.Members members) → AreMembers model more → IsFound model c (Found.Members more)
   members_found Check members more h k = k
+  members_found Unbounded members more h k = k
   members_found Reduce members more h k = k
   members_found c members more h k = absurd h
 
@@ -309,43 +331,95 @@ module _ (model : Program) where
       record { members = member_taken left m h.members named both.1; active = All-push (λ n. IsTrue (is_active model n)) left m h.active both.0 }
 
   -- a stop, and a phrase
-  begun_taken : (c : Command) (s : StopPhrase) (next : Part) → Asks c → stop_begun s ≡ Some (Next.More next) → Took c Part.Nothing (Phrase.Stop s) next
+  begun_taken : (c : Command) (s : StopPhrase) (next : Part) → Asks c → IsStopPhrase model s → stop_begun s ≡ Some (Next.More next) → Took c Part.Nothing (Phrase.Stop s) next
   unfolding Took
-  begun_taken c StopPhrase.Wide next asks e = subst (Took c Part.Nothing (Phrase.Stop StopPhrase.Wide)) (more_is (Part.Stop (StopPart.Begun StopCause.Wide)) next e) ((asks, tt), refl)
-  begun_taken c StopPhrase.Spent next asks e = subst (Took c Part.Nothing (Phrase.Stop StopPhrase.Spent)) (more_is (Part.Stop (StopPart.Begun StopCause.Spent)) next e) ((asks, tt), refl)
-  begun_taken c StopPhrase.Nodes next asks e = subst (Took c Part.Nothing (Phrase.Stop StopPhrase.Nodes)) (more_is (Part.Stop (StopPart.Begun StopCause.Nodes)) next e) ((asks, tt), refl)
-  begun_taken c _ next asks e = absurd (cc)
+  begun_taken c StopPhrase.Wide next asks k e = subst (Took c Part.Nothing (Phrase.Stop StopPhrase.Wide)) (more_is (Part.Stop (StopPart.Begun StopCause.Wide)) next e) ((asks, tt), refl)
+  begun_taken c StopPhrase.Spent next asks k e = subst (Took c Part.Nothing (Phrase.Stop StopPhrase.Spent)) (more_is (Part.Stop (StopPart.Begun StopCause.Spent)) next e) ((asks, tt), refl)
+  begun_taken c StopPhrase.Nodes next asks k e = subst (Took c Part.Nothing (Phrase.Stop StopPhrase.Nodes)) (more_is (Part.Stop (StopPart.Begun StopCause.Nodes)) next e) ((asks, tt), refl)
+  begun_taken c (StopPhrase.Large size) next asks k e = subst (Took c Part.Nothing (Phrase.Stop (StopPhrase.Large size))) (more_is (Part.Stop (StopPart.Large size)) next e) ((asks, k), refl)
+  begun_taken c _ next asks k e = absurd (cc)
+
+  -- a member more that is left out, where no branch stands yet
+  without_taken : (c : Command) (cause : StopCause) (kind : SiteKind) (left : List Member) (path : List Branch) (m : Member) (next : Part) → Asks c → IsTold model (record { kind = kind; left = left; path = path }) → IsNamedMember model m
+      → stop_with model (StopPart.Site cause (record { kind = kind; left = left; path = path })) (without_phrase m) ≡ Some (Next.More next)
+      → Took c (Part.Stop (StopPart.Site cause (record { kind = kind; left = left; path = path }))) (without_phrase m) next
+  unfolding Took
+  without_taken c cause kind left [] m next asks h k e =
+      let with_left : List Member → SitePart = λ ms. record { kind = kind; left = ms; path = [] } in
+      list_taken c (Part.Stop (StopPart.Site cause (with_left left))) (without_phrase m) (λ members. Part.Stop (StopPart.Site cause (with_left members))) (is_active model m && list_all (λ n. comes_before n m) left) (left ++ m ∷ []) next
+      (λ t. (
+        (asks, record { run = h.run; left = left_taken left m h.left k t; path = h.path }),
+        ap (λ l. Phrase.Stop (opening cause) ∷ Phrase.Stop (StopPhrase.Site kind) ∷ l)
+            (append-nil (map without_phrase (left ++ m ∷ [])) ∙ map_push without_phrase left m ∙ ap (λ l. l ++ without_phrase m ∷ []) (sym (append-nil (map without_phrase left)))),
+      )) e
+  without_taken c cause kind left (b ∷ path) m next asks h k e =
+      let first : Bool = length (b ∷ path) == 0 in
+      let with_left : List Member → SitePart = λ ms. record { kind = kind; left = ms; path = b ∷ path } in
+      let t = mapped_told (λ members. Next.More (Part.Stop (StopPart.Site cause (with_left members)))) ((first && is_active model m) && list_all (λ n. comes_before n m) left) (left ++ m ∷ []) (Next.More next) e in
+      let none : length (b ∷ path) ≡ 0 = eqb-true (length (b ∷ path)) 0 (and_parts first (is_active model m) (and_parts (first && is_active model m) (list_all (λ n. comes_before n m) left) t.0).0).0 in
+      absurd (omega arith)
 
   stop_taken : (c : Command) (part : StopPart) (p : Phrase) (next : Part) → Asks c × IsStopPart model part → IsPhraseFor model p → stop_with model part p ≡ Some (Next.More next) → Took c (Part.Stop part) p next
   unfolding Took
-  stop_taken c (StopPart.Begun cause) (Phrase.Stop (StopPhrase.Site Settle)) next h k e = subst (Took c (Part.Stop (StopPart.Begun cause)) settle_phrase) (more_is (Part.Stop (StopPart.Site cause [] [])) next e) ((h.0, none_told model), refl)
-  stop_taken c (StopPart.Site cause left []) (Phrase.Stop (StopPhrase.Without m)) next h k e =
-      list_taken c (Part.Stop (StopPart.Site cause left [])) (without_phrase m) (λ members. Part.Stop (StopPart.Site cause members [])) (is_active model m && list_all (λ n. comes_before n m) left) (left ++ m ∷ []) next
-      (λ t. (
-        (h.0, (left_taken left m h.1.0 k t, h.1.1)),
-        ap (λ l. Phrase.Stop (opening cause) ∷ settle_phrase ∷ l)
-            (append-nil (map without_phrase (left ++ m ∷ [])) ∙ map_push without_phrase left m ∙ ap (λ l. l ++ without_phrase m ∷ []) (sym (append-nil (map without_phrase left)))),
-      )) e
-  stop_taken c (StopPart.Site cause left (b ∷ path)) (Phrase.Stop (StopPhrase.Without m)) next h k e =
-      let first : Bool = length (b ∷ path) == 0 in
-      let t = mapped_told (λ members. Next.More (Part.Stop (StopPart.Site cause members (b ∷ path)))) ((first && is_active model m) && list_all (λ n. comes_before n m) left) (left ++ m ∷ []) (Next.More next) e in
-      let none : length (b ∷ path) ≡ 0 = eqb-true (length (b ∷ path)) 0 (and_parts first (is_active model m) (and_parts (first && is_active model m) (list_all (λ n. comes_before n m) left) t.0).0).0 in
-      absurd (omega arith)
-  stop_taken c (StopPart.Site cause left path) (Phrase.Stop (StopPhrase.Branch b)) next h k e =
-      subst (Took c (Part.Stop (StopPart.Site cause left path)) (branch_phrase b)) (more_is (Part.Stop (StopPart.Site cause left (path ++ b ∷ []))) next e) (
-        (h.0, (h.1.0, All-push (IsNamedBranch model) path b h.1.1 k)),
-        ap (λ l. Phrase.Stop (opening cause) ∷ settle_phrase ∷ (map without_phrase left ++ l)) (map-append branch_phrase path (b ∷ []))
-            ∙ ap (λ l. Phrase.Stop (opening cause) ∷ settle_phrase ∷ l) (sym (append_assoc (map without_phrase left) (map branch_phrase path) (branch_phrase b ∷ []))),
+  stop_taken c (StopPart.Begun cause) (Phrase.Stop (StopPhrase.Site kind)) next h k e =
+      let more = Part.Stop (StopPart.Site cause (run_of kind)) in
+      let t = only_told (is_run_kind kind) (Next.More more) (Next.More next) e in
+      subst (Took c (Part.Stop (StopPart.Begun cause)) (Phrase.Stop (StopPhrase.Site kind))) (same_more more next t.1) ((h.0, none_told model kind t.0), refl)
+  stop_taken c (StopPart.Large size) Phrase.End next h k e = absurd (cc)
+  stop_taken c (StopPart.Site cause site) (Phrase.Stop (StopPhrase.Without m)) next h k e = without_taken c cause site.kind site.left site.path m next h.0 h.1 k e
+  stop_taken c (StopPart.Site cause site) (Phrase.Stop (StopPhrase.Branch b)) next h k e =
+      subst (Took c (Part.Stop (StopPart.Site cause site)) (branch_phrase b)) (more_is (Part.Stop (StopPart.Site cause (record site { path = site.path ++ b ∷ [] }))) next e) (
+        (h.0, record { run = h.1.run; left = h.1.left; path = All-push (IsNamedBranch model) site.path b h.1.path k }),
+        ap (λ l. Phrase.Stop (opening cause) ∷ Phrase.Stop (StopPhrase.Site site.kind) ∷ (map without_phrase site.left ++ l)) (map-append branch_phrase site.path (b ∷ []))
+            ∙ ap (λ l. Phrase.Stop (opening cause) ∷ Phrase.Stop (StopPhrase.Site site.kind) ∷ l) (sym (append_assoc (map without_phrase site.left) (map branch_phrase site.path) (branch_phrase b ∷ []))),
       )
-  stop_taken c (StopPart.Site StopCause.Wide left path) (Phrase.Stop (StopPhrase.Step n)) next h k e =
-      subst (Took c (Part.Stop (StopPart.Site StopCause.Wide left path)) (Phrase.Stop (StopPhrase.Step n))) (more_is (Part.Stop (StopPart.Step left path n)) next e) ((h.0, (h.1, k)), refl)
-  stop_taken c (StopPart.Site StopCause.Spent left path) Phrase.End next h k e = absurd (cc)
-  stop_taken c (StopPart.Site StopCause.Nodes left path) Phrase.End next h k e = absurd (cc)
-  stop_taken c (StopPart.Step left path n) (Phrase.Stop (StopPhrase.Operation o)) next h k e =
-      subst (Took c (Part.Stop (StopPart.Step left path n)) (Phrase.Stop (StopPhrase.Operation o))) (more_is (Part.Stop (StopPart.Operation left path n o)) next e)
-      ((h.0, (h.1.0, (h.1.1, k))), sym (append_assoc (begun_phrases StopCause.Wide left path) (Phrase.Stop (StopPhrase.Step n) ∷ []) (Phrase.Stop (StopPhrase.Operation o) ∷ [])))
-  stop_taken c (StopPart.Operation left path n o) Phrase.End next h k e = absurd (cc)
+  stop_taken c (StopPart.Site StopCause.Wide site) (Phrase.Stop (StopPhrase.Step n)) next h k e =
+      subst (Took c (Part.Stop (StopPart.Site StopCause.Wide site)) (Phrase.Stop (StopPhrase.Step n))) (more_is (Part.Stop (StopPart.Step site n)) next e) ((h.0, (h.1, k)), refl)
+  stop_taken c (StopPart.Site StopCause.Spent site) Phrase.End next h k e = absurd (cc)
+  stop_taken c (StopPart.Site StopCause.Nodes site) Phrase.End next h k e = absurd (cc)
+  stop_taken c (StopPart.Step site n) (Phrase.Stop (StopPhrase.Operation o)) next h k e =
+      subst (Took c (Part.Stop (StopPart.Step site n)) (Phrase.Stop (StopPhrase.Operation o))) (more_is (Part.Stop (StopPart.Operation site n o)) next e)
+      ((h.0, (h.1.0, (h.1.1, k))), sym (append_assoc (begun_phrases StopCause.Wide site) (Phrase.Stop (StopPhrase.Step n) ∷ []) (Phrase.Stop (StopPhrase.Operation o) ∷ [])))
+  stop_taken c (StopPart.Operation site n o) Phrase.End next h k e = absurd (cc)
   stop_taken c part p next h k e = absurd (cc)
+
+  -- a point, and a phrase, by what it is to show
+  claim_taken : (c : Command) (claim : Claim) (values : List ℚ) (p : Phrase) (next : Part) → IsPartFor model c (Part.Point claim values) → IsPhraseFor model p → claim_with claim (point_of model values) p ≡ Some (Next.More next)
+      → Took c (Part.Point claim values) p next
+  unfolding Took
+  claim_taken c Claim.Unbounded values Phrase.Ray next h k e =
+      subst (Took c (Part.Point Claim.Unbounded values) Phrase.Ray) (more_is (Part.Ray (point_of model values) []) next e)
+      ((h.0, (point_taken values h.1, no_values)), ap (λ l. Phrase.Unbounded ∷ (l ++ Phrase.Ray ∷ [])) (point_said values))
+  claim_taken c Claim.Bounded values (Phrase.Objective v) next h k e =
+      subst (Took c (Part.Point Claim.Bounded values) (Phrase.Objective v)) (more_is (Part.Bounded (BoundPart.Objective (point_of model values) v)) next e)
+      ((h.0, (point_taken values h.1, k)), ap (λ l. Phrase.Bounded ∷ (l ++ Phrase.Objective v ∷ [])) (point_said values))
+  claim_taken c Claim.Bounded values (Phrase.Bound b) next h k e =
+      subst (Took c (Part.Point Claim.Bounded values) (Phrase.Bound b)) (more_is (Part.Bounded (BoundPart.Bound (point_of model values) None b)) next e)
+      ((h.0, (point_taken values h.1, (tt, k))), ap (λ l. Phrase.Bounded ∷ (l ++ Phrase.Bound b ∷ [])) (point_said values))
+  claim_taken c Claim.Feasible values Phrase.End next h k e = absurd (cc)
+  claim_taken c claim values p next h k e = absurd (cc)
+
+  -- the last part of phrases, moved out of the others
+  moved_out : (a b d e : List Phrase) → a ++ (b ++ (d ++ e)) ≡ (a ++ (b ++ d)) ++ e
+  moved_out a b d e = ap (λ l. a ++ l) (sym (append_assoc b d e)) ∙ sym (append_assoc a (b ++ d) e)
+
+  -- what stands behind the point, and a phrase
+  bound_taken : (c : Command) (part : BoundPart) (p : Phrase) (next : Part) → Bounds c × IsBoundPart model part → IsPhraseFor model p → bound_with part p ≡ Some (Next.More next) → Took c (Part.Bounded part) p next
+  unfolding Took
+  bound_taken c (BoundPart.Objective point v) (Phrase.Bound b) next h k e =
+      subst (Took c (Part.Bounded (BoundPart.Objective point v)) (Phrase.Bound b)) (more_is (Part.Bounded (BoundPart.Bound point (Some v) b)) next e)
+      ((h.0, (h.1.0, (h.1.1, k))), ap (λ l. Phrase.Bounded ∷ l) (sym (append_assoc (point_phrases point) (Phrase.Objective v ∷ []) (Phrase.Bound b ∷ []))))
+  bound_taken c (BoundPart.Bound point v b) Phrase.Dual next h k e =
+      subst (Took c (Part.Bounded (BoundPart.Bound point v b)) Phrase.Dual) (more_is (Part.Bounded (BoundPart.Dual point v b [])) next e)
+      ((h.0, (h.1.0, (h.1.1.0, (h.1.1.1, no_uses)))), ap (λ l. Phrase.Bounded ∷ l) (moved_out (point_phrases point) (objective_phrases v) (Phrase.Bound b ∷ []) (Phrase.Dual ∷ [])))
+  bound_taken c (BoundPart.Dual point v b shares) (Phrase.Use s) next h k e =
+      let front : List Phrase → List Phrase = λ l. Phrase.Bounded ∷ (point_phrases point ++ (objective_phrases v ++ Phrase.Bound b ∷ Phrase.Dual ∷ l)) in
+      list_taken c (Part.Bounded (BoundPart.Dual point v b shares)) (Phrase.Use s) (λ ss. Part.Bounded (BoundPart.Dual point v b ss)) (list_all (λ u. source_before u.source s.source) shares) (shares ++ s ∷ []) next
+      (λ t. (
+        (h.0, (h.1.0, (h.1.1.0, (h.1.1.1.0, share_taken shares s h.1.1.1.1 k t)))),
+        ap front (map_push Phrase.Use shares s) ∙ ap (λ l. Phrase.Bounded ∷ l) (moved_out (point_phrases point) (objective_phrases v) (Phrase.Bound b ∷ Phrase.Dual ∷ map Phrase.Use shares) (Phrase.Use s ∷ [])),
+      )) e
+  bound_taken c part p next h k e = absurd (cc)
 
   -- the nodes of a proof, and a phrase
   no_more : (found : Found) (nodes : List Node) (b : Bool) (next : Part) → only_if b (Next.Whole (answer_of model found nodes)) ≡ Some (Next.More next) → ⊥
@@ -385,16 +459,20 @@ module _ (model : Program) where
 
   more_taken : (c : Command) (part : Part) (p : Phrase) (next : Part) → IsPartFor model c part → IsPhraseFor model p → extended model c part p ≡ Some (Next.More next) → Took c part p next
   unfolding Took
-  more_taken Check Part.Nothing Phrase.Feasible next h k e = subst (Took Check Part.Nothing Phrase.Feasible) (more_is Part.Feasible next e) (tt, refl)
-  more_taken (Iis method) Part.Nothing Phrase.Feasible next h k e = subst (Took (Iis method) Part.Nothing Phrase.Feasible) (more_is Part.Feasible next e) (tt, refl)
-  more_taken Check Part.Nothing (Phrase.Stop s) next h k e = begun_taken Check s next tt e
-  more_taken (Iis method) Part.Nothing (Phrase.Stop s) next h k e = begun_taken (Iis method) s next tt e
+  more_taken Check Part.Nothing Phrase.Feasible next h k e = subst (Took Check Part.Nothing Phrase.Feasible) (more_is (Part.Claimed Claim.Feasible) next e) (tt, refl)
+  more_taken (Iis method) Part.Nothing Phrase.Feasible next h k e = subst (Took (Iis method) Part.Nothing Phrase.Feasible) (more_is (Part.Claimed Claim.Feasible) next e) (tt, refl)
+  more_taken Unbounded Part.Nothing Phrase.Unbounded next h k e = subst (Took Unbounded Part.Nothing Phrase.Unbounded) (more_is (Part.Claimed Claim.Unbounded) next e) (tt, refl)
+  more_taken Unbounded Part.Nothing Phrase.Bounded next h k e = subst (Took Unbounded Part.Nothing Phrase.Bounded) (more_is (Part.Claimed Claim.Bounded) next e) (tt, refl)
+  more_taken Check Part.Nothing (Phrase.Stop s) next h k e = begun_taken Check s next tt k e
+  more_taken (Iis method) Part.Nothing (Phrase.Stop s) next h k e = begun_taken (Iis method) s next tt k e
+  more_taken Unbounded Part.Nothing (Phrase.Stop s) next h k e = begun_taken Unbounded s next tt k e
   more_taken (Edit edit) Part.Nothing p next h k e = absurd (no_more_reply (Edit edit) p next e)
   more_taken Undo Part.Nothing p next h k e = absurd (no_more_reply Undo p next e)
   more_taken (Pivots n) Part.Nothing p next h k e = absurd (no_more_reply (Pivots n) p next e)
   more_taken (Nodes n) Part.Nothing p next h k e = absurd (no_more_reply (Nodes n) p next e)
   more_taken c (Part.Stop part) p next h k e = stop_taken c part p next h k e
   more_taken Check Part.Nothing Phrase.Infeasible next h k e = subst (Took Check Part.Nothing Phrase.Infeasible) (more_is (Part.Listed (Found.Members [])) next e) (no_members, refl)
+  more_taken Unbounded Part.Nothing Phrase.Infeasible next h k e = subst (Took Unbounded Part.Nothing Phrase.Infeasible) (more_is (Part.Listed (Found.Members [])) next e) (no_members, refl)
   more_taken Reduce Part.Nothing Phrase.Infeasible next h k e = subst (Took Reduce Part.Nothing Phrase.Infeasible) (more_is (Part.Listed (Found.Members [])) next e) (no_members, refl)
   more_taken Reduce Part.Nothing Phrase.Reduced next h k e = subst (Took Reduce Part.Nothing Phrase.Reduced) (more_is (Part.Reduced []) next e) ((tt, All-nil (IsStepFor model)), refl)
   more_taken c (Part.Reduced steps) (Phrase.Reduction s) next h k e =
@@ -403,10 +481,19 @@ module _ (model : Program) where
       subst (Took c (Part.Reduced steps) (Phrase.Left rows columns)) (more_is (Part.Left steps rows columns) next e) ((h.0, (h.1, k)), refl)
   more_taken c (Part.Left steps rows columns) Phrase.End next h k e = absurd (cc)
   more_taken (Iis method) Part.Nothing Phrase.Irreducible next h k e = subst (Took (Iis method) Part.Nothing Phrase.Irreducible) (more_is (Part.Listed (Found.Witnessed [] [])) next e) ((no_members, no_witnesses), refl)
-  more_taken c Part.Feasible Phrase.Point next h k e = subst (Took c Part.Feasible Phrase.Point) (more_is (Part.Point []) next e) ((h, no_values), refl)
-  more_taken c (Part.Point values) (Phrase.Value j v) next h k e =
-      list_taken c (Part.Point values) (Phrase.Value j v) (λ vs. Part.Point vs) (nat_le (length values) j) (filled j values ++ v ∷ []) next
-      (λ t. (let le : length values ≤ j = leb-true (length values) j t in ((h.0, value_taken values j v h.1 k le), ap (λ l. Phrase.Feasible ∷ Phrase.Point ∷ l) (value_said values j v le k.1.1)))) e
+  more_taken c (Part.Claimed claim) Phrase.Point next h k e = subst (Took c (Part.Claimed claim) Phrase.Point) (more_is (Part.Point claim []) next e) ((h, no_values), refl)
+  more_taken c (Part.Point claim values) (Phrase.Value j v) next h k e =
+      list_taken c (Part.Point claim values) (Phrase.Value j v) (λ vs. Part.Point claim vs) (nat_le (length values) j) (filled j values ++ v ∷ []) next
+      (λ t. (let le : length values ≤ j = leb-true (length values) j t in ((h.0, value_taken values j v h.1 k le), ap (λ l. claim_phrase claim ∷ Phrase.Point ∷ l) (value_said values j v le k.1.1)))) e
+  more_taken c (Part.Point claim values) p next h k e = claim_taken c claim values p next h k e
+  more_taken c (Part.Ray point values) (Phrase.Value j v) next h k e =
+      list_taken c (Part.Ray point values) (Phrase.Value j v) (λ vs. Part.Ray point vs) (nat_le (length values) j) (filled j values ++ v ∷ []) next
+      (λ t. (let le : length values ≤ j = leb-true (length values) j t in (
+        (h.0, (h.1.0, value_taken values j v h.1.1 k le)),
+        ap (λ l. Phrase.Unbounded ∷ (point_phrases point ++ Phrase.Ray ∷ l)) (value_said values j v le k.1.1)
+            ∙ ap (λ l. Phrase.Unbounded ∷ l) (sym (append_assoc (point_phrases point) (Phrase.Ray ∷ value_phrases 0 values) (Phrase.Value j v ∷ []))),
+      ))) e
+  more_taken c (Part.Bounded part) p next h k e = bound_taken c part p next h k e
   more_taken c (Part.Listed (Found.Members members)) (Phrase.Member m) next h k e =
       list_taken c (Part.Listed (Found.Members members)) (Phrase.Member m) (λ ms. Part.Listed (Found.Members ms)) (list_all (λ n. comes_before n m) members) (members ++ m ∷ []) next
       (λ t. (members_found c members (members ++ m ∷ []) h (member_taken members m (members_told c members h) k t), ap (λ l. Phrase.Infeasible ∷ l) (map_push Phrase.Member members m))) e
@@ -455,24 +542,59 @@ module _ (model : Program) where
   proof_ends : (c : Command) (found : Found) (nodes : List Node) → IsFound model c found → AreNodes model c nodes 0
       → (can_answer c (answer_of model found nodes) ≡ true) × (IsAnswerFor model (answer_of model found nodes) × ((answer_front model (answer_of model found nodes) ≡ nodes_phrases found nodes) × (answer_end (answer_of model found nodes) ≡ Phrase.End)))
   proof_ends Check (Found.Members members) nodes h k = (refl, ((listed_taken members h, none_due model Check nodes k), (refl, refl)))
+  proof_ends Unbounded (Found.Members members) nodes h k = (refl, ((listed_taken members h, none_due model Unbounded nodes k), (refl, refl)))
   proof_ends Reduce (Found.Members members) nodes h k = (one_leaf_due model nodes k, ((listed_taken members h, none_due model Reduce nodes k), (refl, refl)))
   proof_ends (Iis method) (Found.Witnessed members witnesses) nodes h k =
       (refl, (record { members = listed_taken members h.0; each = h.1.each; points = h.1.points; proof = none_due model (Iis method) nodes k; rounds = refl; price = refl }, (refl, refl)))
   proof_ends c found nodes h k = absurd h
 
-  point_ends : (c : Command) (values : List ℚ) → IsPartFor model c (Part.Point values) → Ends c (Part.Point values) Phrase.End (Answer.Feasible (point_of model values))
-  point_ends Check values h = record { ended = refl; kind = refl; form = point_taken values h.1; said = ap (λ l. Phrase.Feasible ∷ l) (point_said values) }
-  point_ends (Iis method) values h = record { ended = refl; kind = refl; form = point_taken values h.1; said = ap (λ l. Phrase.Feasible ∷ l) (point_said values) }
-  point_ends Reduce values h = absurd h.0
-  point_ends (Edit edit) values h = absurd h.0
-  point_ends Undo values h = absurd h.0
-  point_ends (Pivots n) values h = absurd h.0
-  point_ends (Nodes n) values h = absurd h.0
+  -- a point alone answers what seeks one
+  can_seek : (c : Command) (p : Point) → Seeks c → can_answer c (Answer.Feasible p) ≡ true
+  can_seek Check p h = refl
+  can_seek (Iis method) p h = refl
+  can_seek c p h = absurd h
+
+  claim_ends : (c : Command) (claim : Claim) (values : List ℚ) (p : Phrase) (a : Answer) → IsPartFor model c (Part.Point claim values) → claim_with claim (point_of model values) p ≡ Some (Next.Whole a) → Ends c (Part.Point claim values) p a
+  claim_ends c Claim.Feasible values Phrase.End a h e =
+      subst (Ends c (Part.Point Claim.Feasible values) Phrase.End) (whole_is (Answer.Feasible (point_of model values)) a e)
+      (record { ended = refl; kind = can_seek c (point_of model values) h.0; form = point_taken values h.1; said = ap (λ l. Phrase.Feasible ∷ l) (point_said values) })
+  claim_ends c Claim.Unbounded values Phrase.Ray a h e = absurd (cc)
+  claim_ends c Claim.Bounded values (Phrase.Objective v) a h e = absurd (cc)
+  claim_ends c claim values p a h e = absurd (cc)
+
+  -- a ray, or a dual, answers how far the objective can go
+  can_run : (c : Command) (p : Point) (values : List ℚ) → Bounds c → can_answer c (Answer.Unbounded p (ray_of model values)) ≡ true
+  can_run Unbounded p values h = refl
+  can_run c p values h = absurd h
+
+  can_bound : (c : Command) (b : Bounded) → Bounds c → can_answer c (Answer.Bounded b) ≡ true
+  can_bound Unbounded b h = refl
+  can_bound c b h = absurd h
+
+  ray_ends : (c : Command) (point : Point) (values : List ℚ) → IsPartFor model c (Part.Ray point values) → Ends c (Part.Ray point values) Phrase.End (Answer.Unbounded point (ray_of model values))
+  ray_ends c point values h = record {
+    ended = refl;
+    kind = can_run c point values h.0;
+    form = (h.1.0, ray_taken values h.1.1);
+    said = ap (λ l. Phrase.Unbounded ∷ (point_phrases point ++ Phrase.Ray ∷ l)) (filled_says (length model.columns) values);
+  }
+
+  bound_ends : (c : Command) (part : BoundPart) (p : Phrase) (a : Answer) → Bounds c × IsBoundPart model part → bound_with part p ≡ Some (Next.Whole a) → Ends c (Part.Bounded part) p a
+  bound_ends c (BoundPart.Dual point v b shares) Phrase.End a h e =
+      let bounded : Bounded = record { point = point; objective = v; dual = record { combo = record { shares = shares }; bound = b } } in
+      subst (Ends c (Part.Bounded (BoundPart.Dual point v b shares)) Phrase.End) (whole_is (Answer.Bounded bounded) a e)
+      (record { ended = refl; kind = can_bound c bounded h.0; form = record { point = h.1.0; objective = h.1.1.0; bound = h.1.1.1.0; uses = h.1.1.1.1 }; said = refl })
+  bound_ends c (BoundPart.Dual point v b shares) (Phrase.Use s) a h e =
+      absurd (let t = mapped_told (λ ss. Next.More (Part.Bounded (BoundPart.Dual point v b ss))) (list_all (λ u. source_before u.source s.source) shares) (shares ++ s ∷ []) (Next.Whole a) e in let n : Next.More (Part.Bounded (BoundPart.Dual point v b (shares ++ s ∷ []))) ≡ Next.Whole a = t.1 in cc)
+  bound_ends c (BoundPart.Objective point v) (Phrase.Bound b) a h e = absurd (cc)
+  bound_ends c (BoundPart.Bound point v b) Phrase.Dual a h e = absurd (cc)
+  bound_ends c part p a h e = absurd (cc)
 
   begun_ends : (s : StopPhrase) (a : Answer) → stop_begun s ≡ Some (Next.Whole a) → ⊥
   begun_ends StopPhrase.Wide a e = cc
   begun_ends StopPhrase.Spent a e = cc
   begun_ends StopPhrase.Nodes a e = cc
+  begun_ends (StopPhrase.Large size) a e = cc
   begun_ends _ a e = cc
 
   not_whole : {X : Type 0} (make : X → Next) (b : Bool) (x : X) (a : Answer) → ((y : X) → Next.Whole a ≢ make y) → option_map make (only_if b x) ≡ Some (Next.Whole a) → ⊥
@@ -482,6 +604,7 @@ module _ (model : Program) where
   can_stop : (c : Command) (stop : Stop) → Asks c → can_answer c (Answer.Stopped stop) ≡ true
   can_stop Check stop h = refl
   can_stop (Iis method) stop h = refl
+  can_stop Unbounded stop h = refl
   can_stop Reduce stop h = absurd h
   can_stop (Edit edit) stop h = absurd h
   can_stop Undo stop h = absurd h
@@ -503,35 +626,39 @@ module _ (model : Program) where
   }
 
   -- the site of a stop is no more than what is read of it
-  site_said : (cause : StopCause) (left : List Member) (path : List Branch) → IsTold model left path → Phrase.Stop (opening cause) ∷ site_phrases model (site_without model left path) ≡ begun_phrases cause left path
-  site_said cause left path h = ap (λ (l : List Member). begun_phrases cause l path) (left_twice model left h.0)
+  site_said : (cause : StopCause) (site : SitePart) → IsTold model site → Phrase.Stop (opening cause) ∷ site_phrases model (site_of model site) ≡ begun_phrases cause site
+  site_said cause site h = ap (λ (l : List Member). begun_phrases cause (record site { left = l })) (left_twice model site.left h.left)
 
-  wide_ends : (c : Command) (left : List Member) (path : List Branch) (k : ℕ) (o : Operation) → Asks c × IsStopPart model (StopPart.Operation left path k o)
-      → Ends c (Part.Stop (StopPart.Operation left path k o)) Phrase.End (Answer.Stopped (TooWide (site_without model left path) k o))
-  wide_ends c left path k o h = record {
+  wide_ends : (c : Command) (site : SitePart) (k : ℕ) (o : Operation) → Asks c × IsStopPart model (StopPart.Operation site k o)
+      → Ends c (Part.Stop (StopPart.Operation site k o)) Phrase.End (Answer.Stopped (TooWide (site_of model site) k o))
+  wide_ends c site k o h = record {
     ended = refl;
-    kind = can_stop c (TooWide (site_without model left path) k o) h.0;
-    form = (site_in_form model left path h.1.0, h.1.1);
-    said = ap (λ l. l ++ Phrase.Stop (StopPhrase.Step k) ∷ Phrase.Stop (StopPhrase.Operation o) ∷ []) (site_said StopCause.Wide left path h.1.0);
+    kind = can_stop c (TooWide (site_of model site) k o) h.0;
+    form = (site_in_form model site h.1.0, h.1.1);
+    said = ap (λ l. l ++ Phrase.Stop (StopPhrase.Step k) ∷ Phrase.Stop (StopPhrase.Operation o) ∷ []) (site_said StopCause.Wide site h.1.0);
   }
 
   stop_ends : (c : Command) (part : StopPart) (p : Phrase) (a : Answer) → Asks c × IsStopPart model part → stop_with model part p ≡ Some (Next.Whole a) → Ends c (Part.Stop part) p a
-  stop_ends c (StopPart.Operation left path k o) Phrase.End a h e =
-      subst (Ends c (Part.Stop (StopPart.Operation left path k o)) Phrase.End) (whole_is (Answer.Stopped (TooWide (site_without model left path) k o)) a e) (wide_ends c left path k o h)
-  stop_ends c (StopPart.Site StopCause.Spent left path) Phrase.End a h e =
-      let stop = Spent (site_without model left path) in
-      subst (Ends c (Part.Stop (StopPart.Site StopCause.Spent left path)) Phrase.End) (whole_is (Answer.Stopped stop) a e)
-      (record { ended = refl; kind = can_stop c stop h.0; form = site_in_form model left path h.1; said = site_said StopCause.Spent left path h.1 })
-  stop_ends c (StopPart.Site StopCause.Nodes left path) Phrase.End a h e =
-      let stop = NodesSpent (site_without model left path) in
-      subst (Ends c (Part.Stop (StopPart.Site StopCause.Nodes left path)) Phrase.End) (whole_is (Answer.Stopped stop) a e)
-      (record { ended = refl; kind = can_stop c stop h.0; form = site_in_form model left path h.1; said = site_said StopCause.Nodes left path h.1 })
-  stop_ends c (StopPart.Site cause left path) (Phrase.Stop (StopPhrase.Without m)) a h e =
-      absurd (not_whole (λ members. Next.More (Part.Stop (StopPart.Site cause members path))) (((length path == 0) && is_active model m) && list_all (λ n. comes_before n m) left) (left ++ m ∷ []) a (λ y s. cc) e)
-  stop_ends c (StopPart.Site cause left path) (Phrase.Stop (StopPhrase.Branch b)) a h e = absurd (cc)
-  stop_ends c (StopPart.Site StopCause.Wide left path) (Phrase.Stop (StopPhrase.Step n)) a h e = absurd (cc)
-  stop_ends c (StopPart.Begun cause) (Phrase.Stop (StopPhrase.Site Settle)) a h e = absurd (cc)
-  stop_ends c (StopPart.Step left path n) (Phrase.Stop (StopPhrase.Operation o)) a h e = absurd (cc)
+  stop_ends c (StopPart.Operation site k o) Phrase.End a h e =
+      subst (Ends c (Part.Stop (StopPart.Operation site k o)) Phrase.End) (whole_is (Answer.Stopped (TooWide (site_of model site) k o)) a e) (wide_ends c site k o h)
+  stop_ends c (StopPart.Large size) Phrase.End a h e =
+      subst (Ends c (Part.Stop (StopPart.Large size)) Phrase.End) (whole_is (Answer.Stopped (Large size)) a e)
+      (record { ended = refl; kind = can_stop c (Large size) h.0; form = h.1; said = refl })
+  stop_ends c (StopPart.Site StopCause.Spent site) Phrase.End a h e =
+      let stop = Spent (site_of model site) in
+      subst (Ends c (Part.Stop (StopPart.Site StopCause.Spent site)) Phrase.End) (whole_is (Answer.Stopped stop) a e)
+      (record { ended = refl; kind = can_stop c stop h.0; form = site_in_form model site h.1; said = site_said StopCause.Spent site h.1 })
+  stop_ends c (StopPart.Site StopCause.Nodes site) Phrase.End a h e =
+      let stop = NodesSpent (site_of model site) in
+      subst (Ends c (Part.Stop (StopPart.Site StopCause.Nodes site)) Phrase.End) (whole_is (Answer.Stopped stop) a e)
+      (record { ended = refl; kind = can_stop c stop h.0; form = site_in_form model site h.1; said = site_said StopCause.Nodes site h.1 })
+  stop_ends c (StopPart.Site cause site) (Phrase.Stop (StopPhrase.Without m)) a h e =
+      absurd (not_whole (λ members. Next.More (Part.Stop (StopPart.Site cause (record site { left = members })))) (((length site.path == 0) && is_active model m) && list_all (λ n. comes_before n m) site.left) (site.left ++ m ∷ []) a (λ y s. cc) e)
+  stop_ends c (StopPart.Site cause site) (Phrase.Stop (StopPhrase.Branch b)) a h e = absurd (cc)
+  stop_ends c (StopPart.Site StopCause.Wide site) (Phrase.Stop (StopPhrase.Step n)) a h e = absurd (cc)
+  stop_ends c (StopPart.Begun cause) (Phrase.Stop (StopPhrase.Site kind)) a h e =
+      absurd (let t = only_told (is_run_kind kind) (Next.More (Part.Stop (StopPart.Site cause (run_of kind)))) (Next.Whole a) e in let s : Next.More (Part.Stop (StopPart.Site cause (run_of kind))) ≡ Next.Whole a = t.1 in cc)
+  stop_ends c (StopPart.Step site n) (Phrase.Stop (StopPhrase.Operation o)) a h e = absurd (cc)
   stop_ends c part p a h e = absurd (cc)
 
   no_answer : (members : List Member) (witnesses : List Point) (p : Phrase) (a : Answer) → witnessed_with members witnesses p ≡ Some (Next.Whole a) → ⊥
@@ -565,8 +692,11 @@ module _ (model : Program) where
   reply_ends c _ a e = absurd (cc)
 
   whole_taken : (c : Command) (part : Part) (p : Phrase) (a : Answer) → IsPartFor model c part → extended model c part p ≡ Some (Next.Whole a) → Ends c part p a
-  whole_taken c (Part.Point values) Phrase.End a h e = subst (Ends c (Part.Point values) Phrase.End) (whole_is (Answer.Feasible (point_of model values)) a e) (point_ends c values h)
-  whole_taken c (Part.Point values) (Phrase.Value j v) a h e = absurd (not_whole (λ vs. Next.More (Part.Point vs)) (nat_le (length values) j) (filled j values ++ v ∷ []) a (λ y s. cc) e)
+  whole_taken c (Part.Point claim values) (Phrase.Value j v) a h e = absurd (not_whole (λ vs. Next.More (Part.Point claim vs)) (nat_le (length values) j) (filled j values ++ v ∷ []) a (λ y s. cc) e)
+  whole_taken c (Part.Point claim values) p a h e = claim_ends c claim values p a h e
+  whole_taken c (Part.Ray point values) Phrase.End a h e = subst (Ends c (Part.Ray point values) Phrase.End) (whole_is (Answer.Unbounded point (ray_of model values)) a e) (ray_ends c point values h)
+  whole_taken c (Part.Ray point values) (Phrase.Value j v) a h e = absurd (not_whole (λ vs. Next.More (Part.Ray point vs)) (nat_le (length values) j) (filled j values ++ v ∷ []) a (λ y s. cc) e)
+  whole_taken c (Part.Bounded part) p a h e = bound_ends c part p a h e
   whole_taken c (Part.Proof found nodes due) p a h e = nodes_end c found nodes due (Part.Proof found nodes due) p a refl h.0 h.1 e
   whole_taken c (Part.Leaf found nodes due shares) (Phrase.Use s) a h e =
       absurd (not_whole (λ ss. Next.More (Part.Leaf found nodes due ss)) (list_all (λ u. source_before u.source s.source) shares) (shares ++ s ∷ []) a (λ y s. cc) e)
@@ -589,10 +719,13 @@ module _ (model : Program) where
   whole_taken (Nodes n) Part.Nothing p a h e = reply_ends (Nodes n) p a e
   whole_taken Check Part.Nothing (Phrase.Stop s) a h e = absurd (begun_ends s a e)
   whole_taken (Iis method) Part.Nothing (Phrase.Stop s) a h e = absurd (begun_ends s a e)
+  whole_taken Unbounded Part.Nothing (Phrase.Stop s) a h e = absurd (begun_ends s a e)
   whole_taken Check Part.Nothing Phrase.Feasible a h e = absurd (cc)
   whole_taken (Iis method) Part.Nothing Phrase.Feasible a h e = absurd (cc)
   whole_taken Reduce Part.Nothing Phrase.Reduced a h e = absurd (cc)
-  whole_taken c Part.Feasible Phrase.Point a h e = absurd (cc)
+  whole_taken Unbounded Part.Nothing Phrase.Unbounded a h e = absurd (cc)
+  whole_taken Unbounded Part.Nothing Phrase.Bounded a h e = absurd (cc)
+  whole_taken c (Part.Claimed claim) Phrase.Point a h e = absurd (cc)
   whole_taken c (Part.Member members witnesses m) Phrase.Point a h e = absurd (cc)
   whole_taken c part p a h e = absurd (cc)
 

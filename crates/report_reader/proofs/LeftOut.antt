@@ -9,15 +9,15 @@ use Rattle.std.proofs.lemmas.List.Kept.{AllPairs-filter}
 use Rattle.lp_model.specs.declared.members.Member.{Member}
 use Rattle.lp_model.specs.Program.{Program}
 use Rattle.lp_model.specs.Members.{comes_before, is_same, has, is_active, active_members, IsInOrder}
-use Rattle.lp_model.specs.MemberSets.{set_without, active_set, empty_set}
+use Rattle.lp_model.specs.MemberSets.{set_without}
 use Rattle.lp_model.proofs.Sets.{same_members, contains_of_has, has_of_contains, members_law}
 use Rattle.lp_model.proofs.Marked.{is_what_it_has}
-use Rattle.certs.specs.declared.evidence.Branch.{Branch}
-use Rattle.certs.specs.declared.solving.SiteKind.TheVariants.{Settle}
+use Rattle.certs.specs.declared.solving.SiteKind.{SiteKind}
 use Rattle.report_text.specs.Grammar.{left_out}
-use Rattle.report_text.specs.Form.{IsNamedColumn, IsNamedMember, IsSiteFor}
+use Rattle.report_text.specs.Form.{IsNamedColumn, IsNamedMember, is_run_kind, IsSiteFor}
 use Rattle.phrase_reader.specs.Phrases.{IsNamedBranch}
-use Rattle.report_reader.specs.Drafts.{set_of, site_without, AreLeftOut, IsTold}
+use Rattle.report_reader.specs.declared.drafts.SitePart.{SitePart}
+use Rattle.report_reader.specs.Drafts.{set_of, site_of, run_of, AreLeftOut, IsTold}
 use Rattle.report_text.proofs.Filters.{filter_twice}
 use Rattle.report_reader.proofs.Listed.{one_list, has_push, same_flip}
 
@@ -120,31 +120,24 @@ module _ (model : Program) where
       twice set (subst IsInOrder (sym e) (AllPairs-filter (λ m n. IsTrue (comes_before m n)) (has set) (active_members model) (members_law model).0))
       (λ m h. (and_parts (has (active_members model) m) (has set m) (sym (ap (λ l. has l m) e ∙ has_kept (has set) (active_members model) m) ∙ h)).0)
 
-  -- the settle run of the active members but these, on a path
-  pub site_in_form : (left : List Member) (path : List Branch) → IsTold model left path → IsSiteFor model (site_without model left path)
-  site_in_form left path h = record {
-    settle = record {
-      kind = refl;
+  -- the site that is told
+  pub site_in_form : (site : SitePart) → IsTold model site → IsSiteFor model (site_of model site)
+  site_in_form site h = record {
+    run = record {
+      kind = h.run;
       of_model = record { rows = refl; columns = refl };
-      active = is_what_it_has (λ m. not (has left m)) (active_members model);
+      active = is_what_it_has (λ m. not (has site.left m)) (active_members model);
       enforced_is = refl;
-      known = All-weaker (IsNamedBranch model) (λ b. b.column < length model.columns) (λ b k. k.named.known) path h.1;
-      fits = All-weaker (IsNamedBranch model) IsFitting (λ b k. k.fits) path h.1;
+      known = All-weaker (IsNamedBranch model) (λ b. b.column < length model.columns) (λ b k. k.named.known) site.path h.path;
+      fits = All-weaker (IsNamedBranch model) IsFitting (λ b k. k.fits) site.path h.path;
     };
-    named = subst (All (IsNamedMember model)) (sym (left_twice left h.0)) h.0.members.named;
-    path = All-weaker (IsNamedBranch model) (λ b. IsNamedColumn model b.column) (λ b k. k.named) path h.1;
+    named = subst (All (IsNamedMember model)) (sym (left_twice site.left h.left)) h.left.members.named;
+    path = All-weaker (IsNamedBranch model) (λ b. IsNamedColumn model b.column) (λ b k. k.named) site.path h.path;
   }
 
   -- ---- where nothing is left out
   pub none_left : AreLeftOut model []
   none_left = record { members = record { named = All-nil (IsNamedMember model); in_order = λ i j d l m. absurd (omega arith) }; active = All-nil (λ m. IsTrue (is_active model m)) }
 
-  pub none_told : IsTold model [] []
-  none_told = (none_left, All-nil (IsNamedBranch model))
-
-  -- the settle run of all active members
-  pub whole_in_form : IsSiteFor model (record { kind = Settle; set = active_set model; enforced = empty_set model; path = [] })
-  whole_in_form = subst (λ (l : List Member). IsSiteFor model (record { kind = Settle; set = set_of model l; enforced = empty_set model; path = [] })) all_left (site_in_form [] [] none_told)
-
-  pub none_missing : left_out model (active_members model) ≡ []
-  none_missing = ap (left_out model) (sym all_left) ∙ left_twice [] none_left
+  pub none_told : (kind : SiteKind) → is_run_kind kind ≡ true → IsTold model (run_of kind)
+  none_told kind run = record { run = run; left = none_left; path = All-nil (IsNamedBranch model) }

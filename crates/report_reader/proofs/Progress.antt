@@ -1,5 +1,5 @@
 -- What the lines so far have led to, and what one line more, or the end, makes of it.
-use Rattle.std.proofs.Common.{◌≡◌, ◌≢◌, ◌<◌, ◌≤◌, refl, sym, ap, subst, ◌∙◌, ℕ, zero, suc, ◌+◌, List, [], ◌∷◌, ◌++◌, length, append_assoc, append-nil, Some, None, arith, inl, inr}
+use Rattle.std.proofs.Common.{◌≡◌, ◌≢◌, ◌<◌, ◌≤◌, refl, sym, ap, subst, ◌∙◌, ℕ, zero, suc, ◌+◌, List, [], ◌∷◌, ◌++◌, length, append_assoc, append-nil, Option, Some, None, arith, inl, inr}
 use Rattle.std.specs.Prelude.{map, All, option_and_then, option_map, Result, Ok, Err}
 use Rattle.std.proofs.lemmas.List.{length-append, length-map, map-append, append_cancel_left, append_cancel_right}
 use Rattle.std.proofs.lemmas.List.Elements.{All-nil, All-cons, All-head, All-tail}
@@ -7,18 +7,17 @@ use Rattle.phrase_reader.specs.Parts.{parts}
 use Rattle.lp_model.specs.Program.{Program}
 use Rattle.lp_model.specs.declared.parts.Note.{Note}
 use Rattle.lp_model.specs.declared.members.Member.{Member}
-use Rattle.certs.specs.declared.evidence.Branch.{Branch}
 use Rattle.certs.specs.declared.evidence.Share.{Share}
 use Rattle.certs.specs.declared.evidence.Node.{Node}
 use Rattle.certs.specs.declared.evidence.Point.{Point}
 use Rattle.certs.specs.declared.solving.SiteKind.TheVariants.{Settle}
-use Rattle.certs.specs.declared.solving.Stop.TheVariants.{Wide as TooWide, Pivots as Spent, Nodes as NodesSpent}
+use Rattle.certs.specs.declared.solving.Stop.TheVariants.{Wide as TooWide, Pivots as Spent, Nodes as NodesSpent, Large}
 use Rattle.frac128.specs.declared.Op.TheVariants.{Plus}
 use Rattle.frac128.specs.declared.Wide.{Wide as Operation}
 use Rattle.algebra.specs.Gcd.{gcd, gcd_within}
 use Rattle.rational.specs.Rational.{ℚ, frac, zero_ℚ}
 use Rattle.report_text.specs.declared.report.Command.{Command}
-use Rattle.report_text.specs.declared.report.Command.TheVariants.{Check, Iis, Reduce, Edit, Undo, Pivots, Nodes}
+use Rattle.report_text.specs.declared.report.Command.TheVariants.{Check, Iis, Unbounded, Reduce, Edit, Undo, Pivots, Nodes}
 use Rattle.reductions.specs.declared.steps.ReduceStep.{ReduceStep}
 use Rattle.report_text.specs.declared.report.Answer.{Answer}
 use Rattle.report_text.specs.declared.report.Entry.{Entry}
@@ -28,7 +27,10 @@ use Rattle.report_text.specs.declared.phrases.StopPhrase.{StopPhrase}
 use Rattle.report_reader.specs.declared.drafts.Found.{Found}
 use Rattle.report_reader.specs.declared.drafts.Question.{Question}
 use Rattle.report_reader.specs.declared.drafts.StopCause.{StopCause}
+use Rattle.report_reader.specs.declared.drafts.SitePart.{SitePart}
 use Rattle.report_reader.specs.declared.drafts.StopPart.{StopPart}
+use Rattle.report_reader.specs.declared.drafts.Claim.{Claim}
+use Rattle.report_reader.specs.declared.drafts.BoundPart.{BoundPart}
 use Rattle.report_reader.specs.declared.drafts.Part.{Part}
 use Rattle.report_reader.specs.declared.drafts.Next.{Next}
 use Rattle.report_reader.specs.declared.drafts.Stage.{Stage}
@@ -38,7 +40,7 @@ use Rattle.report_text.specs.Grammar.{Line, text_of, report_lines, phrase_line, 
 use Rattle.report_text.specs.Form.{IsReportFor, IsOperation}
 use Rattle.report_reader.specs.Reading.{Reads, IsFront, IsWhole, IsBadLine, IsTruncated, IsReportStop}
 use Rattle.phrase_reader.specs.Phrases.{IsPhraseFor, Says}
-use Rattle.report_reader.specs.Drafts.{point_of, leaf_of, answer_of, site_without, extended, placed, program_now, advanced, nothing_read, Takes, IsLineStop, ended, IsDraftFor}
+use Rattle.report_reader.specs.Drafts.{point_of, ray_of, leaf_of, answer_of, site_of, run_of, extended, placed, program_now, advanced, nothing_read, Takes, IsLineStop, ended, IsDraftFor}
 use Rattle.report_reader.proofs.Said.{report_for, parts_of_read}
 use Rattle.report_reader.proofs.Alike.{same_line, says_after}
 use Rattle.phrase_reader.proofs.Spelling.{some_parts, text_of_parts}
@@ -114,8 +116,28 @@ module _ (model : Program) where
     end_back : (part : Part) (a : Answer) → extended now question.command part Phrase.End ≡ Some (Next.Whole a) → Within part
     end_back part a e = last_back part Phrase.End a tt e
 
-    front_point : (values : List ℚ) → Within (Part.Point values)
-    front_point values = end_back (Part.Point values) (Answer.Feasible (point_of now values)) refl
+    front_ray : (point : Point) (values : List ℚ) → Within (Part.Ray point values)
+    front_ray point values = end_back (Part.Ray point values) (Answer.Unbounded point (ray_of now values)) refl
+
+    front_dual : (point : Point) (v : Option ℚ) (b : ℚ) (shares : List Share) → Within (Part.Bounded (BoundPart.Dual point v b shares))
+    front_dual point v b shares = end_back (Part.Bounded (BoundPart.Dual point v b shares)) (Answer.Bounded (record { point = point; objective = v; dual = record { combo = record { shares = shares }; bound = b } })) refl
+
+    front_bound : (point : Point) (v : Option ℚ) (b : ℚ) → Within (Part.Bounded (BoundPart.Bound point v b))
+    front_bound point v b = more_back (Part.Bounded (BoundPart.Bound point v b)) (Part.Bounded (BoundPart.Dual point v b [])) Phrase.Dual tt refl (front_dual point v b [])
+
+    -- a bound that fits may stand
+    front_bounded : (part : BoundPart) → Within (Part.Bounded part)
+    front_bounded (BoundPart.Objective point v) =
+        more_back (Part.Bounded (BoundPart.Objective point v)) (Part.Bounded (BoundPart.Bound point (Some v) zero_ℚ)) (Phrase.Bound zero_ℚ) zeros_fit.left refl (front_bound point (Some v) zero_ℚ)
+    front_bounded (BoundPart.Bound point v b) = front_bound point v b
+    front_bounded (BoundPart.Dual point v b shares) = front_dual point v b shares
+
+    -- by what the point is to show
+    front_point : (claim : Claim) (values : List ℚ) → Within (Part.Point claim values)
+    front_point Claim.Feasible values = end_back (Part.Point Claim.Feasible values) (Answer.Feasible (point_of now values)) refl
+    front_point Claim.Unbounded values = more_back (Part.Point Claim.Unbounded values) (Part.Ray (point_of now values) []) Phrase.Ray tt refl (front_ray (point_of now values) [])
+    front_point Claim.Bounded values =
+        more_back (Part.Point Claim.Bounded values) (Part.Bounded (BoundPart.Bound (point_of now values) None zero_ℚ)) (Phrase.Bound zero_ℚ) zeros_fit.left refl (front_bound (point_of now values) None zero_ℚ)
 
     -- where subtrees are due, a leaf may stand for each
     front_leaf : (found : Found) (nodes : List Node) (due : ℕ) (shares : List Share) → Within (Part.Leaf found nodes due shares)
@@ -136,8 +158,8 @@ module _ (model : Program) where
         let found = Found.Witnessed (members ++ m ∷ []) (witnesses ++ point_of now values ∷ []) in
         more_back (Part.Witness members witnesses m values) (Part.Proof found [] 1) Phrase.Proof tt refl (front_proof found)
 
-    front_feasible : Within Part.Feasible
-    front_feasible = more_back Part.Feasible (Part.Point []) Phrase.Point tt refl (front_point [])
+    front_claimed : (claim : Claim) → Within (Part.Claimed claim)
+    front_claimed claim = more_back (Part.Claimed claim) (Part.Point claim []) Phrase.Point tt refl (front_point claim [])
 
     front_left : (steps : List ReduceStep) (rows columns : ℕ) → Within (Part.Left steps rows columns)
     front_left steps rows columns = end_back (Part.Left steps rows columns) (Answer.Reduced (record { steps = steps; rows = rows; columns = columns })) refl
@@ -148,38 +170,42 @@ module _ (model : Program) where
 
     -- by the command
     front_nothing : (c : Command) → question.command ≡ c → Within Part.Nothing
-    front_nothing Check e = more_back Part.Nothing Part.Feasible Phrase.Feasible tt (ap (λ d. extended now d Part.Nothing Phrase.Feasible) e) front_feasible
-    front_nothing (Iis method) e = more_back Part.Nothing Part.Feasible Phrase.Feasible tt (ap (λ d. extended now d Part.Nothing Phrase.Feasible) e) front_feasible
+    front_nothing Check e = more_back Part.Nothing (Part.Claimed Claim.Feasible) Phrase.Feasible tt (ap (λ d. extended now d Part.Nothing Phrase.Feasible) e) (front_claimed Claim.Feasible)
+    front_nothing (Iis method) e = more_back Part.Nothing (Part.Claimed Claim.Feasible) Phrase.Feasible tt (ap (λ d. extended now d Part.Nothing Phrase.Feasible) e) (front_claimed Claim.Feasible)
+    front_nothing Unbounded e = more_back Part.Nothing (Part.Claimed Claim.Unbounded) Phrase.Unbounded tt (ap (λ d. extended now d Part.Nothing Phrase.Unbounded) e) (front_claimed Claim.Unbounded)
     front_nothing Reduce e = more_back Part.Nothing (Part.Reduced []) Phrase.Reduced tt (ap (λ d. extended now d Part.Nothing Phrase.Reduced) e) (front_steps [])
     front_nothing (Edit edit) e = last_back Part.Nothing Phrase.Done Answer.Done tt (ap (λ d. extended now d Part.Nothing Phrase.Done) e)
     front_nothing Undo e = last_back Part.Nothing Phrase.Done Answer.Done tt (ap (λ d. extended now d Part.Nothing Phrase.Done) e)
     front_nothing (Pivots n) e = last_back Part.Nothing Phrase.Done Answer.Done tt (ap (λ d. extended now d Part.Nothing Phrase.Done) e)
     front_nothing (Nodes n) e = last_back Part.Nothing Phrase.Done Answer.Done tt (ap (λ d. extended now d Part.Nothing Phrase.Done) e)
 
-    front_operation : (left : List Member) (path : List Branch) (k : ℕ) (o : Operation) → Within (Part.Stop (StopPart.Operation left path k o))
-    front_operation left path k o = end_back (Part.Stop (StopPart.Operation left path k o)) (Answer.Stopped (TooWide (site_without now left path) k o)) refl
+    front_operation : (site : SitePart) (k : ℕ) (o : Operation) → Within (Part.Stop (StopPart.Operation site k o))
+    front_operation site k o = end_back (Part.Stop (StopPart.Operation site k o)) (Answer.Stopped (TooWide (site_of now site) k o)) refl
 
-    front_step : (left : List Member) (path : List Branch) (k : ℕ) → Within (Part.Stop (StopPart.Step left path k))
-    front_step left path k = more_back (Part.Stop (StopPart.Step left path k)) (Part.Stop (StopPart.Operation left path k zeros)) (Phrase.Stop (StopPhrase.Operation zeros)) zeros_fit refl (front_operation left path k zeros)
+    front_step : (site : SitePart) (k : ℕ) → Within (Part.Stop (StopPart.Step site k))
+    front_step site k = more_back (Part.Stop (StopPart.Step site k)) (Part.Stop (StopPart.Operation site k zeros)) (Phrase.Stop (StopPhrase.Operation zeros)) zeros_fit refl (front_operation site k zeros)
 
-    front_site : (cause : StopCause) (left : List Member) (path : List Branch) → Within (Part.Stop (StopPart.Site cause left path))
-    front_site StopCause.Wide left path = more_back (Part.Stop (StopPart.Site StopCause.Wide left path)) (Part.Stop (StopPart.Step left path 0)) (Phrase.Stop (StopPhrase.Step 0)) (omega arith) refl (front_step left path 0)
-    front_site StopCause.Spent left path = end_back (Part.Stop (StopPart.Site StopCause.Spent left path)) (Answer.Stopped (Spent (site_without now left path))) refl
-    front_site StopCause.Nodes left path = end_back (Part.Stop (StopPart.Site StopCause.Nodes left path)) (Answer.Stopped (NodesSpent (site_without now left path))) refl
+    front_site : (cause : StopCause) (site : SitePart) → Within (Part.Stop (StopPart.Site cause site))
+    front_site StopCause.Wide site = more_back (Part.Stop (StopPart.Site StopCause.Wide site)) (Part.Stop (StopPart.Step site 0)) (Phrase.Stop (StopPhrase.Step 0)) (omega arith) refl (front_step site 0)
+    front_site StopCause.Spent site = end_back (Part.Stop (StopPart.Site StopCause.Spent site)) (Answer.Stopped (Spent (site_of now site))) refl
+    front_site StopCause.Nodes site = end_back (Part.Stop (StopPart.Site StopCause.Nodes site)) (Answer.Stopped (NodesSpent (site_of now site))) refl
 
     front_stop : (part : StopPart) → Within (Part.Stop part)
-    front_stop (StopPart.Begun cause) = more_back (Part.Stop (StopPart.Begun cause)) (Part.Stop (StopPart.Site cause [] [])) (Phrase.Stop (StopPhrase.Site Settle)) tt refl (front_site cause [] [])
-    front_stop (StopPart.Site cause left path) = front_site cause left path
-    front_stop (StopPart.Step left path k) = front_step left path k
-    front_stop (StopPart.Operation left path k o) = front_operation left path k o
+    front_stop (StopPart.Begun cause) = more_back (Part.Stop (StopPart.Begun cause)) (Part.Stop (StopPart.Site cause (run_of Settle))) (Phrase.Stop (StopPhrase.Site Settle)) tt refl (front_site cause (run_of Settle))
+    front_stop (StopPart.Large size) = end_back (Part.Stop (StopPart.Large size)) (Answer.Stopped (Large size)) refl
+    front_stop (StopPart.Site cause site) = front_site cause site
+    front_stop (StopPart.Step site k) = front_step site k
+    front_stop (StopPart.Operation site k o) = front_operation site k o
 
     front_part : (part : Part) → Within part
     front_part Part.Nothing = front_nothing question.command refl
-    front_part Part.Feasible = front_feasible
+    front_part (Part.Claimed claim) = front_claimed claim
     front_part (Part.Stop part) = front_stop part
     front_part (Part.Reduced steps) = front_steps steps
     front_part (Part.Left steps rows columns) = front_left steps rows columns
-    front_part (Part.Point values) = front_point values
+    front_part (Part.Point claim values) = front_point claim values
+    front_part (Part.Ray point values) = front_ray point values
+    front_part (Part.Bounded part) = front_bounded part
     front_part (Part.Listed (Found.Members members)) = more_back (Part.Listed (Found.Members members)) (Part.Proof (Found.Members members) [] 1) Phrase.Proof tt refl (front_proof (Found.Members members))
     front_part (Part.Listed (Found.Witnessed members witnesses)) = more_back (Part.Listed (Found.Witnessed members witnesses)) (Part.Proof (Found.Witnessed members witnesses) [] 1) Phrase.Proof tt refl (front_proof (Found.Witnessed members witnesses))
     front_part (Part.Member members witnesses m) = more_back (Part.Member members witnesses m) (Part.Witness members witnesses m []) Phrase.Point tt refl (front_witness members witnesses m [])

@@ -18,20 +18,20 @@ use Rattle.certs.specs.declared.evidence.Share.{Share}
 use Rattle.certs.specs.declared.evidence.Node.{Node}
 use Rattle.certs.specs.declared.evidence.Node.TheVariants.{Split, Leaf}
 use Rattle.certs.specs.declared.evidence.Proof.{Proof}
+use Rattle.certs.specs.declared.evidence.Ray.{Ray}
 use Rattle.certs.specs.Proof.{Tree, Tip, Fork, preorder}
 use Rattle.certs.proofs.Lists.{all_front, all_back}
 use Rattle.certs.specs.declared.evidence.Branch.{Branch}
-use Rattle.certs.specs.declared.solving.SiteKind.{SiteKind}
-use Rattle.certs.specs.declared.solving.SiteKind.TheVariants.{Settle}
 use Rattle.certs.specs.declared.solving.Site.{Site}
 use Rattle.certs.specs.declared.solving.Stop.{Stop}
-use Rattle.certs.specs.declared.solving.Stop.TheVariants.{Wide as TooWide, Pivots as Spent, Nodes as NodesSpent}
+use Rattle.certs.specs.declared.solving.Stop.TheVariants.{Wide as TooWide, Pivots as Spent, Nodes as NodesSpent, Large}
 use Rattle.reductions.specs.declared.steps.ReduceStep.{ReduceStep}
+use Rattle.report_text.specs.declared.report.Bounded.{Bounded}
 use Rattle.report_text.specs.declared.report.Reduced.{Reduced}
 use Rattle.report_text.specs.declared.report.Command.{Command}
-use Rattle.report_text.specs.declared.report.Command.TheVariants.{Check, Iis, Reduce, Edit, Undo, Pivots, Nodes}
+use Rattle.report_text.specs.declared.report.Command.TheVariants.{Check, Iis, Unbounded, Reduce, Edit, Undo, Pivots, Nodes}
 use Rattle.report_text.specs.declared.report.Answer.{Answer}
-use Rattle.report_text.specs.declared.report.Answer.TheVariants.{Feasible, Infeasible, Irreducible, Reduced as ReducedTo, Done, Refused, Stopped}
+use Rattle.report_text.specs.declared.report.Answer.TheVariants.{Feasible, Infeasible, Irreducible, Unbounded as RunsAway, Bounded as BoundedBy, Reduced as ReducedTo, Done, Refused, Stopped}
 use Rattle.report_text.specs.declared.report.Entry.{Entry}
 use Rattle.report_text.specs.declared.report.Report.{Report}
 use Rattle.report_text.specs.declared.phrases.Phrase.{Phrase}
@@ -39,18 +39,21 @@ use Rattle.report_text.specs.declared.phrases.StopPhrase.{StopPhrase}
 use Rattle.report_reader.specs.declared.drafts.Found.{Found}
 use Rattle.report_reader.specs.declared.drafts.Question.{Question}
 use Rattle.report_reader.specs.declared.drafts.StopCause.{StopCause}
+use Rattle.report_reader.specs.declared.drafts.SitePart.{SitePart}
 use Rattle.report_reader.specs.declared.drafts.StopPart.{StopPart}
+use Rattle.report_reader.specs.declared.drafts.Claim.{Claim}
+use Rattle.report_reader.specs.declared.drafts.BoundPart.{BoundPart}
 use Rattle.report_reader.specs.declared.drafts.Part.{Part}
 use Rattle.report_reader.specs.declared.drafts.Next.{Next}
 use Rattle.report_reader.specs.declared.drafts.Stage.{Stage}
 use Rattle.report_reader.specs.declared.drafts.Draft.{Draft}
 use Rattle.lp_model.specs.MemberSets.{SetValue, empty_set}
-use Rattle.report_text.specs.Grammar.{left_out, value_phrases, point_phrases, node_phrases, proof_phrases, witness_phrases, without_phrase, branch_phrase, site_phrases, answer_front, answer_end, entry_phrases, entries_phrases, report_phrases}
+use Rattle.report_text.specs.Grammar.{left_out, value_phrases, point_phrases, objective_phrases, dual_phrases, node_phrases, proof_phrases, witness_phrases, without_phrase, branch_phrase, site_phrases, answer_front, answer_end, entry_phrases, entries_phrases, report_phrases}
 use Rattle.report_text.specs.Turns.{after, entry_commands}
 use Rattle.report_text.proofs.InTurn.{commands_push}
 use Rattle.certs.specs.Order.{source_before}
-use Rattle.report_text.specs.Form.{AreUses, IsListed, IsNodeFor, IsProofFor, IsPointFor, IsSettleSite, IsStopFor, IsAnswerFor, IsEntryFor, AreEntriesFor, AreNumbered, IsReportFor, is_one_leaf, can_answer}
-use Rattle.report_reader.specs.Drafts.{filled, point_of, leaf_of, set_of, answer_of, only_if, with_value, with_next, may_split, may_stand, proof_begun, proof_with, witnessed_with, site_without, stop_begun, stop_with, extended, placed, program_now, advanced, nothing_read}
+use Rattle.report_text.specs.Form.{AreUses, IsListed, IsNodeFor, IsProofFor, IsPointFor, IsRayFor, IsBoundedFor, is_run_kind, IsRunSite, IsStopFor, IsAnswerFor, IsEntryFor, AreEntriesFor, AreNumbered, IsReportFor, is_one_leaf, can_answer}
+use Rattle.report_reader.specs.Drafts.{filled, point_of, ray_of, leaf_of, set_of, answer_of, only_if, with_value, with_next, may_split, may_stand, proof_begun, proof_with, witnessed_with, site_of, run_of, stop_begun, extended, placed, program_now, advanced, nothing_read}
 use Rattle.report_reader.proofs.LeftOut.{left_in_order, left_active, set_twice}
 
 -- ---- runs
@@ -177,11 +180,17 @@ module _ (model : Program) (c : Command) (make : List ℚ → Part)
             ),
           )
 
+  -- a value for each column
+  each_read : (values : List ℚ) → length values ≡ length model.columns → (end : List ℚ) × ((grown model c (make []) (value_phrases 0 values) ≡ Some (make end)) × (filled (length model.columns) end ≡ values))
+  each_read values len = let r = values_read [] [] values (omega arith, refl) in (r.0, (r.1.0, ap (λ n. filled n r.0) (sym len) ∙ r.1.1.1))
+
   -- all the values of a point
   point_read : (p : Point) → IsPointFor model p → (end : List ℚ) × ((grown model c (make []) (value_phrases 0 p.values) ≡ Some (make end)) × (point_of model end ≡ p))
-  point_read p h =
-      let r = values_read [] [] p.values (omega arith, refl) in
-      (r.0, (r.1.0, ap (λ vs. record { values = vs }) (ap (λ n. filled n r.0) (sym h.len) ∙ r.1.1.1)))
+  point_read p h = let r = each_read p.values h.len in (r.0, (r.1.0, ap (λ vs. record { values = vs }) r.1.1))
+
+  -- all the changes of a ray
+  ray_read : (ray : Ray) → IsRayFor model ray → (end : List ℚ) × ((grown model c (make []) (value_phrases 0 ray.values) ≡ Some (make end)) × (ray_of model end ≡ ray))
+  ray_read ray h = let r = each_read ray.values h.len in (r.0, (r.1.0, ap (λ vs. record { values = vs }) r.1.1))
 
 -- ---- lists in order
 -- what stands before an element comes before it
@@ -331,9 +340,13 @@ leaf_stands nodes e = absurd (true≢false (sym e))
 same_set : (model : Program) (set : SetValue) → IsListed model set → set_of model set.members ≡ set
 same_set model set h = ap (λ r. record { rows = r; columns = length model.columns; members = set.members }) (sym h.of_model.rows) ∙ ap (λ c. record { rows = set.rows; columns = c; members = set.members }) (sym h.of_model.columns)
 
+-- what the lines of a site tell
+abbrev told_of : Program → Site → SitePart
+told_of model site = record { kind = site.kind; left = left_out model site.set.members; path = site.path }
+
 -- the site of a stop
-same_site : (model : Program) (site : Site) → IsSettleSite model site → site_without model (left_out model site.set.members) site.path ≡ site
-same_site model site h = by site.kind site.set site.enforced h.kind set_is h.enforced_is
+same_site : (model : Program) (site : Site) → IsRunSite model site → site_of model (told_of model site) ≡ site
+same_site model site h = by site.set site.enforced set_is h.enforced_is
   where
     members_of : left_out model (left_out model site.set.members) ≡ site.set.members
     members_of = set_twice model site.set.members h.active
@@ -344,83 +357,134 @@ same_site model site h = by site.kind site.set site.enforced h.kind set_is h.enf
         ∙ ap (λ c. record { rows = length model.rows; columns = c; members = site.set.members }) h.of_model.columns
         ∙ ap (set_of model) (sym members_of)
 
-    by : (kind : SiteKind) (set enforced : SetValue) → kind ≡ Settle → set ≡ set_of model (left_out model (left_out model site.set.members)) → enforced ≡ empty_set model
-        → site_without model (left_out model site.set.members) site.path ≡ record { kind = kind; set = set; enforced = enforced; path = site.path }
-    by kind set enforced k s e =
-        let own = set_of model (left_out model (left_out model site.set.members)) in
-        ap (λ x. record { kind = x; set = own; enforced = empty_set model; path = site.path }) (sym k)
-        ∙ ap (λ x. record { kind = kind; set = x; enforced = empty_set model; path = site.path }) (sym s)
-        ∙ ap (λ x. record { kind = kind; set = set; enforced = x; path = site.path }) (sym e)
+    by : (set enforced : SetValue) → set ≡ set_of model (left_out model (left_out model site.set.members)) → enforced ≡ empty_set model
+        → site_of model (told_of model site) ≡ record { kind = site.kind; set = set; enforced = enforced; path = site.path }
+    by set enforced s e =
+        ap (λ x. record { kind = site.kind; set = x; enforced = empty_set model; path = site.path }) (sym s)
+        ∙ ap (λ x. record { kind = site.kind; set = set; enforced = x; path = site.path }) (sym e)
 
 -- an answer's front leads to a part that its last line makes the answer
 AnswerRead : Program → Command → Answer → Type 0
 AnswerRead model c a = (end : Part) × ((grown model c Part.Nothing (answer_front model a) ≡ Some end) × (extended model c end (answer_end a) ≡ Some (Next.Whole a)))
 
 -- the branches of a site
-path_read : (model : Program) (c : Command) (cause : StopCause) (left : List Member) (path rest : List Branch)
-    → grown model c (Part.Stop (StopPart.Site cause left path)) (map branch_phrase rest) ≡ Some (Part.Stop (StopPart.Site cause left (path ++ rest)))
-path_read model c cause left path [] = ap (λ p. Some (Part.Stop (StopPart.Site cause left p))) (sym (append-nil path))
-path_read model c cause left path (b ∷ rest) =
-    grown_step model c (Part.Stop (StopPart.Site cause left path)) (Part.Stop (StopPart.Site cause left (path ++ b ∷ []))) (branch_phrase b) (map branch_phrase rest) refl
-    ∙ path_read model c cause left (path ++ b ∷ []) rest
-    ∙ ap (λ p. Some (Part.Stop (StopPart.Site cause left p))) (append_assoc path (b ∷ []) rest)
+path_read : (model : Program) (c : Command) (cause : StopCause) (site : SitePart) (rest : List Branch)
+    → grown model c (Part.Stop (StopPart.Site cause site)) (map branch_phrase rest) ≡ Some (Part.Stop (StopPart.Site cause (record site { path = site.path ++ rest })))
+path_read model c cause site [] = ap (λ p. Some (Part.Stop (StopPart.Site cause (record site { path = p })))) (sym (append-nil site.path))
+path_read model c cause site (b ∷ rest) =
+    let more : SitePart = record site { path = site.path ++ b ∷ [] } in
+    grown_step model c (Part.Stop (StopPart.Site cause site)) (Part.Stop (StopPart.Site cause more)) (branch_phrase b) (map branch_phrase rest) refl
+    ∙ path_read model c cause more rest
+    ∙ ap (λ p. Some (Part.Stop (StopPart.Site cause (record site { path = p })))) (append_assoc site.path (b ∷ []) rest)
 
 -- the lines of a site
-site_read : (model : Program) (c : Command) (cause : StopCause) (site : Site) → IsSettleSite model site
-    → grown model c (Part.Stop (StopPart.Begun cause)) (site_phrases model site) ≡ Some (Part.Stop (StopPart.Site cause (left_out model site.set.members) site.path))
+site_read : (model : Program) (c : Command) (cause : StopCause) (site : Site) → IsRunSite model site
+    → grown model c (Part.Stop (StopPart.Begun cause)) (site_phrases model site) ≡ Some (Part.Stop (StopPart.Site cause (told_of model site)))
 site_read model c cause site h =
     let left = left_out model site.set.members in
-    grown_step model c (Part.Stop (StopPart.Begun cause)) (Part.Stop (StopPart.Site cause [] [])) (Phrase.Stop (StopPhrase.Site site.kind)) (map without_phrase left ++ map branch_phrase site.path)
-    (ap (λ x. stop_with model (StopPart.Begun cause) (Phrase.Stop (StopPhrase.Site x))) h.kind)
-    ∙ grown_append model c (Part.Stop (StopPart.Site cause [] [])) (Part.Stop (StopPart.Site cause left [])) (map without_phrase left) (map branch_phrase site.path)
-    (list_read model c (is_active model) comes_before (λ ms. Part.Stop (StopPart.Site cause ms [])) without_phrase (λ ms m. refl) [] left (left_in_order model site.set.members) (left_active model site.set.members))
-    ∙ path_read model c cause left [] site.path
+    let begun = Part.Stop (StopPart.Site cause (run_of site.kind)) in
+    let with_left : List Member → SitePart = λ ms. record { kind = site.kind; left = ms; path = [] } in
+    grown_step model c (Part.Stop (StopPart.Begun cause)) begun (Phrase.Stop (StopPhrase.Site site.kind)) (map without_phrase left ++ map branch_phrase site.path) (only_true (is_run_kind site.kind) (Next.More begun) h.kind)
+    ∙ grown_append model c begun (Part.Stop (StopPart.Site cause (with_left left))) (map without_phrase left) (map branch_phrase site.path)
+    (list_read model c (is_active model) comes_before (λ ms. Part.Stop (StopPart.Site cause (with_left ms))) without_phrase (λ ms m. refl) [] left (left_in_order model site.set.members) (left_active model site.set.members))
+    ∙ path_read model c cause (with_left left) site.path
 
 -- a stop
 stop_read : (model : Program) (c : Command) (stop : Stop) → IsStopFor model stop → ((s : StopPhrase) → extended model c Part.Nothing (Phrase.Stop s) ≡ stop_begun s) → AnswerRead model c (Stopped stop)
 unfolding AnswerRead
 stop_read model c (TooWide site k o) h begins =
-    let left = left_out model site.set.members in
-    let path = site.path in
+    let told = told_of model site in
     let start = Part.Stop (StopPart.Begun StopCause.Wide) in
-    let read = Part.Stop (StopPart.Site StopCause.Wide left path) in
+    let read = Part.Stop (StopPart.Site StopCause.Wide told) in
     let rest = Phrase.Stop (StopPhrase.Step k) ∷ Phrase.Stop (StopPhrase.Operation o) ∷ [] in (
-      Part.Stop (StopPart.Operation left path k o),
+      Part.Stop (StopPart.Operation told k o),
       (
         grown_step model c Part.Nothing start (Phrase.Stop StopPhrase.Wide) (site_phrases model site ++ rest) (begins StopPhrase.Wide)
-            ∙ grown_append model c start read (site_phrases model site) rest (site_read model c StopCause.Wide site h.0.settle)
-            ∙ grown_step model c read (Part.Stop (StopPart.Step left path k)) (Phrase.Stop (StopPhrase.Step k)) (Phrase.Stop (StopPhrase.Operation o) ∷ []) refl
-            ∙ grown_step model c (Part.Stop (StopPart.Step left path k)) (Part.Stop (StopPart.Operation left path k o)) (Phrase.Stop (StopPhrase.Operation o)) [] refl,
-        ap (λ s. Some (Next.Whole (Stopped (TooWide s k o)))) (same_site model site h.0.settle),
+            ∙ grown_append model c start read (site_phrases model site) rest (site_read model c StopCause.Wide site h.0.run)
+            ∙ grown_step model c read (Part.Stop (StopPart.Step told k)) (Phrase.Stop (StopPhrase.Step k)) (Phrase.Stop (StopPhrase.Operation o) ∷ []) refl
+            ∙ grown_step model c (Part.Stop (StopPart.Step told k)) (Part.Stop (StopPart.Operation told k o)) (Phrase.Stop (StopPhrase.Operation o)) [] refl,
+        ap (λ s. Some (Next.Whole (Stopped (TooWide s k o)))) (same_site model site h.0.run),
       ),
     )
 stop_read model c (Spent site) h begins = (
-  Part.Stop (StopPart.Site StopCause.Spent (left_out model site.set.members) site.path),
+  Part.Stop (StopPart.Site StopCause.Spent (told_of model site)),
   (
-    grown_step model c Part.Nothing (Part.Stop (StopPart.Begun StopCause.Spent)) (Phrase.Stop StopPhrase.Spent) (site_phrases model site) (begins StopPhrase.Spent) ∙ site_read model c StopCause.Spent site h.settle,
-    ap (λ s. Some (Next.Whole (Stopped (Spent s)))) (same_site model site h.settle),
+    grown_step model c Part.Nothing (Part.Stop (StopPart.Begun StopCause.Spent)) (Phrase.Stop StopPhrase.Spent) (site_phrases model site) (begins StopPhrase.Spent) ∙ site_read model c StopCause.Spent site h.run,
+    ap (λ s. Some (Next.Whole (Stopped (Spent s)))) (same_site model site h.run),
   ),
 )
 stop_read model c (NodesSpent site) h begins = (
-  Part.Stop (StopPart.Site StopCause.Nodes (left_out model site.set.members) site.path),
+  Part.Stop (StopPart.Site StopCause.Nodes (told_of model site)),
   (
-    grown_step model c Part.Nothing (Part.Stop (StopPart.Begun StopCause.Nodes)) (Phrase.Stop StopPhrase.Nodes) (site_phrases model site) (begins StopPhrase.Nodes) ∙ site_read model c StopCause.Nodes site h.settle,
-    ap (λ s. Some (Next.Whole (Stopped (NodesSpent s)))) (same_site model site h.settle),
+    grown_step model c Part.Nothing (Part.Stop (StopPart.Begun StopCause.Nodes)) (Phrase.Stop StopPhrase.Nodes) (site_phrases model site) (begins StopPhrase.Nodes) ∙ site_read model c StopCause.Nodes site h.run,
+    ap (λ s. Some (Next.Whole (Stopped (NodesSpent s)))) (same_site model site h.run),
   ),
 )
+stop_read model c (Large size) h begins =
+    (Part.Stop (StopPart.Large size), (grown_step model c Part.Nothing (Part.Stop (StopPart.Large size)) (Phrase.Stop (StopPhrase.Large size)) [] (begins (StopPhrase.Large size)), refl))
 stop_read model c stop h begins = absurd h
 
--- a point
-feasible_read : (model : Program) (c : Command) (p : Point) → IsPointFor model p → extended model c Part.Nothing Phrase.Feasible ≡ Some (Next.More Part.Feasible) → AnswerRead model c (Feasible p)
-unfolding AnswerRead
-feasible_read model c p h e =
-    let r = point_read model c (λ vs. Part.Point vs) (λ values j v. refl) p h in (
-      Part.Point r.0,
+-- a point, and what it is to show
+claimed_read : (model : Program) (c : Command) (claim : Claim) (say : Phrase) (p : Point) → IsPointFor model p → extended model c Part.Nothing say ≡ Some (Next.More (Part.Claimed claim))
+    → (end : List ℚ) × ((grown model c Part.Nothing (say ∷ point_phrases p) ≡ Some (Part.Point claim end)) × (point_of model end ≡ p))
+claimed_read model c claim say p h e =
+    let r = point_read model c (λ vs. Part.Point claim vs) (λ values j v. refl) p h in (
+      r.0,
       (
-        grown_step model c Part.Nothing Part.Feasible Phrase.Feasible (point_phrases p) e ∙ grown_step model c Part.Feasible (Part.Point []) Phrase.Point (value_phrases 0 p.values) refl ∙ r.1.0,
-        ap (λ q. Some (Next.Whole (Feasible q))) r.1.1,
+        grown_step model c Part.Nothing (Part.Claimed claim) say (point_phrases p) e ∙ grown_step model c (Part.Claimed claim) (Part.Point claim []) Phrase.Point (value_phrases 0 p.values) refl ∙ r.1.0,
+        r.1.1,
       ),
     )
+
+feasible_read : (model : Program) (c : Command) (p : Point) → IsPointFor model p → extended model c Part.Nothing Phrase.Feasible ≡ Some (Next.More (Part.Claimed Claim.Feasible)) → AnswerRead model c (Feasible p)
+unfolding AnswerRead
+feasible_read model c p h e = let r = claimed_read model c Claim.Feasible Phrase.Feasible p h e in (Part.Point Claim.Feasible r.0, (r.1.0, ap (λ q. Some (Next.Whole (Feasible q))) r.1.1))
+
+-- a point, and a ray from it
+unbounded_read : (model : Program) (p : Point) (ray : Ray) → IsPointFor model p → IsRayFor model ray → AnswerRead model Unbounded (RunsAway p ray)
+unfolding AnswerRead
+unbounded_read model p ray h k =
+    let r = claimed_read model Unbounded Claim.Unbounded Phrase.Unbounded p h refl in
+    let s = ray_read model Unbounded (λ vs. Part.Ray p vs) (λ values j v. refl) ray k in
+    let changes = value_phrases 0 ray.values in (
+      Part.Ray p s.0,
+      (
+        grown_append model Unbounded Part.Nothing (Part.Point Claim.Unbounded r.0) (Phrase.Unbounded ∷ point_phrases p) (Phrase.Ray ∷ changes) r.1.0
+            ∙ grown_step model Unbounded (Part.Point Claim.Unbounded r.0) (Part.Ray p []) Phrase.Ray changes (ap (λ q. Some (Next.More (Part.Ray q []))) r.1.1)
+            ∙ s.1.0,
+        ap (λ q. Some (Next.Whole (RunsAway p q))) s.1.1,
+      ),
+    )
+
+-- a point, the objective's value where it is told, and a dual
+bounded_read : (model : Program) (b : Bounded) → IsBoundedFor model b → AnswerRead model Unbounded (BoundedBy b)
+unfolding AnswerRead
+bounded_read model b h =
+    let p = b.point in
+    let r = claimed_read model Unbounded Claim.Bounded Phrase.Bounded p h.point refl in
+    let shares = b.dual.combo.shares in
+    let uses = map Phrase.Use shares in
+    let told = Part.Bounded (BoundPart.Bound p b.objective b.dual.bound) in
+    let start = Part.Bounded (BoundPart.Dual p b.objective b.dual.bound []) in (
+      Part.Bounded (BoundPart.Dual p b.objective b.dual.bound shares),
+      (
+        grown_append model Unbounded Part.Nothing (Part.Point Claim.Bounded r.0) (Phrase.Bounded ∷ point_phrases p) (objective_phrases b.objective ++ dual_phrases b.dual) r.1.0
+            ∙ bound_told r.0 b.objective r.1.1
+            ∙ grown_step model Unbounded told start Phrase.Dual uses refl
+            ∙ list_read model Unbounded (λ s. true) (λ s t. source_before s.source t.source) (λ ss. Part.Bounded (BoundPart.Dual p b.objective b.dual.bound ss)) Phrase.Use (λ ss s. refl) [] shares h.uses.in_order (λ k d l. refl),
+        refl,
+      ),
+    )
+  where
+    -- the objective's value, where it is told, and the bound
+    bound_told : (values : List ℚ) (v : Option ℚ) → point_of model values ≡ b.point
+        → grown model Unbounded (Part.Point Claim.Bounded values) (objective_phrases v ++ dual_phrases b.dual) ≡ grown model Unbounded (Part.Bounded (BoundPart.Bound b.point v b.dual.bound)) (Phrase.Dual ∷ map Phrase.Use b.dual.combo.shares)
+    bound_told values None e =
+        grown_step model Unbounded (Part.Point Claim.Bounded values) (Part.Bounded (BoundPart.Bound b.point None b.dual.bound)) (Phrase.Bound b.dual.bound) (Phrase.Dual ∷ map Phrase.Use b.dual.combo.shares)
+        (ap (λ q. Some (Next.More (Part.Bounded (BoundPart.Bound q None b.dual.bound)))) e)
+    bound_told values (Some v) e =
+        grown_step model Unbounded (Part.Point Claim.Bounded values) (Part.Bounded (BoundPart.Objective b.point v)) (Phrase.Objective v) (dual_phrases b.dual) (ap (λ q. Some (Next.More (Part.Bounded (BoundPart.Objective q v)))) e)
+        ∙ grown_step model Unbounded (Part.Bounded (BoundPart.Objective b.point v)) (Part.Bounded (BoundPart.Bound b.point (Some v) b.dual.bound)) (Phrase.Bound b.dual.bound) (Phrase.Dual ∷ map Phrase.Use b.dual.combo.shares) refl
 
 -- members, and a proof
 infeasible_read : (model : Program) (c : Command) (set : SetValue) (proof : Proof) → IsListed model set → IsProofFor model proof → All (λ node. may_stand node c ≡ true) proof.nodes
@@ -474,6 +538,10 @@ answer_read model (Pivots n) Done can h = (Part.Nothing, (refl, refl))
 answer_read model (Nodes n) Done can h = (Part.Nothing, (refl, refl))
 answer_read model Check (Stopped stop) can h = stop_read model Check stop h (λ s. refl)
 answer_read model (Iis method) (Stopped stop) can h = stop_read model (Iis method) stop h (λ s. refl)
+answer_read model Unbounded (Stopped stop) can h = stop_read model Unbounded stop h (λ s. refl)
+answer_read model Unbounded (RunsAway p ray) can h = unbounded_read model p ray h.0 h.1
+answer_read model Unbounded (BoundedBy b) can h = bounded_read model b h
+answer_read model Unbounded (Infeasible set proof) can h = infeasible_read model Unbounded set proof h.0 h.1 (any_stands Unbounded refl proof.nodes) refl
 answer_read model Check (Infeasible set proof) can h = infeasible_read model Check set proof h.0 h.1 (any_stands Check refl proof.nodes) refl
 answer_read model Reduce (Infeasible set proof) can h = infeasible_read model Reduce set proof h.0 h.1 (leaf_stands proof.nodes can) refl
 answer_read model Reduce (ReducedTo r) can h = reduced_read model r

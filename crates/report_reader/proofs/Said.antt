@@ -1,5 +1,5 @@
 -- Each phrase of a report is one for the program, and only the last is the foot; the parts of its bytes are its lines.
-use Rattle.std.proofs.Common.{◌≡◌, ◌≢◌, ◌<◌, refl, subst, ap, ◌∙◌, ℕ, zero, suc, ◌+◌, Bool, true, false, cond, List, [], ◌∷◌, ◌++◌, length, arith}
+use Rattle.std.proofs.Common.{◌≡◌, ◌≢◌, ◌<◌, refl, subst, ap, ◌∙◌, ℕ, zero, suc, ◌+◌, Bool, true, false, cond, List, [], ◌∷◌, ◌++◌, length, Option, None, Some, arith}
 use Rattle.std.specs.Prelude.{map, flat_map, zip, All}
 use Rattle.std.proofs.lemmas.Bool.Decides.{not_from_Decides}
 use Rattle.std.proofs.lemmas.List.Elements.{All-head, All-tail, All-nil, All-cons, All-append, All-push, All-weaker}
@@ -13,19 +13,21 @@ use Rattle.certs.specs.declared.evidence.Node.{Node}
 use Rattle.certs.specs.declared.evidence.Node.TheVariants.{Split, Leaf}
 use Rattle.certs.specs.Combination.{IsFitting}
 use Rattle.certs.specs.declared.evidence.Proof.{Proof}
+use Rattle.certs.specs.declared.evidence.Ray.{Ray}
 use Rattle.certs.specs.declared.solving.Site.{Site}
 use Rattle.certs.specs.declared.solving.Stop.{Stop}
-use Rattle.certs.specs.declared.solving.Stop.TheVariants.{Wide as TooWide, Pivots as Spent, Nodes as NodesSpent}
+use Rattle.certs.specs.declared.solving.Stop.TheVariants.{Wide as TooWide, Pivots as Spent, Nodes as NodesSpent, Large}
 use Rattle.report_text.specs.declared.report.Command.{Command}
+use Rattle.report_text.specs.declared.report.Bounded.{Bounded}
 use Rattle.report_text.specs.declared.report.Answer.{Answer}
-use Rattle.report_text.specs.declared.report.Answer.TheVariants.{Feasible, Infeasible, Irreducible, Reduced as ReducedTo, Done, Refused, Stopped}
+use Rattle.report_text.specs.declared.report.Answer.TheVariants.{Feasible, Infeasible, Irreducible, Unbounded as RunsAway, Bounded as BoundedBy, Reduced as ReducedTo, Done, Refused, Stopped}
 use Rattle.report_text.specs.declared.report.Entry.{Entry}
 use Rattle.report_text.specs.declared.report.Report.{Report}
 use Rattle.report_text.specs.declared.phrases.Phrase.{Phrase}
 use Rattle.report_text.specs.declared.phrases.StopPhrase.{StopPhrase}
 use Rattle.lp_model.specs.Satisfaction.{values_at}
-use Rattle.report_text.specs.Form.{is_word, IsWithinLimit, IsNamedColumn, IsNamedMember, IsUse, IsNodeFor, IsProofFor, IsPointFor, IsSiteFor, IsStopFor, IsStepFor, IsAnswerFor, IsEntryFor, AreEntriesFor, IsReportFor}
-use Rattle.report_text.specs.Grammar.{column_name, left_out, value_phrases, point_phrases, node_phrases, proof_phrases, witness_phrases, without_phrase, branch_phrase, site_phrases, stop_phrases, answer_front, answer_end, entry_phrases, entries_phrases, body_phrases, report_phrases, report_lines}
+use Rattle.report_text.specs.Form.{is_word, IsWithinLimit, IsNamedColumn, IsNamedMember, IsUse, IsNodeFor, IsProofFor, IsPointFor, IsRayFor, IsBoundedFor, IsValueWithin, IsSiteFor, IsStopFor, IsStepFor, IsAnswerFor, IsEntryFor, AreEntriesFor, IsReportFor}
+use Rattle.report_text.specs.Grammar.{column_name, left_out, value_phrases, point_phrases, unbounded_phrases, objective_phrases, dual_phrases, bounded_phrases, node_phrases, proof_phrases, witness_phrases, without_phrase, branch_phrase, site_phrases, stop_phrases, answer_front, answer_end, entry_phrases, entries_phrases, body_phrases, report_phrases, report_lines}
 use Rattle.report_text.specs.Turns.{after}
 use Rattle.phrase_reader.specs.Phrases.{IsNamedBranch, IsPhraseFor}
 use Rattle.phrase_reader.specs.Parts.{parts}
@@ -70,11 +72,28 @@ module _ (model : Program) where
   in_range (v ∷ vs) zero h = omega arith
   in_range (v ∷ vs) (suc i) h = let l = in_range vs i h in omega arith
 
+  -- a value for each column
+  each_column : (values : List ℚ) → length values ≡ length model.columns → All IsWithinLimit values → ((j : ℕ) → values_at values j ≢ zero_ℚ → is_word (column_name model j) ≡ true) → All For (value_phrases 0 values)
+  each_column values len fits named = values_for 0 values fits (λ i n.
+      let l = in_range values i n in
+      record { known = omega arith; word = subst (λ k. is_word (column_name model k) ≡ true) (omega arith) (named i n) })
+
   point_for : (p : Point) → IsPointFor model p → All For (point_phrases p)
   unfolding For
-  point_for p h = All-cons For Phrase.Point (value_phrases 0 p.values) (own Phrase.Point tt refl) (values_for 0 p.values h.fits (λ i n.
-      let l = in_range p.values i n in
-      record { known = (let e : length p.values ≡ length model.columns = h.len in omega arith); word = subst (λ k. is_word (column_name model k) ≡ true) (omega arith) (h.named i n) }))
+  point_for p h = All-cons For Phrase.Point (value_phrases 0 p.values) (own Phrase.Point tt refl) (each_column p.values h.len h.fits h.named)
+
+  unbounded_for : (p : Point) (ray : Ray) → IsPointFor model p → IsRayFor model ray → All For (unbounded_phrases p ray)
+  unfolding For
+  unbounded_for p ray h k =
+      let changes = value_phrases 0 ray.values in
+      All-cons For Phrase.Unbounded (point_phrases p ++ Phrase.Ray ∷ changes) (own Phrase.Unbounded tt refl)
+      (All-append For (point_phrases p) (Phrase.Ray ∷ changes) (point_for p h)
+      (All-cons For Phrase.Ray changes (own Phrase.Ray tt refl) (each_column ray.values k.len k.fits k.named)))
+
+  objective_for : (v : Option ℚ) → IsValueWithin v → All For (objective_phrases v)
+  unfolding For
+  objective_for None h = All-nil For
+  objective_for (Some v) h = All-cons For (Phrase.Objective v) [] (own (Phrase.Objective v) h refl) (All-nil For)
 
   each_for : {X : Type 0} (Q : X → Type 0) (say : X → Phrase) → ((x : X) → Q x → For (say x)) → (xs : List X) → All Q xs → All For (map say xs)
   each_for Q say f [] h = All-nil For
@@ -83,6 +102,16 @@ module _ (model : Program) where
   flat_for : {X : Type 0} (Q : X → Type 0) (say : X → List Phrase) → ((x : X) → Q x → All For (say x)) → (xs : List X) → All Q xs → All For (flat_map say xs)
   flat_for Q say f [] h = All-nil For
   flat_for Q say f (x ∷ xs) h = All-append For (say x) (flat_map say xs) (f x (All-head Q x xs h)) (flat_for Q say f xs (All-tail Q x xs h))
+
+  bounded_for : (b : Bounded) → IsBoundedFor model b → All For (bounded_phrases b)
+  unfolding For
+  bounded_for b h =
+      let uses = map Phrase.Use b.dual.combo.shares in
+      All-cons For Phrase.Bounded (point_phrases b.point ++ (objective_phrases b.objective ++ dual_phrases b.dual)) (own Phrase.Bounded tt refl)
+      (All-append For (point_phrases b.point) (objective_phrases b.objective ++ dual_phrases b.dual) (point_for b.point h.point)
+      (All-append For (objective_phrases b.objective) (dual_phrases b.dual) (objective_for b.objective h.objective)
+      (All-cons For (Phrase.Bound b.dual.bound) (Phrase.Dual ∷ uses) (own (Phrase.Bound b.dual.bound) h.bound refl)
+      (All-cons For Phrase.Dual uses (own Phrase.Dual tt refl) (each_for (IsUse model) Phrase.Use (λ s u. own (Phrase.Use s) u refl) b.dual.combo.shares h.uses.each)))))
 
   node_for : (node : Node) → IsNodeFor model node → All For (node_phrases node)
   unfolding For
@@ -114,7 +143,7 @@ module _ (model : Program) where
       let path = map branch_phrase site.path in
       All-cons For (Phrase.Stop (StopPhrase.Site site.kind)) (left ++ path) (own (Phrase.Stop (StopPhrase.Site site.kind)) tt refl)
       (All-append For left path (each_for (IsNamedMember model) without_phrase (λ m k. own (without_phrase m) k refl) (left_out model site.set.members) h.named)
-      (each_for (IsNamedBranch model) branch_phrase (λ b k. own (branch_phrase b) k refl) site.path (path_named site.path h.path h.settle.fits)))
+      (each_for (IsNamedBranch model) branch_phrase (λ b k. own (branch_phrase b) k refl) site.path (path_named site.path h.path h.run.fits)))
 
   stop_for : (stop : Stop) → IsStopFor model stop → All For (stop_phrases model stop)
   unfolding For
@@ -125,6 +154,7 @@ module _ (model : Program) where
       (All-append For (site_phrases model site) (step ∷ operation ∷ []) (site_for site h.0) (All-cons For step (operation ∷ []) (own step h.1.0 refl) (All-cons For operation [] (own operation h.1.1 refl) (All-nil For))))
   stop_for (Spent site) h = All-cons For (Phrase.Stop StopPhrase.Spent) (site_phrases model site) (own (Phrase.Stop StopPhrase.Spent) tt refl) (site_for site h)
   stop_for (NodesSpent site) h = All-cons For (Phrase.Stop StopPhrase.Nodes) (site_phrases model site) (own (Phrase.Stop StopPhrase.Nodes) tt refl) (site_for site h)
+  stop_for (Large size) h = All-cons For (Phrase.Stop (StopPhrase.Large size)) [] (own (Phrase.Stop (StopPhrase.Large size)) h refl) (All-nil For)
   stop_for stop h = absurd h
 
   end_for : (a : Answer) → For (answer_end a)
@@ -148,6 +178,8 @@ module _ (model : Program) where
       (All-append For (flat_map witness_phrases (zip core.members.members core.witnesses)) (proof_phrases core.proof)
       (flat_for (λ w. IsNamedMember model w.0 × IsPointFor model w.1) witness_phrases witness_for (zip core.members.members core.witnesses) (zipped core.members.members core.witnesses h.members.named h.points))
       (proof_for core.proof h.proof))
+  answer_for (RunsAway p ray) h = unbounded_for p ray h.0 h.1
+  answer_for (BoundedBy b) h = bounded_for b h
   answer_for (ReducedTo r) h =
       let steps = map Phrase.Reduction r.steps in
       let left = Phrase.Left r.rows r.columns in

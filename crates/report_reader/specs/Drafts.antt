@@ -13,14 +13,15 @@ use Rattle.model_session.specs.Session.{session_at, Takes as TakesCommand}
 use Rattle.certs.specs.declared.evidence.Branch.{Branch}
 use Rattle.certs.specs.declared.evidence.Share.{Share}
 use Rattle.certs.specs.declared.evidence.Point.{Point}
+use Rattle.certs.specs.declared.evidence.Ray.{Ray}
 use Rattle.certs.specs.declared.evidence.Node.{Node}
 use Rattle.certs.specs.declared.evidence.Node.TheVariants.{Split, Leaf}
 use Rattle.certs.specs.Proof.{Tree, preorder}
-use Rattle.certs.specs.declared.solving.SiteKind.TheVariants.{Settle}
+use Rattle.certs.specs.declared.solving.SiteKind.{SiteKind}
 use Rattle.certs.specs.declared.solving.Site.{Site}
 use Rattle.certs.specs.declared.solving.Stop.{Stop}
 use Rattle.report_text.specs.declared.report.Command.{Command}
-use Rattle.report_text.specs.declared.report.Command.TheVariants.{Check, Iis, Reduce, Edit, Undo, Pivots, Nodes}
+use Rattle.report_text.specs.declared.report.Command.TheVariants.{Check, Iis, Unbounded, Reduce, Edit, Undo, Pivots, Nodes}
 use Rattle.report_text.specs.declared.report.Answer.{Answer}
 use Rattle.report_text.specs.declared.report.Entry.{Entry}
 use Rattle.report_text.specs.declared.phrases.Phrase.{Phrase}
@@ -28,7 +29,10 @@ use Rattle.report_text.specs.declared.phrases.StopPhrase.{StopPhrase}
 use Rattle.report_reader.specs.declared.drafts.Found.{Found}
 use Rattle.report_reader.specs.declared.drafts.Question.{Question}
 use Rattle.report_reader.specs.declared.drafts.StopCause.{StopCause}
+use Rattle.report_reader.specs.declared.drafts.SitePart.{SitePart}
 use Rattle.report_reader.specs.declared.drafts.StopPart.{StopPart}
+use Rattle.report_reader.specs.declared.drafts.Claim.{Claim}
+use Rattle.report_reader.specs.declared.drafts.BoundPart.{BoundPart}
 use Rattle.report_reader.specs.declared.drafts.Part.{Part}
 use Rattle.report_reader.specs.declared.drafts.Next.{Next}
 use Rattle.report_reader.specs.declared.drafts.Stage.{Stage}
@@ -39,8 +43,8 @@ use Rattle.report_reader.specs.declared.reader.ReportStop.TheVariants.{BadLine, 
 use Rattle.phrase_reader.specs.Phrases.{IsNamedBranch, Says}
 use Rattle.report_text.specs.Turns.{after, entry_commands}
 use Rattle.report_text.specs.Grammar.{Line, column_name, left_out, entries_phrases}
-use Rattle.certs.specs.Order.{source_before}
-use Rattle.report_text.specs.Form.{is_word, IsNamedColumn, IsNamedMember, IsWithinLimit, IsPointFor, AreEntriesFor, IsCommand, IsCount, IsOperation, AreUses, IsStepFor, IsNodeFor, IsOneTree, AreNumbered, can_answer}
+use Rattle.certs.specs.Order.{source_before, AreSharesInOrder}
+use Rattle.report_text.specs.Form.{is_word, IsNamedColumn, IsNamedMember, IsWithinLimit, IsPointFor, AreEntriesFor, IsCommand, is_run_kind, IsCount, IsOperation, AreUses, IsValueWithin, IsStepFor, IsNodeFor, IsOneTree, AreNumbered, can_answer}
 
 -- values with zeros behind them, up to so many
 abbrev pub filled : ℕ → List ℚ → List ℚ
@@ -49,6 +53,10 @@ filled n values = values ++ replicate (n - length values) zero_ℚ
 -- the point of these values, with 0 for each further column
 abbrev pub point_of : Program → List ℚ → Point
 point_of model values = record { values = filled (length model.columns) values }
+
+-- the ray of these changes, with 0 for each further column
+abbrev pub ray_of : Program → List ℚ → Ray
+ray_of model values = record { values = filled (length model.columns) values }
 
 -- the set of listed members
 abbrev pub set_of : Program → List Member → SetValue
@@ -123,28 +131,50 @@ witnessed_with members witnesses (Phrase.Member m) = only_if (list_all (λ n. co
 witnessed_with members witnesses Phrase.Proof = Some (proof_begun (Found.Witnessed members witnesses))
 witnessed_with members witnesses _ = None
 
--- the settle run of the active members but these, on a path
-abbrev pub site_without : Program → List Member → List Branch → Site
-site_without model left path = record { kind = Settle; set = set_of model (left_out model left); enforced = empty_set model; path = path }
+-- the site that is told: a run of the active members but those that are left out, on a path
+abbrev pub site_of : Program → SitePart → Site
+site_of model site = record { kind = site.kind; set = set_of model (left_out model site.left); enforced = empty_set model; path = site.path }
+
+-- a run of which no more is told than its kind
+abbrev pub run_of : SiteKind → SitePart
+run_of kind = record { kind = kind; left = []; path = [] }
 
 -- how a stop begins
 abbrev pub stop_begun : StopPhrase → Option Next
 stop_begun StopPhrase.Wide = Some (Next.More (Part.Stop (StopPart.Begun StopCause.Wide)))
 stop_begun StopPhrase.Spent = Some (Next.More (Part.Stop (StopPart.Begun StopCause.Spent)))
 stop_begun StopPhrase.Nodes = Some (Next.More (Part.Stop (StopPart.Begun StopCause.Nodes)))
+stop_begun (StopPhrase.Large size) = Some (Next.More (Part.Stop (StopPart.Large size)))
 stop_begun _ = None
 
--- what a part of a stop is with one phrase more; only the settle run stops as yet
+-- what a part of a stop is with one phrase more; only the settle run and the improve run stop as yet
 abbrev pub stop_with : Program → StopPart → Phrase → Option Next
-stop_with model (StopPart.Begun cause) (Phrase.Stop (StopPhrase.Site Settle)) = Some (Next.More (Part.Stop (StopPart.Site cause [] [])))
-stop_with model (StopPart.Site cause left path) (Phrase.Stop (StopPhrase.Without m)) = option_map (λ members. Next.More (Part.Stop (StopPart.Site cause members path))) (with_left_out model path left m)
-stop_with model (StopPart.Site cause left path) (Phrase.Stop (StopPhrase.Branch b)) = Some (Next.More (Part.Stop (StopPart.Site cause left (path ++ b ∷ []))))
-stop_with model (StopPart.Site StopCause.Wide left path) (Phrase.Stop (StopPhrase.Step k)) = Some (Next.More (Part.Stop (StopPart.Step left path k)))
-stop_with model (StopPart.Site StopCause.Spent left path) Phrase.End = Some (Next.Whole (Answer.Stopped (Stop.Pivots (site_without model left path))))
-stop_with model (StopPart.Site StopCause.Nodes left path) Phrase.End = Some (Next.Whole (Answer.Stopped (Stop.Nodes (site_without model left path))))
-stop_with model (StopPart.Step left path k) (Phrase.Stop (StopPhrase.Operation o)) = Some (Next.More (Part.Stop (StopPart.Operation left path k o)))
-stop_with model (StopPart.Operation left path k o) Phrase.End = Some (Next.Whole (Answer.Stopped (Stop.Wide (site_without model left path) k o)))
+stop_with model (StopPart.Begun cause) (Phrase.Stop (StopPhrase.Site kind)) = only_if (is_run_kind kind) (Next.More (Part.Stop (StopPart.Site cause (run_of kind))))
+stop_with model (StopPart.Large size) Phrase.End = Some (Next.Whole (Answer.Stopped (Stop.Large size)))
+stop_with model (StopPart.Site cause site) (Phrase.Stop (StopPhrase.Without m)) = option_map (λ members. Next.More (Part.Stop (StopPart.Site cause (record site { left = members })))) (with_left_out model site.path site.left m)
+stop_with model (StopPart.Site cause site) (Phrase.Stop (StopPhrase.Branch b)) = Some (Next.More (Part.Stop (StopPart.Site cause (record site { path = site.path ++ b ∷ [] }))))
+stop_with model (StopPart.Site StopCause.Wide site) (Phrase.Stop (StopPhrase.Step k)) = Some (Next.More (Part.Stop (StopPart.Step site k)))
+stop_with model (StopPart.Site StopCause.Spent site) Phrase.End = Some (Next.Whole (Answer.Stopped (Stop.Pivots (site_of model site))))
+stop_with model (StopPart.Site StopCause.Nodes site) Phrase.End = Some (Next.Whole (Answer.Stopped (Stop.Nodes (site_of model site))))
+stop_with model (StopPart.Step site k) (Phrase.Stop (StopPhrase.Operation o)) = Some (Next.More (Part.Stop (StopPart.Operation site k o)))
+stop_with model (StopPart.Operation site k o) Phrase.End = Some (Next.Whole (Answer.Stopped (Stop.Wide (site_of model site) k o)))
 stop_with model _ _ = None
+
+-- what a point is with one phrase more, by what it is to show: an answer alone, or one with a ray, or one with a bound, before which the objective's value may stand
+abbrev pub claim_with : Claim → Point → Phrase → Option Next
+claim_with Claim.Feasible p Phrase.End = Some (Next.Whole (Answer.Feasible p))
+claim_with Claim.Unbounded p Phrase.Ray = Some (Next.More (Part.Ray p []))
+claim_with Claim.Bounded p (Phrase.Objective v) = Some (Next.More (Part.Bounded (BoundPart.Objective p v)))
+claim_with Claim.Bounded p (Phrase.Bound b) = Some (Next.More (Part.Bounded (BoundPart.Bound p None b)))
+claim_with _ _ _ = None
+
+-- what the part behind such a point is with one phrase more: the bound, the start of the dual, a share of it, or the end
+abbrev pub bound_with : BoundPart → Phrase → Option Next
+bound_with (BoundPart.Objective p v) (Phrase.Bound b) = Some (Next.More (Part.Bounded (BoundPart.Bound p (Some v) b)))
+bound_with (BoundPart.Bound p v b) Phrase.Dual = Some (Next.More (Part.Bounded (BoundPart.Dual p v b [])))
+bound_with (BoundPart.Dual p v b shares) (Phrase.Use s) = option_map (λ ss. Next.More (Part.Bounded (BoundPart.Dual p v b ss))) (with_share shares s)
+bound_with (BoundPart.Dual p v b shares) Phrase.End = Some (Next.Whole (Answer.Bounded (record { point = p; objective = v; dual = record { combo = record { shares = shares }; bound = b } })))
+bound_with _ _ = None
 
 -- the answer of one line to a command: that it is done, or why it is refused
 abbrev pub reply_said : Command → Phrase → Option Next
@@ -154,21 +184,28 @@ reply_said command _ = None
 
 -- the answer that a part of one becomes by a phrase, if it may follow
 abbrev pub extended : Program → Command → Part → Phrase → Option Next
-extended model command Part.Feasible Phrase.Point = Some (Next.More (Part.Point []))
-extended model Check Part.Nothing Phrase.Feasible = Some (Next.More Part.Feasible)
-extended model (Iis method) Part.Nothing Phrase.Feasible = Some (Next.More Part.Feasible)
+extended model command (Part.Claimed claim) Phrase.Point = Some (Next.More (Part.Point claim []))
+extended model Check Part.Nothing Phrase.Feasible = Some (Next.More (Part.Claimed Claim.Feasible))
+extended model (Iis method) Part.Nothing Phrase.Feasible = Some (Next.More (Part.Claimed Claim.Feasible))
+extended model Unbounded Part.Nothing Phrase.Unbounded = Some (Next.More (Part.Claimed Claim.Unbounded))
+extended model Unbounded Part.Nothing Phrase.Bounded = Some (Next.More (Part.Claimed Claim.Bounded))
+extended model Unbounded Part.Nothing Phrase.Infeasible = Some (Next.More (Part.Listed (Found.Members [])))
 extended model Check Part.Nothing Phrase.Infeasible = Some (Next.More (Part.Listed (Found.Members [])))
 extended model (Iis method) Part.Nothing Phrase.Irreducible = Some (Next.More (Part.Listed (Found.Witnessed [] [])))
 extended model Reduce Part.Nothing Phrase.Reduced = Some (Next.More (Part.Reduced []))
 extended model Reduce Part.Nothing Phrase.Infeasible = Some (Next.More (Part.Listed (Found.Members [])))
 extended model Check Part.Nothing (Phrase.Stop s) = stop_begun s
 extended model (Iis method) Part.Nothing (Phrase.Stop s) = stop_begun s
+extended model Unbounded Part.Nothing (Phrase.Stop s) = stop_begun s
 extended model (Edit e) Part.Nothing p = reply_said (Edit e) p
 extended model Undo Part.Nothing p = reply_said Undo p
 extended model (Pivots n) Part.Nothing p = reply_said (Pivots n) p
 extended model (Nodes n) Part.Nothing p = reply_said (Nodes n) p
-extended model command (Part.Point values) (Phrase.Value j v) = option_map (λ vs. Next.More (Part.Point vs)) (with_value values j v)
-extended model command (Part.Point values) Phrase.End = Some (Next.Whole (Answer.Feasible (point_of model values)))
+extended model command (Part.Point claim values) (Phrase.Value j v) = option_map (λ vs. Next.More (Part.Point claim vs)) (with_value values j v)
+extended model command (Part.Point claim values) p = claim_with claim (point_of model values) p
+extended model command (Part.Ray point values) (Phrase.Value j v) = option_map (λ vs. Next.More (Part.Ray point vs)) (with_value values j v)
+extended model command (Part.Ray point values) Phrase.End = Some (Next.Whole (Answer.Unbounded point (ray_of model values)))
+extended model command (Part.Bounded part) p = bound_with part p
 extended model command (Part.Listed (Found.Members members)) (Phrase.Member m) = option_map (λ ms. Next.More (Part.Listed (Found.Members ms))) (with_member members m)
 extended model command (Part.Listed (Found.Members members)) Phrase.Proof = Some (proof_begun (Found.Members members))
 extended model command (Part.Listed (Found.Witnessed members witnesses)) p = witnessed_with members witnesses p
@@ -261,7 +298,7 @@ entries_now entries None = entries
 entries_now entries (Some next) = next.entries
 
 -- ---- what is asked of a draft
--- values of the first columns, as a point may have them
+-- values of the first columns, as a point or a ray may have them
 pub record AreValues (model : Program) (values : List ℚ) : Type 0 where
   pub few : length values ≤ length model.columns
   pub fits : All IsWithinLimit values
@@ -280,6 +317,7 @@ pub record AreWitnesses (model : Program) (members : List Member) (witnesses : L
 -- a set of the kind that the command may be answered with
 abbrev pub IsFound : Program → Command → Found → Type 0
 IsFound model Check (Found.Members members) = AreMembers model members
+IsFound model Unbounded (Found.Members members) = AreMembers model members
 IsFound model Reduce (Found.Members members) = AreMembers model members
 IsFound model (Iis method) (Found.Witnessed members witnesses) = AreMembers model members × AreWitnesses model members witnesses
 IsFound model command _ = ⊥
@@ -287,6 +325,7 @@ IsFound model command _ = ⊥
 -- members with witnesses, and one member more
 abbrev pub IsOneMore : Program → Command → List Member → List Point → Member → Type 0
 IsOneMore model Check members witnesses m = ⊥
+IsOneMore model Unbounded members witnesses m = ⊥
 IsOneMore model Reduce members witnesses m = ⊥
 IsOneMore model (Edit e) members witnesses m = ⊥
 IsOneMore model Undo members witnesses m = ⊥
@@ -299,16 +338,19 @@ pub record AreLeftOut (model : Program) (left : List Member) : Type 0 where
   pub members : AreMembers model left
   pub active : All (λ m. IsTrue (is_active model m)) left
 
--- what a site is told by: such members, and branches
-abbrev pub IsTold : Program → List Member → List Branch → Type 0
-IsTold model left path = AreLeftOut model left × All (IsNamedBranch model) path
+-- a part of a site: a run that may stop, such members, and branches
+pub record IsTold (model : Program) (site : SitePart) : Type 0 where
+  pub run : is_run_kind site.kind ≡ true
+  pub left : AreLeftOut model site.left
+  pub path : All (IsNamedBranch model) site.path
 
 -- a part of a stop
 abbrev pub IsStopPart : Program → StopPart → Type 0
 IsStopPart model (StopPart.Begun cause) = ⊤
-IsStopPart model (StopPart.Site cause left path) = IsTold model left path
-IsStopPart model (StopPart.Step left path k) = IsTold model left path × IsCount k
-IsStopPart model (StopPart.Operation left path k o) = IsTold model left path × (IsCount k × IsOperation o)
+IsStopPart model (StopPart.Large size) = IsCount size
+IsStopPart model (StopPart.Site cause site) = IsTold model site
+IsStopPart model (StopPart.Step site k) = IsTold model site × IsCount k
+IsStopPart model (StopPart.Operation site k o) = IsTold model site × (IsCount k × IsOperation o)
 
 -- The nodes are the front of a proof of an answer to the command, and so many subtrees are due: with any such trees behind them they are one tree.
 pub record AreNodes (model : Program) (command : Command) (nodes : List Node) (due : ℕ) : Type 0 where
@@ -317,7 +359,7 @@ pub record AreNodes (model : Program) (command : Command) (nodes : List Node) (d
   pub one : (trees : List Tree) → length trees ≡ due → IsOneTree (nodes ++ flat_map preorder trees)
   pub few : due ≤ length nodes + 1
 
--- only a check, or the search for an irreducible set, is answered by a point or a stop
+-- only a check, the search for an irreducible set, or the question how far the objective can go is answered by a stop
 abbrev pub Asks : Command → Type 0
 Asks Reduce = ⊥
 Asks (Edit e) = ⊥
@@ -325,6 +367,33 @@ Asks Undo = ⊥
 Asks (Pivots n) = ⊥
 Asks (Nodes n) = ⊥
 Asks command = ⊤
+
+-- only a check, or the search for an irreducible set, is answered by a point alone
+abbrev pub Seeks : Command → Type 0
+Seeks Check = ⊤
+Seeks (Iis method) = ⊤
+Seeks command = ⊥
+
+-- only the question how far the objective can go is answered by a ray or a dual
+abbrev pub Bounds : Command → Type 0
+Bounds Unbounded = ⊤
+Bounds command = ⊥
+
+-- a point may be to show this in an answer to the command
+abbrev pub Claims : Command → Claim → Type 0
+Claims command Claim.Feasible = Seeks command
+Claims command claim = Bounds command
+
+-- the shares of a dual stand in order
+abbrev pub AreBoundShares : BoundPart → Type 0
+AreBoundShares (BoundPart.Dual p v b shares) = AreSharesInOrder shares
+AreBoundShares _ = ⊤
+
+-- a part of an answer that tells how far the objective can go
+abbrev pub IsBoundPart : Program → BoundPart → Type 0
+IsBoundPart model (BoundPart.Objective p v) = IsPointFor model p × IsWithinLimit v
+IsBoundPart model (BoundPart.Bound p v b) = IsPointFor model p × (IsValueWithin v × IsWithinLimit b)
+IsBoundPart model (BoundPart.Dual p v b shares) = IsPointFor model p × (IsValueWithin v × (IsWithinLimit b × AreUses model shares))
 
 -- only a reduction is answered by steps
 abbrev pub Reduces : Command → Type 0
@@ -334,8 +403,10 @@ Reduces command = ⊥
 -- a part of an answer to the command
 abbrev pub IsPartFor : Program → Command → Part → Type 0
 IsPartFor model command Part.Nothing = ⊤
-IsPartFor model command Part.Feasible = Asks command
-IsPartFor model command (Part.Point values) = Asks command × AreValues model values
+IsPartFor model command (Part.Claimed claim) = Claims command claim
+IsPartFor model command (Part.Point claim values) = Claims command claim × AreValues model values
+IsPartFor model command (Part.Ray point values) = Bounds command × (IsPointFor model point × AreValues model values)
+IsPartFor model command (Part.Bounded part) = Bounds command × IsBoundPart model part
 IsPartFor model command (Part.Listed found) = IsFound model command found
 IsPartFor model command (Part.Member members witnesses m) = IsOneMore model command members witnesses m
 IsPartFor model command (Part.Witness members witnesses m values) = IsOneMore model command members witnesses m × AreValues model values

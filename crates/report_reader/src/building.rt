@@ -5,13 +5,11 @@ ghost use Rattle.lp_model.specs.MemberSets.{IsMemberFor};
 ghost use Rattle.report_text.specs.Grammar.{left_out};
 ghost use Rattle.certs.specs.Order.{AreSharesInOrder};
 ghost use Rattle.report_text.specs.Form.{IsNamedMember};
-ghost use Rattle.report_reader.specs.Drafts.{filled, point_of, leaf_of, set_of, answer_of, with_value, with_member, with_share, with_left_out, site_without, IsFound, AreLeftOut};
+ghost use Rattle.report_reader.specs.Drafts.{filled, point_of, ray_of, leaf_of, set_of, answer_of, with_value, with_member, with_share, with_left_out, site_of, IsFound, AreLeftOut};
 
-use crate::drafts::{Found, Members};
+use crate::drafts::{Found, Members, SitePart};
 use crate::ordering::{member_follows, source_follows};
-use certs::{
-    Branch, Combo, Node, Nodes, Path, Point, Proof, Share, Shares, Site, SiteKind, Values,
-};
+use certs::{Branch, Combo, Node, Nodes, Path, Point, Proof, Ray, Share, Shares, Site, Values};
 use frac128::Frac;
 use lp_model::{Member, MemberSet, Model};
 use reductions::ReduceStep;
@@ -53,6 +51,17 @@ pub(crate) fn make_point(model: &Model, values: Values) -> Result<Point, AllocEr
 {
     let items = fill(values.into_vec(), model.column_count() as usize)?;
     Ok(Point {
+        values: Values::new(items),
+    })
+}
+
+/// The ray of the changes, with 0 for each further column.
+pub(crate) fn make_ray(model: &Model, values: Values) -> Result<Ray, AllocError>
+    requires { length values ≤ length model.now.columns }
+    ensures { IfOk result (λ r. r ≡ ray_of model.now values) }
+{
+    let items = fill(values.into_vec(), model.column_count() as usize)?;
+    Ok(Ray {
         values: Values::new(items),
     })
 }
@@ -195,20 +204,16 @@ fn make_others(alloc: Global, model: &Model, left: &[Member]) -> Result<MemberSe
     Ok(set)
 }
 
-/// The settle run of the active members but these, on a path.
-pub(crate) fn make_site(
-    alloc: Global,
-    model: &Model,
-    left: &Members,
-    path: Path,
-) -> Result<Site, AllocError>
-    requires { AreLeftOut model.now left.now }
-    ensures { IfOk result (λ s. s ≡ site_without model.now left.now path) }
+/// The site that is told: a run of the active members but those that are left out, on a path.
+pub(crate) fn make_site(alloc: Global, model: &Model, site: SitePart) -> Result<Site, AllocError>
+    requires { AreLeftOut model.now site.left }
+    ensures { IfOk result (λ s. s ≡ site_of model.now site) }
 {
+    let SitePart { kind, left, path } = site;
     let set = make_others(alloc, model, left.as_slice())?;
     let enforced = MemberSet::empty(alloc, model)?;
     Ok(Site {
-        kind: SiteKind::Settle,
+        kind,
         set,
         enforced,
         path,

@@ -1,8 +1,8 @@
 //! How far a report is read.
 ghost use Rattle.std.specs.Prelude.{◌≡◌};
 
-use certs::{Nodes, Path, Shares, Values};
-use frac128::Wide;
+use certs::{Nodes, Path, Point, Shares, SiteKind, Values};
+use frac128::{Frac, Wide};
 use lp_model::Member;
 use report_text::{Answer, Command, Entries, Notes, ReduceSteps, Witnesses};
 use std::marker::Model;
@@ -67,17 +67,47 @@ pub(crate) enum StopCause {
     Nodes,
 }
 
+/// How far a site is read: its kind, the active members so far that are not in its set, and the branches so far of its
+/// path.
+#[derive(Drop)]
+pub(crate) struct SitePart {
+    pub(crate) kind: SiteKind,
+    pub(crate) left: Members,
+    pub(crate) path: Path,
+}
+
 /// How far a stop is read.
 #[derive(Drop)]
 pub(crate) enum StopPart {
     /// The first line.
     Begun(StopCause),
-    /// The same, the site, the active members so far that are not in its set, and the branches so far of its path.
-    Site(StopCause, Members, Path),
+    /// `too large`, and the size.
+    Large(u64),
+    /// The first line of another stop, and a part of the site.
+    Site(StopCause, SitePart),
     /// `too wide`, the site, and the number of the turn.
-    Step(Members, Path, u64),
+    Step(SitePart, u64),
     /// The same, and the operation.
-    Operation(Members, Path, u64, Wide),
+    Operation(SitePart, u64, Wide),
+}
+
+/// What a point is to show, by the line before it: `feasible`, `unbounded` or `bounded`.
+#[derive(Clone, Copy, PartialEq, Eq, Debug)]
+pub(crate) enum Claim {
+    Feasible,
+    Unbounded,
+    Bounded,
+}
+
+/// How far the answer is read that tells how far the objective can go.
+#[derive(Drop)]
+pub(crate) enum BoundPart {
+    /// The point, and the objective's value there.
+    Objective(Point, Frac),
+    /// The point, the value where it is told, and the bound.
+    Bound(Point, Option<Frac>, Frac),
+    /// The same, `dual`, and its shares so far.
+    Dual(Point, Option<Frac>, Frac, Shares),
 }
 
 /// How far an answer is read.
@@ -85,10 +115,14 @@ pub(crate) enum StopPart {
 pub(crate) enum Part {
     /// The command alone.
     Nothing,
-    /// `feasible`.
-    Feasible,
-    /// A point, up to its last value that is not 0.
-    Point(Values),
+    /// `feasible`, `unbounded` or `bounded`.
+    Claimed(Claim),
+    /// The same, and a point, up to its last value that is not 0.
+    Point(Claim, Values),
+    /// `unbounded`, its point, and a ray, up to its last change that is not 0.
+    Ray(Point, Values),
+    /// `bounded`, and what stands behind it.
+    Bounded(BoundPart),
     /// Members of an infeasible set, or of an irreducible one with their witnesses.
     Listed(Found),
     /// Members with their witnesses, and one member more.

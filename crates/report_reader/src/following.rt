@@ -9,10 +9,11 @@ ghost use Rattle.report_text.specs.declared.report.Method.{Method};
 ghost use Rattle.report_text.specs.declared.report.Command.TheVariants.{Check, Iis, Edit, Undo, Pivots, Nodes};
 ghost use Rattle.report_text.specs.declared.report.NamedEdit.{NamedEdit as OneEdit};
 
+use crate::bounding::{begin_bounding, follow_bounding, follow_claim, follow_ray};
 use crate::building::{
     add_leaf, add_member, add_share, add_split, add_value, make_answer, make_point,
 };
-use crate::drafts::{Found, Members, Next, Part};
+use crate::drafts::{Claim, Found, Members, Next, Part};
 use crate::ordering::member_follows;
 use crate::reducing::{begin_reduction, follow_left, follow_steps};
 use crate::stopping::{begin_stop, follow_stop};
@@ -29,7 +30,7 @@ fn follow_check(alloc: Global, phrase: Phrase) -> Option<Next>
         return begin_stop(stop);
     }
     match phrase {
-        Phrase::Feasible => Some(Next::More(Part::Feasible)),
+        Phrase::Feasible => Some(Next::More(Part::Claimed(Claim::Feasible))),
         Phrase::Infeasible => {
             let members = Members::new(Vec::new(alloc));
             Some(Next::More(Part::Listed(Found::Members(members))))
@@ -46,7 +47,7 @@ fn follow_search(alloc: Global, phrase: Phrase) -> Option<Next>
         return begin_stop(stop);
     }
     match phrase {
-        Phrase::Feasible => Some(Next::More(Part::Feasible)),
+        Phrase::Feasible => Some(Next::More(Part::Claimed(Claim::Feasible))),
         Phrase::Irreducible => {
             let members = Members::new(Vec::new(alloc));
             let witnesses = Witnesses::new(Vec::new(alloc));
@@ -103,6 +104,7 @@ fn follow_command(alloc: Global, command: &Command, phrase: Phrase) -> Option<Ne
     match command {
         Command::Check => follow_check(alloc, phrase),
         Command::Iis(_) => follow_search(alloc, phrase),
+        Command::Unbounded => begin_bounding(alloc, phrase),
         Command::Reduce => begin_reduction(alloc, phrase),
         Command::Edit(_) => follow_edit(phrase),
         Command::Undo => follow_undo(phrase),
@@ -111,32 +113,34 @@ fn follow_command(alloc: Global, command: &Command, phrase: Phrase) -> Option<Ne
     }
 }
 
-// What may follow `feasible`.
-fn follow_feasible(alloc: Global, phrase: Phrase) -> Option<Next>
-    ensures { (model : Program) (command : Command) → result ≡ extended model command Part.Feasible phrase }
+// What may follow `feasible`, `unbounded` or `bounded`.
+fn follow_claimed(alloc: Global, claim: Claim, phrase: Phrase) -> Option<Next>
+    ensures { (model : Program) (command : Command) → result ≡ extended model command (Part.Claimed claim) phrase }
 {
     match phrase {
-        Phrase::Point => Some(Next::More(Part::Point(Values::new(Vec::new(alloc))))),
+        Phrase::Point => Some(Next::More(Part::Point(claim, Values::new(Vec::new(alloc))))),
         _ => None,
     }
 }
 
-// What may follow a point.
-fn follow_point(model: &Model, values: Values, phrase: Phrase) -> Result<Option<Next>, AllocError>
+// What may follow a part of a point.
+fn follow_point(
+    alloc: Global,
+    model: &Model,
+    claim: Claim,
+    values: Values,
+    phrase: Phrase,
+) -> Result<Option<Next>, AllocError>
     requires { length values ≤ length model.now.columns }
-    ensures { (command : Command) → IfOk result (λ n. n ≡ extended model.now command (Part.Point values) phrase) }
+    ensures { (command : Command) → IfOk result (λ n.
+        n ≡ extended model.now command (Part.Point claim values) phrase) }
 {
-    match phrase {
-        Phrase::Value(column, value) => {
-            let values = add_value(values, column, value)?;
-            Ok(values.map(|values| Next::More(Part::Point(values))))
-        }
-        Phrase::End => {
-            let point = make_point(model, values)?;
-            Ok(Some(Next::Whole(Answer::Feasible(point))))
-        }
-        _ => Ok(None),
+    if let Phrase::Value(column, value) = phrase {
+        let values = add_value(values, column, value)?;
+        return Ok(values.map(|values| Next::More(Part::Point(claim, values))));
     }
+    let point = make_point(model, values)?;
+    Ok(follow_claim(alloc, claim, point, phrase))
 }
 
 // A proof without nodes.
@@ -384,8 +388,10 @@ pub(crate) fn follow(
 {
     match part {
         Part::Nothing => Ok(follow_command(alloc, command, phrase)),
-        Part::Feasible => Ok(follow_feasible(alloc, phrase)),
-        Part::Point(values) => follow_point(model, values, phrase),
+        Part::Claimed(claim) => Ok(follow_claimed(alloc, claim, phrase)),
+        Part::Point(claim, values) => follow_point(alloc, model, claim, values, phrase),
+        Part::Ray(point, values) => follow_ray(model, point, values, phrase),
+        Part::Bounded(part) => follow_bounding(alloc, part, phrase),
         Part::Listed(found) => follow_list(alloc, found, phrase),
         Part::Member(members, witnesses, member) => {
             Ok(follow_member(alloc, members, witnesses, member, phrase))

@@ -2,6 +2,7 @@
 #![tactic(auto)]
 
 mod advancing;
+mod bounding;
 mod building;
 mod drafts;
 mod following;

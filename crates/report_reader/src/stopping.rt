@@ -1,12 +1,12 @@
 //! What a phrase makes of a part of a stop.
 ghost use Rattle.std.specs.Prelude.{◌≡◌, IfOk};
 ghost use Rattle.lp_model.specs.Program.{Program};
-ghost use Rattle.report_text.specs.Form.{IsNamedMember};
+ghost use Rattle.report_text.specs.Form.{is_run_kind, IsNamedMember};
 ghost use Rattle.phrase_reader.specs.Phrases.{IsStopPhrase, IsPhraseFor};
 ghost use Rattle.report_reader.specs.Drafts.{stop_begun, stop_with, AreLeftOut, IsStopPart};
 
 use crate::building::{add_branch, add_left_out, make_site};
-use crate::drafts::{Members, Next, Part, StopCause, StopPart};
+use crate::drafts::{Members, Next, Part, SitePart, StopCause, StopPart};
 use certs::{Branch, Path, SiteKind, Stop};
 use frac128::Wide;
 use lp_model::{Member, Model};
@@ -21,6 +21,39 @@ pub(crate) fn begin_stop(phrase: StopPhrase) -> Option<Next>
         StopPhrase::Wide => Some(Next::More(Part::Stop(StopPart::Begun(StopCause::Wide)))),
         StopPhrase::Spent => Some(Next::More(Part::Stop(StopPart::Begun(StopCause::Spent)))),
         StopPhrase::Nodes => Some(Next::More(Part::Stop(StopPart::Begun(StopCause::Nodes)))),
+        StopPhrase::Large(size) => Some(Next::More(Part::Stop(StopPart::Large(size)))),
+        _ => None,
+    }
+}
+
+// Whether a run of that kind may be the site of a stop: the settle run, or the improve run.
+fn is_run(kind: SiteKind) -> bool
+    ensures { result ≡ is_run_kind kind }
+{
+    matches!(kind, SiteKind::Settle | SiteKind::Improve)
+}
+
+// A site of that kind, of which no more is told yet.
+fn begin_site(alloc: Global, cause: StopCause, kind: SiteKind) -> Option<Next>
+    ensures { (model : Program) →
+        result ≡ stop_with model (StopPart.Begun cause) (Phrase.Stop (StopPhrase.Site kind)) }
+{
+    if !is_run(kind) {
+        return None;
+    }
+    let left = Members::new(Vec::new(alloc));
+    let path = Path::new(Vec::new(alloc));
+    let site = SitePart { kind, left, path };
+    Some(Next::More(Part::Stop(StopPart::Site(cause, site))))
+}
+
+// What a line of a stop makes of its first line.
+fn open_site(alloc: Global, cause: StopCause, phrase: StopPhrase) -> Option<Next>
+    ensures { (model : Program) →
+        result ≡ stop_with model (StopPart.Begun cause) (Phrase.Stop phrase) }
+{
+    match phrase {
+        StopPhrase::Site(kind) => begin_site(alloc, cause, kind),
         _ => None,
     }
 }
@@ -29,22 +62,28 @@ pub(crate) fn begin_stop(phrase: StopPhrase) -> Option<Next>
 fn follow_begun(alloc: Global, cause: StopCause, phrase: Phrase) -> Option<Next>
     ensures { (model : Program) → result ≡ stop_with model (StopPart.Begun cause) phrase }
 {
+    let Phrase::Stop(phrase) = phrase else {
+        return None;
+    };
+    open_site(alloc, cause, phrase)
+}
+
+// What may follow a size that is too large: the end.
+fn follow_large(size: u64, phrase: Phrase) -> Option<Next>
+    ensures { (model : Program) → result ≡ stop_with model (StopPart.Large size) phrase }
+{
     match phrase {
-        Phrase::Stop(StopPhrase::Site(SiteKind::Settle)) => {
-            let left = Members::new(Vec::new(alloc));
-            let path = Path::new(Vec::new(alloc));
-            Some(Next::More(Part::Stop(StopPart::Site(cause, left, path))))
-        }
+        Phrase::End => Some(Next::Whole(Answer::Stopped(Stop::Large(size)))),
         _ => None,
     }
 }
 
 // The turn at the site of an operation that is too wide.
-fn open_step(cause: StopCause, left: Members, path: Path, step: u64) -> Option<Next>
-    ensures { (model : Program) → result ≡ stop_with model (StopPart.Site cause left path) (Phrase.Stop (StopPhrase.Step step)) }
+fn open_step(cause: StopCause, site: SitePart, step: u64) -> Option<Next>
+    ensures { (model : Program) → result ≡ stop_with model (StopPart.Site cause site) (Phrase.Stop (StopPhrase.Step step)) }
 {
     match cause {
-        StopCause::Wide => Some(Next::More(Part::Stop(StopPart::Step(left, path, step)))),
+        StopCause::Wide => Some(Next::More(Part::Stop(StopPart::Step(site, step)))),
         StopCause::Spent => None,
         StopCause::Nodes => None,
     }
@@ -54,47 +93,46 @@ fn open_step(cause: StopCause, left: Members, path: Path, step: u64) -> Option<N
 fn leave_out(
     model: &Model,
     cause: StopCause,
-    left: Members,
-    path: Path,
+    site: SitePart,
     member: Member,
 ) -> Result<Option<Next>, AllocError>
-    requires left { AreLeftOut model.now left }
+    requires left { AreLeftOut model.now site.left }
     requires member { IsNamedMember model.now member }
-    ensures { IfOk result (λ n. n ≡ stop_with model.now (StopPart.Site cause left path) (Phrase.Stop (StopPhrase.Without member))) }
+    ensures { IfOk result (λ n. n ≡ stop_with model.now (StopPart.Site cause site) (Phrase.Stop (StopPhrase.Without member))) }
 {
+    let SitePart { kind, left, path } = site;
     let left = add_left_out(model, path.as_slice(), left, member)?;
-    Ok(left.map(|left| Next::More(Part::Stop(StopPart::Site(cause, left, path)))))
+    Ok(left.map(|left| {
+        let site = SitePart { kind, left, path };
+        Next::More(Part::Stop(StopPart::Site(cause, site)))
+    }))
 }
 
 // A branch more of the path.
-fn go_on(
-    cause: StopCause,
-    left: Members,
-    path: Path,
-    branch: Branch,
-) -> Result<Option<Next>, AllocError>
-    ensures { (model : Program) → IfOk result (λ n. n ≡ stop_with model (StopPart.Site cause left path) (Phrase.Stop (StopPhrase.Branch branch))) }
+fn go_on(cause: StopCause, site: SitePart, branch: Branch) -> Result<Option<Next>, AllocError>
+    ensures { (model : Program) → IfOk result (λ n. n ≡ stop_with model (StopPart.Site cause site) (Phrase.Stop (StopPhrase.Branch branch))) }
 {
+    let SitePart { kind, left, path } = site;
     let path = add_branch(path, branch)?;
-    Ok(Some(Next::More(Part::Stop(StopPart::Site(cause, left, path)))))
+    let site = SitePart { kind, left, path };
+    Ok(Some(Next::More(Part::Stop(StopPart::Site(cause, site)))))
 }
 
 // What a line of a stop makes of its site.
 fn extend_site(
     model: &Model,
     cause: StopCause,
-    left: Members,
-    path: Path,
+    site: SitePart,
     phrase: StopPhrase,
 ) -> Result<Option<Next>, AllocError>
-    requires left { AreLeftOut model.now left }
+    requires left { AreLeftOut model.now site.left }
     requires phrase { IsStopPhrase model.now phrase }
-    ensures { IfOk result (λ n. n ≡ stop_with model.now (StopPart.Site cause left path) (Phrase.Stop phrase)) }
+    ensures { IfOk result (λ n. n ≡ stop_with model.now (StopPart.Site cause site) (Phrase.Stop phrase)) }
 {
     match phrase {
-        StopPhrase::Without(member) => leave_out(model, cause, left, path, member),
-        StopPhrase::Branch(branch) => go_on(cause, left, path, branch),
-        StopPhrase::Step(step) => Ok(open_step(cause, left, path, step)),
+        StopPhrase::Without(member) => leave_out(model, cause, site, member),
+        StopPhrase::Branch(branch) => go_on(cause, site, branch),
+        StopPhrase::Step(step) => Ok(open_step(cause, site, step)),
         _ => Ok(None),
     }
 }
@@ -104,20 +142,19 @@ fn close_site(
     alloc: Global,
     model: &Model,
     cause: StopCause,
-    left: Members,
-    path: Path,
+    site: SitePart,
 ) -> Result<Option<Next>, AllocError>
-    requires { AreLeftOut model.now left }
-    ensures { IfOk result (λ n. n ≡ stop_with model.now (StopPart.Site cause left path) Phrase.End) }
+    requires { AreLeftOut model.now site.left }
+    ensures { IfOk result (λ n. n ≡ stop_with model.now (StopPart.Site cause site) Phrase.End) }
 {
     match cause {
         StopCause::Wide => Ok(None),
         StopCause::Spent => {
-            let site = make_site(alloc, model, &left, path)?;
+            let site = make_site(alloc, model, site)?;
             Ok(Some(Next::Whole(Answer::Stopped(Stop::Pivots(site)))))
         }
         StopCause::Nodes => {
-            let site = make_site(alloc, model, &left, path)?;
+            let site = make_site(alloc, model, site)?;
             Ok(Some(Next::Whole(Answer::Stopped(Stop::Nodes(site)))))
         }
     }
@@ -128,28 +165,27 @@ fn follow_site(
     alloc: Global,
     model: &Model,
     cause: StopCause,
-    left: Members,
-    path: Path,
+    site: SitePart,
     phrase: Phrase,
 ) -> Result<Option<Next>, AllocError>
-    requires left { AreLeftOut model.now left }
+    requires left { AreLeftOut model.now site.left }
     requires phrase { IsPhraseFor model.now phrase }
-    ensures { IfOk result (λ n. n ≡ stop_with model.now (StopPart.Site cause left path) phrase) }
+    ensures { IfOk result (λ n. n ≡ stop_with model.now (StopPart.Site cause site) phrase) }
 {
     match phrase {
-        Phrase::Stop(phrase) => extend_site(model, cause, left, path, phrase),
-        Phrase::End => close_site(alloc, model, cause, left, path),
+        Phrase::Stop(phrase) => extend_site(model, cause, site, phrase),
+        Phrase::End => close_site(alloc, model, cause, site),
         _ => Ok(None),
     }
 }
 
 // What may follow the number of the turn.
-fn follow_step(left: Members, path: Path, step: u64, phrase: Phrase) -> Option<Next>
-    ensures { (model : Program) → result ≡ stop_with model (StopPart.Step left path step) phrase }
+fn follow_step(site: SitePart, step: u64, phrase: Phrase) -> Option<Next>
+    ensures { (model : Program) → result ≡ stop_with model (StopPart.Step site step) phrase }
 {
     match phrase {
         Phrase::Stop(StopPhrase::Operation(wide)) => {
-            Some(Next::More(Part::Stop(StopPart::Operation(left, path, step, wide))))
+            Some(Next::More(Part::Stop(StopPart::Operation(site, step, wide))))
         }
         _ => None,
     }
@@ -159,18 +195,17 @@ fn follow_step(left: Members, path: Path, step: u64, phrase: Phrase) -> Option<N
 fn close_wide(
     alloc: Global,
     model: &Model,
-    left: Members,
-    path: Path,
+    site: SitePart,
     step: u64,
     wide: Wide,
     phrase: Phrase,
 ) -> Result<Option<Next>, AllocError>
-    requires { AreLeftOut model.now left }
-    ensures { IfOk result (λ n. n ≡ stop_with model.now (StopPart.Operation left path step wide) phrase) }
+    requires { AreLeftOut model.now site.left }
+    ensures { IfOk result (λ n. n ≡ stop_with model.now (StopPart.Operation site step wide) phrase) }
 {
     match phrase {
         Phrase::End => {
-            let site = make_site(alloc, model, &left, path)?;
+            let site = make_site(alloc, model, site)?;
             Ok(Some(Next::Whole(Answer::Stopped(Stop::Wide(site, step, wide)))))
         }
         _ => Ok(None),
@@ -190,10 +225,11 @@ pub(crate) fn follow_stop(
 {
     match part {
         StopPart::Begun(cause) => Ok(follow_begun(alloc, cause, phrase)),
-        StopPart::Site(cause, left, path) => follow_site(alloc, model, cause, left, path, phrase),
-        StopPart::Step(left, path, step) => Ok(follow_step(left, path, step, phrase)),
-        StopPart::Operation(left, path, step, wide) => {
-            close_wide(alloc, model, left, path, step, wide, phrase)
+        StopPart::Large(size) => Ok(follow_large(size, phrase)),
+        StopPart::Site(cause, site) => follow_site(alloc, model, cause, site, phrase),
+        StopPart::Step(site, step) => Ok(follow_step(site, step, phrase)),
+        StopPart::Operation(site, step, wide) => {
+            close_wide(alloc, model, site, step, wide, phrase)
         }
     }
 }

@@ -1,3 +1,4 @@
 pub mod Lengths
 pub mod Filters
 pub mod InTurn
+pub mod Passed

@@ -20,11 +20,13 @@ use Rattle.certs.specs.declared.evidence.Point.{Point}
 use Rattle.certs.specs.declared.evidence.Node.{Node}
 use Rattle.certs.specs.declared.evidence.Node.TheVariants.{Split, Leaf}
 use Rattle.certs.specs.declared.evidence.Proof.{Proof}
+use Rattle.certs.specs.declared.evidence.Ray.{Ray}
 use Rattle.certs.specs.Checks.{IsSetOf}
 use Rattle.certs.specs.Combination.{IsFitting}
 use Rattle.certs.specs.Proof.{Tree, preorder, IsFittingNode}
 use Rattle.certs.specs.Order.{AreSharesInOrder}
-use Rattle.certs.specs.declared.solving.SiteKind.TheVariants.{Settle}
+use Rattle.certs.specs.declared.solving.SiteKind.{SiteKind}
+use Rattle.certs.specs.declared.solving.SiteKind.TheVariants.{Settle, Improve}
 use Rattle.certs.specs.declared.solving.Site.{Site}
 use Rattle.certs.specs.declared.solving.Stop.{Stop}
 use Rattle.certs.specs.declared.solving.Stop.TheVariants.{Wide as TooWide, Pivots as Spent, Nodes as NodesSpent, Large, Memory}
@@ -32,15 +34,16 @@ use Rattle.frac128.specs.declared.Wide.{Wide as Operation}
 use Rattle.reductions.specs.declared.steps.ReduceStep.{ReduceStep}
 use Rattle.reductions.specs.declared.steps.ReduceStep.TheVariants.{Empty, Singleton, Fixed, Redundant, Forcing, Doubleton}
 use Rattle.report_text.specs.declared.report.Command.{Command}
-use Rattle.report_text.specs.declared.report.Command.TheVariants.{Check, Iis, Reduce, Edit, Undo, Pivots, Nodes}
+use Rattle.report_text.specs.declared.report.Command.TheVariants.{Check, Iis, Unbounded, Reduce, Edit, Undo, Pivots, Nodes}
 use Rattle.report_text.specs.declared.report.TargetKind.{TargetKind}
 use Rattle.report_text.specs.declared.report.EditKind.{EditKind}
 use Rattle.report_text.specs.declared.report.NamedEdit.{NamedEdit}
 use Rattle.report_text.specs.declared.report.Refusal.{Refusal}
 use Rattle.report_text.specs.declared.report.Core.{Core}
+use Rattle.report_text.specs.declared.report.Bounded.{Bounded}
 use Rattle.report_text.specs.declared.report.Reduced.{Reduced}
 use Rattle.report_text.specs.declared.report.Answer.{Answer}
-use Rattle.report_text.specs.declared.report.Answer.TheVariants.{Feasible, Infeasible, Irreducible, Reduced as ReducedTo, Done, Refused, Stopped}
+use Rattle.report_text.specs.declared.report.Answer.TheVariants.{Feasible, Infeasible, Irreducible, Unbounded as RunsAway, Bounded as BoundedBy, Reduced as ReducedTo, Done, Refused, Stopped}
 use Rattle.report_text.specs.declared.report.Entry.{Entry}
 use Rattle.report_text.specs.declared.report.Report.{Report}
 use Rattle.report_text.specs.Turns.{after, AllEntries}
@@ -83,6 +86,12 @@ pub record IsPointFor (model : Program) (p : Point) : Type 0 where
   pub fits : All IsWithinLimit p.values
   pub named : (j : ℕ) → values_at p.values j ≢ zero_ℚ → is_word (column_name model j) ≡ true
 
+-- a change for each column, and a word for the name of each that is printed
+pub record IsRayFor (model : Program) (ray : Ray) : Type 0 where
+  pub len : length ray.values ≡ length model.columns
+  pub fits : All IsWithinLimit ray.values
+  pub named : (j : ℕ) → values_at ray.values j ≢ zero_ℚ → is_word (column_name model j) ≡ true
+
 -- ---- proofs
 -- where a share comes from
 abbrev pub IsNamedSource : Program → Source → Type 0
@@ -117,9 +126,15 @@ pub record IsProofFor (model : Program) (proof : Proof) : Type 0 where
   pub each : All (IsNodeFor model) proof.nodes
 
 -- ---- stops
--- the settle run of active members in member order on a path of columns that there are, with no enforced part
-pub record IsSettleSite (model : Program) (site : Site) : Type 0 where
-  pub kind : site.kind ≡ Settle
+-- a run that is printed as yet: the settle run, or the improve run
+abbrev pub is_run_kind : SiteKind → Bool
+is_run_kind Settle = true
+is_run_kind Improve = true
+is_run_kind _ = false
+
+-- such a run of active members in member order on a path of columns that there are, with no enforced part
+pub record IsRunSite (model : Program) (site : Site) : Type 0 where
+  pub kind : is_run_kind site.kind ≡ true
   pub of_model : IsSetOf model site.set
   pub active : site.set.members ≡ filter (has site.set.members) (active_members model)
   pub enforced_is : site.enforced ≡ empty_set model
@@ -128,7 +143,7 @@ pub record IsSettleSite (model : Program) (site : Site) : Type 0 where
 
 -- such a site, where each active member that is not in its set has a word for a name, and so has each column of its path
 pub record IsSiteFor (model : Program) (site : Site) : Type 0 where
-  pub settle : IsSettleSite model site
+  pub run : IsRunSite model site
   pub named : All (IsNamedMember model) (left_out model site.set.members)
   pub path : All (λ b. IsNamedColumn model b.column) site.path
 
@@ -141,12 +156,12 @@ pub record IsOperation (o : Operation) : Type 0 where
 abbrev pub IsCount : ℕ → Type 0
 IsCount n = n < 2 ^ 64
 
--- Three kinds of stop are printed as yet: an operation too wide, no pivot left, and no node left.
+-- An operation too wide, no pivot left, no node left, or a size of 64 bits; want of memory is never printed.
 abbrev pub IsStopFor : Program → Stop → Type 0
 IsStopFor model (TooWide site k o) = IsSiteFor model site × (IsCount k × IsOperation o)
 IsStopFor model (Spent site) = IsSiteFor model site
 IsStopFor model (NodesSpent site) = IsSiteFor model site
-IsStopFor model (Large size) = ⊥
+IsStopFor model (Large size) = IsCount size
 IsStopFor model Memory = ⊥
 
 -- ---- answers
@@ -158,6 +173,18 @@ pub record IsCoreFor (model : Program) (core : Core) : Type 0 where
   pub proof : IsProofFor model core.proof
   pub rounds : core.rounds ≡ None
   pub price : core.price ≡ None
+
+-- a value, where there is one, whose parts are within the limit
+abbrev pub IsValueWithin : Option ℚ → Type 0
+IsValueWithin None = Unit {0}
+IsValueWithin (Some v) = IsWithinLimit v
+
+-- a point, a value that fits, and a dual whose bound fits
+pub record IsBoundedFor (model : Program) (b : Bounded) : Type 0 where
+  pub point : IsPointFor model b.point
+  pub objective : IsValueWithin b.objective
+  pub bound : IsWithinLimit b.dual.bound
+  pub uses : AreUses model b.dual.combo.shares
 
 -- the rows and columns of a step are there, their names are words, and the value of a fixed column fits
 abbrev pub IsStepFor : Program → ReduceStep → Type 0
@@ -179,6 +206,8 @@ abbrev pub IsAnswerFor : Program → Answer → Type 0
 IsAnswerFor model (Feasible p) = IsPointFor model p
 IsAnswerFor model (Infeasible set proof) = IsListed model set × IsProofFor model proof
 IsAnswerFor model (Irreducible core) = IsCoreFor model core
+IsAnswerFor model (RunsAway p ray) = IsPointFor model p × IsRayFor model ray
+IsAnswerFor model (BoundedBy b) = IsBoundedFor model b
 IsAnswerFor model (ReducedTo r) = IsReducedFor model r
 IsAnswerFor model Done = Unit {0}
 IsAnswerFor model (Refused r) = Unit {0}
@@ -216,6 +245,7 @@ pub record IsNamedEdit (e : NamedEdit) : Type 0 where
 abbrev pub IsCommand : Command → Type 0
 IsCommand Check = Unit {0}
 IsCommand (Iis method) = Unit {0}
+IsCommand Unbounded = Unit {0}
 IsCommand Reduce = Unit {0}
 IsCommand (Edit e) = IsNamedEdit e
 IsCommand Undo = Unit {0}
@@ -235,6 +265,10 @@ can_answer Check (Stopped stop) = true
 can_answer (Iis method) (Feasible p) = true
 can_answer (Iis method) (Irreducible core) = true
 can_answer (Iis method) (Stopped stop) = true
+can_answer Unbounded (Infeasible set proof) = true
+can_answer Unbounded (RunsAway p ray) = true
+can_answer Unbounded (BoundedBy b) = true
+can_answer Unbounded (Stopped stop) = true
 can_answer Reduce (Infeasible set proof) = is_one_leaf proof.nodes
 can_answer Reduce (ReducedTo r) = true
 can_answer (Edit e) Done = true

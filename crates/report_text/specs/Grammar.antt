@@ -29,18 +29,21 @@ use Rattle.certs.specs.declared.evidence.Point.{Point}
 use Rattle.certs.specs.declared.evidence.Node.{Node}
 use Rattle.certs.specs.declared.evidence.Node.TheVariants.{Split, Leaf}
 use Rattle.certs.specs.declared.evidence.Proof.{Proof}
+use Rattle.certs.specs.declared.evidence.Ray.{Ray}
+use Rattle.bound_checks.specs.declared.bounds.Dual.{Dual}
 use Rattle.reductions.specs.declared.steps.ReduceStep.{ReduceStep}
 use Rattle.reductions.specs.declared.steps.ReduceStep.TheVariants.{Empty, Singleton, Fixed, Redundant, Forcing, Doubleton}
 use Rattle.report_text.specs.declared.report.Method.{Method}
 use Rattle.report_text.specs.declared.report.Method.TheVariants.{Deletion, Additive, Sensitivity}
 use Rattle.report_text.specs.declared.report.Command.{Command}
-use Rattle.report_text.specs.declared.report.Command.TheVariants.{Check, Iis, Reduce, Edit, Undo, Pivots, Nodes}
+use Rattle.report_text.specs.declared.report.Command.TheVariants.{Check, Iis, Unbounded, Reduce, Edit, Undo, Pivots, Nodes}
 use Rattle.report_text.specs.declared.report.TargetKind.{TargetKind}
 use Rattle.report_text.specs.declared.report.EditKind.{EditKind}
 use Rattle.report_text.specs.declared.report.Refusal.{Refusal}
+use Rattle.report_text.specs.declared.report.Bounded.{Bounded}
 use Rattle.report_text.specs.declared.report.Reduced.{Reduced}
 use Rattle.report_text.specs.declared.report.Answer.{Answer}
-use Rattle.report_text.specs.declared.report.Answer.TheVariants.{Feasible, Infeasible, Irreducible, Reduced as ReducedTo, Done, Refused, Stopped}
+use Rattle.report_text.specs.declared.report.Answer.TheVariants.{Feasible, Infeasible, Irreducible, Unbounded as RunsAway, Bounded as BoundedBy, Reduced as ReducedTo, Done, Refused, Stopped}
 use Rattle.report_text.specs.declared.report.Entry.{Entry}
 use Rattle.report_text.specs.declared.report.Report.{Report}
 use Rattle.report_text.specs.Turns.{after, gathered}
@@ -159,6 +162,7 @@ edit_words name (EditKind.SetMark whole) = codes "mark" ∷ name ∷ mark_word w
 abbrev pub command_words : Command → List (List ℕ)
 command_words Check = codes "check" ∷ []
 command_words (Iis method) = codes "iis" ∷ method_word method ∷ []
+command_words Unbounded = codes "unbounded" ∷ []
 command_words Reduce = codes "reduce" ∷ []
 command_words (Edit e) = edit_words e.name e.kind
 command_words Undo = codes "undo" ∷ []
@@ -173,6 +177,8 @@ keyword_text Keyword.Command = codes "command"
 keyword_text Keyword.Feasible = codes "feasible"
 keyword_text Keyword.Infeasible = codes "infeasible"
 keyword_text Keyword.Irreducible = codes "irreducible"
+keyword_text Keyword.Unbounded = codes "unbounded"
+keyword_text Keyword.Bounded = codes "bounded"
 keyword_text Keyword.Reduced = codes "reduced"
 keyword_text Keyword.Done = codes "done"
 keyword_text Keyword.Unknown = codes "unknown"
@@ -180,6 +186,10 @@ keyword_text Keyword.No = codes "no"
 keyword_text Keyword.Nothing = codes "nothing"
 keyword_text Keyword.Point = codes "point"
 keyword_text Keyword.Value = codes "value"
+keyword_text Keyword.Ray = codes "ray"
+keyword_text Keyword.Objective = codes "objective"
+keyword_text Keyword.Bound = codes "bound"
+keyword_text Keyword.Dual = codes "dual"
 keyword_text Keyword.Member = codes "member"
 keyword_text Keyword.Proof = codes "proof"
 keyword_text Keyword.Split = codes "split"
@@ -257,12 +267,18 @@ keyword_of (Phrase.Command command) = Keyword.Command
 keyword_of Phrase.Feasible = Keyword.Feasible
 keyword_of Phrase.Infeasible = Keyword.Infeasible
 keyword_of Phrase.Irreducible = Keyword.Irreducible
+keyword_of Phrase.Unbounded = Keyword.Unbounded
+keyword_of Phrase.Bounded = Keyword.Bounded
 keyword_of Phrase.Reduced = Keyword.Reduced
 keyword_of Phrase.Done = Keyword.Done
 keyword_of (Phrase.Refused r) = refusal_keyword r
 keyword_of (Phrase.Stop s) = stop_keyword s
 keyword_of Phrase.Point = Keyword.Point
 keyword_of (Phrase.Value j v) = Keyword.Value
+keyword_of Phrase.Ray = Keyword.Ray
+keyword_of (Phrase.Objective v) = Keyword.Objective
+keyword_of (Phrase.Bound v) = Keyword.Bound
+keyword_of Phrase.Dual = Keyword.Dual
 keyword_of (Phrase.Member m) = Keyword.Member
 keyword_of Phrase.Proof = Keyword.Proof
 keyword_of (Phrase.Split j k) = Keyword.Split
@@ -294,12 +310,18 @@ details model (Phrase.Command command) = command_words command
 details model Phrase.Feasible = []
 details model Phrase.Infeasible = []
 details model Phrase.Irreducible = []
+details model Phrase.Unbounded = []
+details model Phrase.Bounded = []
 details model Phrase.Reduced = []
 details model Phrase.Done = []
 details model (Phrase.Refused r) = refusal_details r
 details model (Phrase.Stop s) = stop_details model s
 details model Phrase.Point = []
 details model (Phrase.Value j v) = column_name model j ∷ printed v ∷ []
+details model Phrase.Ray = []
+details model (Phrase.Objective v) = printed v ∷ []
+details model (Phrase.Bound v) = printed v ∷ []
+details model Phrase.Dual = []
 details model (Phrase.Member m) = kind_word m ∷ name_of model m ∷ []
 details model Phrase.Proof = []
 details model (Phrase.Split j k) = column_name model j ∷ signed_decimal k ∷ []
@@ -351,6 +373,23 @@ proof_phrases proof = Phrase.Proof ∷ flat_map node_phrases proof.nodes
 abbrev pub witness_phrases : Member × Point → List Phrase
 witness_phrases w = Phrase.Member w.0 ∷ point_phrases w.1
 
+-- of a point and a ray from it: the changes stand as values do
+abbrev pub unbounded_phrases : Point → Ray → List Phrase
+unbounded_phrases p ray = Phrase.Unbounded ∷ (point_phrases p ++ Phrase.Ray ∷ value_phrases 0 ray.values)
+
+-- of the objective's value, where it is told
+abbrev pub objective_phrases : Option ℚ → List Phrase
+objective_phrases None = []
+objective_phrases (Some v) = Phrase.Objective v ∷ []
+
+-- of a dual: its bound, and its shares
+abbrev pub dual_phrases : Dual → List Phrase
+dual_phrases dual = Phrase.Bound dual.bound ∷ Phrase.Dual ∷ map Phrase.Use dual.combo.shares
+
+-- of how far the objective can go
+abbrev pub bounded_phrases : Bounded → List Phrase
+bounded_phrases b = Phrase.Bounded ∷ (point_phrases b.point ++ (objective_phrases b.objective ++ dual_phrases b.dual))
+
 -- of how far a program is reduced: the steps, and what is left
 abbrev pub reduced_phrases : Reduced → List Phrase
 reduced_phrases r = Phrase.Reduced ∷ (map Phrase.Reduction r.steps ++ Phrase.Left r.rows r.columns ∷ [])
@@ -384,6 +423,8 @@ abbrev pub answer_front : Program → Answer → List Phrase
 answer_front model (Feasible p) = Phrase.Feasible ∷ point_phrases p
 answer_front model (Infeasible set proof) = Phrase.Infeasible ∷ (map Phrase.Member set.members ++ proof_phrases proof)
 answer_front model (Irreducible core) = Phrase.Irreducible ∷ (flat_map witness_phrases (zip core.members.members core.witnesses) ++ proof_phrases core.proof)
+answer_front model (RunsAway p ray) = unbounded_phrases p ray
+answer_front model (BoundedBy b) = bounded_phrases b
 answer_front model (ReducedTo r) = reduced_phrases r
 answer_front model Done = []
 answer_front model (Refused r) = []

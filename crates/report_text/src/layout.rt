@@ -2,7 +2,7 @@
 ghost use Rattle.std.specs.Prelude.{◌≡◌, ◌≤◌, length, filter, not};
 ghost use Rattle.rational.specs.Rational.{zero_ℚ, eq_ℚ};
 ghost use Rattle.lp_model.specs.declared.members.Member.{Member as OneMember};
-ghost use Rattle.report_text.specs.Grammar.{witness_phrases};
+ghost use Rattle.report_text.specs.Grammar.{point_phrases, witness_phrases};
 ghost use Rattle.report_text.specs.Places.{PlacesLaw};
 
 use certs::Point;
@@ -21,6 +21,9 @@ pub const MEMBER_LINES: u32 = 1;
 /// How many lines of a proof stand before its first leaf: that of the proof.
 pub const PROOF_LINES: u32 = 1;
 
+/// How many lines of a dual stand before the line that tells that its uses follow: that of its bound.
+pub const BOUND_LINES: u32 = 1;
+
 // How many values are not 0.
 fn count_values(values: &[Frac]) -> u64
     ensures count { result ≡ length (filter (λ v. not (eq_ℚ v zero_ℚ)) values.now) }
@@ -34,6 +37,13 @@ fn count_values(values: &[Frac]) -> u64
         }
     }
     count
+}
+
+/// How many lines a point has: one that tells that it follows, and one for each value that is not 0.
+pub fn point_length(point: &Point) -> u64
+    ensures { result ≡ length (point_phrases point.now) }
+{
+    1 + count_values(point.values.as_slice())
 }
 
 /// How many lines a member with its witness has: one for the member, one for the point, and one for each value that is

@@ -6,10 +6,11 @@ mod phrases;
 mod report;
 
 pub use layout::{
-    HEAD_LINES, MEMBER_LINES, OPENING_LINES, PROOF_LINES, places_law, witness_length,
+    BOUND_LINES, HEAD_LINES, MEMBER_LINES, OPENING_LINES, PROOF_LINES, places_law, point_length,
+    witness_length,
 };
 pub use phrases::{Keyword, Phrase, StopPhrase};
 pub use report::{
-    Answer, Command, Core, EditKind, Entries, Entry, Method, NamedEdit, Notes, ReduceSteps,
-    Reduced, Refusal, Report, Script, TargetKind, Witnesses,
+    Answer, Bounded, Command, Core, EditKind, Entries, Entry, Method, NamedEdit, Notes,
+    ReduceSteps, Reduced, Refusal, Report, Script, TargetKind, Witnesses,
 };

@@ -1,7 +1,8 @@
 //! What a script asks, and what a report says: notes, and for each command its answer.
 ghost use Rattle.std.specs.Prelude.{◌≡◌};
 
-use certs::{Point, Proof, Stop};
+use bound_checks::Dual;
+use certs::{Point, Proof, Ray, Stop};
 use frac128::Frac;
 use lp_model::{Items, MemberSet, Name, Note, Side, Weight};
 use reductions::ReduceStep;
@@ -46,13 +47,14 @@ pub struct NamedEdit {
 }
 
 /// What is asked of a program: whether some point satisfies its active members, or which of them no point satisfies
-/// though each part of them has one; how far its linear relaxation is reduced before any run; an edit of it, or that the
-/// last edit that stands is taken back. Or how many pivots each later run may make, or how many nodes each later tree may
-/// have, up to 1,000,000.
+/// though each part of them has one; whether its objective runs away, or how far it can go; how far its linear relaxation
+/// is reduced before any run; an edit of it, or that the last edit that stands is taken back. Or how many pivots each
+/// later run may make, or how many nodes each later tree may have, up to 1,000,000.
 #[derive(Drop)]
 pub enum Command {
     Check,
     Iis(Method),
+    Unbounded,
     Reduce,
     Edit(NamedEdit),
     Undo,
@@ -90,6 +92,15 @@ pub struct Core {
     pub price: Option<(Frac, Point)>,
 }
 
+/// How far the objective of a program can go: a point; the objective's value there, which is left out where a column is to
+/// be whole and the sum is too wide; and a dual, whose bound no point passes.
+#[derive(Drop)]
+pub struct Bounded {
+    pub point: Point,
+    pub objective: Option<Frac>,
+    pub dual: Dual,
+}
+
 /// Steps of a reduction, as a list.
 pub type ReduceSteps = Items<ReduceStep>;
 
@@ -112,13 +123,15 @@ pub enum Refusal {
 }
 
 /// What a report answers to a command: a point, members with a proof that no point satisfies them, or an irreducible
-/// set; how far the program is reduced; that a command is done, or refused; or why a solve stopped, which is never for
-/// want of memory. Members are the printed ones.
+/// set; a point with a ray along which the objective runs away, or how far it can go; how far the program is reduced; that
+/// a command is done, or refused; or why a solve stopped, which is never for want of memory. Members are the printed ones.
 #[derive(Drop)]
 pub enum Answer {
     Feasible(Point),
     Infeasible(MemberSet, Proof),
     Irreducible(Core),
+    Unbounded(Point, Ray),
+    Bounded(Bounded),
     Reduced(Reduced),
     Done,
     Refused(Refusal),

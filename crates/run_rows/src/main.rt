@@ -1,13 +1,16 @@
 //! Runs the top call over files and output in memory, row by row, and tells of each row whose run is not as expected.
 //!
 //! The file that the first word names has the rows (`data/rows.txt`, whose first lines say how one is written). Besides,
-//! a model and a script that are one byte longer than their limit are run, and a shelf and a sink that tell nothing.
+//! a model and a script that are one byte longer than their limit are run, a shelf and a sink that tell nothing, and a model whose
+//! table is too large for `unbounded`.
 #![tactic(auto)]
 
+mod large;
 mod rows;
 mod runs;
 mod untold;
 
+use crate::large::is_large_told;
 use crate::rows::{Row, read_row};
 use crate::runs::{Outcome, run_row, verify_row};
 use crate::untold::{is_full_refused, is_long_refused, is_steady_refused};
@@ -82,8 +85,9 @@ fn main(rt: HostRuntime) -> io::Result<()> {
     let model = is_long_refused(alloc, "m.mps", "too long model\n")?;
     let script = is_long_refused(alloc, "s.txt", "too long script\n")?;
     println!(rt;
-        "long model {model}, long script {script}, full script {}, steady {}",
+        "long model {model}, long script {script}, full script {}, steady {}, large {}",
         is_full_refused(alloc)?,
-        is_steady_refused(alloc)?
+        is_steady_refused(alloc)?,
+        is_large_told(alloc)?
     )
 }

@@ -21,3 +21,7 @@ check_core-requires-clause-short c =
 pub returns-in-Infeasible : goal.returns-in-Infeasible
 returns-in-Infeasible c =
     subst (λ (a : Answer). Says (first_stop (answer_trials c.args.model.now c.args.line a)) c.check_infeasible.result) (sym c.in-Infeasible.is) c.check_infeasible.ensures
+
+pub returns-in-Unbounded : goal.returns-in-Unbounded
+returns-in-Unbounded c =
+    subst (λ (a : Answer). Says (first_stop (answer_trials c.args.model.now c.args.line a)) c.check_unbounded.result) (sym c.in-Unbounded.is) c.check_unbounded.ensures

@@ -43,7 +43,7 @@ returns-in-Ok-clause-true_answers c = λ _.
     let report = c.args.report in
     let passes = passes_of model report c.new-session.result c.new-session.ensures c.in-Ok.ensures in
     let both = parts_pass (paired_trials same_note 2 report.notes model.notes) (entries_trials model [] report.entries) passes in
-    true_entries model [] report.entries c.row_count-rows.ensures.well_formed (All-nil IsCommand) c.requires.form.entries both.1
+    true_entries c.ray_is_unbounded.ensures c.bound_is_valid.ensures model [] report.entries c.row_count-rows.ensures.well_formed (All-nil IsCommand) c.requires.form.entries both.1
 
 pub returns-clause-said : goal.returns-clause-said
 returns-clause-said c =

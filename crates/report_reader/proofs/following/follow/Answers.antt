@@ -7,11 +7,14 @@ use Rattle.report_reader.proofs.following.follow.Goals as goal
 pub returns-in-Nothing : goal.returns-in-Nothing
 returns-in-Nothing c = c.follow_command.ensures c.args.model.now ∙ ap (λ p. extended c.args.model.now c.args.command.now p c.args.phrase) (sym c.in-Nothing.is)
 
-pub returns-in-Feasible : goal.returns-in-Feasible
-returns-in-Feasible c = c.follow_feasible.ensures c.args.model.now c.args.command.now ∙ ap (λ p. extended c.args.model.now c.args.command.now p c.args.phrase) (sym c.in-Feasible.is)
+pub returns-in-Claimed : goal.returns-in-Claimed
+returns-in-Claimed c = c.follow_claimed.ensures c.args.model.now c.args.command.now ∙ ap (λ p. extended c.args.model.now c.args.command.now p c.args.phrase) (sym c.in-Claimed.is)
 
 pub returns-in-Point : goal.returns-in-Point
 returns-in-Point c = subst (λ (p : Part). IfOk c.follow_point.result (λ n. n ≡ extended c.args.model.now c.args.command.now p c.args.phrase)) (sym c.in-Point.is) (c.follow_point.ensures c.args.command.now)
+
+pub returns-in-Ray : goal.returns-in-Ray
+returns-in-Ray c = subst (λ (p : Part). IfOk c.follow_ray.result (λ n. n ≡ extended c.args.model.now c.args.command.now p c.args.phrase)) (sym c.in-Ray.is) (c.follow_ray.ensures c.args.command.now)
 
 pub returns-in-Listed : goal.returns-in-Listed
 returns-in-Listed c = subst (λ (p : Part). IfOk c.follow_list.result (λ n. n ≡ extended c.args.model.now c.args.command.now p c.args.phrase)) (sym c.in-Listed.is) (c.follow_list.ensures c.args.model.now c.args.command.now)

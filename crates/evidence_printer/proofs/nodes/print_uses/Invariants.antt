@@ -4,7 +4,7 @@ use Rattle.report_text.specs.Form.{IsWithinLimit}
 use Rattle.report_text.specs.declared.phrases.Phrase.{Phrase}
 use Rattle.report_text.specs.Grammar.{phrases_text}
 use Rattle.evidence_printer.specs.Printing.{Keeps}
-use Rattle.evidence_printer.proofs.nodes.print_leaf.Given as goal
+use Rattle.evidence_printer.proofs.nodes.print_uses.Given as goal
 
 -- what was there stays, the lines that are left complete the text, and the weights so far are within the limit
 abbrev pub invariant-loop-share : goal.invariant-loop-share

@@ -3,7 +3,7 @@ use Rattle.rational.specs.Rational.{ℚ}
 use Rattle.report_text.specs.Form.{IsWithinLimit}
 use Rattle.report_text.specs.Grammar.{value_phrases, phrases_text}
 use Rattle.evidence_printer.specs.Printing.{Keeps}
-use Rattle.evidence_printer.proofs.points.print_point.Given as goal
+use Rattle.evidence_printer.proofs.points.print_values.Given as goal
 
 -- what was there stays, the lines that are left complete the text, and the values so far are within the limit
 abbrev pub invariant-loop-column : goal.invariant-loop-column

@@ -1,0 +1,159 @@
+-- What a diagnosis gives, as an answer.
+use Rattle.std.proofs.Common.{◌≡◌, ◌⊎◌, ◌<◌, ◌≤◌, refl, sym, ap, subst, ℕ, Bool, false, not, List, [], filter, length, Result, Ok, Err, inl, inr, arith}
+use Rattle.std.specs.Prelude.{All, Contains, IfOk, IfErr}
+use Rattle.std.proofs.lemmas.List.Filters.{length-filter_both}
+use Rattle.certs.specs.Ended.{numbers_from}
+use Rattle.certs.specs.Plain.{has_row, rows_in}
+use Rattle.certs.proofs.Translated.{length_numbers}
+use Rattle.std.proofs.lemmas.List.Elements.{All-contains_itself, All-filter, All-nil, All-weaker}
+use Rattle.rational.specs.Rational.{ℚ}
+use Rattle.lp_model.specs.declared.members.Member.{Member}
+use Rattle.lp_model.specs.Program.{Program}
+use Rattle.lp_model.specs.Members.{active_members, is_mark}
+use Rattle.lp_model.specs.Satisfaction.{IsPart}
+use Rattle.certs.specs.declared.evidence.Branch.{Branch}
+use Rattle.certs.specs.declared.evidence.Proof.{Proof}
+use Rattle.certs.specs.declared.evidence.Share.{Share}
+use Rattle.certs.specs.declared.solving.Site.{Site}
+use Rattle.certs.specs.declared.solving.Stop.{Stop}
+use Rattle.certs.specs.declared.solving.Stop.TheVariants.{Wide, Pivots as Spent, Nodes, Large, Memory}
+use Rattle.certs.specs.declared.solving.Verdict.{Verdict}
+use Rattle.certs.specs.declared.solving.Verdict.TheVariants.{Feasible as AtPoint, Infeasible as Refuted}
+use Rattle.certs.specs.Bound.{IsBoundDual, without_marks}
+use Rattle.certs.specs.Combination.{IsFitting, IsThere}
+use Rattle.certs.specs.Sites.{Budgets}
+use Rattle.certs.specs.Tales.{OracleState}
+use Rattle.certs.specs.Trees.{has_mark}
+use Rattle.unbounded.specs.declared.diagnosing.Diagnosis.{Diagnosis}
+use Rattle.unbounded.specs.declared.diagnosing.Diagnosis.TheVariants.{Infeasible as NoPoint, Unbounded as AlongRay, Bounded as ByDual}
+use Rattle.unbounded.specs.Diagnosed.{AsksOnce, HasLastPoint, IsDiagnosis, IsImproveSite, IsOwnStop, PassesOn}
+use Rattle.report_text.specs.declared.report.Answer.{Answer}
+use Rattle.report_text.specs.declared.report.Answer.TheVariants.{Feasible, Infeasible, Irreducible, Unbounded as RunsAway, Bounded as BoundedBy, Reduced, Done, Refused, Stopped}
+use Rattle.report_text.specs.Form.{IsRunSite, is_run_kind}
+use Rattle.report_printer.specs.Printing.{IsKnownAnswer, IsKnownSource}
+use Rattle.branch_oracle.specs.Value.{BranchValue}
+use Rattle.presolve_oracle.specs.Value.{PresolveValue}
+use Rattle.analysis.specs.Answers.{fresh_oracle, IsPossibleSite, IsRefutedBy, IsStopAnswer, IsToldStop}
+use Rattle.analysis.specs.Objectives.{IsFoundBy, IsTold}
+use Rattle.analysis.specs.Right.{IsWhole}
+use Rattle.analysis.proofs.Asked.{QuickAnswers, proof_fits, proof_ordered, stop_reference}
+use Rattle.analysis.proofs.Found.{part_possible}
+use Rattle.analysis.proofs.Refuting.{known_source}
+use Rattle.analysis.proofs.Searched.{branch_state}
+use Rattle.analysis.proofs.Stopping.{IsRunOf, active_site, empty_is, known_stopped, run_answer}
+
+-- ---- the sources of a dual
+plain_part : (model : Program) → IsPart (without_marks (active_members model)) (active_members model)
+plain_part model = All-filter (λ m. not (is_mark m)) (Contains (active_members model)) (active_members model) (All-contains_itself (active_members model))
+
+pub dual_sources : (model : Program) (shares : List Share) (b : ℚ) → IsBoundDual model (without_marks (active_members model)) shares b → All (λ s. IsKnownSource model s.source) shares
+dual_sources model shares b h =
+    let part = without_marks (active_members model) in
+    All-weaker (IsThere model part []) (λ s. IsKnownSource model s.source)
+    (λ s t. known_source model part (part_possible model part (plain_part model)) [] s.source (All-nil (λ (c : Branch). c.column < length model.columns)) t.from t.number)
+    shares h.there
+
+-- ---- the stops
+module _ (model : Program) (budgets : Budgets) where
+  abbrev set : List Member
+  set = active_members model
+
+  -- the site of the improve run
+  improve_run_site : (site : Site) → IsImproveSite model set site → IsPossibleSite site → IsRunSite model site
+  improve_run_site site h possible = record {
+    kind = ap is_run_kind h.kind;
+    of_model = h.set_of;
+    active = active_site model site.set h.set_of possible (subst (λ l. IsPart l set) (sym h.set_is) (All-contains_itself set));
+    enforced_is = empty_is model site.enforced h.enforced_of h.none_enforced;
+    known = subst (All (λ b. b.column < length model.columns)) (sym h.path_is) (All-nil (λ (b : Branch). b.column < length model.columns));
+    fits = subst (All IsFitting) (sym h.path_is) (All-nil IsFitting);
+  }
+
+  -- its own stop
+  own_told : (stop : Stop) (answer : Answer) → IsOwnStop model set budgets.pivots stop → IsToldStop stop answer → IsTold model budgets answer × IsKnownAnswer model answer
+  own_told (Wide site k o) answer h told =
+      let run = improve_run_site site h.0 told.1 in
+      subst (λ (a : Answer). IsTold model budgets a × IsKnownAnswer model a) (sym told.0) (inr (run, h), record { set = run.of_model; path = run.known })
+  own_told (Spent site) answer h told =
+      let run = improve_run_site site h.0 told.1 in
+      subst (λ (a : Answer). IsTold model budgets a × IsKnownAnswer model a) (sym told.0) (inr (run, h), record { set = run.of_model; path = run.known })
+  own_told (Nodes site) answer h told = absurd h
+  own_told (Large size) answer h told = absurd h
+  own_told Memory answer h told = absurd told
+
+  -- the reference's
+  asked_told : (answer : Answer) → IsStopAnswer (IsWhole model) model budgets answer → IsTold model budgets answer
+  asked_told (Feasible p) h = absurd h
+  asked_told (Infeasible printed proof) h = absurd h
+  asked_told (Irreducible core) h = absurd h
+  asked_told (RunsAway p ray) h = absurd h
+  asked_told (BoundedBy b) h = absurd h
+  asked_told (Reduced r) h = absurd h
+  asked_told Done h = absurd h
+  asked_told (Refused r) h = absurd h
+  asked_told (Stopped stop) h = inl h
+
+  pub stop_told : (stop : Stop) {E : Type 0} (result : Result Answer E) → IsFoundBy model budgets (Err stop) → IfOk result (IsToldStop stop) → IfOk result (λ a. IsTold model budgets a × IsKnownAnswer model a)
+  stop_told stop (Err e) h told = tt
+  stop_told stop (Ok answer) (inr own) told = own_told stop answer own told
+  stop_told stop {E = E} (Ok answer) (inl asked) told =
+      let run : IsRunOf (IsWhole model) model budgets stop = record { asked = set; answered = asked; part = All-contains_itself set; test = refl } in
+      let right = run_answer (IsWhole model) model budgets stop {E = E} (Ok answer) run told in
+      (asked_told answer right, known_stopped (IsWhole model) model budgets {E = E} (Ok answer) right)
+
+  -- ---- the proof
+  pub refuted_told : (proof : Proof) (answer : Answer) → IsRefutedBy model proof answer → IsTold model budgets answer
+  refuted_told proof answer h = subst (IsTold model budgets) (sym h.1.0) h.1.1
+
+  -- ---- what is found
+  -- where there is no point, the proof is the oracle's
+  passed_proof : (answer : Result Verdict Stop) (proof : Proof) → QuickAnswers model budgets set answer → PassesOn set answer (Ok (NoPoint proof)) → QuickAnswers model budgets set (Ok (Refuted proof))
+  passed_proof (Err stop) proof h passed = absurd (let impossible : ⊥ = cc in impossible)
+  passed_proof (Ok (AtPoint p)) proof h passed = absurd passed
+  passed_proof (Ok (Refuted other)) proof h passed = (let same : other ≡ proof = cc in subst (λ (q : Proof). QuickAnswers model budgets set (Ok (Refuted q))) same h)
+
+  asked_proof : (old new : OracleState) (proof : Proof) → AsksOnce (QuickAnswers model budgets set) old new set (Ok (NoPoint proof)) → QuickAnswers model budgets set (Ok (Refuted proof))
+  asked_proof old new proof (inl h) = absurd (let impossible : ⊥ = (let e = h.1 in cc) in impossible)
+  asked_proof old new proof (inr h) = passed_proof h.answer proof h.answered h.passed
+
+  pub found_by : (old new : OracleState) (found : Result Diagnosis Stop) → IfOk found (IsDiagnosis model set) → IfErr found (λ stop. QuickAnswers model budgets set (Err stop) ⊎ IsOwnStop model set budgets.pivots stop)
+      → (has_mark set ≡ false → IfOk found (HasLastPoint model set budgets.pivots)) → AsksOnce (QuickAnswers model budgets set) old new set found → IsFoundBy model budgets found
+  found_by old new (Ok (AlongRay p ray)) is stop last asked = (is, last)
+  found_by old new (Ok (ByDual p v dual)) is stop last asked = (is, last)
+  found_by old new (Ok (NoPoint proof)) is stop last asked =
+      let answered = asked_proof old new proof asked in
+      (is, (proof_ordered model budgets set proof answered, proof_fits model budgets set proof answered))
+  found_by old new (Err s) is (inl h) last asked = inl (stop_reference model budgets set s (inr h))
+  found_by old new (Err s) is (inr h) last asked = inr h
+
+  -- and so it is by the oracle that was asked nothing yet
+  pub found_at : (inner : BranchValue PresolveValue) (old new : OracleState) (found : Result Diagnosis Stop) → inner ≡ fresh_oracle model budgets → IfOk found (IsDiagnosis model set)
+      → IfErr found (λ stop. QuickAnswers (branch_state inner).model (branch_state inner).budgets set (Err stop) ⊎ IsOwnStop model set budgets.pivots stop)
+      → (has_mark set ≡ false → IfOk found (HasLastPoint model set budgets.pivots)) → AsksOnce (QuickAnswers (branch_state inner).model (branch_state inner).budgets set) old new set found → IsFoundBy model budgets found
+  found_at inner old new found fresh is stop last asked =
+      found_by old new found is
+      (subst (λ (o : BranchValue PresolveValue). IfErr found (λ stop. QuickAnswers (branch_state o).model (branch_state o).budgets set (Err stop) ⊎ IsOwnStop model set budgets.pivots stop)) fresh stop)
+      last
+      (subst (λ (o : BranchValue PresolveValue). AsksOnce (QuickAnswers (branch_state o).model (branch_state o).budgets set) old new set found) fresh asked)
+
+  -- each of the two by itself
+  pub first_of : {E : Type 0} (result : Result Answer E) → IfOk result (λ a. IsTold model budgets a × IsKnownAnswer model a) → IfOk result (IsTold model budgets)
+  first_of (Ok answer) h = h.0
+  first_of (Err e) h = tt
+
+  pub second_of : {E : Type 0} (result : Result Answer E) → IfOk result (λ a. IsTold model budgets a × IsKnownAnswer model a) → IfOk result (IsKnownAnswer model)
+  second_of (Ok answer) h = h.1
+  second_of (Err e) h = tt
+
+-- ---- the size
+kept_few : (p : ℕ → Bool) (xs : List ℕ) → length (filter p xs) ≤ length xs
+kept_few p xs =
+    let both = length-filter_both p (λ x. not (p x)) (λ x. refl) xs in
+    omega (arith, both)
+
+-- the rows with an active side are some of all
+pub few_rows : (model : Program) (members : List Member) → length (rows_in model members) ≤ length model.rows
+few_rows model members =
+    let kept = kept_few (has_row members) (numbers_from 0 (length model.rows)) in
+    let all = length_numbers 0 (length model.rows) in
+    omega (arith, kept, all)

@@ -1,0 +1,98 @@
+//! Whether the objective runs away over the active members, or how far it can go.
+ghost use Rattle.std.specs.Prelude.{◌≡◌, ◌⊎◌, ◌<◌, ◌^◌, Err, IfErr, IfOk, Ok};
+ghost use Rattle.lp_model.specs.Members.{active_members};
+ghost use Rattle.lp_model.specs.MemberSets.{active_set};
+ghost use Rattle.unbounded.specs.Diagnosed.{IsDiagnosis, IsOwnStop};
+ghost use Rattle.report_printer.specs.Printing.{IsKnownAnswer};
+ghost use Rattle.analysis.specs.Answers.{budgets_of};
+ghost use Rattle.analysis.specs.Objectives.{IsDiagnosed, IsFoundBy, IsTold, diagnosis_size};
+
+use crate::answering::{Budgets, refuted};
+use crate::asking::quick_oracle;
+use crate::reducing::set_rows;
+use crate::searching::stopped;
+use certs::{MemberSet, Stop};
+use lp_model::Model;
+use quick_oracle::Kept;
+use report_text::{Answer, Bounded};
+use std::alloc::{AllocError, Global};
+use unbounded::{Diagnosis, diagnose};
+
+// The most entries that the dictionary of a run may have.
+const MOST_ENTRIES: u64 = 8_000_000;
+
+/// Whether the objective runs away over the active members, or how far it can go; or the size of their plain system with the
+/// objective, where that passes the most. What is kept of the program serves the next command too.
+pub(crate) fn diagnosis(
+    alloc: Global,
+    model: &Model,
+    budgets: Budgets,
+    kept: &mut Kept,
+) -> Result<Answer, AllocError>
+    requires few { budgets.pivots < 2 ^ 63 }
+    ensures right { IfOk result (IsDiagnosed model.now (budgets_of budgets)) }
+    ensures known { IfOk result (IsKnownAnswer model.now) }
+{
+    let set = model.members(alloc)?;
+    let size = size_of(alloc, model, &set)?;
+    if size > MOST_ENTRIES {
+        return Ok(Answer::Stopped(Stop::Large(size)));
+    }
+    diagnosed(alloc, model, budgets, &set, kept)
+}
+
+// How many entries the dictionary of the active members' plain system with the objective has.
+fn size_of(alloc: Global, model: &Model, set: &MemberSet) -> Result<u64, AllocError>
+    requires whole { set.now ≡ active_set model.now }
+    ensures { IfOk result (λ size. size ≡ diagnosis_size model.now) }
+{
+    // That there are few rows is told with their count.
+    let _rows = model.row_count();
+    let rows = set_rows(alloc, model, set)?;
+    let columns = model.column_count() as u64;
+    Ok((rows.as_slice().len() as u64 + 1) * columns)
+}
+
+// What is told of the objective, where the dictionary is not too large.
+fn diagnosed(
+    alloc: Global,
+    model: &Model,
+    budgets: Budgets,
+    set: &MemberSet,
+    kept: &mut Kept,
+) -> Result<Answer, AllocError>
+    requires few { budgets.pivots < 2 ^ 63 }
+    requires whole { set.now ≡ active_set model.now }
+    ensures right { IfOk result (IsTold model.now (budgets_of budgets)) }
+    ensures known { IfOk result (IsKnownAnswer model.now) }
+{
+    let mut oracle = quick_oracle(alloc, model, budgets, 0, kept);
+    let found = diagnose(alloc, model, &mut oracle, budgets.pivots);
+    *kept = oracle.into_kept();
+    told(alloc, model, budgets, set, found)
+}
+
+// What is found of the objective, as an answer.
+fn told(
+    alloc: Global,
+    model: &Model,
+    budgets: Budgets,
+    set: &MemberSet,
+    found: Result<Diagnosis, Stop>,
+) -> Result<Answer, AllocError>
+    requires whole { set.now ≡ active_set model.now }
+    requires found { IsFoundBy model.now (budgets_of budgets) found }
+    ensures right { IfOk result (IsTold model.now (budgets_of budgets)) }
+    ensures known { IfOk result (IsKnownAnswer model.now) }
+{
+    match found {
+        Ok(Diagnosis::Unbounded(point, ray)) => Ok(Answer::Unbounded(point, ray)),
+        Ok(Diagnosis::Bounded(point, objective, dual)) => Ok(Answer::Bounded(Bounded {
+            point,
+            objective,
+            dual,
+        })),
+        Ok(Diagnosis::Infeasible(proof)) => refuted(alloc, model, set, proof),
+        Err(stop) => stopped(stop),
+    }
+}

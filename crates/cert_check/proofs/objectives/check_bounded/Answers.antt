@@ -1,0 +1,32 @@
+use Rattle.std.proofs.Common.{◌≡◌, ◌+◌, [], ◌∷◌, ◌++◌, ◌∙◌, ap, subst, length, None, arith}
+use Rattle.lp_model.specs.Members.{active_members}
+use Rattle.lp_model.specs.MemberSets.{SetValue}
+use Rattle.lp_model.specs.Satisfaction.{values_at}
+use Rattle.certs.specs.declared.evidence.Checked.{Checked}
+use Rattle.certs.specs.Checks.{outcome, point_steps}
+use Rattle.report_text.specs.Grammar.{point_phrases, objective_phrases}
+use Rattle.cert_check.specs.Trials.{point_trial, value_trials, dual_trials}
+use Rattle.cert_check.specs.Stops.{first_stop, stop_or}
+use Rattle.cert_check.proofs.Bounding.{uses_known}
+use Rattle.cert_check.proofs.Firsts.{says_second, says_of}
+use Rattle.cert_check.proofs.objectives.check_bounded.Goals as goal
+
+pub check_dual-requires-clause-known : goal.check_dual-requires-clause-known
+check_dual-requires-clause-known c = uses_known c.args.model.now c.row_count-rows.ensures.well_formed c.args.bounded.now.dual.combo.shares c.requires.form.uses
+
+pub returns : goal.returns
+returns c =
+    let model = c.args.model.now in
+    let b = c.args.bounded.now in
+    let next = c.args.line + (2 + length (point_phrases b.point)) in
+    let len : c.point_length.result ≡ length (point_phrases b.point) = c.point_length.ensures in
+    let both = c.in_ok-bound.ensures in
+    let place : c.args.line + 2 + c.point_length.result ≡ next = omega (arith, len) in
+    let value : first_stop (value_trials model next b.point b.objective) ≡ None = subst (λ n. first_stop (value_trials model n b.point b.objective) ≡ None) place both.0 in
+    let line : c.in_ok-bound.bound ≡ next + length (objective_phrases b.objective) = both.1 ∙ ap (λ n. n + length (objective_phrases b.objective)) place in
+    let point = c.check_point.ensures.said ∙ ap (λ (s : SetValue). outcome (point_steps model s.members (values_at b.point.values))) c.in-Ok.ensures in
+    says_second (point_trial model (active_members model) (c.args.line + 2) b.point ∷ [])
+    (value_trials model next b.point b.objective ++ dual_trials model (next + length (objective_phrases b.objective)) b.objective b.dual) c.check_dual.result
+    (subst (λ (f : Checked). stop_or (c.args.line + 2) f None ≡ None) point c.in_ok-settle.ensures)
+    (says_second (value_trials model next b.point b.objective) (dual_trials model (next + length (objective_phrases b.objective)) b.objective b.dual) c.check_dual.result value
+    (says_of _ _ c.check_dual.result (ap (λ n. first_stop (dual_trials model n b.objective b.dual)) line) c.check_dual.ensures))
