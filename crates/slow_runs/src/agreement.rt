@@ -7,9 +7,9 @@ ghost use Rattle.certs.specs.Turns.{settle_choice, settle_values};
 ghost use Rattle.dictionary.specs.Value.{tableau_of};
 ghost use Rattle.simplex.specs.Ends.{IsEnd, IsSpent};
 
-use crate::bases::is_basic;
+use crate::bases::{first_basis, is_basic};
 use crate::plain::{limited_variables, system};
-use crate::runs::{SlowEnd, SlowRun, slow_run};
+use crate::runs::{SlowBasis, SlowEnd, SlowRun, slow_run};
 use crate::stops::SlowStop;
 use crate::systems::Sample;
 use certs::System;
@@ -19,8 +19,8 @@ use lp_model::Term;
 use simplex::{RunStop, Settled, point_of, settle};
 use std::alloc::Global;
 
-// Whether a dictionary has the places, the values and the table of a slow run.
-fn same_basis(dictionary: &Dictionary<Frac>, slow: &SlowRun) -> bool
+/// Whether a dictionary has the places, the values and the table of a slow basis.
+pub(crate) fn same_basis(dictionary: &Dictionary<Frac>, slow: &SlowBasis) -> bool
     requires usable { dictionary.now.usable ≡ true }
 {
     if dictionary.variables() as usize != slow.basis.len() {
@@ -35,7 +35,7 @@ fn same_basis(dictionary: &Dictionary<Frac>, slow: &SlowRun) -> bool
 }
 
 // The same of one variable.
-fn same_variable(dictionary: &Dictionary<Frac>, slow: &SlowRun, variable: u32) -> bool
+fn same_variable(dictionary: &Dictionary<Frac>, slow: &SlowBasis, variable: u32) -> bool
     requires usable { dictionary.now.usable ≡ true }
     requires known { variable < length dictionary.now.basis }
 {
@@ -52,7 +52,7 @@ fn same_variable(dictionary: &Dictionary<Frac>, slow: &SlowRun, variable: u32) -
 }
 
 // The same of the row of a basic variable.
-fn same_row(dictionary: &Dictionary<Frac>, slow: &SlowRun, basic: u32) -> bool
+fn same_row(dictionary: &Dictionary<Frac>, slow: &SlowBasis, basic: u32) -> bool
     requires usable { dictionary.now.usable ≡ true }
     requires basic { is_basic_in dictionary.now.basis basic ≡ true }
 {
@@ -102,8 +102,8 @@ fn keeps_limits(system: &System, values: &[Frac]) -> Result<bool, SlowStop> {
     Ok(true)
 }
 
-// The sum of a form.
-fn sum_at(terms: &[Term], values: &[Frac]) -> Result<Frac, SlowStop> {
+/// The sum of a form.
+pub(crate) fn sum_at(terms: &[Term], values: &[Frac]) -> Result<Frac, SlowStop> {
     let mut sum = Frac::whole(0);
     for term in terms {
         if let Some(value) = values.get(term.column as usize) {
@@ -152,7 +152,7 @@ fn same_stop(dictionary: &Dictionary<Frac>, slow: &SlowRun, stop: RunStop) -> bo
 {
     match stop {
         RunStop::Wide(_, _) => false,
-        RunStop::Pivots => slow.end == SlowEnd::Pivots && same_basis(dictionary, slow),
+        RunStop::Pivots => slow.end == SlowEnd::Pivots && same_basis(dictionary, &slow.last),
     }
 }
 
@@ -161,7 +161,7 @@ fn agrees(alloc: Global, system: &System, budget: u32, end: SlowEnd) -> Result<b
     if !is_formed(system) {
         return Ok(false);
     }
-    let slow = slow_run(alloc, system, budget)?;
+    let slow = slow_run(alloc, system, &first_basis(alloc, system)?, budget)?;
     let mut dictionary = Dictionary::<Frac>::start(alloc, system)?;
     let mut left = u64::from(budget);
     let mut turn = 0;
@@ -171,7 +171,7 @@ fn agrees(alloc: Global, system: &System, budget: u32, end: SlowEnd) -> Result<b
     }
     match result {
         Ok(settled) => Ok(
-            same_basis(&dictionary, &slow)
+            same_basis(&dictionary, &slow.last)
                 && same_settled(alloc, system, &dictionary, settled, end)?,
         ),
         Err(stop) => Ok(same_stop(&dictionary, &slow, stop)),

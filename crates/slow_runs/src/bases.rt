@@ -13,6 +13,21 @@ pub enum Place {
     AtZero,
 }
 
+/// The first variable leaves the basis to the limit on this side, and the last one enters.
+#[derive(Clone, Copy)]
+pub struct Exchange {
+    pub leaving: usize,
+    pub side: Side,
+    pub entering: usize,
+}
+
+/// A change of a basis: an exchange, or a variable outside it goes to its other limit.
+#[derive(Clone, Copy)]
+pub enum Change {
+    Pivot(Exchange),
+    Flip(usize),
+}
+
 /// The limits of all variables: the columns, the rows, and the objective, which has none.
 pub(crate) fn all_limits(alloc: Global, system: &System) -> Result<Vec<Limits>, AllocError> {
     let mut all = Vec::from_slice(alloc, &system.columns)?;
@@ -82,17 +97,41 @@ pub(crate) fn place_number(limits: Limits, place: Place) -> Frac {
     }
 }
 
-/// The place at a limit.
-pub(crate) fn place_at(side: Side) -> Place {
+// The place at a limit.
+fn place_at(side: Side) -> Place {
     match side {
         Side::Lo => Place::AtLower,
         Side::Up => Place::AtUpper,
     }
 }
 
-/// Puts a variable at a place, where there is such a variable.
-pub(crate) fn put(basis: &mut [Place], variable: usize, place: Place) {
+// Puts a variable at a place, where there is such a variable.
+fn put(basis: &mut [Place], variable: usize, place: Place) {
     if let Some(old) = basis.get_mut(variable) {
         *old = place;
+    }
+}
+
+// The place at the other limit.
+fn other_place(place: Place) -> Place {
+    match place {
+        Place::AtLower => Place::AtUpper,
+        Place::AtUpper => Place::AtLower,
+        Place::Basic => Place::Basic,
+        Place::AtZero => Place::AtZero,
+    }
+}
+
+/// Makes a change of a basis.
+pub(crate) fn change_basis(basis: &mut [Place], change: Change) {
+    match change {
+        Change::Pivot(exchange) => {
+            put(basis, exchange.leaving, place_at(exchange.side));
+            put(basis, exchange.entering, Place::Basic);
+        }
+        Change::Flip(variable) => {
+            let place = other_place(place_of(basis, variable));
+            put(basis, variable, place);
+        }
     }
 }

@@ -6,6 +6,7 @@ ghost use Rattle.certs.specs.Turns.{settle_choice, settle_values};
 ghost use Rattle.dictionary.specs.Value.{tableau_of};
 ghost use Rattle.simplex.specs.Ends.{IsEnd};
 
+use crate::bases::first_basis;
 use crate::plain::{Form, Plain, form, limited_variables, number, system};
 use crate::runs::slow_run;
 use crate::stops::SlowStop;
@@ -33,16 +34,21 @@ fn pair(alloc: Global, first: u32, a: Frac, b: Frac) -> Result<Terms, AllocError
     Ok(Terms::new(terms))
 }
 
-// Adds two equations in two columns, x and then y: `10^30 x + y = 1` and `x + 10^30 y = 1`.
+// Adds two rows in two columns, x and then y: `10^30 x + y` and `x + 10^30 y` are at most 1, and at least what is given.
 fn add_wide_rows(
     alloc: Global,
     system: &mut System,
     first: u32,
     huge: Frac,
+    lo: Option<Frac>,
 ) -> Result<(), AllocError> {
     let one = Frac::whole(1);
-    system.rows.push(Row::new(pair(alloc, first, huge, one)?, Some(one), Some(one)))?;
-    system.rows.push(Row::new(pair(alloc, first, one, huge)?, Some(one), Some(one)))?;
+    system
+        .rows
+        .push(Row::new(pair(alloc, first, huge, one)?, lo, Some(one)))?;
+    system
+        .rows
+        .push(Row::new(pair(alloc, first, one, huge)?, lo, Some(one)))?;
     Ok(())
 }
 
@@ -65,8 +71,8 @@ fn stop_of(
     }
 }
 
-// Whether a run stops in this turn with this operation, with so many pivots left.
-fn is_wide(stop: Option<(RunStop, u64, u64)>, left: u64, turn: u64, wide: Wide) -> bool {
+/// Whether a run stops in this turn with this operation, with so many pivots left.
+pub(crate) fn is_wide(stop: Option<(RunStop, u64, u64)>, left: u64, turn: u64, wide: Wide) -> bool {
     match stop {
         Some((RunStop::Wide(number, first), pivots, turns)) => {
             number == turn && turns == turn && first == wide && pivots == left
@@ -75,16 +81,16 @@ fn is_wide(stop: Option<(RunStop, u64, u64)>, left: u64, turn: u64, wide: Wide) 
     }
 }
 
-// Whether a run stops in this turn for want of pivots.
-fn is_spent(stop: Option<(RunStop, u64, u64)>, turn: u64) -> bool {
+/// Whether a run stops in this turn for want of pivots.
+pub(crate) fn is_spent(stop: Option<(RunStop, u64, u64)>, turn: u64) -> bool {
     match stop {
         Some((RunStop::Pivots, pivots, turns)) => turns == turn && pivots == 0,
         _ => false,
     }
 }
 
-// The difference that is the first too wide: 10^30 less its inverse.
-fn difference() -> Result<Wide, FracStop> {
+/// The difference that is the first too wide: 10^30 less its inverse.
+pub(crate) fn difference() -> Result<Wide, FracStop> {
     Ok(Wide {
         op: Op::Minus,
         left: Frac::new(HUGE, 1)?,
@@ -122,17 +128,26 @@ fn widens(
 }
 
 // Whether the slow run itself is too wide.
-fn slow_widens(alloc: Global, system: &System, budget: u32) -> bool {
-    matches!(slow_run(alloc, system, budget), Err(SlowStop::TooWide))
+fn slow_widens(alloc: Global, system: &System, budget: u32) -> Result<bool, SlowStop> {
+    let first = first_basis(alloc, system)?;
+    Ok(matches!(
+        slow_run(alloc, system, &first, budget),
+        Err(SlowStop::TooWide)
+    ))
 }
 
-// The plain system, with the two equations from this column on.
-fn wide_system(alloc: Global, plain: Plain<'_>, first: u32) -> Result<System, SlowStop> {
+/// The plain system, with the two rows from this column on.
+pub(crate) fn wide_system(
+    alloc: Global,
+    plain: Plain<'_>,
+    first: u32,
+    least: Option<i64>,
+) -> Result<System, SlowStop> {
     let mut system = system(alloc, plain)?;
     let Ok(huge) = Frac::new(HUGE, 1) else {
         return Err(SlowStop::TooWide);
     };
-    add_wide_rows(alloc, &mut system, first, huge)?;
+    add_wide_rows(alloc, &mut system, first, huge, number(least))?;
     Ok(system)
 }
 
@@ -143,13 +158,13 @@ pub(crate) fn first_turn_too_wide(alloc: Global) -> Result<bool, SlowStop> {
         rows: &[],
         objective: None,
     };
-    let system = wide_system(alloc, plain, 0)?;
+    let system = wide_system(alloc, plain, 0, Some(1))?;
     Ok(
         spends(alloc, &system, 0, 0, 1)?
             && widens(alloc, &system, 1, 0, 0)?
             && widens(alloc, &system, 2, 0, 0)?
             && widens(alloc, &system, 3, 0, 0)?
-            && slow_widens(alloc, &system, 1),
+            && slow_widens(alloc, &system, 1)?,
     )
 }
 
@@ -160,13 +175,13 @@ pub(crate) fn second_turn_too_wide(alloc: Global) -> Result<bool, SlowStop> {
         rows: &[(&[(0, 1)], Some(1), None)],
         objective: None,
     };
-    let system = wide_system(alloc, plain, 1)?;
+    let system = wide_system(alloc, plain, 1, Some(1))?;
     Ok(
         spends(alloc, &system, 0, 0, 1)?
             && spends(alloc, &system, 1, 5, 7)?
             && widens(alloc, &system, 2, 0, 1)?
             && widens(alloc, &system, 4, 5, 1)?
-            && slow_widens(alloc, &system, 2),
+            && slow_widens(alloc, &system, 2)?,
     )
 }
 

@@ -67,8 +67,8 @@ impl Equation {
     }
 }
 
-// The quotient by a number that is not 0.
-fn quotient(number: Frac, divisor: Frac) -> Result<Frac, SlowStop> {
+/// The quotient by a number that is not 0.
+pub(crate) fn quotient(number: Frac, divisor: Frac) -> Result<Frac, SlowStop> {
     if divisor == Frac::whole(0) {
         return Err(SlowStop::Singular);
     }
@@ -135,8 +135,8 @@ fn form_equation(
     Ok(Equation { factors })
 }
 
-// The factor of a column in a form.
-fn term_factor(terms: &[Term], column: usize) -> Frac {
+/// The factor of a column in a form.
+pub(crate) fn term_factor(terms: &[Term], column: usize) -> Frac {
     for term in terms {
         if term.column as usize == column {
             return term.factor;

@@ -6,7 +6,7 @@
 //! limit can fall. If there is none, no values of the columns within their limits bring the first within its own. Else the
 //! first leaves the basis to the limit that it misses, and the other enters.
 use crate::bases::{
-    Place, all_limits, first_basis, is_basic, place_at, place_number, place_of, put,
+    Change, Exchange, Place, all_limits, change_basis, is_basic, place_number, place_of,
 };
 use crate::equations::{SlowRow, solve};
 use crate::stops::SlowStop;
@@ -26,20 +26,29 @@ pub enum SlowEnd {
     Pivots,
 }
 
-/// A settle run: its end, the pivots left, the turns begun, and the last basis with its table and the limits of all
-/// variables.
+/// A basis with its table and the limits of all variables.
 #[derive(Drop)]
-pub struct SlowRun {
-    pub end: SlowEnd,
-    pub left: u64,
-    pub turns: u64,
+pub struct SlowBasis {
     pub basis: Vec<Place>,
     pub table: Vec<SlowRow>,
     pub limits: Vec<Limits>,
 }
 
-impl SlowRun {
-    /// The row of a basic variable at the last basis.
+impl SlowBasis {
+    /// The system at a basis.
+    pub(crate) fn at(
+        alloc: Global,
+        system: &System,
+        basis: &[Place],
+    ) -> Result<SlowBasis, SlowStop> {
+        Ok(SlowBasis {
+            basis: Vec::from_slice(alloc, basis)?,
+            table: solve(alloc, system, basis)?,
+            limits: all_limits(alloc, system)?,
+        })
+    }
+
+    /// The row of a basic variable.
     pub fn row(&self, basic: usize) -> Option<&SlowRow> {
         for row in &self.table {
             if row.basic == basic {
@@ -49,7 +58,7 @@ impl SlowRun {
         None
     }
 
-    /// The value of a variable at the last basis, where no operation of it is too wide.
+    /// The value of a variable, where no operation of it is too wide.
     pub fn value(&self, variable: usize) -> Option<Frac> {
         match self.row(variable) {
             Some(row) => value_of(row, &self.limits, &self.basis).ok(),
@@ -58,12 +67,13 @@ impl SlowRun {
     }
 }
 
-// The first variable leaves the basis to this limit, and the last one enters.
-#[derive(Clone, Copy)]
-struct Exchange {
-    leaving: usize,
-    side: Side,
-    entering: usize,
+/// A settle run: its end, the pivots left, the turns begun, and the last basis.
+#[derive(Drop)]
+pub struct SlowRun {
+    pub end: SlowEnd,
+    pub left: u64,
+    pub turns: u64,
+    pub last: SlowBasis,
 }
 
 // What a turn comes to.
@@ -73,28 +83,30 @@ enum Turn {
     Pivot(Exchange),
 }
 
-/// The settle run from the start of a system with so many pivots.
-pub fn slow_run(alloc: Global, system: &System, budget: u32) -> Result<SlowRun, SlowStop> {
-    let limits = all_limits(alloc, system)?;
-    let mut basis = first_basis(alloc, system)?;
+/// The settle run of a system from a basis with so many pivots.
+pub fn slow_run(
+    alloc: Global,
+    system: &System,
+    first: &[Place],
+    budget: u32,
+) -> Result<SlowRun, SlowStop> {
+    let mut basis = Vec::from_slice(alloc, first)?;
     for made in 0..budget {
-        let table = solve(alloc, system, &basis)?;
-        match make_turn(system, &limits, &basis, &table)? {
+        let here = SlowBasis::at(alloc, system, &basis)?;
+        match make_turn(system, &here)? {
             Turn::End(end) => {
                 return Ok(SlowRun {
                     end,
                     left: u64::from(budget - made),
                     turns: u64::from(made) + 1,
-                    basis,
-                    table,
-                    limits,
+                    last: here,
                 });
             }
-            Turn::Pivot(exchange) => exchange_places(&mut basis, exchange),
+            Turn::Pivot(exchange) => change_basis(&mut basis, Change::Pivot(exchange)),
         }
     }
-    let table = solve(alloc, system, &basis)?;
-    let end = match make_turn(system, &limits, &basis, &table)? {
+    let last = SlowBasis::at(alloc, system, &basis)?;
+    let end = match make_turn(system, &last)? {
         Turn::End(end) => end,
         Turn::Pivot(_) => SlowEnd::Pivots,
     };
@@ -102,38 +114,31 @@ pub fn slow_run(alloc: Global, system: &System, budget: u32) -> Result<SlowRun, 
         end,
         left: 0,
         turns: u64::from(budget) + 1,
-        basis,
-        table,
-        limits,
+        last,
     })
 }
 
 // What a turn at a basis comes to.
-fn make_turn(
-    system: &System,
-    limits: &[Limits],
-    basis: &[Place],
-    table: &[SlowRow],
-) -> Result<Turn, SlowStop> {
-    for row in table {
-        if system.objective.is_some() && is_last(row.basic, basis) {
+fn make_turn(system: &System, here: &SlowBasis) -> Result<Turn, SlowStop> {
+    for row in &here.table {
+        if system.objective.is_some() && is_last(row.basic, &here.basis) {
             continue;
         }
-        let value = value_of(row, limits, basis)?;
-        if let Some(side) = missed(limits_at(limits, row.basic), value) {
-            return Ok(answer_for(row, side, limits, basis));
+        let value = value_of(row, &here.limits, &here.basis)?;
+        if let Some(side) = missed(limits_at(&here.limits, row.basic), value) {
+            return Ok(answer_for(row, side, &here.limits, &here.basis));
         }
     }
     Ok(Turn::End(SlowEnd::Feasible))
 }
 
-// Whether a variable is the last one.
-fn is_last(variable: usize, basis: &[Place]) -> bool {
+/// Whether a variable is the last one.
+pub(crate) fn is_last(variable: usize, basis: &[Place]) -> bool {
     basis.len() == variable.saturating_add(1)
 }
 
-// The limits of a variable.
-fn limits_at(limits: &[Limits], variable: usize) -> Limits {
+/// The limits of a variable.
+pub(crate) fn limits_at(limits: &[Limits], variable: usize) -> Limits {
     match limits.get(variable) {
         Some(limits) => *limits,
         None => Limits { lo: None, up: None },
@@ -145,8 +150,12 @@ fn standing_at(limits: &[Limits], basis: &[Place], variable: usize) -> Frac {
     place_number(limits_at(limits, variable), place_of(basis, variable))
 }
 
-// The value of a basic variable.
-fn value_of(row: &SlowRow, limits: &[Limits], basis: &[Place]) -> Result<Frac, SlowStop> {
+/// The value of a basic variable.
+pub(crate) fn value_of(
+    row: &SlowRow,
+    limits: &[Limits],
+    basis: &[Place],
+) -> Result<Frac, SlowStop> {
     let mut value = Frac::whole(0);
     for nonbasic in 0..basis.len() {
         if is_basic(basis, nonbasic) {
@@ -192,8 +201,14 @@ fn answer_for(row: &SlowRow, side: Side, limits: &[Limits], basis: &[Place]) -> 
     Turn::End(SlowEnd::Infeasible(row.basic, side))
 }
 
-// Whether a nonbasic variable can move so that a basic one comes nearer to the limit that it misses.
-fn helps(row: &SlowRow, side: Side, limits: &[Limits], basis: &[Place], variable: usize) -> bool {
+/// Whether a nonbasic variable can move so that a basic one comes nearer to the limit that it misses.
+pub(crate) fn helps(
+    row: &SlowRow,
+    side: Side,
+    limits: &[Limits],
+    basis: &[Place],
+    variable: usize,
+) -> bool {
     let zero = Frac::whole(0);
     let own = limits_at(limits, variable);
     let stands = standing_at(limits, basis, variable);
@@ -204,10 +219,4 @@ fn helps(row: &SlowRow, side: Side, limits: &[Limits], basis: &[Place], variable
         Side::Up => row.factor(variable).negate(),
     };
     (gain > zero && can_rise) || (gain < zero && can_fall)
-}
-
-// Makes the exchange of a pivot.
-fn exchange_places(basis: &mut [Place], exchange: Exchange) {
-    put(basis, exchange.leaving, place_at(exchange.side));
-    put(basis, exchange.entering, Place::Basic);
 }
