@@ -46,6 +46,7 @@ fn is_unsettled(line: &[u8]) -> bool {
         || line == b"too wide".as_slice()
         || line == b"pivots spent".as_slice()
         || line == b"nodes spent".as_slice()
+        || line.starts_with(b"too large ")
 }
 
 // Whether some answer of a report is one that no check looks into.
