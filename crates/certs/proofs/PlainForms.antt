@@ -58,7 +58,7 @@ negated_form n terms form = record {
 }
 
 -- ---- limits
-abbrev Ordered : Limits → Type 0
+abbrev pub Ordered : Limits → Type 0
 Ordered limits = IfSome limits.lower (λ l. IfSome limits.upper (λ u. l ≤ℚ u))
 
 not_crossed : (lower upper : Option ℚ) → are_crossed lower upper ≡ false → IfSome lower (λ l. IfSome upper (λ u. l ≤ℚ u))
@@ -90,7 +90,7 @@ module _ (system : LinearSystem) (apart : first_crossing system ≡ None) where
       subst (λ k. Ordered (get_or system.rows k empty_system_row).limits) back
       (subst Ordered (cond-false (ltb (n + i) n) (get_or system.columns (n + i) no_limits) (get_or system.rows ((n + i) - n) empty_system_row).limits (le-ltb (n + i) n (omega arith))) (ordered_at (n + i) (omega arith))))
 
-  ordered_all : All Ordered (all_limits system)
+  pub ordered_all : All Ordered (all_limits system)
   ordered_all =
       All-append Ordered system.columns (map (λ r. r.limits) system.rows ++ cond (is_some system.objective) (no_limits ∷ []) []) ordered_columns
       (All-append Ordered (map (λ r. r.limits) system.rows) (cond (is_some system.objective) (no_limits ∷ []) [])

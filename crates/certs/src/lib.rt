@@ -26,4 +26,4 @@ pub use plain_systems::plain_system;
 pub use points::check_point;
 pub use solving::{Irreducible, NodeEnd, Path, Site, SiteKind, Stop, Stretched, Verdict};
 pub use systems::{Limits, System};
-pub use tales::{CoreRecord, StopRecord, Tale};
+pub use tales::{CoreRecord, StopRecord, Tale, told_stop};

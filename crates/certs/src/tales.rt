@@ -112,7 +112,7 @@ impl Tale {
         self.asks = self.asks.saturating_add(1);
         match answer {
             Ok(verdict) => told_verdict(alloc, &mut self.first_core, set, verdict),
-            Err(stop) => Err(told_stop(alloc, &mut self.stops, set, stop)),
+            Err(stop) => Err(told_alone(alloc, &mut self.stops, set, stop)),
         }
     }
 }
@@ -168,13 +168,31 @@ fn core_record(alloc: Global, set: &MemberSet, proof: &Proof) -> Result<CoreReco
     })
 }
 
-// The stop that is answered: this one once it stands at the end of the list, or want of memory where the list could not
-// grow. The list then stays as it was.
-fn told_stop(alloc: Global, stops: &mut Vec<StopRecord>, set: &MemberSet, stop: Stop) -> Stop
+// The stop that is answered to an ask with no enforced part.
+fn told_alone(alloc: Global, stops: &mut Vec<StopRecord>, set: &MemberSet, stop: Stop) -> Stop
     ensures listed { stops.new.items ≡ stops.old.items ++ listed_stop result set.now.members [] }
     ensures stop { (result ≡ stop) ⊎ (result ≡ Memory) }
 {
-    match list_stop(alloc, stops, set, &stop) {
+    match set.emptied(alloc) {
+        Ok(none) => told_stop(alloc, stops, set, &none, stop),
+        Err(_) => Stop::Memory,
+    }
+}
+
+/// The stop that is answered: this one once it stands at the end of the list, or want of memory where the list could not
+/// grow. The list then stays as it was.
+pub fn told_stop(
+    alloc: Global,
+    stops: &mut Vec<StopRecord>,
+    set: &MemberSet,
+    enforced: &MemberSet,
+    stop: Stop,
+) -> Stop
+    ensures listed { let listed = listed_stop result set.now.members enforced.now.members in
+        stops.new.items ≡ stops.old.items ++ listed }
+    ensures stop { (result ≡ stop) ⊎ (result ≡ Memory) }
+{
+    match list_stop(alloc, stops, set, enforced, &stop) {
         Ok(()) => stop,
         Err(_) => Stop::Memory,
     }
@@ -185,9 +203,11 @@ fn list_stop(
     alloc: Global,
     stops: &mut Vec<StopRecord>,
     set: &MemberSet,
+    enforced: &MemberSet,
     stop: &Stop,
 ) -> Result<(), AllocError>
-    ensures ok { OnOk result (stops.new.items ≡ stops.old.items ++ listed_stop stop.now set.now.members []) }
+    ensures ok { let listed = listed_stop stop.now set.now.members enforced.now.members in
+        OnOk result (stops.new.items ≡ stops.old.items ++ listed) }
     ensures err { OnErr result (stops.new.items ≡ stops.old.items) }
 {
     if matches!(stop, Stop::Memory) {
@@ -196,7 +216,7 @@ fn list_stop(
     let record = StopRecord {
         stop: copied(alloc, stop)?,
         set: set.copy(alloc)?,
-        enforced: set.emptied(alloc)?,
+        enforced: enforced.copy(alloc)?,
     };
     stops.push(record)?;
     Ok(())

@@ -7,7 +7,7 @@ use certs::{Limits, System};
 use frac128::Frac;
 
 /// The least variable whose lower limit passes its upper one: a column, or a row, numbered after the columns.
-pub(crate) fn first_crossing(system: &System) -> Option<u32>
+pub fn first_crossing(system: &System) -> Option<u32>
     requires few { length system.now.columns + length system.now.rows < 2 ^ 31 }
     ensures { result ≡ least_crossing system.now }
 {

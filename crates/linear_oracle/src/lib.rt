@@ -6,6 +6,7 @@ mod ends;
 mod oracle;
 mod solve;
 
+pub use crossings::first_crossing;
 pub use ends::{settle_site, stop_end};
 pub use oracle::{LinearOracle, leaf_proof};
 pub use solve::started;

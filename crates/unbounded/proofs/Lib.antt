@@ -2,7 +2,7 @@ mod Directed
 mod Systems
 mod Duals
 mod Rays
-mod Settled
+pub mod Settled
 mod Running
 mod Ending
 pub mod Ordered
