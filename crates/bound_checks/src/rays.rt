@@ -120,8 +120,11 @@ fn is_at_most(a: Frac, b: Frac) -> bool
     a <= b
 }
 
-/// The value of a form where each column has its value, or the first operation that is too wide.
-pub(crate) fn value_of(terms: &[Term], values: &[Frac]) -> Result<Frac, Wide>
+/// The value of a form where each column has its value: the terms in order, factor times value, from 0. An error is the first
+/// operation that is too wide, and comes just where one is.
+///
+/// The terms name columns of which there is a value.
+pub fn value_of(terms: &[Term], values: &[Frac]) -> Result<Frac, Wide>
     requires { All (λ t. t.column < length values.now) terms.now }
     ensures { let x = values_at values.now in
         MatchResult result

@@ -10,8 +10,8 @@ use certs::{Share, Source};
 use frac128::Frac;
 use lp_model::{Member, MemberSet, Model};
 
-/// Whether each share has a weight above 0, and a member that the set has, with a number.
-pub(crate) fn are_usable(model: &Model, set: &MemberSet, shares: &[Share]) -> bool
+/// Whether each share has a weight above 0, and a member that the set has, with a number. No arithmetic is done.
+pub fn are_usable(model: &Model, set: &MemberSet, shares: &[Share]) -> bool
     requires same { IsSetOf model.now set.now }
     ensures { result ≡ usable_test model.now set.now.members [] shares.now }
 {

@@ -17,8 +17,11 @@ use certs::{Share, Source};
 use frac128::{Frac, Wide};
 use lp_model::{Member, Model, Side, Term};
 
-/// Adds the shares to the columns' sums, in order, the terms of each in order.
-pub(crate) fn add_shares(model: &Model, shares: &[Share], sums: &mut [Frac]) -> Result<(), Wide>
+/// Adds the shares to the columns' sums, in order, the terms of each in order: factor times weight, plus where the source is on
+/// `Up` and minus where it is on `Lo`. An error is the first operation that is too wide, and comes just where one is.
+///
+/// The shares name columns of which there is a sum.
+pub fn add_shares(model: &Model, shares: &[Share], sums: &mut [Frac]) -> Result<(), Wide>
     requires { let n = length sums.old in
         All (λ s. All (λ t. t.column < n) (source_form model.now s.source)) shares.now }
     ensures { let x = values_at sums.old in
@@ -208,8 +211,8 @@ fn are_terms(model: &Model, terms: &[Term], sums: &mut [Frac]) -> bool
     are_zero(sums)
 }
 
-// Whether all sums are 0.
-fn are_zero(sums: &[Frac]) -> bool
+/// Whether all sums are 0.
+pub fn are_zero(sums: &[Frac]) -> bool
     ensures { result ≡ every (λ q. eq_ℚ q zero_ℚ) sums.now }
 {
     let zero = Frac::whole(0);
@@ -232,15 +235,16 @@ pub fn directed(model: &Model, number: Frac) -> Frac
 }
 
 /// Sets all sums to 0.
-pub(crate) fn clear(sums: &mut [Frac])
+pub fn clear(sums: &mut [Frac])
     ensures length { length sums.new ≡ length sums.old }
     ensures zero { All (λ q. q ≡ zero_ℚ) sums.new }
 {
     sums.fill(Frac::whole(0));
 }
 
-/// The right side: the number of each share times its weight, in order from 0.
-pub(crate) fn right_side(model: &Model, shares: &[Share]) -> Result<Frac, Wide>
+/// The right side: the number of each share times its weight, in order from 0, plus where its source is on `Up` and minus where
+/// it is on `Lo`. An error is the first operation that is too wide, and comes just where one is.
+pub fn right_side(model: &Model, shares: &[Share]) -> Result<Frac, Wide>
     ensures { let work = right_operations model.now [] zero_ℚ shares.now in
         MatchResult result
         (λ r. (r ≡ right_of model.now [] shares.now) × (first_wide limit work ≡ None))

@@ -1,0 +1,15 @@
+use Rattle.std.proofs.Common.{length}
+use Rattle.std.specs.Prelude.{All, Contains}
+use Rattle.lp_model.specs.MemberSets.{IsMemberFor}
+use Rattle.certs.specs.Named.{IsOfSize}
+use Rattle.least_checks.proofs.Rigid.{HasRigid}
+use Rattle.least_checks.proofs.violations.rigid_set.Given as goal
+
+-- of the members that were passed the rigid ones are there
+abbrev pub invariant-loop-member : goal.invariant-loop-member
+invariant-loop-member l = record {
+  known : All (IsMemberFor (length l.model.rows) (length l.model.columns)) l.member-iterator;
+  inside : All (Contains l.set.members) l.member-iterator;
+  size : IsOfSize l.set l.rigid;
+  there : HasRigid l.model l.set l.member-iterator l.rigid;
+}
