@@ -1,0 +1,11 @@
+mod Lists
+mod Soft
+mod Rows
+mod Listed
+mod Few
+mod Formed
+mod Distinct
+mod Inserted
+mod Standing
+mod Sums
+mod Evidence

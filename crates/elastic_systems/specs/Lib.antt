@@ -1,0 +1,4 @@
+pub mod Costs
+pub mod Origins
+pub mod Shares
+pub mod Laws
