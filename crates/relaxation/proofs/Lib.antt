@@ -1,0 +1,14 @@
+mod Solved
+mod Lists
+mod Missing
+mod Plain
+mod Eased
+mod Least
+mod Totals
+mod Stops
+mod Bounded
+mod Shares
+mod BestEnds
+mod Reaching
+mod Parts
+mod Found

@@ -1,0 +1,3 @@
+pub mod Runs
+pub mod Relaxed
+pub mod Stretching
