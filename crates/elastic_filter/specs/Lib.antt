@@ -1,0 +1,2 @@
+pub mod Enforced
+pub mod Included

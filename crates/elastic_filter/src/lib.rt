@@ -1,0 +1,6 @@
+//! What the elastic filter enforces of a set.
+#![tactic(auto)]
+
+mod enforcing;
+
+pub use enforcing::{Enforced, enforce};
