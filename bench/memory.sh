@@ -17,12 +17,12 @@ cd "$work"
 bench=${IIS_BENCH:-$top/crates/iis_bench/out/iis_bench}
 [ "$#" -gt 0 ] || set -- "plan of 200" "plan of 500" "plan of 1000" "2000 x 4000" transport flow mixed
 
-# The peak of memory of a run in kilobytes, the least of three.
+# The peak of memory of a run in kilobytes, the mean of 20: of one run the system may count 100 more or fewer.
 peak() {
-    for _ in 1 2 3; do
+    for _ in $(seq 20); do
         /usr/bin/time -f '%M' -o figures "$@" >said 2>&1 </dev/null || true
         tail -n 1 figures
-    done | sort -n | head -n 1
+    done | awk '{ sum += $1 } END { print sum / NR }'
 }
 
 # One line of the table.

@@ -384,6 +384,10 @@ impl Entries {
         Some(self.factors[first])
     }
 
+    fn have_magnitudes(&self) -> bool {
+        self.factors.iter().all(|factor| factor.checked_abs().is_some())
+    }
+
     fn rest(&self) -> Rest<'_> {
         Rest { variables: &self.variables, factors: &self.factors }
     }
@@ -546,13 +550,6 @@ fn row_limits(model: &Model, set: &MemberSet, row: u32) -> Limits {
     Limits { lo: kept(Member::RowLo(row)), up: kept(Member::RowUp(row)) }
 }
 
-fn limit_on(limits: Limits, side: Side) -> Option<Frac> {
-    match side {
-        Side::Lo => limits.lo,
-        Side::Up => limits.up,
-    }
-}
-
 fn opposite(side: Side) -> Side {
     match side {
         Side::Lo => Side::Up,
@@ -560,14 +557,62 @@ fn opposite(side: Side) -> Side {
     }
 }
 
-fn missed(limits: Limits, value: Frac) -> Option<Side> {
-    if limits.lo.is_some_and(|lo| value < lo) {
-        return Some(Side::Lo);
+// ---- variables
+
+#[derive(Clone, Copy)]
+struct Variable {
+    value: Frac,
+    lo: Frac,
+    up: Frac,
+    has_lo: bool,
+    has_up: bool,
+    missed: Option<Side>,
+    row: Option<u32>,
+}
+
+impl Variable {
+    fn at_start(limits: Limits) -> Variable {
+        let value = limits.lo.or(limits.up).unwrap_or(Frac::whole(0));
+        let mut variable =
+            Variable { value, lo: value, up: value, has_lo: false, has_up: false, missed: None, row: None };
+        variable.put_limits(limits);
+        variable
     }
-    if limits.up.is_some_and(|up| value > up) {
-        return Some(Side::Up);
+
+    fn put_limits(&mut self, limits: Limits) {
+        self.has_lo = limits.lo.is_some();
+        self.has_up = limits.up.is_some();
+        if let Some(lo) = limits.lo {
+            self.lo = lo;
+        }
+        if let Some(up) = limits.up {
+            self.up = up;
+        }
+        self.put_at(self.value);
     }
-    None
+
+    fn put_at(&mut self, value: Frac) {
+        self.value = value;
+        self.missed = self.missed_at(value);
+    }
+
+    fn limit_on(&self, side: Side) -> Option<Frac> {
+        match side {
+            Side::Lo if self.has_lo => Some(self.lo),
+            Side::Up if self.has_up => Some(self.up),
+            _ => None,
+        }
+    }
+
+    fn missed_at(&self, value: Frac) -> Option<Side> {
+        if self.has_lo && value < self.lo {
+            return Some(Side::Lo);
+        }
+        if self.has_up && value > self.up {
+            return Some(Side::Up);
+        }
+        None
+    }
 }
 
 // ---- moves
@@ -591,14 +636,14 @@ fn moved_in_lowest_terms(value: Frac, factor: i128, scale: i128, step: Frac) -> 
     value.plus(Frac::new(factor, scale)?.times(step)?)
 }
 
-fn would_miss(limits: &Limits, value: Frac, factor: i128, scale: i128, step: Frac) -> Option<bool> {
-    if let Some(after) = ratio_after(value, factor, scale, step)
-        && let Some(misses) = ratio_misses(limits, after)
+fn would_miss(basic: &Variable, factor: i128, scale: i128, step: Frac) -> Option<bool> {
+    if let Some(after) = ratio_after(basic.value, factor, scale, step)
+        && let Some(misses) = ratio_misses(basic, after)
     {
         return Some(misses);
     }
-    let value = moved_in_lowest_terms(value, factor, scale, step)?;
-    Some(missed(*limits, value).is_some())
+    let value = moved_in_lowest_terms(basic.value, factor, scale, step)?;
+    Some(basic.missed_at(value).is_some())
 }
 
 fn ratio_after(value: Frac, factor: i128, scale: i128, step: Frac) -> Option<Ratio> {
@@ -619,13 +664,13 @@ fn ratio_after(value: Frac, factor: i128, scale: i128, step: Frac) -> Option<Rat
     Some(Ratio { num, den })
 }
 
-fn ratio_misses(limits: &Limits, ratio: Ratio) -> Option<bool> {
-    if let Some(lo) = limits.lo
+fn ratio_misses(basic: &Variable, ratio: Ratio) -> Option<bool> {
+    if let Some(lo) = basic.limit_on(Side::Lo)
         && over(ratio.num, lo)? < product(lo.num, ratio.den)?
     {
         return Some(true);
     }
-    if let Some(up) = limits.up
+    if let Some(up) = basic.limit_on(Side::Up)
         && over(ratio.num, up)? > product(up.num, ratio.den)?
     {
         return Some(true);
@@ -641,14 +686,6 @@ fn over(number: i128, limit: Frac) -> Option<i128> {
 }
 
 // ---- the table
-
-#[derive(Clone, Copy)]
-struct Variable {
-    value: Frac,
-    limits: Limits,
-    missed: Option<Side>,
-    row: Option<usize>,
-}
 
 #[derive(Clone, Copy)]
 struct Blocked {
@@ -682,9 +719,7 @@ impl Table {
     }
 
     fn put_limits(&mut self, variable: u32, limits: Limits) {
-        let known = &mut self.variables[variable as usize];
-        known.limits = limits;
-        known.missed = missed(limits, known.value);
+        self.variables[variable as usize].put_limits(limits);
     }
 
     fn bring_inside(&mut self, variable: u32) -> Option<()> {
@@ -695,7 +730,7 @@ impl Table {
         let Some(side) = known.missed else {
             return Some(());
         };
-        let step = limit_on(known.limits, side)?.minus(known.value)?;
+        let step = known.limit_on(side)?.minus(known.value)?;
         self.shift(variable, step)
     }
 
@@ -708,12 +743,10 @@ impl Table {
             let row = &self.rows[link.place as usize];
             let factor = row.entries.factor_of(variable)?;
             let basic = &mut self.variables[row.base as usize];
-            basic.value = moved(basic.value, factor, row.scale, step)?;
-            basic.missed = missed(basic.limits, basic.value);
+            basic.put_at(moved(basic.value, factor, row.scale, step)?);
         }
         let known = &mut self.variables[variable as usize];
-        known.value = known.value.plus(step)?;
-        known.missed = missed(known.limits, known.value);
+        known.put_at(known.value.plus(step)?);
         Some(())
     }
 
@@ -728,7 +761,7 @@ impl Table {
     fn missed_after(&self, variable: u32, step: Frac, now: u32, most: u32) -> Option<u32> {
         let known = self.variables[variable as usize];
         let value = known.value.plus(step)?;
-        let own = u32::from(missed(known.limits, value).is_some());
+        let own = u32::from(known.missed_at(value).is_some());
         let mended = self.changed_by(variable, step, true, u32::MAX)?;
         let count = now.saturating_add(own).saturating_sub(mended);
         let broken = self.changed_by(variable, step, false, most.saturating_sub(count))?;
@@ -749,7 +782,7 @@ impl Table {
             let basic = &self.variables[row.base as usize];
             if basic.missed.is_some() == misses {
                 let factor = row.entries.factor_of(variable)?;
-                let after = would_miss(&basic.limits, basic.value, factor, row.scale, step)?;
+                let after = would_miss(basic, factor, row.scale, step)?;
                 count = count.saturating_add(u32::from(after != misses));
             }
         }
@@ -776,7 +809,7 @@ impl Table {
 
 fn way_to(table: &Table, row: &TableRow, side: Side) -> Option<Frac> {
     let basic = table.variables[row.base as usize];
-    limit_on(basic.limits, side)?.minus(basic.value)
+    basic.limit_on(side)?.minus(basic.value)
 }
 
 fn step_for(way: Frac, row: &TableRow, factor: i128) -> Option<Frac> {
@@ -797,10 +830,10 @@ fn start(model: &Model, set: &MemberSet) -> Option<Table> {
         blocked: None,
     };
     for column in 0..columns {
-        table.variables.push(at_start(column_limits(model, set, column)));
+        table.variables.push(Variable::at_start(column_limits(model, set, column)));
     }
     for row in 0..rows {
-        table.variables.push(at_start(row_limits(model, set, row)));
+        table.variables.push(Variable::at_start(row_limits(model, set, row)));
     }
     for (index, row) in model.rows.iter().enumerate() {
         put_row(&mut table, columns + index as u32, &row.terms)?;
@@ -808,21 +841,15 @@ fn start(model: &Model, set: &MemberSet) -> Option<Table> {
     Some(table)
 }
 
-fn at_start(limits: Limits) -> Variable {
-    let value = limits.lo.or(limits.up).unwrap_or(Frac::whole(0));
-    Variable { value, limits, missed: missed(limits, value), row: None }
-}
-
 fn put_row(table: &mut Table, base: u32, terms: &[Term]) -> Option<()> {
     let value = sum(table, terms)?;
-    let place = table.rows.len();
+    let place = table.rows.len() as u32;
     let known = &mut table.variables[base as usize];
-    known.value = value;
-    known.missed = missed(known.limits, value);
+    known.put_at(value);
     known.row = Some(place);
     let row = whole_row(base, terms)?;
     for variable in &row.entries.variables {
-        table.columns.add(*variable, place as u32);
+        table.columns.add(*variable, place);
     }
     table.stored += row.entries.len();
     table.most_stored = table.most_stored.max(table.stored);
@@ -917,7 +944,7 @@ fn helping(table: &Table, row: &TableRow, side: Side, rule: Rule) -> Vec<(u32, u
     let mut best = Vec::new();
     for (variable, factor) in row.entries.iter() {
         let known = table.variables[*variable as usize];
-        let limit = limit_on(known.limits, side_of(*factor, side));
+        let limit = known.limit_on(side_of(*factor, side));
         if limit.is_some_and(|limit| limit == known.value) {
             continue;
         }
@@ -1022,7 +1049,7 @@ fn make_pivot(table: &mut Table, pivot: Pivot) -> Option<()> {
     table.columns.swap(base, pivot.variable);
     table.rows[pivot.place] = solved;
     table.variables[base as usize].row = None;
-    table.variables[pivot.variable as usize].row = Some(pivot.place);
+    table.variables[pivot.variable as usize].row = Some(pivot.place as u32);
     if table.stored > MOST_ENTRIES {
         return None;
     }
@@ -1056,7 +1083,7 @@ fn value_after(table: &Table, variable: u32, step: Option<Step>) -> Option<Frac>
     let Some(place) = known.row else {
         return Some(known.value);
     };
-    let row = &table.rows[place];
+    let row = &table.rows[place as usize];
     match row.entries.factor_of(step.variable) {
         Some(factor) => moved(known.value, factor, row.scale, step.step),
         None => Some(known.value),
@@ -1080,7 +1107,7 @@ fn freed(table: &Table, row: &TableRow, blocked: Blocked) -> Option<Entry> {
     for (variable, factor) in row.entries.iter() {
         let (variable, factor) = (*variable, *factor);
         let known = table.variables[variable as usize];
-        if limit_on(known.limits, side_of(factor, blocked.side)).is_none() {
+        if known.limit_on(side_of(factor, blocked.side)).is_none() {
             if freed.is_some() {
                 return None;
             }
@@ -1096,34 +1123,44 @@ struct Weighed {
     weight: Frac,
 }
 
+#[derive(Clone, Copy)]
+struct BlockedRow<'a> {
+    row: &'a TableRow,
+    side: Side,
+}
+
+impl BlockedRow<'_> {
+    fn weighed(self, variable: u32) -> Option<Weighed> {
+        if variable == self.row.base {
+            return Some(Weighed { side: self.side, weight: Frac::whole(1) });
+        }
+        let factor = self.row.entries.factor_of(variable)?;
+        let weight = Frac::new(factor.checked_abs()?, self.row.scale)?;
+        Some(Weighed { side: side_of(factor, self.side), weight })
+    }
+}
+
 fn combo(table: &Table, columns: u32, set: &MemberSet, blocked: Blocked) -> Option<Vec<Share>> {
-    let weights = weights(table, blocked)?;
+    let row = &table.rows[blocked.place];
+    if !row.entries.have_magnitudes() {
+        return None;
+    }
+    let row = BlockedRow { row, side: blocked.side };
     let mut shares = Vec::new();
     for member in set.iter() {
-        if let Some(weight) = weight_of(columns, &weights, member) {
+        if let Some(weight) = weight_of(columns, row, member) {
             shares.push(Share { member, weight });
         }
     }
     Some(shares)
 }
 
-fn weights(table: &Table, blocked: Blocked) -> Option<Vec<Option<Weighed>>> {
-    let mut weights = vec![None; table.variables.len()];
-    let row = &table.rows[blocked.place];
-    weights[row.base as usize] = Some(Weighed { side: blocked.side, weight: Frac::whole(1) });
-    for (variable, factor) in row.entries.iter() {
-        let weight = Frac::new(factor.checked_abs()?, row.scale)?;
-        weights[*variable as usize] = Some(Weighed { side: side_of(*factor, blocked.side), weight });
-    }
-    Some(weights)
-}
-
-fn weight_of(columns: u32, weights: &[Option<Weighed>], member: Member) -> Option<Frac> {
+fn weight_of(columns: u32, row: BlockedRow<'_>, member: Member) -> Option<Frac> {
     let variable = match member {
         Member::RowLo(index) | Member::RowUp(index) => columns + index,
         Member::Lower(index) | Member::Upper(index) => index,
     };
-    let weighed = weights[variable as usize]?;
+    let weighed = row.weighed(variable)?;
     if weighed.side == member.side() && weighed.weight > Frac::whole(0) {
         Some(weighed.weight)
     } else {

@@ -1,5 +1,5 @@
 //! Which variable leaves the basis, and which one enters.
-use crate::limits::{limit_on, opposite};
+use crate::limits::opposite;
 use crate::rows::TableRow;
 use crate::tables::{Table, step_for, way_to};
 use certs::Side;
@@ -75,7 +75,7 @@ pub(crate) fn helping(
     let variables = row.entries.variables.iter();
     for (variable, factor) in variables.zip(row.entries.factors.iter()) {
         let known = table.variable(*variable)?;
-        let limit = limit_on(known.limits, side_of(*factor, side));
+        let limit = known.limit_on(side_of(*factor, side));
         if limit.is_some_and(|limit| limit == known.value) {
             continue;
         }

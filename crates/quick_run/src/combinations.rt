@@ -10,6 +10,7 @@ ghost use Rattle.quick_run.specs.Shape.{IsLimitOf, IsShareOf, IsSourceOf, has_le
 
 use crate::choices::side_of;
 use crate::limits::opposite;
+use crate::rows::TableRow;
 use crate::tables::{Blocked, Table};
 use certs::{Branch, Combo, Share, Shares, Side, Source, stands_before};
 use frac128::Frac;
@@ -22,6 +23,33 @@ struct Weighed {
     side: Side,
     weight: Frac,
     is_branched: bool,
+}
+
+// A blocked row, and the side that its basic variable misses. Which limits it takes, and how often, is looked up in the row: a
+// list of that by variable would take 80 bytes for each variable of the table.
+#[derive(Clone, Copy)]
+struct BlockedRow<'a> {
+    table: &'a Table,
+    row: &'a TableRow,
+    side: Side,
+}
+
+impl BlockedRow<'_> {
+    // The limit of a variable that the row takes; none where the variable does not count in it.
+    fn weighed(self, variable: u32) -> Option<Weighed> {
+        let (side, weight) = if variable == self.row.base {
+            (self.side, Frac::whole(1))
+        } else {
+            let factor = self.row.entries.factor_of(variable)?;
+            let weight = Frac::new(factor.checked_abs()?, self.row.scale).ok()?;
+            (side_of(factor, self.side), weight)
+        };
+        Some(Weighed {
+            side,
+            weight,
+            is_branched: self.table.is_branched(variable, side),
+        })
+    }
 }
 
 /// The combination that a blocked row is: its basic variable once, on the side that it misses, and each nonbasic one by its
@@ -37,46 +65,32 @@ pub(crate) fn combo(
     ensures order { IfSome result (λ combo. AreSharesInOrder combo.shares) }
     ensures shares { IfSome result (λ combo. All (IsShareOf set.now.members path.now) combo.shares) }
 {
-    let weights = weights(alloc, table, blocked)?;
-    let shares = shares(alloc, columns, weights.as_slice(), set, path).ok()?;
-    Some(Combo { shares })
-}
-
-// The limits that a blocked row takes, by variable.
-fn weights(alloc: Global, table: &Table, blocked: Blocked) -> Option<Vec<Option<Weighed>>> {
-    let mut weights = vec![in alloc; None; table.variables.len()].ok()?;
     let row = table.rows.get(blocked.place)?;
-    *weights.get_mut(row.base as usize)? = Some(Weighed {
-        side: blocked.side,
-        weight: Frac::whole(1),
-        is_branched: table.is_branched(row.base, blocked.side),
-    });
-    let variables = row.entries.variables.iter();
-    for (variable, factor) in variables.zip(row.entries.factors.iter()) {
-        let magnitude = factor.checked_abs()?;
-        let side = side_of(*factor, blocked.side);
-        *weights.get_mut(*variable as usize)? = Some(Weighed {
-            side,
-            weight: Frac::new(magnitude, row.scale).ok()?,
-            is_branched: table.is_branched(*variable, side),
-        });
+    if !row.entries.have_magnitudes() {
+        return None;
     }
-    Some(weights)
+    let row = BlockedRow {
+        table,
+        row,
+        side: blocked.side,
+    };
+    let shares = shares(alloc, columns, row, set, path).ok()?;
+    Some(Combo { shares })
 }
 
 // The shares of the members of the set and of the branches that are taken, in order.
 fn shares(
     alloc: Global,
     columns: u32,
-    weights: &[Option<Weighed>],
+    row: BlockedRow<'_>,
     set: &MemberSet,
     path: &[Branch],
 ) -> Result<Shares, AllocError>
     ensures order { IfOk result AreSharesInOrder }
     ensures shares { IfOk result (All (IsShareOf set.now.members path.now)) }
 {
-    let mut shares = member_shares(alloc, columns, weights, set)?;
-    push_branches(columns, weights, path, &mut shares)?;
+    let mut shares = member_shares(alloc, columns, row, set)?;
+    push_branches(columns, row, path, &mut shares)?;
     Ok(Shares::new(shares))
 }
 
@@ -84,7 +98,7 @@ fn shares(
 fn member_shares(
     alloc: Global,
     columns: u32,
-    weights: &[Option<Weighed>],
+    row: BlockedRow<'_>,
     set: &MemberSet,
 ) -> Result<Vec<Share>, AllocError>
     ensures order { IfOk result (λ shares. AreSharesInOrder shares.items) }
@@ -94,7 +108,7 @@ fn member_shares(
     set.stands_in_order();
     let mut shares = Vec::new(alloc);
     for member in set.iter() {
-        if let Some(weight) = weight_of(columns, weights, member) {
+        if let Some(weight) = weight_of(columns, row, member) {
             let source = Source::Member(member);
             shares.push(Share { source, weight })?;
         }
@@ -103,7 +117,7 @@ fn member_shares(
 }
 
 // How often a member is taken; none where it is not.
-fn weight_of(columns: u32, weights: &[Option<Weighed>], member: Member) -> Option<Frac>
+fn weight_of(columns: u32, row: BlockedRow<'_>, member: Member) -> Option<Frac>
     ensures { IfSome result (λ weight. zero_ℚ <ℚ weight) }
 {
     let variable = match member {
@@ -113,7 +127,7 @@ fn weight_of(columns: u32, weights: &[Option<Weighed>], member: Member) -> Optio
         Member::Upper(index) => index,
         Member::Whole(_) => return None,
     };
-    let weighed = weights.get(variable as usize).copied()??;
+    let weighed = row.weighed(variable)?;
     let is_taken = weighed.side == member.side() && !weighed.is_branched;
     if is_taken && is_positive(weighed.weight) {
         Some(weighed.weight)
@@ -125,7 +139,7 @@ fn weight_of(columns: u32, weights: &[Option<Weighed>], member: Member) -> Optio
 // Puts the shares of the branches that are taken behind those of members, by column.
 fn push_branches(
     columns: u32,
-    weights: &[Option<Weighed>],
+    row: BlockedRow<'_>,
     path: &[Branch],
     shares: &mut Vec<Share>,
 ) -> Result<(), AllocError>
@@ -136,7 +150,7 @@ fn push_branches(
         → IfOk result (λ done. All (IsShareOf set path.now) shares.new.items) }
 {
     for column in 0..columns {
-        if let Some(share) = branch_share(weights, path, column) {
+        if let Some(share) = branch_share(row, path, column) {
             shares.push(share)?;
         }
     }
@@ -144,10 +158,10 @@ fn push_branches(
 }
 
 // The share of the branches of a column, where they are taken.
-fn branch_share(weights: &[Option<Weighed>], path: &[Branch], column: u32) -> Option<Share>
+fn branch_share(row: BlockedRow<'_>, path: &[Branch], column: u32) -> Option<Share>
     ensures { IfSome result (λ share. IsLimitOf path.now column share.source × zero_ℚ <ℚ share.weight) }
 {
-    let weighed = weights.get(column as usize).copied()??;
+    let weighed = row.weighed(column)?;
     if !weighed.is_branched || !is_positive(weighed.weight) {
         return None;
     }

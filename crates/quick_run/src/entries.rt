@@ -72,6 +72,13 @@ impl Entries {
         self.factors.get(first).copied()
     }
 
+    /// Whether the magnitude of each factor fits.
+    pub(crate) fn have_magnitudes(&self) -> bool {
+        self.factors
+            .iter()
+            .all(|factor| factor.checked_abs().is_some())
+    }
+
     /// All of them.
     pub(crate) fn rest(&self) -> Rest<'_> {
         Rest {

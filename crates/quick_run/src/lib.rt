@@ -15,6 +15,7 @@ mod runs;
 mod starts;
 mod suggestions;
 mod tables;
+mod variables;
 
 pub use runs::QuickRun;
 pub use suggestions::{Suggest, Suggestion};

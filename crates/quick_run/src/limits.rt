@@ -38,37 +38,10 @@ fn kept(set: &MemberSet, member: Member, number: Option<Frac>) -> Option<Frac>
     if set.contains(member) { number } else { None }
 }
 
-/// The limit on a side.
-pub(crate) fn limit_on(limits: Limits, side: Side) -> Option<Frac> {
-    match side {
-        Side::Lo => limits.lo,
-        Side::Up => limits.up,
-    }
-}
-
-/// Whether the lower limit is above the upper one.
-pub(crate) fn are_crossed(limits: Limits) -> bool {
-    let Some(lo) = limits.lo else {
-        return false;
-    };
-    limits.up.is_some_and(|up| lo > up)
-}
-
 /// The other side.
 pub(crate) fn opposite(side: Side) -> Side {
     match side {
         Side::Lo => Side::Up,
         Side::Up => Side::Lo,
     }
-}
-
-/// The side whose limit a value misses, where it misses one.
-pub(crate) fn missed(limits: Limits, value: Frac) -> Option<Side> {
-    if limits.lo.is_some_and(|lo| value < lo) {
-        return Some(Side::Lo);
-    }
-    if limits.up.is_some_and(|up| value > up) {
-        return Some(Side::Up);
-    }
-    None
 }

@@ -1,7 +1,7 @@
 //! What becomes of a basic variable when a nonbasic one moves.
 use crate::arithmetic::{divides, product, quotient};
-use crate::limits::missed;
-use certs::Limits;
+use crate::variables::Variable;
+use certs::Side;
 use frac128::Frac;
 
 // A number over a denominator above 0, with which it may share divisors.
@@ -27,21 +27,15 @@ fn moved_in_lowest_terms(value: Frac, factor: i128, scale: i128, step: Frac) -> 
     value.plus(slope.times(step).ok()?).ok()
 }
 
-/// Whether that value would miss a limit; none where it is too wide.
-pub(crate) fn would_miss(
-    limits: &Limits,
-    value: Frac,
-    factor: i128,
-    scale: i128,
-    step: Frac,
-) -> Option<bool> {
-    if let Some(after) = ratio_after(value, factor, scale, step)
-        && let Some(misses) = ratio_misses(limits, after)
+/// Whether the variable would miss a limit at that value; none where it is too wide.
+pub(crate) fn would_miss(basic: &Variable, factor: i128, scale: i128, step: Frac) -> Option<bool> {
+    if let Some(after) = ratio_after(basic.value, factor, scale, step)
+        && let Some(misses) = ratio_misses(basic, after)
     {
         return Some(misses);
     }
-    let value = moved_in_lowest_terms(value, factor, scale, step)?;
-    Some(missed(*limits, value).is_some())
+    let value = moved_in_lowest_terms(basic.value, factor, scale, step)?;
+    Some(basic.missed_at(value).is_some())
 }
 
 // That value by products alone, which is faster, where each of them fits: the value is then not too wide either, since it is
@@ -69,13 +63,13 @@ fn ratio_after(value: Frac, factor: i128, scale: i128, step: Frac) -> Option<Rat
 }
 
 // Whether a ratio misses a limit; none where a product does not fit.
-fn ratio_misses(limits: &Limits, ratio: Ratio) -> Option<bool> {
-    if let Some(lo) = limits.lo
+fn ratio_misses(basic: &Variable, ratio: Ratio) -> Option<bool> {
+    if let Some(lo) = basic.limit_on(Side::Lo)
         && over(ratio.num, lo)? < product(lo.num(), ratio.den)?
     {
         return Some(true);
     }
-    if let Some(up) = limits.up
+    if let Some(up) = basic.limit_on(Side::Up)
         && over(ratio.num, up)? > product(up.num(), ratio.den)?
     {
         return Some(true);

@@ -68,7 +68,7 @@ pub(crate) fn make_pivot(alloc: Global, table: &mut Table, pivot: Pivot) -> Opti
     table.columns.swap(base, pivot.variable)?;
     *table.rows.get_mut(pivot.place)? = solved;
     table.variables.get_mut(base as usize)?.row = None;
-    table.variables.get_mut(pivot.variable as usize)?.row = Some(pivot.place);
+    table.variables.get_mut(pivot.variable as usize)?.row = Some(u32::try_from(pivot.place).ok()?);
     if table.stored > MOST_ENTRIES {
         return None;
     }

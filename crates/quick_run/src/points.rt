@@ -3,7 +3,6 @@ ghost use Rattle.std.specs.Prelude.{◌≡◌, IfSome, length};
 
 use crate::choices::side_of;
 use crate::entries::Entry;
-use crate::limits::limit_on;
 use crate::moves::moved;
 use crate::rows::TableRow;
 use crate::tables::{Blocked, Table, step_for, way_to};
@@ -49,7 +48,7 @@ fn value_after(table: &Table, variable: u32, step: Option<Step>) -> Option<Frac>
     let Some(place) = known.row else {
         return Some(known.value);
     };
-    let row = table.rows.get(place)?;
+    let row = table.rows.get(place as usize)?;
     match row.entries.factor_of(step.variable) {
         Some(factor) => moved(known.value, factor, row.scale, step.step),
         None => Some(known.value),
@@ -80,7 +79,7 @@ fn freed(table: &Table, row: &TableRow, blocked: Blocked) -> Option<Entry> {
     for (variable, factor) in variables.zip(row.entries.factors.iter()) {
         let (variable, factor) = (*variable, *factor);
         let known = table.variable(variable)?;
-        if limit_on(known.limits, side_of(factor, blocked.side)).is_none() {
+        if known.limit_on(side_of(factor, blocked.side)).is_none() {
             if freed.is_some() {
                 return None;
             }

@@ -5,10 +5,11 @@ ghost use Rattle.certs.specs.Checks.{IsSetOf};
 use crate::arithmetic::{common_divisor, product, quotient};
 use crate::columns::Columns;
 use crate::entries::Entries;
-use crate::limits::{column_limits, missed, row_limits};
+use crate::limits::{column_limits, row_limits};
 use crate::rows::{Sum, TableRow};
-use crate::tables::{Table, Variable};
-use certs::{Limits, MemberSet};
+use crate::tables::Table;
+use crate::variables::Variable;
+use certs::MemberSet;
 use frac128::Frac;
 use lp_model::{Model, Term};
 use std::alloc::Global;
@@ -30,11 +31,11 @@ pub(crate) fn start(alloc: Global, model: &Model, set: &MemberSet) -> Option<Tab
     };
     for index in 0..columns {
         let limits = column_limits(model, set, index);
-        table.variables.push(at_start(limits)).ok()?;
+        table.variables.push(Variable::at_start(limits)).ok()?;
     }
     for index in 0..rows {
         let limits = row_limits(model, set, index);
-        table.variables.push(at_start(limits)).ok()?;
+        table.variables.push(Variable::at_start(limits)).ok()?;
     }
     for index in 0..rows {
         let terms = model.row(index).terms.as_slice();
@@ -52,30 +53,16 @@ fn term_count(model: &Model) -> Option<usize> {
     Some(count)
 }
 
-// A nonbasic variable at its limit.
-fn at_start(limits: Limits) -> Variable {
-    let value = limits.lo.or(limits.up).unwrap_or(Frac::whole(0));
-    Variable {
-        value,
-        limits,
-        is_raised: false,
-        is_lowered: false,
-        missed: missed(limits, value),
-        row: None,
-    }
-}
-
 // Puts in the row of a basic variable that is the sum of these terms.
 fn put_row(alloc: Global, table: &mut Table, base: u32, terms: &[Term]) -> Option<()> {
     let value = sum(table, terms)?;
-    let place = table.rows.len();
+    let place = u32::try_from(table.rows.len()).ok()?;
     let known = table.variables.get_mut(base as usize)?;
-    known.value = value;
-    known.missed = missed(known.limits, value);
+    known.put_at(value);
     known.row = Some(place);
     let row = whole_row(alloc, base, terms)?;
     for variable in row.entries.variables.iter() {
-        table.columns.add(*variable, u32::try_from(place).ok()?)?;
+        table.columns.add(*variable, place)?;
     }
     table.stored = table.stored.checked_add(row.entries.len())?;
     table.rows.push(row).ok()

@@ -3,25 +3,14 @@ ghost use Rattle.std.specs.Prelude.{◌≡◌};
 ghost use Rattle.certs.specs.Checks.{IsSetOf};
 
 use crate::columns::Columns;
-use crate::limits::{are_crossed, column_limits, limit_on, missed, row_limits};
+use crate::limits::{column_limits, row_limits};
 use crate::moves::{moved, would_miss};
 use crate::rows::{Sum, TableRow};
+use crate::variables::Variable;
 use certs::{Branch, Limits, MemberSet, Side};
 use frac128::Frac;
 use lp_model::Model;
 use std::alloc::Global;
-
-/// What the table has of a variable: where it stands, its limits and whether a branch gives them, the side whose limit it
-/// misses, and its row where it is basic.
-#[derive(Clone, Copy)]
-pub(crate) struct Variable {
-    pub value: Frac,
-    pub limits: Limits,
-    pub is_raised: bool,
-    pub is_lowered: bool,
-    pub missed: Option<Side>,
-    pub row: Option<usize>,
-}
 
 /// A row that showed that its variable cannot come to its limit on a side.
 #[derive(Clone, Copy)]
@@ -74,11 +63,9 @@ impl Table {
 
     // Puts a variable under other limits.
     fn put_limits(&mut self, variable: u32, limits: Limits) -> Option<()> {
-        let known = self.variables.get_mut(variable as usize)?;
-        known.limits = limits;
-        known.is_raised = false;
-        known.is_lowered = false;
-        known.missed = missed(limits, known.value);
+        self.variables
+            .get_mut(variable as usize)?
+            .put_limits(limits);
         Some(())
     }
 
@@ -86,24 +73,14 @@ impl Table {
     fn narrow(&mut self, branch: Branch) -> Option<()> {
         let known = self.variables.get_mut(branch.column as usize)?;
         let number = Frac::new(branch.at, 1).ok()?;
-        if branch.upper {
-            if known.limits.up.is_none_or(|up| number < up) {
-                known.limits.up = Some(number);
-                known.is_lowered = true;
-            }
-        } else if known.limits.lo.is_none_or(|lo| number > lo) {
-            known.limits.lo = Some(number);
-            known.is_raised = true;
-        }
-        known.missed = missed(known.limits, known.value);
+        known.narrow(number, branch.upper);
         Some(())
     }
 
     /// A column on a path whose limits cross.
     pub(crate) fn crossed(&self, path: &[Branch]) -> Option<u32> {
         for branch in path {
-            let limits = self.variable(branch.column)?.limits;
-            if are_crossed(limits) {
+            if self.variable(branch.column)?.is_crossed() {
                 return Some(branch.column);
             }
         }
@@ -112,10 +89,8 @@ impl Table {
 
     /// Whether a branch gives the limit of a variable on a side.
     pub(crate) fn is_branched(&self, variable: u32, side: Side) -> bool {
-        self.variable(variable).is_some_and(|known| match side {
-            Side::Lo => known.is_raised,
-            Side::Up => known.is_lowered,
-        })
+        self.variable(variable)
+            .is_some_and(|known| known.is_branched(side))
     }
 
     // Moves a nonbasic variable that is outside its limits to the one that it misses.
@@ -127,7 +102,7 @@ impl Table {
         let Some(side) = known.missed else {
             return Some(());
         };
-        let step = limit_on(known.limits, side)?.minus(known.value).ok()?;
+        let step = known.limit_on(side)?.minus(known.value).ok()?;
         self.shift(variable, step)
     }
 
@@ -141,12 +116,10 @@ impl Table {
             let row = self.rows.get(link.place as usize)?;
             let factor = row.entries.factor_of(variable)?;
             let basic = self.variables.get_mut(row.base as usize)?;
-            basic.value = moved(basic.value, factor, row.scale, step)?;
-            basic.missed = missed(basic.limits, basic.value);
+            basic.put_at(moved(basic.value, factor, row.scale, step)?);
         }
         let known = self.variables.get_mut(variable as usize)?;
-        known.value = known.value.plus(step).ok()?;
-        known.missed = missed(known.limits, known.value);
+        known.put_at(known.value.plus(step).ok()?);
         Some(())
     }
 
@@ -176,7 +149,7 @@ impl Table {
     ) -> Option<u32> {
         let known = self.variable(variable)?;
         let value = known.value.plus(step).ok()?;
-        let own = u32::from(missed(known.limits, value).is_some());
+        let own = u32::from(known.missed_at(value).is_some());
         let mended = self.changed_by(variable, step, true, u32::MAX)?;
         let count = now.saturating_add(own).saturating_sub(mended);
         let broken = self.changed_by(variable, step, false, most.saturating_sub(count))?;
@@ -199,7 +172,7 @@ impl Table {
             let basic = self.variable(row.base)?;
             if basic.missed.is_some() == misses {
                 let factor = row.entries.factor_of(variable)?;
-                let after = would_miss(&basic.limits, basic.value, factor, row.scale, step)?;
+                let after = would_miss(basic, factor, row.scale, step)?;
                 count = count.saturating_add(u32::from(after != misses));
             }
         }
@@ -234,7 +207,7 @@ impl Table {
 /// The way of the basic variable of a row to its limit on a side.
 pub(crate) fn way_to(table: &Table, row: &TableRow, side: Side) -> Option<Frac> {
     let basic = table.variable(row.base)?;
-    limit_on(basic.limits, side)?.minus(basic.value).ok()
+    basic.limit_on(side)?.minus(basic.value).ok()
 }
 
 /// The step of a nonbasic variable, which counts so often in a row, that moves the basic one of this row by a way.
