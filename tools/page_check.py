@@ -65,7 +65,7 @@ def members_of(report):
     for line in report.decode().splitlines():
         word, *rest = line.split(" ")
         in_dual = word == "dual" or (in_dual and word == "use")
-        if word == "member" or (in_dual and word == "use"):
+        if word in ("member", "enforced") or (in_dual and word == "use"):
             found.append(rest[:2])
     return found
 

@@ -1,5 +1,5 @@
 -- What filters give as answers.
-use Rattle.std.proofs.Common.{◌≡◌, refl, sym, subst, List, append_assoc, append-nil, length, Ok, Err}
+use Rattle.std.proofs.Common.{◌≡◌, refl, sym, subst, ℕ, Option, List, append_assoc, append-nil, length, Ok, Err}
 use Rattle.std.specs.Prelude.{All, Contains, IfErr, IfOk, None, Result}
 use Rattle.std.proofs.lemmas.List.Elements.{All-contains, All-contains_itself, All-filter, All-weaker}
 use Rattle.lp_model.specs.declared.members.Member.{Member}
@@ -8,6 +8,7 @@ use Rattle.lp_model.specs.Members.{active_members, is_active, possible_members}
 use Rattle.lp_model.specs.MemberSets.{IsPossibleIn, active_set}
 use Rattle.lp_model.specs.Satisfaction.{IsPart, IsSatisfiable}
 use Rattle.lp_model.proofs.Marked.{possible_is}
+use Rattle.certs.specs.declared.evidence.Point.{Point}
 use Rattle.certs.specs.declared.evidence.Proof.{Proof}
 use Rattle.certs.specs.declared.solving.Irreducible.{Irreducible}
 use Rattle.certs.specs.declared.solving.Irreducible.TheVariants.{Set, Feasible as AtPoint}
@@ -18,7 +19,7 @@ use Rattle.certs.specs.declared.solving.Stop.{Stop}
 use Rattle.certs.specs.declared.solving.Verdict.{Verdict}
 use Rattle.certs.specs.declared.solving.Verdict.TheVariants.{Infeasible}
 use Rattle.certs.specs.Order.{AreLeavesInOrder}
-use Rattle.certs.specs.Tales.{OracleState}
+use Rattle.certs.specs.Tales.{IsPointOf, OracleState}
 use Rattle.filter_steps.specs.Isolated.{IsIsolation}
 use Rattle.filter_steps.proofs.Reached.{early_part, late_part, part_of_part}
 use Rattle.report_text.specs.declared.report.Answer.{Answer}
@@ -51,12 +52,13 @@ early_test_is_part model set test t =
 
 -- ---- what a filter gives
 -- is right to a search
-pub found_is_right : (answers : Program → Budgets → List Member → Result Verdict Stop → Type 0) (IsLeft : Program → List Member → List Member → Type 0) (IsKept IsTest : List Member → Type 0) (state : OracleState) (budgets : Budgets) (found : Irreducible)
+pub found_is_right : (answers : Program → Budgets → List Member → Result Verdict Stop → Type 0) (IsLeft : Program → List Member → List Member → Type 0) (IsKept : Core → Type 0) (IsTest : List Member → Type 0) (state : OracleState) (set : List Member) (rounds : Option ℕ) (budgets : Budgets) (found : Irreducible)
     → ((asked : List Member) (proof : Proof) → answers state.model state.budgets asked (Ok (Infeasible proof)) → AreLeavesInOrder proof.nodes)
     → ((asked : List Member) (proof : Proof) → answers state.model state.budgets asked (Ok (Infeasible proof)) → All IsFittingNode proof.nodes)
-    → ((k : List Member) → IsLeft state.model (active_members state.model) k → IsKept k) → ((k : List Member) → IsLeft state.model (active_members state.model) k → IsPart k (active_members state.model))
-    → IsFoundInOrder found → IsIsolation IsLeft answers state (active_members state.model) found → IsIsolated IsKept IsTest state.model budgets (answer_of found)
-found_is_right answers IsLeft IsKept IsTest state budgets (Set members witnesses proof) ordered fits kept part order h = (
+    → ((core : Core) → core.rounds ≡ rounds → IsLeft state.model set core.members.members → IsKept core) → ((k : List Member) → IsLeft state.model set k → IsPart k (active_members state.model))
+    → ((p : Point) → IsPointOf state.model set p → IsPointOf state.model (active_members state.model) p)
+    → IsFoundInOrder found → IsIsolation IsLeft answers state set found → IsIsolated IsKept IsTest state.model budgets (answer_of rounds found)
+found_is_right answers IsLeft IsKept IsTest state set rounds budgets (Set members witnesses proof) ordered fits kept part at order h = (
   record {
     of_model = h.same;
     active = part members.members h.kept;
@@ -66,12 +68,11 @@ found_is_right answers IsLeft IsKept IsTest state budgets (Set members witnesses
     fits = subst (All IsFittingNode) (sym h.told.nodes_are) (fits h.told.asked h.told.proof h.told.answered);
     witnesses = h.witnesses;
     irreducible = h.irreducible;
-    rounds = refl;
     price = refl;
   },
-  kept members.members h.kept,
+  kept (record { members = members; witnesses = witnesses.items; proof = proof; rounds = rounds; price = None }) refl h.kept,
 )
-found_is_right answers IsLeft IsKept IsTest state budgets (AtPoint point) ordered fits kept part order h = h
+found_is_right answers IsLeft IsKept IsTest state set rounds budgets (AtPoint point) ordered fits kept part at order h = at point h
 
 -- ---- and can be printed
 pub possible_members_are : (model : Program) → All (IsPossibleIn (active_set model)) (active_members model)
@@ -93,34 +94,36 @@ known_core model core h = record {
   proof = known_proof model core.members.members core.proof h.active h.proves;
 }
 
-pub found_is_known : (IsKept IsTest : List Member → Type 0) (model : Program) (budgets : Budgets) (found : Irreducible) → IsIsolated IsKept IsTest model budgets (answer_of found) → IsKnownAnswer model (answer_of found)
-found_is_known IsKept IsTest model budgets (Set members witnesses proof) h = known_core model (record { members = members; witnesses = witnesses.items; proof = proof; rounds = None; price = None }) h.0
-found_is_known IsKept IsTest model budgets (AtPoint point) h = h.each_column
+pub found_is_known : (IsKept : Core → Type 0) (IsTest : List Member → Type 0) (model : Program) (rounds : Option ℕ) (budgets : Budgets) (found : Irreducible) → IsIsolated IsKept IsTest model budgets (answer_of rounds found) → IsKnownAnswer model (answer_of rounds found)
+found_is_known IsKept IsTest model rounds budgets (Set members witnesses proof) h = known_core model (record { members = members; witnesses = witnesses.items; proof = proof; rounds = rounds; price = None }) h.0
+found_is_known IsKept IsTest model rounds budgets (AtPoint point) h = h.each_column
 
 -- ---- the answer
 -- for what a filter finds
-found_answer : (answers : Program → Budgets → List Member → Result Verdict Stop → Type 0) (IsLeft : Program → List Member → List Member → Type 0) (IsKept IsTest : List Member → Type 0) (state : OracleState) (budgets : Budgets) (found : Irreducible) (answer : Answer)
+found_answer : (answers : Program → Budgets → List Member → Result Verdict Stop → Type 0) (IsLeft : Program → List Member → List Member → Type 0) (IsKept : Core → Type 0) (IsTest : List Member → Type 0) (state : OracleState) (set : List Member) (rounds : Option ℕ) (budgets : Budgets) (found : Irreducible) (answer : Answer)
     → ((asked : List Member) (proof : Proof) → answers state.model state.budgets asked (Ok (Infeasible proof)) → AreLeavesInOrder proof.nodes)
     → ((asked : List Member) (proof : Proof) → answers state.model state.budgets asked (Ok (Infeasible proof)) → All IsFittingNode proof.nodes)
-    → ((k : List Member) → IsLeft state.model (active_members state.model) k → IsKept k) → ((k : List Member) → IsLeft state.model (active_members state.model) k → IsPart k (active_members state.model))
-    → (answer ≡ answer_of found) × IsFoundInOrder found → IsIsolation IsLeft answers state (active_members state.model) found → IsIsolated IsKept IsTest state.model budgets answer × IsKnownAnswer state.model answer
-found_answer answers IsLeft IsKept IsTest state budgets found answer ordered fits kept part is h =
-    let right : IsIsolated IsKept IsTest state.model budgets (answer_of found) = found_is_right answers IsLeft IsKept IsTest state budgets found ordered fits kept part is.1 h in (
+    → ((core : Core) → core.rounds ≡ rounds → IsLeft state.model set core.members.members → IsKept core) → ((k : List Member) → IsLeft state.model set k → IsPart k (active_members state.model))
+    → ((p : Point) → IsPointOf state.model set p → IsPointOf state.model (active_members state.model) p)
+    → (answer ≡ answer_of rounds found) × IsFoundInOrder found → IsIsolation IsLeft answers state set found → IsIsolated IsKept IsTest state.model budgets answer × IsKnownAnswer state.model answer
+found_answer answers IsLeft IsKept IsTest state set rounds budgets found answer ordered fits kept part at is h =
+    let right : IsIsolated IsKept IsTest state.model budgets (answer_of rounds found) = found_is_right answers IsLeft IsKept IsTest state set rounds budgets found ordered fits kept part at is.1 h in (
       subst (IsIsolated IsKept IsTest state.model budgets) (sym is.0) right,
-      subst (IsKnownAnswer state.model) (sym is.0) (found_is_known IsKept IsTest state.model budgets found right),
+      subst (IsKnownAnswer state.model) (sym is.0) (found_is_known IsKept IsTest state.model rounds budgets found right),
     )
 
 -- and for what it gives, a stop included
-pub given_answer : (answers : Program → Budgets → List Member → Result Verdict Stop → Type 0) (IsLeft : Program → List Member → List Member → Type 0) (IsKept IsTest : List Member → Type 0) (state : OracleState) (budgets : Budgets)
+pub given_answer : (answers : Program → Budgets → List Member → Result Verdict Stop → Type 0) (IsLeft : Program → List Member → List Member → Type 0) (IsKept : Core → Type 0) (IsTest : List Member → Type 0) (state : OracleState) (set : List Member) (rounds : Option ℕ) (budgets : Budgets)
     (given : Result Irreducible Stop) {E : Type 0} (result : Result Answer E)
     → ((asked : List Member) (proof : Proof) → answers state.model state.budgets asked (Ok (Infeasible proof)) → AreLeavesInOrder proof.nodes)
     → ((asked : List Member) (proof : Proof) → answers state.model state.budgets asked (Ok (Infeasible proof)) → All IsFittingNode proof.nodes)
-    → ((k : List Member) → IsLeft state.model (active_members state.model) k → IsKept k) → ((k : List Member) → IsLeft state.model (active_members state.model) k → IsPart k (active_members state.model))
-    → IfOk given (IsIsolation IsLeft answers state (active_members state.model)) → IfErr given (IsRunOf IsTest state.model budgets)
-    → IfOk result (IsAnswerOf given) → IfOk result (IsIsolated IsKept IsTest state.model budgets) × IfOk result (IsKnownAnswer state.model)
-given_answer answers IsLeft IsKept IsTest state budgets (Ok found) (Ok answer) ordered fits kept part h run is = found_answer answers IsLeft IsKept IsTest state budgets found answer ordered fits kept part is h
-given_answer answers IsLeft IsKept IsTest state budgets (Err stop) {E} (Ok answer) ordered fits kept part h run is =
+    → ((core : Core) → core.rounds ≡ rounds → IsLeft state.model set core.members.members → IsKept core) → ((k : List Member) → IsLeft state.model set k → IsPart k (active_members state.model))
+    → ((p : Point) → IsPointOf state.model set p → IsPointOf state.model (active_members state.model) p)
+    → IfOk given (IsIsolation IsLeft answers state set) → IfErr given (IsRunOf IsTest state.model budgets)
+    → IfOk result (IsAnswerOf rounds given) → IfOk result (IsIsolated IsKept IsTest state.model budgets) × IfOk result (IsKnownAnswer state.model)
+given_answer answers IsLeft IsKept IsTest state set rounds budgets (Ok found) (Ok answer) ordered fits kept part at h run is = found_answer answers IsLeft IsKept IsTest state set rounds budgets found answer ordered fits kept part at is h
+given_answer answers IsLeft IsKept IsTest state set rounds budgets (Err stop) {E} (Ok answer) ordered fits kept part at h run is =
     let stopped : IsStopAnswer IsTest state.model budgets answer = run_answer IsTest state.model budgets stop {E = E} (Ok answer) run is in
     (isolated_stop IsKept IsTest state.model budgets {E = E} (Ok answer) stopped, known_stopped IsTest state.model budgets {E = E} (Ok answer) stopped)
-given_answer answers IsLeft IsKept IsTest state budgets (Ok found) (Err error) ordered fits kept part h run is = (tt, tt)
-given_answer answers IsLeft IsKept IsTest state budgets (Err stop) (Err error) ordered fits kept part h run is = (tt, tt)
+given_answer answers IsLeft IsKept IsTest state set rounds budgets (Ok found) (Err error) ordered fits kept part at h run is = (tt, tt)
+given_answer answers IsLeft IsKept IsTest state set rounds budgets (Err stop) (Err error) ordered fits kept part at h run is = (tt, tt)

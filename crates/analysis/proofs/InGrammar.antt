@@ -7,7 +7,7 @@ use Rattle.rational.specs.Rational.{ℚ}
 use Rattle.std.proofs.lemmas.List.{get_or_past, get_or_default}
 use Rattle.std.proofs.lemmas.List.Elements.{All-append, All-contains, All-contains_itself, All-cons, All-filter, All-head, All-nil, All-tail, All-weaker}
 use Rattle.std.proofs.lemmas.List.Kept.{AllPairs-filter}
-use Rattle.rational.specs.Rational.{zero_ℚ}
+use Rattle.rational.specs.Rational.{zero_ℚ, ◌<ℚ◌}
 use Rattle.lp_model.specs.declared.members.Member.{Member}
 use Rattle.lp_model.specs.declared.members.Member.TheVariants.{RowLo, RowUp, Lower, Upper, Whole}
 use Rattle.lp_model.specs.Program.{Program, NamedRow, NamedColumn, IsWellFormed, empty_column, empty_row, noted_column}
@@ -33,15 +33,18 @@ use Rattle.certs.specs.Order.{AreLeavesInOrder, AreSharesInOrder, IsNodeInOrder}
 use Rattle.certs.specs.Proof.{IsFittingNode, IsProof}
 use Rattle.certs.specs.Sites.{Budgets}
 use Rattle.certs.specs.Tales.{IsPointOf}
+use Rattle.certs.specs.Violation.{rigid_members}
+use Rattle.bound_checks.specs.declared.bounds.Dual.{Dual}
+use Rattle.least_checks.specs.Least.{IsLeastBy}
 use Rattle.filter_steps.specs.Isolated.{without}
 use Rattle.report_text.specs.declared.report.Method.{Method}
-use Rattle.report_text.specs.declared.report.Method.TheVariants.{Deletion, Additive, Sensitivity}
+use Rattle.report_text.specs.declared.report.Method.TheVariants.{Deletion, Additive, Sensitivity, Elastic}
 use Rattle.report_text.specs.declared.report.Core.{Core}
 use Rattle.report_text.specs.declared.report.Bounded.{Bounded}
 use Rattle.report_text.specs.declared.report.Command.{Command}
-use Rattle.report_text.specs.declared.report.Command.TheVariants.{Check, Iis, Unbounded, Reduce, Edit, Undo, Pivots, Nodes as MostNodes}
+use Rattle.report_text.specs.declared.report.Command.TheVariants.{Check, Iis, Unbounded, Relax, Reduce, Edit, Undo, Pivots, Nodes as MostNodes}
 use Rattle.report_text.specs.declared.report.Answer.{Answer}
-use Rattle.report_text.specs.declared.report.Answer.TheVariants.{Feasible, Infeasible, Irreducible, Unbounded as RunsAway, Bounded as BoundedBy, Reduced, Done, Refused, Stopped}
+use Rattle.report_text.specs.declared.report.Answer.TheVariants.{Feasible, Infeasible, Irreducible, Unbounded as RunsAway, Bounded as BoundedBy, Least as LeastBy, RigidInfeasible as RigidRefuted, Reduced, Done, Refused, NotLinear, Stopped}
 use Rattle.report_text.specs.declared.report.Entry.{Entry}
 use Rattle.lp_model.specs.declared.edits.Edit.{Edit as OneEdit}
 use Rattle.model_history.specs.History.{changes}
@@ -52,21 +55,24 @@ use Rattle.report_text.specs.Turns.{after, edits_after, AllEntries, entry_comman
 use Rattle.model_session.proofs.Standing.{after_well_formed}
 use Rattle.model_session.proofs.Unchanged.{same_names, rows_same, columns_same, row_name_same, column_name_same}
 use Rattle.report_text.specs.Grammar.{column_name}
-use Rattle.report_text.specs.Form.{is_one_leaf, is_word, AreUses, IsBoundedFor, IsRayFor, IsWithinLimit, IsNamedColumn, IsNamedMember, IsNamedRow, IsListed, IsPointFor, IsNamedSource, IsNodeFor, IsProofFor, IsRunSite, IsSiteFor, IsStopFor, IsStepFor, IsCoreFor, IsAnswerFor, IsCommand, IsEntryFor, IsReportFor, AreEntriesFor, AreNumbered, can_answer}
+use Rattle.report_text.specs.Form.{is_one_leaf, is_word, AreUses, IsBoundedFor, IsRayFor, IsWithinLimit, IsNamedColumn, IsNamedMember, IsNamedRow, IsListed, IsPointFor, IsNamedSource, IsNodeFor, IsProofFor, IsRunSite, IsSiteFor, IsStopFor, IsStepFor, IsCoreFor, IsAnswerFor, IsCommand, IsEntryFor, IsReportFor, AreEntriesFor, AreNumbered, IsLeastFor, can_answer, has_rounds}
 use Rattle.evidence_printer.specs.Numbers.{IsStepWithin}
 use Rattle.reductions.specs.declared.steps.ReduceStep.{ReduceStep}
 use Rattle.reductions.specs.declared.steps.ReduceStep.TheVariants.{Empty, Singleton, Fixed, Redundant, Forcing, Doubleton}
 use Rattle.report_printer.specs.Printing.{IsKnownSource, IsKnownStep}
-use Rattle.report_printer.specs.Numbers.{HasNumbersWithin, HasValuesWithin, IsBoundedWithin, IsRayWithin, HasWeightsWithin, HasWitnessesWithin, IsCoreWithin, IsProofWithin, IsStopWithin}
+use Rattle.report_printer.specs.Numbers.{HasNumbersWithin, HasValuesWithin, IsBoundedWithin, IsLeastWithin, IsRayWithin, HasWeightsWithin, HasWitnessesWithin, IsCoreWithin, IsProofWithin, IsStopWithin}
 use Rattle.analysis.specs.NamesAreWords.{HasWords}
 use Rattle.unbounded.specs.Diagnosed.{IsBoundedBy, IsUnboundedBy}
 use Rattle.analysis.specs.Objectives.{IsDiagnosed, IsImproveStop, IsTold, diagnosis_size, most_entries}
-use Rattle.analysis.specs.Right.{AreRight, IsChecked, IsIsolated, IsReduction, IsRefutation, IsRightAfter, IsRightCore, IsRightStop, IsWhole, Right, RightAfter, budgets_in_force}
+use Rattle.analysis.specs.Least.{IsEasedStop, IsLeastTold}
+use Rattle.analysis.specs.Linear.{IsLinearly, IsLinearlyBy, elastic_size, first_mark}
+use Rattle.analysis.specs.Right.{AreRight, IsChecked, IsEnforcedTold, IsIsolated, IsLateOfRounds, IsReduction, IsRefutation, IsRightAfter, IsRightCore, IsRightStop, IsRoundAnswer, IsRoundStop, IsRoundsTest, IsWhole, Right, RightAfter, budgets_in_force}
 use Rattle.analysis.specs.Pieces.{Answers}
 use Rattle.analysis.proofs.Leaving.{known_steps}
 use Rattle.analysis.specs.Written.{report_of}
 use Rattle.analysis.proofs.Found.{part_possible, possible_members_are}
-use Rattle.analysis.proofs.Objectives.{dual_sources}
+use Rattle.analysis.proofs.Marks.{mark_known}
+use Rattle.analysis.proofs.Objectives.{dual_sources, least_sources}
 use Rattle.analysis.proofs.Refuting.{IsSoundNode, sound_nodes}
 
 -- ---- lists
@@ -110,8 +116,11 @@ module _ (model : Program) (words : HasWords model) where
         | inr l ↦ absurd (nonzero (get_or_past p.values j zero_ℚ (subst (λ (n : ℕ). n ≤ j) (sym e) l)))
       ]
 
+  values_form : (p : Point) → length p.values ≡ length model.columns → HasValuesWithin p → IsPointFor model p
+  values_form p each within = record { len = each; fits = within; named = value_named p each }
+
   point_form : (members : List Member) (p : Point) → IsPointOf model members p → HasValuesWithin p → IsPointFor model p
-  point_form members p h within = record { len = h.each_column; fits = within; named = value_named p h.each_column }
+  point_form members p h within = values_form p h.each_column within
 
   -- ---- proofs
   source_named : (source : Source) → IsKnownSource model source → IsNamedSource model source
@@ -164,7 +173,7 @@ module _ (model : Program) (words : HasWords model) where
         point_form (without core.members.members k) (get_or core.witnesses k d) (h.witnesses.each k d l)
         (each_within core.members.members core.witnesses h.witnesses.as_many within.witnesses k d l);
     proof = proof_form core.members.members h.active core.proof h.proves h.ordered h.fits within.proof;
-    rounds = h.rounds;
+    rounds = within.rounds;
     price = h.price;
   }
 
@@ -173,6 +182,10 @@ module _ (model : Program) (words : HasWords model) where
   site_form site h = record {
     run = h;
     named = All-filter (λ (m : Member). not (has site.set.members m)) (IsNamedMember model) (active_members model) active_named;
+    enforced =
+        subst (All (IsNamedMember model)) (sym h.enforced_part)
+        (All-filter (has site.enforced.members) (IsNamedMember model) site.set.members
+        (subst (All (IsNamedMember model)) (sym h.active) (All-filter (has site.set.members) (IsNamedMember model) (active_members model) active_named)));
     path = All-weaker (λ (b : Branch). b.column < length model.columns) (λ (b : Branch). IsNamedColumn model b.column) (λ b l. named_column b.column l) site.path h.known;
   }
 
@@ -194,35 +207,90 @@ module _ (model : Program) (words : HasWords model) where
   checked_form budgets (Irreducible core) h within = absurd h
   checked_form budgets (RunsAway p ray) h within = absurd h
   checked_form budgets (BoundedBy b) h within = absurd h
+  checked_form budgets (LeastBy p dual) h within = absurd h
+  checked_form budgets (RigidRefuted printed proof) h within = absurd h
   checked_form budgets (Reduced r) h within = absurd h
   checked_form budgets Done h within = absurd h
   checked_form budgets (Refused r) h within = absurd h
+  checked_form budgets (NotLinear j) h within = absurd h
   checked_form budgets (Stopped stop) h within = (refl, stop_form (IsWhole model) budgets stop h within)
 
-  isolated_form : (IsKept IsTest : List Member → Type 0) (method : Method) (budgets : Budgets) (answer : Answer) → IsIsolated IsKept IsTest model budgets answer → HasNumbersWithin answer → IsAnswerTo (Iis method) answer
-  isolated_form IsKept IsTest method budgets (Feasible p) h within = (refl, point_form (active_members model) p h within)
-  isolated_form IsKept IsTest method budgets (Infeasible printed proof) h within = absurd h
-  isolated_form IsKept IsTest method budgets (Irreducible core) h within = (refl, core_form core h.0 within)
-  isolated_form IsKept IsTest method budgets (RunsAway p ray) h within = absurd h
-  isolated_form IsKept IsTest method budgets (BoundedBy b) h within = absurd h
-  isolated_form IsKept IsTest method budgets (Reduced r) h within = absurd h
-  isolated_form IsKept IsTest method budgets Done h within = absurd h
-  isolated_form IsKept IsTest method budgets (Refused r) h within = absurd h
-  isolated_form IsKept IsTest method budgets (Stopped stop) h within = (refl, stop_form IsTest budgets stop h within)
+  -- rounds are told just where the method has them
+  isolated_form : (IsKept : Core → Type 0) (IsTest : List Member → Type 0) (method : Method) (budgets : Budgets) (answer : Answer)
+      → ((core : Core) → IsKept core → has_rounds method core.rounds ≡ true) → IsIsolated IsKept IsTest model budgets answer → HasNumbersWithin answer → IsAnswerTo (Iis method) answer
+  isolated_form IsKept IsTest method budgets (Feasible p) told h within = (refl, point_form (active_members model) p h within)
+  isolated_form IsKept IsTest method budgets (Infeasible printed proof) told h within = absurd h
+  isolated_form IsKept IsTest method budgets (Irreducible core) told h within = (told core h.1, core_form core h.0 within)
+  isolated_form IsKept IsTest method budgets (RunsAway p ray) told h within = absurd h
+  isolated_form IsKept IsTest method budgets (BoundedBy b) told h within = absurd h
+  isolated_form IsKept IsTest method budgets (LeastBy p dual) told h within = absurd h
+  isolated_form IsKept IsTest method budgets (RigidRefuted printed proof) told h within = absurd h
+  isolated_form IsKept IsTest method budgets (Reduced r) told h within = absurd h
+  isolated_form IsKept IsTest method budgets Done told h within = absurd h
+  isolated_form IsKept IsTest method budgets (Refused r) told h within = absurd h
+  isolated_form IsKept IsTest method budgets (NotLinear j) told h within = absurd h
+  isolated_form IsKept IsTest method budgets (Stopped stop) told h within = (refl, stop_form IsTest budgets stop h within)
+
+  -- ---- of programs without active marks
+  -- the column of the first mark is one of the program
+  mark_form : (j : ℕ) → first_mark (active_members model) ≡ Some j → IsNamedColumn model j
+  mark_form j e = named_column j (mark_known model j e)
+
+  linearly_form : (command : Command) (size : ℕ) (IsTold : Answer → Type 0) (answer : Answer)
+      → ((j : ℕ) → can_answer command (NotLinear j) ≡ true) → ((n : ℕ) → can_answer command (Stopped (Large n)) ≡ true) → ((a : Answer) → IsTold a → HasNumbersWithin a → IsAnswerTo command a)
+      → IsLinearly model size IsTold answer → HasNumbersWithin answer → IsAnswerTo command answer
+  linearly_form command size IsTold answer marks larges told h within = by (first_mark (active_members model)) refl h
+    where
+      by : (mark : Option ℕ) → first_mark (active_members model) ≡ mark → IsLinearlyBy mark size IsTold answer → IsAnswerTo command answer
+      by (Some j) e h = subst (IsAnswerTo command) (sym h) (marks j, mark_form j e)
+      by None e h = elim (cases_lt most_entries size) [
+        | inl l ↦ subst (IsAnswerTo command) (sym (h.0 l)) (larges size, subst HasNumbersWithin (h.0 l) within)
+        | inr l ↦ told answer (h.1 l) within
+      ]
+
+  -- ---- the elastic filter
+  round_form : (budgets : Budgets) (stop : Stop) → IsRoundStop model budgets stop → IsStopWithin stop → IsStopFor model stop
+  round_form budgets (TooWide site k o) h within = (site_form site h.0, within)
+  round_form budgets (Spent site) h within = site_form site h.0
+  round_form budgets (Nodes site) h within = absurd h
+  round_form budgets (Large size) h within = absurd h
+  round_form budgets Memory h within = absurd h
+
+  round_answer_form : (budgets : Budgets) (answer : Answer) → IsRoundAnswer model budgets answer → HasNumbersWithin answer → IsAnswerTo (Iis Elastic) answer
+  round_answer_form budgets (Feasible p) h within = absurd h
+  round_answer_form budgets (Infeasible printed proof) h within = absurd h
+  round_answer_form budgets (Irreducible core) h within = absurd h
+  round_answer_form budgets (RunsAway p ray) h within = absurd h
+  round_answer_form budgets (BoundedBy b) h within = absurd h
+  round_answer_form budgets (LeastBy p dual) h within = absurd h
+  round_answer_form budgets (RigidRefuted printed proof) h within = absurd h
+  round_answer_form budgets (Reduced r) h within = absurd h
+  round_answer_form budgets Done h within = absurd h
+  round_answer_form budgets (Refused r) h within = absurd h
+  round_answer_form budgets (NotLinear j) h within = absurd h
+  round_answer_form budgets (Stopped stop) h within = (refl, round_form budgets stop h within)
+
+  enforced_form : (budgets : Budgets) (answer : Answer) → IsEnforcedTold model budgets answer → HasNumbersWithin answer → IsAnswerTo (Iis Elastic) answer
+  enforced_form budgets answer (inl h) within =
+      isolated_form (IsLateOfRounds model) (IsRoundsTest model) Elastic budgets answer (λ core k. subst (λ (rounds : Option ℕ). has_rounds Elastic rounds ≡ true) (sym k.told) refl) h within
+  enforced_form budgets answer (inr h) within = round_answer_form budgets answer h within
 
   -- ---- the objective
   ray_form : (p : Point) (ray : Ray) → IsUnboundedBy model (active_members model) p ray → IsRayWithin ray → IsRayFor model ray
   ray_form p ray h within = record { len = h.each_column; fits = within; named = value_named (record { values = ray.values }) h.each_column }
 
-  uses_form : (shares : List Share) (b : ℚ) → IsBoundDual model (without_marks (active_members model)) shares b → AreSharesInOrder shares → All (λ s. IsWithinLimit s.weight) shares → AreUses model shares
-  uses_form shares b h ordered within = record {
+  shares_form : (shares : List Share) → All (λ s. IsKnownSource model s.source) shares → All (λ s. zero_ℚ <ℚ s.weight) shares → AreSharesInOrder shares → All (λ s. IsWithinLimit s.weight) shares → AreUses model shares
+  shares_form shares sources positive ordered within = record {
     each = λ k d l. record {
-      named = source_named (get_or shares k d).source (dual_sources model shares b h k d l);
-      positive = h.positive k d l;
+      named = source_named (get_or shares k d).source (sources k d l);
+      positive = positive k d l;
       fits = within k d l;
     };
     in_order = ordered;
   }
+
+  uses_form : (shares : List Share) (b : ℚ) → IsBoundDual model (without_marks (active_members model)) shares b → AreSharesInOrder shares → All (λ s. IsWithinLimit s.weight) shares → AreUses model shares
+  uses_form shares b h ordered within = shares_form shares (dual_sources model shares b h) h.positive ordered within
 
   bounded_form : (b : Bounded) → IsBoundedBy model (active_members model) b.point b.objective b.dual → IsBoundedWithin b → IsBoundedFor model b
   bounded_form b h within = record {
@@ -245,9 +313,12 @@ module _ (model : Program) (words : HasWords model) where
   told_form budgets (Irreducible core) h within = absurd h
   told_form budgets (RunsAway p ray) h within = (refl, (point_form (active_members model) p h.0.point_of within.0, ray_form p ray h.0 within.1))
   told_form budgets (BoundedBy b) h within = (refl, bounded_form b h.0 within)
+  told_form budgets (LeastBy p dual) h within = absurd h
+  told_form budgets (RigidRefuted printed proof) h within = absurd h
   told_form budgets (Reduced r) h within = absurd h
   told_form budgets Done h within = absurd h
   told_form budgets (Refused r) h within = absurd h
+  told_form budgets (NotLinear j) h within = absurd h
   told_form budgets (Stopped stop) (inl h) within = (refl, stop_form (IsWhole model) budgets stop h within)
   told_form budgets (Stopped stop) (inr h) within = (refl, improve_form budgets stop h within)
 
@@ -256,6 +327,35 @@ module _ (model : Program) (words : HasWords model) where
     | inl l ↦ subst (IsAnswerTo Unbounded) (sym (h.large l)) (refl, subst HasNumbersWithin (h.large l) within)
     | inr l ↦ told_form budgets answer (h.told l) within
   ]
+
+  -- ---- how little must give way
+  eased_form : (budgets : Budgets) (stop : Stop) → IsEasedStop model budgets stop → IsStopWithin stop → IsStopFor model stop
+  eased_form budgets (TooWide site k o) h within = (site_form site h.0, within)
+  eased_form budgets (Spent site) h within = site_form site h.0
+  eased_form budgets (Nodes site) h within = absurd h
+  eased_form budgets (Large size) h within = absurd h
+  eased_form budgets Memory h within = absurd h
+
+  least_form : (p : Point) (dual : Dual) → IsLeastBy model (active_members model) p dual → IsLeastWithin p dual → IsLeastFor model p dual
+  least_form p dual h within = record {
+    point = values_form p h.each_column within.point;
+    total = within.weights.bound;
+    uses = shares_form dual.combo.shares (least_sources model dual.combo.shares dual.bound h.dual_of) h.dual_of.positive h.ordered within.weights.weights;
+  }
+
+  relaxed_form : (budgets : Budgets) (answer : Answer) → IsLeastTold model budgets answer → HasNumbersWithin answer → IsAnswerTo Relax answer
+  relaxed_form budgets (Feasible p) h within = absurd h
+  relaxed_form budgets (Infeasible printed proof) h within = absurd h
+  relaxed_form budgets (Irreducible core) h within = absurd h
+  relaxed_form budgets (RunsAway p ray) h within = absurd h
+  relaxed_form budgets (BoundedBy b) h within = absurd h
+  relaxed_form budgets (LeastBy p dual) h within = (refl, least_form p dual h within)
+  relaxed_form budgets (RigidRefuted printed proof) h within = (h.1.1, refutation_form printed proof h.0 within)
+  relaxed_form budgets (Reduced r) h within = absurd h
+  relaxed_form budgets Done h within = absurd h
+  relaxed_form budgets (Refused r) h within = absurd h
+  relaxed_form budgets (NotLinear j) h within = absurd h
+  relaxed_form budgets (Stopped stop) h within = (refl, eased_form budgets stop h within)
 
   -- ---- reductions
   named_row : (i : ℕ) → i < length model.rows → IsNamedRow model i
@@ -278,17 +378,23 @@ module _ (model : Program) (words : HasWords model) where
   reduction_form formed (Irreducible core) h within = absurd h
   reduction_form formed (RunsAway p ray) h within = absurd h
   reduction_form formed (BoundedBy b) h within = absurd h
+  reduction_form formed (LeastBy p dual) h within = absurd h
+  reduction_form formed (RigidRefuted printed proof) h within = absurd h
   reduction_form formed Done h within = absurd h
   reduction_form formed (Refused r) h within = absurd h
+  reduction_form formed (NotLinear j) h within = absurd h
   reduction_form formed (Stopped stop) h within = absurd h
 
   answer_form : IsWellFormed model → (budgets : Budgets) (command : Command) (answer : Answer) → Right model budgets command answer → HasNumbersWithin answer → IsAnswerTo command answer
   answer_form formed budgets Unbounded answer h within = diagnosed_form budgets answer h within
   answer_form formed budgets Reduce answer h within = reduction_form formed answer h within
   answer_form formed budgets Check answer h within = checked_form budgets answer h within
-  answer_form formed budgets (Iis Deletion) answer h within = isolated_form _ _ Deletion budgets answer h within
-  answer_form formed budgets (Iis Additive) answer h within = isolated_form _ _ Additive budgets answer h within
-  answer_form formed budgets (Iis Sensitivity) answer h within = isolated_form _ _ Sensitivity budgets answer h within
+  answer_form formed budgets Relax answer h within =
+      linearly_form Relax (elastic_size model (active_members model) (rigid_members model (active_members model))) (IsLeastTold model budgets) answer (λ j. refl) (λ n. refl) (relaxed_form budgets) h within
+  answer_form formed budgets (Iis Deletion) answer h within = isolated_form _ _ Deletion budgets answer (λ core k. subst (λ (rounds : Option ℕ). has_rounds Deletion rounds ≡ true) (sym k.0) refl) h within
+  answer_form formed budgets (Iis Additive) answer h within = isolated_form _ _ Additive budgets answer (λ core k. subst (λ (rounds : Option ℕ). has_rounds Additive rounds ≡ true) (sym k.0) refl) h within
+  answer_form formed budgets (Iis Elastic) answer h within = linearly_form (Iis Elastic) (elastic_size model (active_members model) []) (IsEnforcedTold model budgets) answer (λ j. refl) (λ n. refl) (enforced_form budgets) h within
+  answer_form formed budgets (Iis Sensitivity) answer h within = isolated_form _ _ Sensitivity budgets answer (λ core k. subst (λ (rounds : Option ℕ). has_rounds Sensitivity rounds ≡ true) (sym k.0) refl) h within
   answer_form formed budgets (Edit e) answer h within = absurd h
   answer_form formed budgets Undo answer h within = absurd h
   answer_form formed budgets (Pivots n) answer h within = subst (IsAnswerTo (Pivots n)) (sym h) (refl, tt)
@@ -327,6 +433,7 @@ module _ (model : Program) (words : HasWords model) where
   right_form before formed (Edit e) answer h within = subst (IsAnswerTo (after model before) (words_stand model before words) (Edit e)) (sym h) (edit_form (after model before) (words_stand model before words) e (after model before) (named_edit model e))
   right_form before formed Undo answer h within = subst (IsAnswerTo (after model before) (words_stand model before words) Undo) (sym h) (undo_form (after model before) (words_stand model before words) (edits_after model before))
   right_form before formed Unbounded answer h within = answer_form (after model before) (words_stand model before words) formed (budgets_in_force before) Unbounded answer h within
+  right_form before formed Relax answer h within = answer_form (after model before) (words_stand model before words) formed (budgets_in_force before) Relax answer h within
   right_form before formed Reduce answer h within = answer_form (after model before) (words_stand model before words) formed (budgets_in_force before) Reduce answer h within
   right_form before formed (Pivots n) answer h within = answer_form (after model before) (words_stand model before words) formed (budgets_in_force before) (Pivots n) answer h within
   right_form before formed (MostNodes n) answer h within = answer_form (after model before) (words_stand model before words) formed (budgets_in_force before) (MostNodes n) answer h within

@@ -12,3 +12,7 @@ pub mod Sofar
 pub mod Report
 pub mod InGrammar
 pub mod Objectives
+pub mod Marks
+pub mod Sizes
+pub mod Easing
+pub mod Chained

@@ -9,9 +9,9 @@ use Rattle.report_text.specs.declared.report.Method.{Method}
 use Rattle.report_text.specs.declared.report.NamedEdit.{NamedEdit}
 use Rattle.report_text.specs.declared.report.Refusal.{Refusal}
 use Rattle.report_text.specs.declared.report.Command.{Command}
-use Rattle.report_text.specs.declared.report.Command.TheVariants.{Check, Iis, Unbounded, Reduce, Edit, Undo, Pivots, Nodes}
+use Rattle.report_text.specs.declared.report.Command.TheVariants.{Check, Iis, Unbounded, Relax, Reduce, Edit, Undo, Pivots, Nodes}
 use Rattle.report_text.specs.declared.report.Answer.{Answer}
-use Rattle.report_text.specs.declared.report.Answer.TheVariants.{Feasible, Infeasible, Irreducible, Unbounded as RunsAway, Bounded as BoundedBy, Reduced, Done, Refused, Stopped}
+use Rattle.report_text.specs.declared.report.Answer.TheVariants.{Feasible, Infeasible, Irreducible, Unbounded as RunsAway, Bounded as BoundedBy, Least as LeastBy, RigidInfeasible as RigidRefuted, Reduced, Done, Refused, NotLinear, Stopped}
 use Rattle.report_text.specs.declared.phrases.Phrase.{Phrase}
 use Rattle.report_text.specs.Edits.{named_edit, edit_answer, undo_answer}
 use Rattle.report_text.specs.Turns.{after, edits_after}
@@ -22,6 +22,7 @@ use Rattle.model_session.proofs.Taken.{session_stays}
 use Rattle.model_session.proofs.Unchanged.{same_names, phrases_text_same}
 use Rattle.report_printer.specs.Printing.{IsKnownAnswer}
 use Rattle.analysis.specs.Objectives.{IsDiagnosed}
+use Rattle.analysis.specs.Least.{IsRelaxation}
 use Rattle.analysis.specs.Right.{IsChecked, IsFound, IsReduction, RightAfter, budgets_in_force}
 use Rattle.analysis.specs.Answers.{IsNext}
 use Rattle.analysis.specs.Pieces.{entry_text}
@@ -48,6 +49,12 @@ module _ (old : HistoryValue) (budgets : Budgets) where
   diagnosis_next answer h = record {
     goes_on = λ first before e. e ∙ session_stays first before Unbounded refl;
     right = λ first before e b. here (λ p c. IsDiagnosed p c answer) old budgets first before e b h;
+  }
+
+  pub relaxation_next : (answer : Answer) → IsRelaxation old.model budgets answer → IsNext old old budgets Relax answer
+  relaxation_next answer h = record {
+    goes_on = λ first before e. e ∙ session_stays first before Relax refl;
+    right = λ first before e b. here (λ p c. IsRelaxation p c answer) old budgets first before e b h;
   }
 
   pub reduce_next : (answer : Answer) → IsReduction old.model answer → IsNext old old budgets Reduce answer
@@ -85,9 +92,12 @@ known_reply model (Infeasible set proof) h = absurd h
 known_reply model (Irreducible core) h = absurd h
 known_reply model (RunsAway p ray) h = absurd h
 known_reply model (BoundedBy b) h = absurd h
+known_reply model (LeastBy p dual) h = absurd h
+known_reply model (RigidRefuted set proof) h = absurd h
 known_reply model (Reduced r) h = absurd h
 known_reply model Done h = tt
 known_reply model (Refused r) h = tt
+known_reply model (NotLinear j) h = absurd h
 known_reply model (Stopped stop) h = absurd h
 
 -- where a call may fail
@@ -110,6 +120,11 @@ pub diagnosis_nexts : {E : Type 0} (old : HistoryValue) (budgets : Budgets) (mod
     → model ≡ old.model → IfOk result (IsDiagnosed model budgets) → IfOk result (IsNext old old budgets Unbounded)
 diagnosis_nexts old budgets model (Ok answer) e h = diagnosis_next old budgets answer (subst (λ p. IsDiagnosed p budgets answer) e h)
 diagnosis_nexts old budgets model (Err error) e h = tt
+
+pub relaxation_nexts : {E : Type 0} (old : HistoryValue) (budgets : Budgets) (model : Program) (result : Result Answer E)
+    → model ≡ old.model → IfOk result (IsRelaxation model budgets) → IfOk result (IsNext old old budgets Relax)
+relaxation_nexts old budgets model (Ok answer) e h = relaxation_next old budgets answer (subst (λ p. IsRelaxation p budgets answer) e h)
+relaxation_nexts old budgets model (Err error) e h = tt
 
 pub reduce_nexts : {E : Type 0} (old : HistoryValue) (budgets : Budgets) (model : Program) (result : Result Answer E)
     → model ≡ old.model → IfOk result (IsReduction model) → IfOk result (IsNext old old budgets Reduce)
@@ -147,6 +162,7 @@ module _ (first : Program) (before : List Command) where
   same_phrases Check a h = left Check a (edits_after-push first before Check)
   same_phrases (Iis method) a h = left (Iis method) a (edits_after-push first before (Iis method))
   same_phrases Unbounded a h = left Unbounded a (edits_after-push first before Unbounded)
+  same_phrases Relax a h = left Relax a (edits_after-push first before Relax)
   same_phrases Reduce a h = left Reduce a (edits_after-push first before Reduce)
   same_phrases (Pivots n) a h = left (Pivots n) a (edits_after-push first before (Pivots n))
   same_phrases (Nodes n) a h = left (Nodes n) a (edits_after-push first before (Nodes n))

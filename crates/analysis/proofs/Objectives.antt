@@ -1,5 +1,5 @@
 -- What a diagnosis gives, as an answer.
-use Rattle.std.proofs.Common.{◌≡◌, ◌⊎◌, ◌<◌, ◌≤◌, refl, sym, ap, subst, ℕ, Bool, false, not, List, [], filter, length, Result, Ok, Err, inl, inr, arith}
+use Rattle.std.proofs.Common.{◌≡◌, ◌⊎◌, ◌<◌, ◌≤◌, refl, sym, ap, subst, Bool, false, not, List, [], filter, length, Result, Ok, Err, inl, inr, arith}
 use Rattle.std.specs.Prelude.{All, Contains, IfOk, IfErr}
 use Rattle.std.proofs.lemmas.List.Filters.{length-filter_both}
 use Rattle.certs.specs.Ended.{numbers_from}
@@ -24,11 +24,12 @@ use Rattle.certs.specs.Combination.{IsFitting, IsThere}
 use Rattle.certs.specs.Sites.{Budgets}
 use Rattle.certs.specs.Tales.{OracleState}
 use Rattle.certs.specs.Trees.{has_mark}
+use Rattle.certs.specs.Violation.{IsLeastDual}
 use Rattle.unbounded.specs.declared.diagnosing.Diagnosis.{Diagnosis}
 use Rattle.unbounded.specs.declared.diagnosing.Diagnosis.TheVariants.{Infeasible as NoPoint, Unbounded as AlongRay, Bounded as ByDual}
 use Rattle.unbounded.specs.Diagnosed.{AsksOnce, HasLastPoint, IsDiagnosis, IsImproveSite, IsOwnStop, PassesOn}
 use Rattle.report_text.specs.declared.report.Answer.{Answer}
-use Rattle.report_text.specs.declared.report.Answer.TheVariants.{Feasible, Infeasible, Irreducible, Unbounded as RunsAway, Bounded as BoundedBy, Reduced, Done, Refused, Stopped}
+use Rattle.report_text.specs.declared.report.Answer.TheVariants.{Feasible, Infeasible, Irreducible, Unbounded as RunsAway, Bounded as BoundedBy, Least as LeastBy, RigidInfeasible as RigidRefuted, Reduced, Done, Refused, NotLinear, Stopped}
 use Rattle.report_text.specs.Form.{IsRunSite, is_run_kind}
 use Rattle.report_printer.specs.Printing.{IsKnownAnswer, IsKnownSource}
 use Rattle.branch_oracle.specs.Value.{BranchValue}
@@ -40,7 +41,7 @@ use Rattle.analysis.proofs.Asked.{QuickAnswers, proof_fits, proof_ordered, stop_
 use Rattle.analysis.proofs.Found.{part_possible}
 use Rattle.analysis.proofs.Refuting.{known_source}
 use Rattle.analysis.proofs.Searched.{branch_state}
-use Rattle.analysis.proofs.Stopping.{IsRunOf, active_site, empty_is, known_stopped, run_answer}
+use Rattle.analysis.proofs.Stopping.{IsRunOf, active_site, known_stopped, none_part, run_answer}
 
 -- ---- the sources of a dual
 plain_part : (model : Program) → IsPart (without_marks (active_members model)) (active_members model)
@@ -51,6 +52,13 @@ dual_sources model shares b h =
     let part = without_marks (active_members model) in
     All-weaker (IsThere model part []) (λ s. IsKnownSource model s.source)
     (λ s t. known_source model part (part_possible model part (plain_part model)) [] s.source (All-nil (λ (c : Branch). c.column < length model.columns)) t.from t.number)
+    shares h.there
+
+pub least_sources : (model : Program) (shares : List Share) (t : ℚ) → IsLeastDual model (active_members model) [] shares t → All (λ s. IsKnownSource model s.source) shares
+least_sources model shares t h =
+    let part = active_members model in
+    All-weaker (IsThere model part []) (λ s. IsKnownSource model s.source)
+    (λ s k. known_source model part (part_possible model part (All-contains_itself part)) [] s.source (All-nil (λ (c : Branch). c.column < length model.columns)) k.from k.number)
     shares h.there
 
 -- ---- the stops
@@ -64,7 +72,8 @@ module _ (model : Program) (budgets : Budgets) where
     kind = ap is_run_kind h.kind;
     of_model = h.set_of;
     active = active_site model site.set h.set_of possible (subst (λ l. IsPart l set) (sym h.set_is) (All-contains_itself set));
-    enforced_is = empty_is model site.enforced h.enforced_of h.none_enforced;
+    enforced_of = h.enforced_of;
+    enforced_part = none_part site h.none_enforced;
     known = subst (All (λ b. b.column < length model.columns)) (sym h.path_is) (All-nil (λ (b : Branch). b.column < length model.columns));
     fits = subst (All IsFitting) (sym h.path_is) (All-nil IsFitting);
   }
@@ -73,10 +82,10 @@ module _ (model : Program) (budgets : Budgets) where
   own_told : (stop : Stop) (answer : Answer) → IsOwnStop model set budgets.pivots stop → IsToldStop stop answer → IsTold model budgets answer × IsKnownAnswer model answer
   own_told (Wide site k o) answer h told =
       let run = improve_run_site site h.0 told.1 in
-      subst (λ (a : Answer). IsTold model budgets a × IsKnownAnswer model a) (sym told.0) (inr (run, h), record { set = run.of_model; path = run.known })
+      subst (λ (a : Answer). IsTold model budgets a × IsKnownAnswer model a) (sym told.0) (inr (run, h), record { set = run.of_model; enforced = run.enforced_of; path = run.known })
   own_told (Spent site) answer h told =
       let run = improve_run_site site h.0 told.1 in
-      subst (λ (a : Answer). IsTold model budgets a × IsKnownAnswer model a) (sym told.0) (inr (run, h), record { set = run.of_model; path = run.known })
+      subst (λ (a : Answer). IsTold model budgets a × IsKnownAnswer model a) (sym told.0) (inr (run, h), record { set = run.of_model; enforced = run.enforced_of; path = run.known })
   own_told (Nodes site) answer h told = absurd h
   own_told (Large size) answer h told = absurd h
   own_told Memory answer h told = absurd told
@@ -88,9 +97,12 @@ module _ (model : Program) (budgets : Budgets) where
   asked_told (Irreducible core) h = absurd h
   asked_told (RunsAway p ray) h = absurd h
   asked_told (BoundedBy b) h = absurd h
+  asked_told (LeastBy p dual) h = absurd h
+  asked_told (RigidRefuted printed proof) h = absurd h
   asked_told (Reduced r) h = absurd h
   asked_told Done h = absurd h
   asked_told (Refused r) h = absurd h
+  asked_told (NotLinear j) h = absurd h
   asked_told (Stopped stop) h = inl h
 
   pub stop_told : (stop : Stop) {E : Type 0} (result : Result Answer E) → IsFoundBy model budgets (Err stop) → IfOk result (IsToldStop stop) → IfOk result (λ a. IsTold model budgets a × IsKnownAnswer model a)
@@ -146,7 +158,7 @@ module _ (model : Program) (budgets : Budgets) where
   second_of (Err e) h = tt
 
 -- ---- the size
-kept_few : (p : ℕ → Bool) (xs : List ℕ) → length (filter p xs) ≤ length xs
+pub kept_few : {A : Type 0} (p : A → Bool) (xs : List A) → length (filter p xs) ≤ length xs
 kept_few p xs =
     let both = length-filter_both p (λ x. not (p x)) (λ x. refl) xs in
     omega (arith, both)

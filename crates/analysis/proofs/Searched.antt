@@ -1,12 +1,13 @@
 -- What filters give that ask the quick oracle, as answers.
 use Rattle.std.proofs.Common.{◌≡◌, ℕ, sym, ap, subst, true, List, Ok, Err, inl, inr}
-use Rattle.std.specs.Prelude.{All, IfErr, IfOk, Option, Result}
+use Rattle.std.specs.Prelude.{All, IfErr, IfOk, None, Option, Result}
 use Rattle.std.proofs.lemmas.List.Elements.{All-contains_itself}
 use Rattle.lp_model.specs.declared.members.Member.{Member}
 use Rattle.lp_model.specs.Members.{active_members}
 use Rattle.lp_model.specs.MemberSets.{SetValue, active_set}
 use Rattle.lp_model.specs.Program.{Program}
 use Rattle.lp_model.specs.Satisfaction.{IsPart}
+use Rattle.certs.specs.declared.evidence.Point.{Point}
 use Rattle.certs.specs.declared.evidence.Proof.{Proof}
 use Rattle.certs.specs.declared.solving.Irreducible.{Irreducible}
 use Rattle.certs.specs.declared.solving.Stop.{Stop}
@@ -16,7 +17,7 @@ use Rattle.certs.specs.Answers.{AnswersAt, IsTreeAnswer}
 use Rattle.certs.specs.Order.{AreLeavesInOrder}
 use Rattle.certs.specs.Proof.{IsFittingNode}
 use Rattle.certs.specs.Sites.{Budgets}
-use Rattle.certs.specs.Tales.{FirstCore, OracleState, TaleValue}
+use Rattle.certs.specs.Tales.{FirstCore, IsPointOf, OracleState, TaleValue}
 use Rattle.certs.specs.Trees.{has_mark}
 use Rattle.filter_steps.specs.Isolated.{IsIsolation, IsStoppedAt}
 use Rattle.presolve_oracle.specs.Value.{PresolveValue, presolve_state}
@@ -27,9 +28,10 @@ use Rattle.quick_oracle.specs.Value.{state_with}
 use Rattle.sensitivity_filter.specs.Cores.{IsLateOfCore as IsLateOfTold}
 use Rattle.sensitivity_filter.specs.Pairs.{IsStoppedWith, at_core, at_whole, either}
 use Rattle.report_text.specs.declared.report.Answer.{Answer}
+use Rattle.report_text.specs.declared.report.Core.{Core}
 use Rattle.report_printer.specs.Printing.{IsKnownAnswer}
 use Rattle.analysis.specs.Answers.{IsAnswerOf, fresh_oracle}
-use Rattle.analysis.specs.Right.{IsCoreTest, IsIsolated, IsLateOfCore}
+use Rattle.analysis.specs.Right.{InNoRounds, IsCoreTest, IsIsolated, IsLateOfCore}
 use Rattle.analysis.proofs.Asked.{InnerAnswers, QuickAnswers, by_tree, inner_fits, inner_ordered, inner_stop, marked_alone, proof_fits, proof_ordered, reference_core, stop_reference}
 use Rattle.analysis.proofs.Found.{given_answer, late_is_part, late_test_is_part, within}
 use Rattle.analysis.proofs.Stopping.{IsRunOf}
@@ -58,31 +60,42 @@ module _ (model : Program) (budgets : Budgets) (inner : BranchValue PresolveValu
       (alone (marked_alone (branch_state inner).model set.members nodes none here)))
 
 -- ---- one oracle
-filter_stop : (IsTest : Program → List Member → List Member → Type 0) (IsRight : List Member → Type 0) (model : Program) (budgets : Budgets) (tale : TaleValue) (after : OracleState)
-    → ((t : List Member) → IsTest model (active_members model) t → IsPart t (active_members model)) → ((t : List Member) → IsTest model (active_members model) t → IsRight t)
-    → (given : Result Irreducible Stop) → IfErr given (IsStoppedAt IsTest QuickAnswers (active_members model) (quick_state model budgets tale) after) → IfErr given (IsRunOf IsRight model budgets)
-filter_stop IsTest IsRight model budgets tale after part right (Ok found) h = tt
-filter_stop IsTest IsRight model budgets tale after part right (Err stop) h = record {
+filter_stop : (IsTest : Program → List Member → List Member → Type 0) (IsRight : List Member → Type 0) (model : Program) (set : List Member) (budgets : Budgets) (tale : TaleValue) (after : OracleState)
+    → ((t : List Member) → IsTest model set t → IsPart t (active_members model)) → ((t : List Member) → IsTest model set t → IsRight t)
+    → (given : Result Irreducible Stop) → IfErr given (IsStoppedAt IsTest QuickAnswers set (quick_state model budgets tale) after) → IfErr given (IsRunOf IsRight model budgets)
+filter_stop IsTest IsRight model set budgets tale after part right (Ok found) h = tt
+filter_stop IsTest IsRight model set budgets tale after part right (Err stop) h = record {
   asked = h.asked;
   answered = stop_reference model budgets h.asked stop h.answered;
   part = part h.asked h.test;
   test = right h.asked h.test;
 }
 
--- what the filter gives is right
+-- what a filter gives of a set of active members is right
+module _ (IsLeft IsTest : Program → List Member → List Member → Type 0) (IsKept : Core → Type 0) (IsRight : List Member → Type 0) (model : Program) (set : List Member) (rounds : Option ℕ) (budgets : Budgets) (tale : TaleValue) where
+  pub filter_answer : (after : OracleState) (given : Result Irreducible Stop) {E : Type 0} (result : Result Answer E)
+      → ((core : Core) → core.rounds ≡ rounds → IsLeft model set core.members.members → IsKept core) → ((k : List Member) → IsLeft model set k → IsPart k (active_members model))
+      → ((p : Point) → IsPointOf model set p → IsPointOf model (active_members model) p)
+      → ((t : List Member) → IsTest model set t → IsRight t) → ((t : List Member) → IsTest model set t → IsPart t (active_members model))
+      → IfOk given (IsIsolation IsLeft QuickAnswers (quick_state model budgets tale) set) → IfErr given (IsStoppedAt IsTest QuickAnswers set (quick_state model budgets tale) after)
+      → IfOk result (IsAnswerOf rounds given) → IfOk result (IsIsolated IsKept IsRight model budgets) × IfOk result (IsKnownAnswer model)
+  filter_answer after given result kept part at right tested found stopped is =
+      given_answer QuickAnswers IsLeft IsKept IsRight (quick_state model budgets tale) set rounds budgets given result (λ asked proof k. proof_ordered model budgets asked proof k) (λ asked proof k. proof_fits model budgets asked proof k) kept part at
+      found (filter_stop IsTest IsRight model set budgets tale after tested right given stopped) is
+
+-- and of all of them
 pub search_answer : (IsLeft IsTest : Program → List Member → List Member → Type 0) (IsKept IsRight : List Member → Type 0) (model : Program) (set : SetValue) (budgets : Budgets) (inner : BranchValue PresolveValue) (tale : TaleValue) (after : OracleState)
     (given : Result Irreducible Stop) {E : Type 0} (result : Result Answer E) → inner ≡ fresh_oracle model budgets → set ≡ active_set model
     → ((k : List Member) → IsLeft model (active_members model) k → IsKept k) → ((k : List Member) → IsLeft model (active_members model) k → IsPart k (active_members model))
     → ((t : List Member) → IsTest model (active_members model) t → IsRight t) → ((t : List Member) → IsTest model (active_members model) t → IsPart t (active_members model))
     → IfOk given (IsIsolation IsLeft QuickAnswers (state_with (branch_state inner) tale) set.members) → IfErr given (IsStoppedAt IsTest QuickAnswers set.members (state_with (branch_state inner) tale) after)
-    → IfOk result (IsAnswerOf given) → IfOk result (IsIsolated IsKept IsRight model budgets) × IfOk result (IsKnownAnswer model)
+    → IfOk result (IsAnswerOf None given) → IfOk result (IsIsolated (InNoRounds IsKept) IsRight model budgets) × IfOk result (IsKnownAnswer model)
 search_answer IsLeft IsTest IsKept IsRight model set budgets inner tale after given result fresh whole kept part right tested found stopped is =
-    given_answer QuickAnswers IsLeft IsKept IsRight (quick_state model budgets tale) budgets given result (λ asked proof k. proof_ordered model budgets asked proof k) (λ asked proof k. proof_fits model budgets asked proof k) kept part
+    filter_answer IsLeft IsTest (InNoRounds IsKept) IsRight model (active_members model) None budgets tale after given result (λ core none k. (none, kept core.members.members k)) part (λ p h. h) right tested
     (subst (λ (s : SetValue). IfOk given (IsIsolation IsLeft QuickAnswers (quick_state model budgets tale) s.members)) whole
     (subst (λ (o : BranchValue PresolveValue). IfOk given (IsIsolation IsLeft QuickAnswers (state_with (branch_state o) tale) set.members)) fresh found))
-    (filter_stop IsTest IsRight model budgets tale after tested right given
     (subst (λ (s : SetValue). IfErr given (IsStoppedAt IsTest QuickAnswers s.members (quick_state model budgets tale) after)) whole
-    (subst (λ (o : BranchValue PresolveValue). IfErr given (IsStoppedAt IsTest QuickAnswers set.members (state_with (branch_state o) tale) after)) fresh stopped)))
+    (subst (λ (o : BranchValue PresolveValue). IfErr given (IsStoppedAt IsTest QuickAnswers set.members (state_with (branch_state o) tale) after)) fresh stopped))
     is
 
 -- ---- two oracles: the reference for all active members, and the quick oracle inside the first core
@@ -115,12 +128,12 @@ pub core_answer : (model : Program) (set : SetValue) (budgets : Budgets) (first 
     → first ≡ fresh_oracle model budgets → inner ≡ fresh_oracle model budgets → set ≡ active_set model
     → IfOk given (IsIsolation (IsLateOfTold (AnswersAt InnerAnswers (branch_state first)) first_new.tale.first_core) (either InnerAnswers QuickAnswers (state_with (branch_state inner) tale).budgets) (branch_state first) set.members)
     → IfErr given (IsStoppedWith InnerAnswers QuickAnswers set.members (branch_state first) first_new (state_with (branch_state inner) tale) later_new)
-    → IfOk result (IsAnswerOf given) → IfOk result (IsIsolated (IsLateOfCore model budgets) (IsCoreTest model budgets) model budgets) × IfOk result (IsKnownAnswer model)
+    → IfOk result (IsAnswerOf None given) → IfOk result (IsIsolated (InNoRounds (IsLateOfCore model budgets)) (IsCoreTest model budgets) model budgets) × IfOk result (IsKnownAnswer model)
 core_answer model set budgets first inner tale first_new later_new given result first_fresh inner_fresh whole found stopped is =
     let state : OracleState = branch_state (fresh_oracle model budgets) in
     let told : Option FirstCore = first_new.tale.first_core in
-    given_answer (either InnerAnswers QuickAnswers budgets) (IsLateOfTold (AnswersAt InnerAnswers state) told) (IsLateOfCore model budgets) (IsCoreTest model budgets) state budgets given result (either_ordered model budgets) (either_fits model budgets)
-    (λ kept k. (k.core, (reference_core model budgets k.core k.is_core.answered, k.late))) (λ kept k. within kept k.core (active_members model) (late_is_part model k.core kept k.late) k.is_core.part)
+    given_answer (either InnerAnswers QuickAnswers budgets) (IsLateOfTold (AnswersAt InnerAnswers state) told) (InNoRounds (IsLateOfCore model budgets)) (IsCoreTest model budgets) state (active_members model) None budgets given result (either_ordered model budgets) (either_fits model budgets)
+    (λ core none k. (none, (k.core, (reference_core model budgets k.core k.is_core.answered, k.late)))) (λ kept k. within kept k.core (active_members model) (late_is_part model k.core kept k.late) k.is_core.part) (λ p h. h)
     (subst (λ (s : SetValue). IfOk given (IsIsolation (IsLateOfTold (AnswersAt InnerAnswers state) told) (either InnerAnswers QuickAnswers budgets) state s.members)) whole
     (subst (λ (o : BranchValue PresolveValue). IfOk given (IsIsolation (IsLateOfTold (AnswersAt InnerAnswers state) told) (either InnerAnswers QuickAnswers (state_with (branch_state o) tale).budgets) state set.members)) inner_fresh
     (subst (λ (o : BranchValue PresolveValue). IfOk given (IsIsolation (IsLateOfTold (AnswersAt InnerAnswers (branch_state o)) told) (either InnerAnswers QuickAnswers (state_with (branch_state inner) tale).budgets) (branch_state o) set.members)) first_fresh found)))

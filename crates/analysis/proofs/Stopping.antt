@@ -1,11 +1,11 @@
 -- Stops of oracles as answers.
-use Rattle.std.proofs.Common.{◌≡◌, ◌<◌, refl, sym, ◌∙◌, ap, subst, ℕ, Bool, true, false, true≢false, ◌&&◌, List, [], filter, length, Result, Ok, Err, inl, inr}
+use Rattle.std.proofs.Common.{◌≡◌, ◌<◌, refl, sym, ◌∙◌, ap, subst, ℕ, Bool, true, false, true≢false, ◌&&◌, List, [], ◌∷◌, filter, length, Result, Ok, Err, inl, inr}
 use Rattle.std.specs.Prelude.{All, Contains, IfOk}
 use Rattle.std.proofs.lemmas.List.Elements.{All-contains, All-nil, filter_passes}
 use Rattle.lp_model.specs.declared.members.Member.{Member}
 use Rattle.lp_model.specs.Program.{Program}
 use Rattle.lp_model.specs.Members.{active_members, has, is_active, possible_members}
-use Rattle.lp_model.specs.MemberSets.{SetValue, empty_set, members_for, possible_in}
+use Rattle.lp_model.specs.MemberSets.{SetValue, members_for, possible_in}
 use Rattle.lp_model.specs.Satisfaction.{IsPart}
 use Rattle.lp_model.proofs.Sets.{contains_of_has}
 use Rattle.certs.specs.declared.evidence.Branch.{Branch}
@@ -25,7 +25,8 @@ use Rattle.branch_proof.proofs.TreeStops.{reference_stopped}
 use Rattle.presolve_laws.specs.Answers.{IsPresolvedReference, IsPresolvedVerdict, IsUneased, set_system}
 use Rattle.presolve_laws.specs.Eased.{IsEased}
 use Rattle.report_text.specs.declared.report.Answer.{Answer}
-use Rattle.report_text.specs.declared.report.Answer.TheVariants.{Feasible, Infeasible, Irreducible, Unbounded as RunsAway, Bounded as BoundedBy, Reduced, Done, Refused, Stopped}
+use Rattle.report_text.specs.declared.report.Core.{Core}
+use Rattle.report_text.specs.declared.report.Answer.TheVariants.{Feasible, Infeasible, Irreducible, Unbounded as RunsAway, Bounded as BoundedBy, Least as LeastBy, RigidInfeasible as RigidRefuted, Reduced, Done, Refused, NotLinear, Stopped}
 use Rattle.report_text.specs.Form.{is_run_kind}
 use Rattle.report_printer.specs.Printing.{IsKnownAnswer, IsKnownSite, IsKnownStop}
 use Rattle.analysis.specs.Answers.{IsPossibleSite, IsStopAnswer, IsToldStop}
@@ -55,11 +56,13 @@ active_site model set of possible part =
     by m true e = sym (ap (λ a. a && has set.members m) (active m e))
     by m false e = e ∙ sym (ap (λ b. is_active model m && b) e ∙ and_false (is_active model m))
 
-pub empty_is : (model : Program) (set : SetValue) → IsSetOf model set → set.members ≡ [] → set ≡ empty_set model
-empty_is model set of none =
-    ap (λ (n : ℕ). record set { rows = n }) of.rows
-    ∙ ap (λ (n : ℕ). record set { rows = length model.rows; columns = n }) of.columns
-    ∙ ap (λ (l : List Member). record (empty_set model) { members = l }) none
+-- where nothing is enforced, that is a part of the set
+pub none_part : (site : Site) → site.enforced.members ≡ [] → site.enforced.members ≡ filter (has site.enforced.members) site.set.members
+none_part site none = none ∙ sym (ap (λ l. filter (has l) site.set.members) none ∙ nothing site.set.members)
+  where
+    nothing : (l : List Member) → filter (has []) l ≡ []
+    nothing [] = refl
+    nothing (m ∷ l) = nothing l
 
 -- where no member of the set is a mark, its plain system is not eased
 abbrev IsUneasedSet : Program → Budgets → List Member → Type 0
@@ -72,7 +75,8 @@ site_of model budgets asked site h uneased possible part = record {
     kind = ap is_run_kind h.node.kind;
     of_model = h.node.set_of;
     active = active_site model site.set h.node.set_of possible (subst (λ l. IsPart l (active_members model)) (sym h.node.set_is) part);
-    enforced_is = empty_is model site.enforced h.node.enforced_of h.node.none_enforced;
+    enforced_of = h.node.enforced_of;
+    enforced_part = none_part site h.node.none_enforced;
     known = h.known;
     fits = h.fits;
   };
@@ -156,9 +160,12 @@ passes IsTest model budgets asked test (Infeasible printed proof) h = absurd h
 passes IsTest model budgets asked test (Irreducible core) h = absurd h
 passes IsTest model budgets asked test (RunsAway p ray) h = absurd h
 passes IsTest model budgets asked test (BoundedBy b) h = absurd h
+passes IsTest model budgets asked test (LeastBy p dual) h = absurd h
+passes IsTest model budgets asked test (RigidRefuted printed proof) h = absurd h
 passes IsTest model budgets asked test (Reduced r) h = absurd h
 passes IsTest model budgets asked test Done h = absurd h
 passes IsTest model budgets asked test (Refused r) h = absurd h
+passes IsTest model budgets asked test (NotLinear j) h = absurd h
 passes IsTest model budgets asked test (Stopped stop) h = stop_passes IsTest model budgets asked test stop h
 
 -- what is answered to an ask for a set of active members that passes the test
@@ -168,18 +175,21 @@ stop_answer IsTest model budgets asked stop answer (inl memory) part test told =
 stop_answer IsTest model budgets asked stop answer (inr h) part test told = passes IsTest model budgets asked test answer (right_stop model budgets asked stop answer h part told)
 
 -- is right to a search and to a check
-isolated_answer : (IsKept IsTest : List Member → Type 0) (model : Program) (budgets : Budgets) (answer : Answer) → IsStopAnswer IsTest model budgets answer → IsIsolated IsKept IsTest model budgets answer
+isolated_answer : (IsKept : Core → Type 0) (IsTest : List Member → Type 0) (model : Program) (budgets : Budgets) (answer : Answer) → IsStopAnswer IsTest model budgets answer → IsIsolated IsKept IsTest model budgets answer
 isolated_answer IsKept IsTest model budgets (Feasible point) h = absurd h
 isolated_answer IsKept IsTest model budgets (Infeasible printed proof) h = absurd h
 isolated_answer IsKept IsTest model budgets (Irreducible core) h = absurd h
 isolated_answer IsKept IsTest model budgets (RunsAway p ray) h = absurd h
 isolated_answer IsKept IsTest model budgets (BoundedBy b) h = absurd h
+isolated_answer IsKept IsTest model budgets (LeastBy p dual) h = absurd h
+isolated_answer IsKept IsTest model budgets (RigidRefuted printed proof) h = absurd h
 isolated_answer IsKept IsTest model budgets (Reduced r) h = absurd h
 isolated_answer IsKept IsTest model budgets Done h = absurd h
 isolated_answer IsKept IsTest model budgets (Refused r) h = absurd h
+isolated_answer IsKept IsTest model budgets (NotLinear j) h = absurd h
 isolated_answer IsKept IsTest model budgets (Stopped stop) h = h
 
-pub isolated_stop : (IsKept IsTest : List Member → Type 0) (model : Program) (budgets : Budgets) {E : Type 0} (result : Result Answer E) → IfOk result (IsStopAnswer IsTest model budgets) → IfOk result (IsIsolated IsKept IsTest model budgets)
+pub isolated_stop : (IsKept : Core → Type 0) (IsTest : List Member → Type 0) (model : Program) (budgets : Budgets) {E : Type 0} (result : Result Answer E) → IfOk result (IsStopAnswer IsTest model budgets) → IfOk result (IsIsolated IsKept IsTest model budgets)
 isolated_stop IsKept IsTest model budgets (Ok answer) h = isolated_answer IsKept IsTest model budgets answer h
 isolated_stop IsKept IsTest model budgets (Err error) h = tt
 
@@ -189,9 +199,12 @@ checked_answer model budgets (Infeasible printed proof) h = absurd h
 checked_answer model budgets (Irreducible core) h = absurd h
 checked_answer model budgets (RunsAway p ray) h = absurd h
 checked_answer model budgets (BoundedBy b) h = absurd h
+checked_answer model budgets (LeastBy p dual) h = absurd h
+checked_answer model budgets (RigidRefuted printed proof) h = absurd h
 checked_answer model budgets (Reduced r) h = absurd h
 checked_answer model budgets Done h = absurd h
 checked_answer model budgets (Refused r) h = absurd h
+checked_answer model budgets (NotLinear j) h = absurd h
 checked_answer model budgets (Stopped stop) h = h
 
 pub checked_stop : (model : Program) (budgets : Budgets) {E : Type 0} (result : Result Answer E) → IfOk result (IsStopAnswer (IsWhole model) model budgets) → IfOk result (IsChecked model budgets)
@@ -200,7 +213,7 @@ checked_stop model budgets (Err error) h = tt
 
 -- ---- and can be printed
 known_site : (IsTest : List Member → Type 0) (model : Program) (budgets : Budgets) (site : Site) → IsSiteOf IsTest model budgets site → IsKnownSite model site
-known_site IsTest model budgets site h = record { set = h.run.of_model; path = h.run.known }
+known_site IsTest model budgets site h = record { set = h.run.of_model; enforced = h.run.enforced_of; path = h.run.known }
 
 pub known_stop : (IsTest : List Member → Type 0) (model : Program) (budgets : Budgets) (stop : Stop) → IsRightStop IsTest model budgets stop → IsKnownStop model stop
 known_stop IsTest model budgets (Wide site turn wide) h = known_site IsTest model budgets site h.0
@@ -215,9 +228,12 @@ known_answer IsTest model budgets (Infeasible printed proof) h = absurd h
 known_answer IsTest model budgets (Irreducible core) h = absurd h
 known_answer IsTest model budgets (RunsAway p ray) h = absurd h
 known_answer IsTest model budgets (BoundedBy b) h = absurd h
+known_answer IsTest model budgets (LeastBy p dual) h = absurd h
+known_answer IsTest model budgets (RigidRefuted printed proof) h = absurd h
 known_answer IsTest model budgets (Reduced r) h = absurd h
 known_answer IsTest model budgets Done h = tt
 known_answer IsTest model budgets (Refused r) h = tt
+known_answer IsTest model budgets (NotLinear j) h = absurd h
 known_answer IsTest model budgets (Stopped stop) h = known_stop IsTest model budgets stop h
 
 pub known_stopped : (IsTest : List Member → Type 0) (model : Program) (budgets : Budgets) {E : Type 0} (result : Result Answer E) → IfOk result (IsStopAnswer IsTest model budgets) → IfOk result (IsKnownAnswer model)

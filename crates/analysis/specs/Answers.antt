@@ -1,5 +1,5 @@
 -- The budgets in code, the oracle that makes runs and trees, and answers from what filters and oracles tell.
-use Rattle.std.specs.Prelude.{◌≡◌, ⊤, List, [], ◌∷◌, ◌++◌, None, filter, Result, Ok, Err}
+use Rattle.std.specs.Prelude.{◌≡◌, ⊤, List, [], ◌∷◌, ◌++◌, ℕ, Option, None, filter, Result, Ok, Err}
 use Rattle.lp_model.specs.declared.members.Member.{Member}
 use Rattle.lp_model.specs.Program.{Program}
 use Rattle.lp_model.specs.Members.{has, IsInOrder}
@@ -39,10 +39,10 @@ pub record IsNext (old new : HistoryValue) (budgets : Budgets) (command : Comman
 abbrev pub IsRefutedBy : Program → Proof → Answer → Type 0
 IsRefutedBy model proof answer = (printed : SetValue) × ((answer ≡ Infeasible printed proof) × IsRefutation model printed proof)
 
--- what a filter gives, as an answer
-abbrev pub answer_of : Irreducible → Answer
-answer_of (Set members witnesses proof) = Isolated (record { members = members; witnesses = witnesses.items; proof = proof; rounds = None; price = None })
-answer_of (AtPoint point) = Feasible point
+-- what a filter gives, with the rounds before it, as an answer
+abbrev pub answer_of : Option ℕ → Irreducible → Answer
+answer_of rounds (Set members witnesses proof) = Isolated (record { members = members; witnesses = witnesses.items; proof = proof; rounds = rounds; price = None })
+answer_of rounds (AtPoint point) = Feasible point
 
 -- a stop that a run or a tree may have: there is no size
 abbrev pub IsRunStop : Stop → Type 0
@@ -70,9 +70,9 @@ IsFoundInOrder (Set members witnesses proof) = IsInOrder members.members
 IsFoundInOrder (AtPoint point) = ⊤
 
 -- the answer is what a filter gives, with its members in order
-abbrev pub IsAnswerOf : Result Irreducible Stop → Answer → Type 0
-IsAnswerOf (Ok found) answer = (answer ≡ answer_of found) × IsFoundInOrder found
-IsAnswerOf (Err stop) answer = IsToldStop stop answer
+abbrev pub IsAnswerOf : Option ℕ → Result Irreducible Stop → Answer → Type 0
+IsAnswerOf rounds (Ok found) answer = (answer ≡ answer_of rounds found) × IsFoundInOrder found
+IsAnswerOf rounds (Err stop) answer = IsToldStop stop answer
 
 -- the answer is a stop of a set that passes the test
 abbrev pub IsStopAnswer : (List Member → Type 0) → Program → Budgets → Answer → Type 0

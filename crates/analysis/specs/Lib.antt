@@ -1,6 +1,8 @@
 pub mod Stops
 pub mod Objectives
 pub mod Puts
+pub mod Least
+pub mod Linear
 pub mod NamesAreWords
 pub mod Reduced
 pub mod Right

@@ -1,19 +1,20 @@
 -- What it is for an answer to be right: of the program, within the budgets in force, to its command.
-use Rattle.std.specs.Prelude.{◌≡◌, ◌≢◌, ◌⊎◌, ◌*◌, ◌≤◌, true, List, [], ◌++◌, fold, Option, Some, None, All}
+use Rattle.std.specs.Prelude.{◌≡◌, ◌≢◌, ◌⊎◌, ℕ, suc, ◌*◌, ◌≤◌, true, List, [], ◌++◌, length, fold, Option, Some, None, All}
 use Rattle.lp_model.specs.Program.{Program}
 use Rattle.lp_model.specs.declared.members.Member.{Member}
 use Rattle.lp_model.specs.Members.{active_members, IsInOrder}
 use Rattle.lp_model.specs.MemberSets.{SetValue}
-use Rattle.lp_model.specs.Satisfaction.{IsPart, IsIrreducible}
+use Rattle.lp_model.specs.Satisfaction.{IsPart, IsIrreducible, IsUnsatisfiable}
 use Rattle.certs.specs.declared.evidence.Point.{Point}
 use Rattle.certs.specs.declared.evidence.Proof.{Proof}
 use Rattle.certs.specs.Answers.{IsCoreBy}
 use Rattle.certs.specs.Checks.{IsSetOf}
 use Rattle.certs.specs.Order.{AreLeavesInOrder}
-use Rattle.certs.specs.Tales.{IsPointOf}
-use Rattle.certs.specs.Filter.{Late, Early, IsLateTest, IsEarlyTest}
+use Rattle.certs.specs.Tales.{IsPointOf, IsStretchStop}
+use Rattle.certs.specs.Filter.{Enforces, Late, Early, IsLateTest, IsEarlyTest, Rounds}
 use Rattle.certs.specs.declared.solving.Site.{Site}
-use Rattle.certs.specs.declared.solving.Stop.TheVariants.{Nodes}
+use Rattle.certs.specs.declared.solving.Stop.{Stop}
+use Rattle.certs.specs.declared.solving.Stop.TheVariants.{Wide, Pivots as Spent, Nodes, Large, Memory}
 use Rattle.certs.specs.Proof.{IsProof, IsFittingNode}
 use Rattle.certs.specs.Sites.{Budgets}
 use Rattle.certs.specs.System.{VariableShare}
@@ -23,16 +24,19 @@ use Rattle.presolve_laws.specs.Answers.{IsLeafOf, IsPresolvedReference, set_syst
 use Rattle.presolve_laws.specs.Eased.{DecidesBy}
 use Rattle.tree_laws.specs.Boxes.{Box, IsBoxOf, volume}
 use Rattle.report_text.specs.declared.report.Method.{Method}
-use Rattle.report_text.specs.declared.report.Method.TheVariants.{Deletion, Additive, Sensitivity}
+use Rattle.report_text.specs.declared.report.Method.TheVariants.{Deletion, Additive, Sensitivity, Elastic}
 use Rattle.report_text.specs.declared.report.Core.{Core}
 use Rattle.report_text.specs.declared.report.Command.{Command}
-use Rattle.report_text.specs.declared.report.Command.TheVariants.{Check, Iis, Unbounded, Reduce, Edit, Undo, Pivots, Nodes as MostNodes}
+use Rattle.report_text.specs.declared.report.Command.TheVariants.{Check, Iis, Unbounded, Relax, Reduce, Edit, Undo, Pivots, Nodes as MostNodes}
 use Rattle.report_text.specs.declared.report.Answer.{Answer}
 use Rattle.report_text.specs.declared.report.Answer.TheVariants.{Feasible, Infeasible, Irreducible, Reduced, Done, Stopped}
 use Rattle.report_text.specs.declared.report.Entry.{Entry}
+use Rattle.report_text.specs.Form.{IsRunSite}
 use Rattle.report_text.specs.Turns.{after, answer_after, entry_commands, AllEntries}
 use Rattle.report_printer.specs.Numbers.{HasNumbersWithin}
 use Rattle.analysis.specs.Reduced.{IsReducedTo}
+use Rattle.analysis.specs.Least.{IsRelaxation}
+use Rattle.analysis.specs.Linear.{IsLinearly, elastic_size}
 use Rattle.analysis.specs.Objectives.{IsDiagnosed}
 pub use Rattle.analysis.specs.Stops.{IsRefutation, IsSiteOf, IsRightStop, IsWhole}
 
@@ -58,7 +62,7 @@ HasNodesInBox model budgets answer =
     (box : Box) → IsBoxOf model (active_members model) box → 2 * volume model (active_members model) box ≤ budgets.nodes → (site : Site) → answer ≢ Stopped (Nodes site)
 
 -- ---- irreducible sets
--- Active members in order that are irreducible: the proof is one of them, with the shares of each leaf in order and numbers of splits that fit, and for each of them its own witness satisfies all the others. Neither rounds nor a price are given as yet.
+-- Active members in order that are irreducible: the proof is one of them, with the shares of each leaf in order and numbers of splits that fit, and for each of them its own witness satisfies all the others. No price is given as yet.
 pub record IsRightCore (model : Program) (core : Core) : Type 0 where
   pub of_model : IsSetOf model core.members
   pub active : IsPart core.members.members (active_members model)
@@ -68,15 +72,18 @@ pub record IsRightCore (model : Program) (core : Core) : Type 0 where
   pub fits : All IsFittingNode core.proof.nodes
   pub witnesses : AreWitnesses model core.members.members core.witnesses
   pub irreducible : IsIrreducible model core.members.members
-  pub rounds : core.rounds ≡ None
   pub price : core.price ≡ None
 
--- what is right to a search that leaves such members and asks for such sets
-abbrev pub IsIsolated : (List Member → Type 0) → (List Member → Type 0) → Program → Budgets → Answer → Type 0
+-- what is right to a search that leaves such members, and asks for such sets
+abbrev pub IsIsolated : (Core → Type 0) → (List Member → Type 0) → Program → Budgets → Answer → Type 0
 IsIsolated IsKept IsTest model budgets (Feasible point) = IsPointOf model (active_members model) point
-IsIsolated IsKept IsTest model budgets (Irreducible core) = IsRightCore model core × IsKept core.members.members
+IsIsolated IsKept IsTest model budgets (Irreducible core) = IsRightCore model core × IsKept core
 IsIsolated IsKept IsTest model budgets (Stopped stop) = IsRightStop IsTest model budgets stop
 IsIsolated IsKept IsTest model budgets _ = ⊥
+
+-- such members, and no rounds
+abbrev pub InNoRounds : (List Member → Type 0) → Core → Type 0
+InNoRounds IsKept core = (core.rounds ≡ None) × IsKept core.members.members
 
 -- The core of the active members within the budgets: those that their proof uses, which comes back from the reduction of their plain system where that is eased, and else is by its own run; or is by their tree where some of them is a mark.
 abbrev pub IsCore : Program → Budgets → List Member → Type 0
@@ -90,11 +97,46 @@ IsLateOfCore model budgets kept = (core : List Member) × (IsCore model budgets 
 abbrev pub IsCoreTest : Program → Budgets → List Member → Type 0
 IsCoreTest model budgets set = IsWhole model set ⊎ ((core : List Member) × (IsCore model budgets core × IsLateTest model core set))
 
+-- The members are what a late filter leaves of the last set of a chain of so many enforced ones, and no unsatisfiable part of the active members has fewer members than there were rounds before the last.
+pub record IsLateOfRounds (model : Program) (core : Core) : Type 0 where
+  pub count : ℕ
+  pub told : core.rounds ≡ Some count
+  pub enforced : List Member
+  pub rounds : Rounds model (active_members model) count enforced
+  pub late : Late model enforced core.members.members
+  pub few : (part : List Member) → IsPart part (active_members model) → IsUnsatisfiable model part → count ≤ suc (length part)
+
+-- a set that a late filter of the last enforced set may ask for
+abbrev pub IsRoundsTest : Program → List Member → Type 0
+IsRoundsTest model set = (count : ℕ) × ((enforced : List Member) × (Rounds model (active_members model) count enforced × IsLateTest model enforced set))
+
+-- the elastic system of the active members with an enforced part that a chain reaches is stopped so
+abbrev pub IsChainStop : Program → Budgets → Stop → Type 0
+IsChainStop model budgets stop = (count : ℕ) × ((enforced : List Member) × (Enforces model (active_members model) count enforced × IsStretchStop model budgets (active_members model) enforced stop))
+
+-- and its site can be told
+abbrev pub IsRoundStop : Program → Budgets → Stop → Type 0
+IsRoundStop model budgets (Wide site k o) = IsRunSite model site × IsChainStop model budgets (Wide site k o)
+IsRoundStop model budgets (Spent site) = IsRunSite model site × IsChainStop model budgets (Spent site)
+IsRoundStop model budgets (Nodes site) = ⊥
+IsRoundStop model budgets (Large size) = ⊥
+IsRoundStop model budgets Memory = ⊥
+
+-- a stop of a round
+abbrev pub IsRoundAnswer : Program → Budgets → Answer → Type 0
+IsRoundAnswer model budgets (Stopped stop) = IsRoundStop model budgets stop
+IsRoundAnswer model budgets _ = ⊥
+
+-- what is right to a search that leaves such members, or a stop of a round before it
+abbrev pub IsEnforcedTold : Program → Budgets → Answer → Type 0
+IsEnforcedTold model budgets answer = IsIsolated (IsLateOfRounds model) (IsRoundsTest model) model budgets answer ⊎ IsRoundAnswer model budgets answer
+
 -- what is right to a search by each method
 abbrev pub IsFound : Method → Program → Budgets → Answer → Type 0
-IsFound Deletion model budgets answer = IsIsolated (Late model (active_members model)) (IsLateTest model (active_members model)) model budgets answer
-IsFound Additive model budgets answer = IsIsolated (Early model (active_members model)) (IsEarlyTest model (active_members model)) model budgets answer
-IsFound Sensitivity model budgets answer = IsIsolated (IsLateOfCore model budgets) (IsCoreTest model budgets) model budgets answer
+IsFound Deletion model budgets answer = IsIsolated (InNoRounds (Late model (active_members model))) (IsLateTest model (active_members model)) model budgets answer
+IsFound Additive model budgets answer = IsIsolated (InNoRounds (Early model (active_members model))) (IsEarlyTest model (active_members model)) model budgets answer
+IsFound Elastic model budgets answer = IsLinearly model (elastic_size model (active_members model) []) (IsEnforcedTold model budgets) answer
+IsFound Sensitivity model budgets answer = IsIsolated (InNoRounds (IsLateOfCore model budgets)) (IsCoreTest model budgets) model budgets answer
 
 -- ---- reductions
 -- The printed members are those that a leaf uses whose shares come back from what decides the reduction of the active members' plain system.
@@ -112,6 +154,7 @@ abbrev pub Right : Program → Budgets → Command → Answer → Type 0
 Right model budgets Check answer = IsChecked model budgets answer
 Right model budgets (Iis method) answer = IsFound method model budgets answer
 Right model budgets Unbounded answer = IsDiagnosed model budgets answer
+Right model budgets Relax answer = IsRelaxation model budgets answer
 Right model budgets Reduce answer = IsReduction model answer
 Right model budgets (Edit e) answer = ⊥
 Right model budgets Undo answer = ⊥

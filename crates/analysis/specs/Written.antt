@@ -6,7 +6,7 @@ use Rattle.lp_model.specs.Shown.{empty_program}
 use Rattle.analysis.specs.Puts.{PutWhole, PutFailed, PutsNothing}
 use Rattle.report_text.specs.declared.report.Command.{Command}
 use Rattle.report_text.specs.declared.report.Answer.{Answer}
-use Rattle.report_text.specs.declared.report.Answer.TheVariants.{Refused, Stopped}
+use Rattle.report_text.specs.declared.report.Answer.TheVariants.{Refused, NotLinear, Stopped}
 use Rattle.report_text.specs.declared.report.Entry.{Entry}
 use Rattle.report_text.specs.declared.report.Report.{Report}
 use Rattle.report_text.specs.Grammar.{entries_phrases, report_lines, phrases_text, text_of}
@@ -38,10 +38,11 @@ abbrev pub whole_text : Program → List Entry → List ℕ
 whole_text model entries = text_of (report_lines model (report_of model entries))
 
 -- ---- the status
--- whether a command was not done: its answer is a stop or a refusal
+-- whether a command was not done: its answer is a stop or a refusal, or that the program is not linear
 abbrev pub is_unmet : Answer → Bool
 is_unmet (Stopped stop) = true
 is_unmet (Refused r) = true
+is_unmet (NotLinear j) = true
 is_unmet _ = false
 
 -- 1 where some command was not done

@@ -12,6 +12,7 @@ ghost use Rattle.analysis.specs.Right.{HasNodesInBox, IsChecked, budgets_after, 
 use crate::asking::{Reference, quick_oracle};
 use crate::diagnosing::diagnosis;
 use crate::reducing::reduction;
+use crate::relaxing::relaxation;
 use crate::searching::{search, stopped};
 use certs::{MemberSet, Oracle, Proof, Verdict, members_used};
 use lp_model::Model;
@@ -71,6 +72,7 @@ pub(crate) fn answer(
     match command {
         Command::Check => check(alloc, session.model(), budgets, kept),
         Command::Iis(method) => search(alloc, session.model(), budgets, *method, kept),
+        Command::Relax => relaxation(alloc, session.model(), budgets),
         Command::Unbounded => diagnosis(alloc, session.model(), budgets, kept),
         Command::Reduce => reduction(alloc, session.model()),
         Command::Edit(edit) => session.take_edit(edit),

@@ -18,8 +18,8 @@ use report_text::{Answer, Bounded};
 use std::alloc::{AllocError, Global};
 use unbounded::{Diagnosis, diagnose};
 
-// The most entries that the dictionary of a run may have.
-const MOST_ENTRIES: u64 = 8_000_000;
+/// The most entries that the dictionary of a run may have.
+pub(crate) const MOST_ENTRIES: u64 = 8_000_000;
 
 /// Whether the objective runs away over the active members, or how far it can go; or the size of their plain system with the
 /// objective, where that passes the most. What is kept of the program serves the next command too.

@@ -4,8 +4,11 @@
 mod answering;
 mod asking;
 mod diagnosing;
+mod enforcing;
+mod linear;
 mod pieces;
 mod reducing;
+mod relaxing;
 mod searching;
 
 pub use pieces::analyse;

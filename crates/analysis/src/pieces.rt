@@ -37,7 +37,7 @@ impl From<AllocError> for Want {
 /// Answers the commands of a script in order, each of the program as those before it edited it, and puts the report of the
 /// answers piece by piece: the head with the program's notes, an entry for each command, and the foot. Gives the status:
 ///
-/// - 0 or 1: all is put; 1 where some answer is a stop, or says that an edit or an undo is refused.
+/// - 0 or 1: all is put; 1 where some answer is a stop, or says that an edit or an undo is refused, or that the program is not linear.
 /// - 4: a put failed; a front of the report is put.
 /// - 7: want of memory; the head and the entries of the first commands are put, or nothing.
 ///
@@ -165,5 +165,8 @@ fn put_entry<W: Sink>(
 fn is_unmet(answer: &Answer) -> bool
     ensures { result ≡ is_unmet_answer answer.now }
 {
-    matches!(answer, Answer::Stopped(_) | Answer::Refused(_))
+    matches!(
+        answer,
+        Answer::Stopped(_) | Answer::Refused(_) | Answer::NotLinear(_)
+    )
 }

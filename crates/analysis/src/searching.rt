@@ -8,6 +8,7 @@ ghost use Rattle.analysis.specs.Right.{IsFound};
 
 use crate::answering::Budgets;
 use crate::asking::{Reference, quick_oracle, reference_oracle};
+use crate::enforcing::enforced_search;
 use certs::{Irreducible, MemberSet, Stop};
 use lp_model::Model;
 use quick_oracle::{Kept, QuickOracle};
@@ -52,29 +53,34 @@ fn search_by(
     ensures known { IfOk result (IsKnownAnswer model.now) }
 {
     match method {
-        Method::Deletion => concluded(deletion_filter::isolate(alloc, oracle, set)),
-        Method::Additive => concluded(additive_filter::isolate(alloc, oracle, set)),
+        Method::Deletion => concluded(None, deletion_filter::isolate(alloc, oracle, set)),
+        Method::Additive => concluded(None, additive_filter::isolate(alloc, oracle, set)),
+        Method::Elastic => enforced_search(alloc, model, budgets, oracle, set),
         Method::Sensitivity => {
             let mut first = reference_oracle(alloc, model, budgets);
-            concluded(sensitivity_filter::isolate_with(alloc, &mut first, oracle, set))
+            let given = sensitivity_filter::isolate_with(alloc, &mut first, oracle, set);
+            concluded(None, given)
         }
     }
 }
 
-// What a filter gives, as an answer.
-fn concluded(given: Result<Irreducible, Stop>) -> Result<Answer, AllocError>
+/// What a filter gives, with the rounds before it, as an answer.
+pub(crate) fn concluded(
+    rounds: Option<u64>,
+    given: Result<Irreducible, Stop>,
+) -> Result<Answer, AllocError>
     requires { IfErr given IsRunStop }
-    ensures { IfOk result (IsAnswerOf given) }
+    ensures { IfOk result (IsAnswerOf rounds given) }
 {
     match given {
-        Ok(found) => Ok(isolated(found)),
+        Ok(found) => Ok(isolated(rounds, found)),
         Err(stop) => stopped(stop),
     }
 }
 
-// What a filter finds, as an answer.
-fn isolated(found: Irreducible) -> Answer
-    ensures given { result ≡ answer_of found }
+// What a filter finds, with the rounds before it, as an answer.
+fn isolated(rounds: Option<u64>, found: Irreducible) -> Answer
+    ensures given { result ≡ answer_of rounds found }
     ensures in_order { IsFoundInOrder found }
 {
     match found {
@@ -88,7 +94,7 @@ fn isolated(found: Irreducible) -> Answer
                 members,
                 witnesses: Witnesses::new(witnesses),
                 proof,
-                rounds: None,
+                rounds,
                 price: None,
             })
         }

@@ -12,7 +12,7 @@ use Rattle.report_text.specs.Turns.{after, answer_after, entry_commands}
 use Rattle.report_text.proofs.InTurn.{gathered-at, commands_push}
 use Rattle.cert_check.specs.declared.outcome.Stop.{Stop}
 use Rattle.cert_check.specs.declared.outcome.Stop.TheVariants.{Memory}
-use Rattle.cert_check.specs.Trials.{Trial, answer_trials, reply_trials, entry_trials, entries_trials}
+use Rattle.cert_check.specs.Trials.{Trial, claim_trials, reply_trials, entry_trials, entries_trials}
 use Rattle.cert_check.specs.Stops.{first_stop, IsStop, Says}
 use Rattle.cert_check.specs.Replay.{Replays}
 use Rattle.cert_check.proofs.Firsts.{passed_over, stop_first, stop_of, says_second, says_of}
@@ -20,14 +20,14 @@ use Rattle.cert_check.proofs.Firsts.{passed_over, stop_first, stop_of, says_seco
 -- ---- one entry, by the session before it
 module _ (old : HistoryValue) (e : Entry) where
   -- the program of the session is the one after the commands
-  answer_same : (first : Program) (before : List Command) → old ≡ session_at first before → first_stop (answer_trials old.model e.line e.answer) ≡ first_stop (answer_trials (after first before) e.line e.answer)
-  answer_same first before is = ap (λ (v : HistoryValue). first_stop (answer_trials v.model e.line e.answer)) is
+  claim_same : (first : Program) (before : List Command) → old ≡ session_at first before → first_stop (claim_trials old.model e) ≡ first_stop (claim_trials (after first before) e)
+  claim_same first before is = ap (λ (v : HistoryValue). first_stop (claim_trials v.model e)) is
 
-  -- its answer stops the check
-  pub answer_stops : (s : Stop) (new : HistoryValue) → IsStop (first_stop (answer_trials old.model e.line e.answer)) s → Replays old e (Err s) new
-  answer_stops s new h = record {
+  -- what it claims stops the check
+  pub claim_stops : (s : Stop) (new : HistoryValue) → IsStop (first_stop (claim_trials old.model e)) s → Replays old e (Err s) new
+  claim_stops s new h = record {
     says = λ first before is.
-        stop_first (answer_trials (after first before) e.line e.answer) (reply_trials (answer_after first before e.command) e.line e.answer) s (stop_of _ _ s (answer_same first before is) h);
+        stop_first (claim_trials (after first before) e) (reply_trials (answer_after first before e.command) e.line e.answer) s (stop_of _ _ s (claim_same first before is) h);
     goes_on = tt;
   }
 
@@ -40,10 +40,10 @@ module _ (old : HistoryValue) (e : Entry) where
   on_ok (Ok done) p = p
   on_ok (Err s) p = tt
 
-  pub reply_says : (right : Option Answer) (new : HistoryValue) (r : Result (Unit {0}) Stop) → first_stop (answer_trials old.model e.line e.answer) ≡ None → Takes old e.command right new → Says (first_stop (reply_trials right e.line e.answer)) r → Replays old e r new
+  pub reply_says : (right : Option Answer) (new : HistoryValue) (r : Result (Unit {0}) Stop) → first_stop (claim_trials old.model e) ≡ None → Takes old e.command right new → Says (first_stop (reply_trials right e.line e.answer)) r → Replays old e r new
   reply_says right new r passes takes h = record {
     says = λ first before is.
-        says_second (answer_trials (after first before) e.line e.answer) (reply_trials (answer_after first before e.command) e.line e.answer) r (sym (answer_same first before is) ∙ passes)
+        says_second (claim_trials (after first before) e) (reply_trials (answer_after first before e.command) e.line e.answer) r (sym (claim_same first before is) ∙ passes)
         (says_of _ _ r (ap (λ o. first_stop (reply_trials o e.line e.answer)) (takes.answers first before is)) h);
     goes_on = on_ok r takes.goes_on;
   }

@@ -6,12 +6,13 @@ use Rattle.rational.specs.Rational.{ℚ, frac, whole, one_ℚ, ◌+ℚ◌, ◌*�
 use Rattle.frac128.specs.declared.Op.TheVariants.{Times}
 use Rattle.frac128.specs.Limit.{limit}
 use Rattle.frac128.specs.Width.{is_wide, operation}
-use Rattle.frac128.specs.Calculation.{first_wide, product_steps}
+use Rattle.frac128.specs.Calculation.{first_wide, product_steps, sum_steps}
 use Rattle.lp_model.specs.declared.members.Member.{Member}
 use Rattle.lp_model.specs.declared.members.Member.TheVariants.{RowLo, RowUp}
 use Rattle.lp_model.specs.declared.parts.Note.{Note}
 use Rattle.lp_model.specs.declared.parts.Note.TheVariants.{LowerRemoved, LowerKept}
-use Rattle.lp_model.specs.declared.parts.Weight.TheVariants.{Soft}
+use Rattle.lp_model.specs.declared.parts.Weight.{Weight}
+use Rattle.lp_model.specs.declared.parts.Weight.TheVariants.{Soft, Rigid}
 use Rattle.lp_model.specs.Program.{Program, NamedRow}
 use Rattle.certs.specs.declared.evidence.Source.TheVariants.{Member as Of}
 use Rattle.certs.specs.declared.evidence.Share.{Share}
@@ -19,16 +20,16 @@ use Rattle.certs.specs.declared.evidence.Point.{Point}
 use Rattle.certs.specs.declared.evidence.Node.TheVariants.{Leaf}
 use Rattle.certs.specs.declared.evidence.Proof.{Proof}
 use Rattle.reductions.specs.declared.steps.ReduceStep.TheVariants.{Empty}
-use Rattle.report_text.specs.declared.report.Method.TheVariants.{Deletion}
+use Rattle.report_text.specs.declared.report.Method.TheVariants.{Deletion, Elastic}
 use Rattle.certs.specs.declared.solving.SiteKind.TheVariants.{Improve}
 use Rattle.certs.specs.declared.solving.Stop.TheVariants.{Pivots as Spent}
 use Rattle.report_text.specs.declared.report.Command.{Command}
-use Rattle.report_text.specs.declared.report.Command.TheVariants.{Check, Iis, Reduce, Edit, Undo, Pivots}
+use Rattle.report_text.specs.declared.report.Command.TheVariants.{Check, Iis, Relax, Reduce, Edit, Undo, Pivots}
 use Rattle.report_text.specs.declared.report.EditKind.{EditKind}
 use Rattle.report_text.specs.declared.report.TargetKind.{TargetKind}
 use Rattle.report_text.specs.declared.report.Refusal.TheVariants.{UnknownName, NoChange, NothingToUndo}
 use Rattle.report_text.specs.declared.report.Answer.{Answer}
-use Rattle.report_text.specs.declared.report.Answer.TheVariants.{Feasible, Infeasible, Irreducible, Reduced, Done, Refused, Stopped}
+use Rattle.report_text.specs.declared.report.Answer.TheVariants.{Feasible, Infeasible, Irreducible, Least, RigidInfeasible, Reduced, Done, Refused, NotLinear, Stopped}
 use Rattle.report_text.specs.declared.report.Entry.{Entry}
 use Rattle.cert_check.specs.declared.outcome.Outcome.{Outcome}
 use Rattle.cert_check.specs.declared.outcome.Outcome.TheVariants.{Accepted, Rejected, Wide as TooWide}
@@ -217,6 +218,112 @@ nothing_more = refl
 other_name : check noted (command (Edit (record { name = 120 ∷ []; kind = EditKind.Drop TargetKind.Row })) (Refused UnknownName) 3 ∷ command Undo Done 5 ∷ []) ≡ Rejected 6
 unfolding frac ◌+ℚ◌ ◌*ℚ◌ neg_ℚ gcd gcd_within le_q lt_q eq_ℚ first_wide is_wide product_steps
 other_name = refl
+
+-- ---- least violations: x ≤ 1 and x ≥ 2 are both soft, of weight 1, and each point between misses them by 1 in all
+abbrev least : ℤ → ℤ → List Share → Entry
+least t x shares = record { command = Relax; answer = Least (at x) (record { combo = record { shares = shares }; bound = whole t }); line = 3 }
+
+abbrev both : ℤ → List Share
+both w = use_of (RowUp 0) w ∷ use_of (RowLo 1) w ∷ []
+
+least_total : check noted (least (pos 1) (pos 1) (both (pos 1)) ∷ []) ≡ Accepted 1 0
+unfolding frac ◌+ℚ◌ ◌*ℚ◌ neg_ℚ gcd gcd_within le_q lt_q eq_ℚ first_wide is_wide product_steps sum_steps
+least_total = refl
+
+-- the dual has another right side, or the point another violation
+other_right_side : check noted (least (pos 2) (pos 0) (both (pos 1)) ∷ []) ≡ Rejected 5
+unfolding frac ◌+ℚ◌ ◌*ℚ◌ neg_ℚ gcd gcd_within le_q lt_q eq_ℚ first_wide is_wide product_steps
+other_right_side = refl
+
+other_violation : check noted (least (pos 1) (pos 3) (both (pos 1)) ∷ []) ≡ Rejected 5
+unfolding frac ◌+ℚ◌ ◌*ℚ◌ neg_ℚ gcd gcd_within le_q lt_q eq_ℚ first_wide is_wide product_steps
+other_violation = refl
+
+-- each row is given twice its weight: the line of `dual` is the one behind the point, which has a line of its value only where this is not 0
+too_much : check noted (least (pos 2) (pos 0) (both (pos 2)) ∷ []) ≡ Rejected 7
+unfolding frac ◌+ℚ◌ ◌*ℚ◌ neg_ℚ gcd gcd_within le_q lt_q eq_ℚ first_wide is_wide product_steps sum_steps
+too_much = refl
+
+-- a use that is not active
+not_usable : check noted (least (pos 1) (pos 1) (use_of (RowUp 0) (pos 1) ∷ use_of (RowLo 2) (pos 1) ∷ []) ∷ []) ≡ Rejected 5
+unfolding frac ◌+ℚ◌ ◌*ℚ◌ neg_ℚ gcd gcd_within le_q lt_q eq_ℚ first_wide is_wide product_steps
+not_usable = refl
+
+-- where x ≤ 1 is rigid, 2 is no point, though it misses nothing that is soft; where only x ≥ 2 is, it is one
+abbrev weighed : Weight → Weight → Program
+weighed up lo = record program { rows = record (row None (Some one_ℚ) true) { upper_weight = up } ∷ record (row (Some (whole (pos 2))) None true) { lower_weight = lo } ∷ [] }
+
+abbrev check_of : Program → Entry → Outcome
+check_of p e = outcome_of (e ∷ []) (trials p (record { notes = noted; entries = e ∷ [] }))
+
+rigid_missed : check_of (weighed Rigid (Soft one_ℚ)) (least (pos 0) (pos 2) []) ≡ Rejected 6
+unfolding frac ◌+ℚ◌ ◌*ℚ◌ neg_ℚ gcd gcd_within le_q lt_q eq_ℚ first_wide is_wide product_steps
+rigid_missed = refl
+
+soft_missed : check_of (weighed (Soft one_ℚ) Rigid) (least (pos 1) (pos 2) (both (pos 1))) ≡ Accepted 1 0
+unfolding frac ◌+ℚ◌ ◌*ℚ◌ neg_ℚ gcd gcd_within le_q lt_q eq_ℚ first_wide is_wide product_steps sum_steps
+soft_missed = refl
+
+-- a rigid row may be given any weight
+any_weight : check_of (weighed (Soft (whole (pos 2))) Rigid) (least (pos 2) (pos 2) (both (pos 2))) ≡ Accepted 1 0
+unfolding frac ◌+ℚ◌ ◌*ℚ◌ neg_ℚ gcd gcd_within le_q lt_q eq_ℚ first_wide is_wide product_steps sum_steps
+any_weight = refl
+
+-- ---- rigid members that no point satisfies: each one that is printed is rigid
+abbrev rigid_pair : Entry
+rigid_pair = record (infeasible pair (leaf (pos 1) (RowLo 1) (pos 1))) { command = Relax; answer = RigidInfeasible (record { rows = 2; columns = 1; members = pair }) (leaf (pos 1) (RowLo 1) (pos 1)) }
+
+all_rigid : check_of (weighed Rigid Rigid) rigid_pair ≡ Accepted 1 0
+unfolding frac ◌+ℚ◌ ◌*ℚ◌ neg_ℚ gcd gcd_within le_q lt_q eq_ℚ first_wide is_wide product_steps
+all_rigid = refl
+
+first_soft : check_of (weighed (Soft one_ℚ) Rigid) rigid_pair ≡ Rejected 5
+unfolding frac ◌+ℚ◌ ◌*ℚ◌ neg_ℚ gcd gcd_within le_q lt_q eq_ℚ first_wide is_wide product_steps
+first_soft = refl
+
+second_soft : check_of (weighed Rigid (Soft one_ℚ)) rigid_pair ≡ Rejected 6
+unfolding frac ◌+ℚ◌ ◌*ℚ◌ neg_ℚ gcd gcd_within le_q lt_q eq_ℚ first_wide is_wide product_steps
+second_soft = refl
+
+-- ---- rounds: from 1 up to one more than the two members, on the line behind the proof
+abbrev rounds : ℕ → Entry
+rounds n = record { command = Iis Elastic; answer = Irreducible (record { members = record { rows = 3; columns = 1; members = pair }; witnesses = at (pos 2) ∷ at (pos 0) ∷ []; proof = leaf (pos 1) (RowLo 1) (pos 1); rounds = Some n; price = None }); line = 3 }
+
+no_round : check noted (rounds 0 ∷ []) ≡ Rejected 14
+unfolding frac ◌+ℚ◌ ◌*ℚ◌ neg_ℚ gcd gcd_within le_q lt_q eq_ℚ first_wide is_wide product_steps
+no_round = refl
+
+most_rounds : check noted (rounds 3 ∷ []) ≡ Accepted 1 0
+unfolding frac ◌+ℚ◌ ◌*ℚ◌ neg_ℚ gcd gcd_within le_q lt_q eq_ℚ first_wide is_wide product_steps
+most_rounds = refl
+
+one_round_too_many : check noted (rounds 4 ∷ []) ≡ Rejected 14
+unfolding frac ◌+ℚ◌ ◌*ℚ◌ neg_ℚ gcd gcd_within le_q lt_q eq_ℚ first_wide is_wide product_steps
+one_round_too_many = refl
+
+-- ---- where x is to be whole, the elastic method and `relax` have no answer but that, and stops
+abbrev marked : Program
+marked = record program { columns = record { name = []; lower = None; upper = None; whole = true; lower_active = true; upper_active = true; whole_active = true; lower_weight = Soft one_ℚ; upper_weight = Soft one_ℚ } ∷ [] }
+
+marked_least : check_of marked (least (pos 1) (pos 1) (both (pos 1))) ≡ Rejected 4
+unfolding frac ◌+ℚ◌ ◌*ℚ◌ neg_ℚ gcd gcd_within le_q lt_q eq_ℚ first_wide is_wide product_steps
+marked_least = refl
+
+marked_rounds : check_of marked (rounds 3) ≡ Rejected 4
+unfolding frac ◌+ℚ◌ ◌*ℚ◌ neg_ℚ gcd gcd_within le_q lt_q eq_ℚ first_wide is_wide product_steps
+marked_rounds = refl
+
+marked_pair : check_of marked (irreducible (pos 2) (pos 0) (leaf (pos 1) (RowLo 1) (pos 1))) ≡ Accepted 1 0
+unfolding frac ◌+ℚ◌ ◌*ℚ◌ neg_ℚ gcd gcd_within le_q lt_q eq_ℚ first_wide is_wide product_steps
+marked_pair = refl
+
+not_linear : check_of marked (record { command = Relax; answer = NotLinear 0; line = 3 }) ≡ Accepted 0 1
+unfolding frac ◌+ℚ◌ ◌*ℚ◌ neg_ℚ gcd gcd_within le_q lt_q eq_ℚ first_wide is_wide product_steps
+not_linear = refl
+
+stopped_relax : check_of marked (record stopped { command = Relax }) ≡ Accepted 0 1
+unfolding frac ◌+ℚ◌ ◌*ℚ◌ neg_ℚ gcd gcd_within le_q lt_q eq_ℚ first_wide is_wide product_steps
+stopped_relax = refl
 
 -- ---- two times the greatest number is too wide
 too_wide : check noted (infeasible pair (leaf (pos limit) (RowLo 1) (pos limit)) ∷ []) ≡ TooWide 8 (operation Times (whole (pos 2)) (whole (pos limit)))

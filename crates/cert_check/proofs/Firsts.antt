@@ -56,6 +56,10 @@ stop_of first other s e h = subst (λ (f : Option Stop). IsStop f s) e h
 pub says_second : (a b : List Trial) (r : Result (Unit {0}) Stop) → first_stop a ≡ None → Says (first_stop b) r → Says (first_stop (a ++ b)) r
 says_second a b r e h = subst (λ (f : Option Stop). Says f r) (sym (passed_over a b e)) h
 
+-- and so is a stop of it
+pub stop_second : (a b : List Trial) (s : Stop) → first_stop a ≡ None → IsStop (first_stop b) s → IsStop (first_stop (a ++ b)) s
+stop_second a b s e h = stop_of _ _ s (sym (passed_over a b e)) h
+
 -- it is the same under an equation
 pub says_of : (first other : Option Stop) (r : Result (Unit {0}) Stop) → first ≡ other → Says first r → Says other r
 says_of first other r e h = subst (λ (f : Option Stop). Says f r) e h

@@ -7,5 +7,6 @@ pub mod Entered
 pub mod Ended
 pub mod Counted
 pub mod Bounding
+pub mod Reaching
 pub mod Believed
 mod Examples

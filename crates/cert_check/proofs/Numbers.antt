@@ -9,9 +9,9 @@ use Rattle.report_text.specs.declared.report.Command.{Command}
 use Rattle.report_text.specs.declared.report.Entry.{Entry}
 use Rattle.report_text.specs.Turns.{after}
 use Rattle.report_text.specs.declared.report.Report.{Report}
-use Rattle.report_text.specs.declared.report.Answer.TheVariants.{Infeasible, Irreducible}
+use Rattle.report_text.specs.declared.report.Answer.TheVariants.{Infeasible, Irreducible, RigidInfeasible}
 use Rattle.report_text.specs.declared.phrases.Phrase.{Phrase}
-use Rattle.report_text.specs.Grammar.{Line, text_of, phrase_line, node_phrases, witness_phrases, proof_phrases, answer_phrases, entry_phrases, entries_phrases, report_phrases, report_lines}
+use Rattle.report_text.specs.Grammar.{Line, text_of, phrase_line, node_phrases, witness_phrases, proof_phrases, rounds_phrases, answer_phrases, entry_phrases, entries_phrases, report_phrases, report_lines}
 use Rattle.report_text.specs.Form.{AreNumbered}
 use Rattle.cert_check.specs.Trials.{witnesses_of}
 use Rattle.cert_check.specs.Uses.{AreShort}
@@ -48,16 +48,22 @@ members_fit model set proof =
     let e : length (proof_phrases proof) ≡ suc (length (flat_map node_phrases proof.nodes)) = refl in
     omega (arith, a, b, c, d, e)
 
+-- and so are rigid members and the nodes
+pub rigid_fit : (model : Program) (set : SetValue) (proof : Proof) → length set.members + length (flat_map node_phrases proof.nodes) ≤ length (answer_phrases model (RigidInfeasible set proof))
+rigid_fit model set proof = members_fit model set proof
+
 -- and so are those of members with witnesses, and the nodes
 pub witnesses_fit : (model : Program) (core : Core) → length (flat_map witness_phrases (witnesses_of core)) + length (flat_map node_phrases core.proof.nodes) ≤ length (answer_phrases model (Irreducible core))
 witnesses_fit model core =
     let witnesses = flat_map witness_phrases (witnesses_of core) in
-    let front = witnesses ++ proof_phrases core.proof in
-    let a : length front ≡ length witnesses + length (proof_phrases core.proof) = length-append witnesses (proof_phrases core.proof) in
+    let rest = proof_phrases core.proof ++ rounds_phrases core.rounds in
+    let front = witnesses ++ rest in
+    let a : length front ≡ length witnesses + length rest = length-append witnesses rest in
+    let b : length rest ≡ length (proof_phrases core.proof) + length (rounds_phrases core.rounds) = length-append (proof_phrases core.proof) (rounds_phrases core.rounds) in
     let c : length (answer_phrases model (Irreducible core)) ≡ suc (length (front ++ Phrase.End ∷ [])) = refl in
     let d : length (front ++ Phrase.End ∷ []) ≡ length front + 1 = length-append front (Phrase.End ∷ []) in
     let e : length (proof_phrases core.proof) ≡ suc (length (flat_map node_phrases core.proof.nodes)) = refl in
-    omega (arith, a, c, d, e)
+    omega (arith, a, b, c, d, e)
 
 -- ---- the lines of entries, where line number n is that of the first
 entries_short : (model : Program) (before : List Command) (n : ℕ) (entries : List Entry) → AreNumbered model before n entries → n + length (entries_phrases model before entries) ≤ 2147483648 → AreShort model before entries

@@ -3,11 +3,10 @@ use Rattle.std.proofs.Common.{◌≡◌, ◌<◌, ◌≤◌, ◌+◌, refl, sym,
 use Rattle.std.specs.Iterator.{YieldsFirst}
 use Rattle.std.proofs.lemmas.List.{at_drop_more, at_drop_all}
 use Rattle.lp_model.specs.declared.members.Member.{Member}
-use Rattle.lp_model.specs.Program.{Program}
-use Rattle.lp_model.specs.Members.{is_same, is_active}
+use Rattle.lp_model.specs.Members.{is_same, has}
 use Rattle.lp_model.proofs.Sets.{same_members, same_self}
 use Rattle.cert_check.specs.declared.outcome.Stop.TheVariants.{Rejected}
-use Rattle.cert_check.specs.Trials.{said, paired_trials, is_active_use}
+use Rattle.cert_check.specs.Trials.{said, paired_trials, is_use_of}
 use Rattle.cert_check.specs.Stops.{stop_or, first_stop}
 
 module _ {A : Type 0} (agree : A → A → Bool) where
@@ -31,24 +30,24 @@ module _ {A : Type 0} (agree : A → A → Bool) where
         ∙ at_drop_more (λ (z : List A). first_stop (paired_trials agree n [] z)) ys i y l
 
 -- ---- members
--- the printed member is not active
-pub inactive : (model : Program) (n : ℕ) (m : Member) (rest used : List Member) → is_active model m ≡ false → first_stop (paired_trials (is_active_use model) n (m ∷ rest) used) ≡ Some (Rejected n)
-inactive model n m rest [] e = refl
-inactive model n m rest (u ∷ used) e = differ (is_active_use model) n m u rest used (rw e refl)
+-- the printed member is not of the set
+pub outside : (among : List Member) (n : ℕ) (m : Member) (rest used : List Member) → has among m ≡ false → first_stop (paired_trials (is_use_of among) n (m ∷ rest) used) ≡ Some (Rejected n)
+outside among n m rest [] e = refl
+outside among n m rest (u ∷ used) e = differ (is_use_of among) n m u rest used (rw e refl)
 
-module _ (model : Program) (n : ℕ) (m : Member) (rest used others : List Member) where
+module _ (among : List Member) (n : ℕ) (m : Member) (rest used others : List Member) where
   -- the proof does not use it there
-  pub not_used : (next : Option Member) → YieldsFirst (λ (l : List Member). l) used next others → ¬ (next ≡ Some m) → first_stop (paired_trials (is_active_use model) n (m ∷ rest) used) ≡ Some (Rejected n)
-  not_used None yields wrong = ap (λ z. first_stop (paired_trials (is_active_use model) n (m ∷ rest) z)) yields.0
+  pub not_used : (next : Option Member) → YieldsFirst (λ (l : List Member). l) used next others → ¬ (next ≡ Some m) → first_stop (paired_trials (is_use_of among) n (m ∷ rest) used) ≡ Some (Rejected n)
+  not_used None yields wrong = ap (λ z. first_stop (paired_trials (is_use_of among) n (m ∷ rest) z)) yields.0
   not_used (Some u) yields wrong =
-      ap (λ z. first_stop (paired_trials (is_active_use model) n (m ∷ rest) z)) yields
-      ∙ differ (is_active_use model) n m u rest others (by (is_same m u) refl (is_active model m) refl)
+      ap (λ z. first_stop (paired_trials (is_use_of among) n (m ∷ rest) z)) yields
+      ∙ differ (is_use_of among) n m u rest others (by (is_same m u) refl (has among m) refl)
     where
-      by : (s : Bool) → is_same m u ≡ s → (b : Bool) → is_active model m ≡ b → is_active_use model m u ≡ false
+      by : (s : Bool) → is_same m u ≡ s → (b : Bool) → has among m ≡ b → is_use_of among m u ≡ false
       by true s b a = absurd (wrong (ap (λ (k : Member). Some k) (sym (same_members m u s))))
       by false s true a = rw (a, s) refl
       by false s false a = rw a refl
 
-  -- it is active and used there
-  pub used_next : is_active model m ≡ true → used ≡ m ∷ others → first_stop (paired_trials (is_active_use model) (n + 1) rest others) ≡ first_stop (paired_trials (is_active_use model) n (m ∷ rest) used)
-  used_next a e = sym (ap (λ z. first_stop (paired_trials (is_active_use model) n (m ∷ rest) z)) e ∙ agreed (is_active_use model) n m m rest others (rw (a, same_self m) refl))
+  -- it is of the set, and used there
+  pub used_next : has among m ≡ true → used ≡ m ∷ others → first_stop (paired_trials (is_use_of among) (n + 1) rest others) ≡ first_stop (paired_trials (is_use_of among) n (m ∷ rest) used)
+  used_next a e = sym (ap (λ z. first_stop (paired_trials (is_use_of among) n (m ∷ rest) z)) e ∙ agreed (is_use_of among) n m m rest others (rw (a, same_self m) refl))

@@ -1,10 +1,10 @@
 -- The trials of a report: which lines can fail against a program, in the order of the lines, and what is found there.
-use Rattle.std.specs.Prelude.{ℕ, ◌+◌, ◌==◌, Bool, true, false, ◌&&◌, ◌||◌, not, is_some, List, [], ◌∷◌, ◌++◌, length, take, zip, filter, flat_map, Option, Some, None}
+use Rattle.std.specs.Prelude.{ℕ, ◌+◌, ◌==◌, nat_lt, nat_le, Bool, true, false, ◌&&◌, ◌||◌, not, cond, is_some, List, [], ◌∷◌, ◌++◌, length, take, zip, filter, flat_map, Option, Some, None}
 use Rattle.lp_model.specs.declared.parts.Note.{Note}
 use Rattle.lp_model.specs.declared.parts.Note.TheVariants.{LowerRemoved, LowerKept}
 use Rattle.lp_model.specs.declared.members.Member.{Member}
 use Rattle.lp_model.specs.Program.{Program}
-use Rattle.lp_model.specs.Members.{is_same, is_active, possible_members, active_members}
+use Rattle.lp_model.specs.Members.{is_same, is_active, has, possible_members, active_members}
 use Rattle.lp_model.specs.MemberSets.{SetValue}
 use Rattle.lp_model.specs.Satisfaction.{values_at}
 use Rattle.lp_model.specs.Evaluation.{value_operations}
@@ -20,21 +20,25 @@ use Rattle.certs.specs.declared.evidence.Checked.TheVariants.{Yes, No, Wide}
 use Rattle.certs.specs.Checks.{outcome, point_steps, ray_steps}
 use Rattle.certs.specs.Named.{used_members}
 use Rattle.certs.specs.Trees.{has_mark}
+use Rattle.certs.specs.Violation.{rigid_members}
 use Rattle.bound_checks.specs.declared.bounds.Dual.{Dual}
 use Rattle.bound_checks.specs.Parts.{value_steps, right_steps, factor_steps}
+use Rattle.least_checks.specs.Parts.{total_steps, violation_steps, weight_steps}
 use Rattle.branch_proof.specs.declared.checks.Judged.{Judged}
 use Rattle.branch_proof.specs.Walk.{judgement}
 use Rattle.report_text.specs.declared.report.Core.{Core}
 use Rattle.report_text.specs.declared.report.Bounded.{Bounded}
 use Rattle.report_text.specs.declared.report.Answer.{Answer}
-use Rattle.report_text.specs.declared.report.Answer.TheVariants.{Feasible, Infeasible, Irreducible, Unbounded as RunsAway, Bounded as BoundedBy, Reduced, Done, Refused, Stopped}
+use Rattle.report_text.specs.declared.report.Answer.TheVariants.{Feasible, Infeasible, Irreducible, Unbounded as RunsAway, Bounded as BoundedBy, Least as LeastBy, RigidInfeasible as RigidRefuted, Reduced, Done, Refused, NotLinear, Stopped}
 use Rattle.report_text.specs.contracts.report.RefusalPartialEq.TheImpl.{ghosts as refusal_test}
 use Rattle.report_text.specs.declared.report.Entry.{Entry}
 use Rattle.report_text.specs.declared.report.Report.{Report}
 use Rattle.report_text.specs.declared.report.Command.{Command}
-use Rattle.report_text.specs.declared.layout.TheConstants.{HEAD_LINES, OPENING_LINES, MEMBER_LINES, PROOF_LINES, BOUND_LINES}
+use Rattle.report_text.specs.declared.report.Command.TheVariants.{Iis, Relax}
+use Rattle.report_text.specs.declared.report.Method.TheVariants.{Elastic}
+use Rattle.report_text.specs.declared.layout.TheConstants.{HEAD_LINES, OPENING_LINES, MEMBER_LINES, PROOF_LINES, BOUND_LINES, LEAST_LINES}
 use Rattle.report_text.specs.Turns.{after, answer_after, gathered}
-use Rattle.report_text.specs.Grammar.{point_phrases, objective_phrases, node_phrases, witness_phrases}
+use Rattle.report_text.specs.Grammar.{point_phrases, objective_phrases, node_phrases, proof_phrases, witness_phrases}
 use Rattle.cert_check.specs.declared.outcome.Outcome.{Outcome}
 use Rattle.cert_check.specs.declared.outcome.Outcome.TheVariants.{Accepted, Rejected, Wide as TooWide, Memory}
 
@@ -91,19 +95,19 @@ proof_trials model set n proof = judged_trials n proof.nodes (judgement model se
 abbrev pub proof_members : Program → Proof → List Member
 proof_members model proof = used_members (possible_members model) proof.nodes
 
--- a printed member is active, and is the one that the proof uses
-abbrev pub is_active_use : Program → Member → Member → Bool
-is_active_use model printed used = is_active model printed && is_same printed used
+-- a printed member is of a set, and is the one that the proof uses
+abbrev pub is_use_of : List Member → Member → Member → Bool
+is_use_of among printed used = has among printed && is_same printed used
 
 -- ---- answers, of which the command stands on line n
 -- the point against the active members
 abbrev pub feasible_trials : Program → ℕ → Point → List Trial
 feasible_trials model n p = point_trial model (active_members model) (n + OPENING_LINES) p ∷ []
 
--- the members against those that the proof uses, and the proof
-abbrev pub infeasible_trials : Program → ℕ → SetValue → Proof → List Trial
-infeasible_trials model n set proof =
-    paired_trials (is_active_use model) (n + OPENING_LINES) set.members (proof_members model proof)
+-- printed members, each of a set, against those that the proof uses, and the proof
+abbrev pub refuted_trials : Program → List Member → ℕ → SetValue → Proof → List Trial
+refuted_trials model among n set proof =
+    paired_trials (is_use_of among) (n + OPENING_LINES) set.members (proof_members model proof)
     ++ proof_trials model set.members (n + ((OPENING_LINES + PROOF_LINES) + length set.members)) proof
 
 -- the members of a set but one
@@ -122,11 +126,17 @@ witness_trials model set n (w ∷ witnesses) =
 abbrev pub witnesses_of : Core → List (Member × Point)
 witnesses_of core = zip core.members.members core.witnesses
 
--- the members with their witnesses, and the proof
+-- the rounds for so many members, where they are told: at least one, and at most one more than the members
+abbrev pub rounds_trials : ℕ → ℕ → Option ℕ → List Trial
+rounds_trials members n None = []
+rounds_trials members n (Some rounds) = on_line n (said (nat_lt 0 rounds && nat_le rounds (members + 1))) ∷ []
+
+-- the members with their witnesses, the proof, and the rounds behind it
 abbrev pub irreducible_trials : Program → ℕ → Core → List Trial
 irreducible_trials model n core =
+    let next = n + (OPENING_LINES + length (flat_map witness_phrases (witnesses_of core))) in
     witness_trials model core.members.members (n + OPENING_LINES) (witnesses_of core)
-    ++ proof_trials model core.members.members (n + ((OPENING_LINES + PROOF_LINES) + length (flat_map witness_phrases (witnesses_of core)))) core.proof
+    ++ (proof_trials model core.members.members (next + PROOF_LINES) core.proof ++ rounds_trials (length core.members.members) (next + length (proof_phrases core.proof)) core.rounds)
 
 -- ---- what the objective does
 -- the ray against the active members, on the line of its `ray`; marks have no part in it
@@ -165,16 +175,38 @@ bounded_trials model n b =
     point_trial model (active_members model) (n + OPENING_LINES) b.point
     ∷ (value_trials model next b.point b.objective ++ dual_trials model (next + length (objective_phrases b.objective)) b.objective b.dual)
 
--- those of an answer; nothing is tried of the program where a command is done or refused, nor of a stop, nor of how far the program is reduced
+-- ---- what must give way
+-- the rigid ones of the active members
+abbrev pub rigid_active : Program → List Member
+rigid_active model = rigid_members model (active_members model)
+
+-- the line of the total: the dual's right side, and then the weighted violation at the point
+abbrev pub total_trials : Program → ℕ → Point → Dual → List Trial
+total_trials model n p dual =
+    on_line n (outcome (total_steps model (active_members model) dual.combo.shares dual.bound))
+    ∷ on_line n (outcome (violation_steps model (active_members model) (values_at p.values) dual.bound)) ∷ []
+
+-- the total, the point against the rigid active members, and the dual's columns and weights on the line of its `dual`
+abbrev pub least_trials : Program → ℕ → Point → Dual → List Trial
+least_trials model n p dual =
+    total_trials model (n + OPENING_LINES) p dual
+    ++ point_trial model (rigid_active model) (n + LEAST_LINES) p
+    ∷ on_line (n + (LEAST_LINES + length (point_phrases p))) (outcome (weight_steps model (active_members model) dual.combo.shares)) ∷ []
+
+-- ---- answers of every kind
+-- nothing is tried of the program where a command is done or refused, nor of a stop, nor of a column that is to be whole where it may not be, nor of how far the program is reduced
 abbrev pub answer_trials : Program → ℕ → Answer → List Trial
 answer_trials model n (Feasible p) = feasible_trials model n p
-answer_trials model n (Infeasible set proof) = infeasible_trials model n set proof
+answer_trials model n (Infeasible set proof) = refuted_trials model (active_members model) n set proof
 answer_trials model n (Irreducible core) = irreducible_trials model n core
 answer_trials model n (RunsAway p ray) = unbounded_trials model n p ray
 answer_trials model n (BoundedBy b) = bounded_trials model n b
+answer_trials model n (LeastBy p dual) = least_trials model n p dual
+answer_trials model n (RigidRefuted set proof) = refuted_trials model (rigid_active model) n set proof
 answer_trials model n (Reduced r) = []
 answer_trials model n Done = []
 answer_trials model n (Refused r) = []
+answer_trials model n (NotLinear j) = []
 answer_trials model n (Stopped stop) = []
 
 -- ---- edits and undos
@@ -189,10 +221,32 @@ abbrev pub reply_trials : Option Answer → ℕ → Answer → List Trial
 reply_trials None n a = []
 reply_trials (Some right) n a = on_line (n + 1) (said (same_reply right a)) ∷ []
 
+-- ---- marks
+-- an answer settles its command, unless it is a stop, or tells how far the program is reduced, or that a column is to be whole where it may not be
+abbrev pub settles : Answer → Bool
+settles (Reduced r) = false
+settles (NotLinear j) = false
+settles (Stopped stop) = false
+settles _ = true
+
+-- whether a command is for linear constraints alone: the elastic method, and `relax`
+abbrev pub needs_linear : Command → Bool
+needs_linear (Iis Elastic) = true
+needs_linear Relax = true
+needs_linear _ = false
+
+-- on the first line of an answer that settles such a command: that no active member is a mark
+abbrev pub linear_trials : Program → Entry → List Trial
+linear_trials model e = cond (needs_linear e.command && settles e.answer) (on_line (e.line + 1) (said (not (has_mark (active_members model)))) ∷ []) []
+
 -- ---- entries
+-- what an entry claims of a program: that it is linear, where the command needs that, and then the answer
+abbrev pub claim_trials : Program → Entry → List Trial
+claim_trials model e = linear_trials model e ++ answer_trials model e.line e.answer
+
 -- those of an entry, from the line of its command, by the program at first and the commands before the entry
 abbrev pub entry_trials : Program → List Command → Entry → List Trial
-entry_trials first before e = answer_trials (after first before) e.line e.answer ++ reply_trials (answer_after first before e.command) e.line e.answer
+entry_trials first before e = claim_trials (after first before) e ++ reply_trials (answer_after first before e.command) e.line e.answer
 
 -- those of entries, each by the commands before it
 abbrev pub entries_trials : Program → List Command → List Entry → List Trial
@@ -208,12 +262,6 @@ abbrev pub unless_failed : ℕ → Checked → Outcome → Outcome
 unless_failed n Yes rest = rest
 unless_failed n No rest = Rejected n
 unless_failed n (Wide o) rest = TooWide n o
-
--- an answer settles its command, unless it is a stop, or tells how far the program is reduced
-abbrev pub settles : Answer → Bool
-settles (Reduced r) = false
-settles (Stopped stop) = false
-settles _ = true
 
 -- how many entries are settled
 abbrev pub settled_count : List Entry → ℕ

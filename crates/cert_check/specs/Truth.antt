@@ -9,19 +9,20 @@ use Rattle.certs.specs.declared.evidence.Point.{Point}
 use Rattle.certs.specs.declared.evidence.Ray.{Ray}
 use Rattle.certs.specs.Bound.{objective_value, Unbounded, IsBoundDual, IsImproving, IsValidBound}
 use Rattle.certs.specs.Trees.{has_mark}
+use Rattle.least_checks.specs.Least.{IsLeastBy}
 use Rattle.report_text.specs.declared.report.Bounded.{Bounded}
 use Rattle.report_text.specs.declared.report.Answer.{Answer}
-use Rattle.report_text.specs.declared.report.Answer.TheVariants.{Feasible, Infeasible, Irreducible, Unbounded as RunsAway, Bounded as BoundedBy, Reduced, Done, Refused, Stopped}
+use Rattle.report_text.specs.declared.report.Answer.TheVariants.{Feasible, Infeasible, Irreducible, Unbounded as RunsAway, Bounded as BoundedBy, Least as LeastBy, RigidInfeasible as RigidRefuted, Reduced, Done, Refused, NotLinear, Stopped}
 use Rattle.report_text.specs.declared.report.Command.{Command}
 use Rattle.report_text.specs.declared.report.Entry.{Entry}
 use Rattle.report_text.specs.Turns.{after, answer_after, AllEntries}
 use Rattle.report_text.specs.declared.report.Report.{Report}
 use Rattle.report_text.specs.Form.{IsReportFor}
-use Rattle.cert_check.specs.Trials.{others, may_be_left_out, trials, outcome_of, IsAccepted}
+use Rattle.cert_check.specs.Trials.{others, may_be_left_out, rigid_active, trials, outcome_of, IsAccepted}
 
--- members that are active, and that no point satisfies
-pub record IsRefuted (model : Program) (set : List Member) : Type 0 where
-  pub active : IsPart set (active_members model)
+-- some of these members, which no point satisfies
+pub record IsRefuted (model : Program) (among set : List Member) : Type 0 where
+  pub part : IsPart set among
   pub unsatisfiable : IsUnsatisfiable model set
 
 -- Members that are active, that no point satisfies, and of which each may be left out: its own witness satisfies all the others.
@@ -46,16 +47,19 @@ pub record IsBoundedAt (model : Program) (b : Bounded) : Type 0 where
   pub valid : IsValidBound model (active_members model) b.dual.bound
   pub reached : has_mark (active_members model) ≡ false → b.objective ≡ Some b.dual.bound
 
--- What an answer claims: its point satisfies the active members, or its members are refuted, or irreducible by its witnesses; or the objective is unbounded along its ray, or bounded by its dual. Where a command is done or refused, or a solve stopped, nothing is claimed of the program; nor where it is told how far the program is reduced.
+-- What an answer claims: its point satisfies the active members, or its members are refuted, or irreducible by its witnesses; or the objective is unbounded along its ray, or bounded by its dual; or at its point the weighted violation is least, by its dual, or its members are rigid and refuted. Where a command is done or refused, or a solve stopped, nothing is claimed of the program; nor where it is told how far the program is reduced, or that a column is to be whole where it may not be.
 abbrev pub IsTrueAnswer : Program → Answer → Type 0
 IsTrueAnswer model (Feasible p) = Satisfies model (active_members model) (values_at p.values)
-IsTrueAnswer model (Infeasible set proof) = IsRefuted model set.members
+IsTrueAnswer model (Infeasible set proof) = IsRefuted model (active_members model) set.members
 IsTrueAnswer model (Irreducible core) = IsIrreducibleBy model core.members.members core.witnesses
 IsTrueAnswer model (RunsAway p ray) = IsUnboundedAt model p ray
 IsTrueAnswer model (BoundedBy b) = IsBoundedAt model b
+IsTrueAnswer model (LeastBy p dual) = IsLeastBy model (active_members model) p dual
+IsTrueAnswer model (RigidRefuted set proof) = IsRefuted model (rigid_active model) set.members
 IsTrueAnswer model (Reduced r) = Unit {0}
 IsTrueAnswer model Done = Unit {0}
 IsTrueAnswer model (Refused r) = Unit {0}
+IsTrueAnswer model (NotLinear j) = Unit {0}
 IsTrueAnswer model (Stopped stop) = Unit {0}
 
 -- what an entry claims is so of the program after the commands before it, and where its command is an edit or an undo, its answer is the right one

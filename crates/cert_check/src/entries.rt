@@ -1,23 +1,28 @@
 //! Whether the entries of a report hold.
 ghost use Rattle.std.specs.Prelude.{◌≡◌, ◌+◌, ◌<◌, [], length, flat_map};
+ghost use Rattle.lp_model.specs.Members.{active_members};
+ghost use Rattle.certs.specs.Checks.{IsSetOf};
 ghost use Rattle.model_history.specs.History.{history_of};
 ghost use Rattle.report_text.specs.declared.report.Answer.TheVariants.{Refused as RefusedBy};
 ghost use Rattle.report_text.specs.Form.{IsProofFor, IsPointFor, IsListed, IsCoreFor, IsAnswerFor, IsEntryFor, AreEntriesFor};
 ghost use Rattle.report_text.specs.Grammar.{answer_phrases, node_phrases, witness_phrases};
-ghost use Rattle.cert_check.specs.Trials.{witnesses_of, feasible_trials, infeasible_trials, irreducible_trials, answer_trials, reply_trials, same_reply, entries_trials};
+ghost use Rattle.cert_check.specs.Trials.{witnesses_of, feasible_trials, refuted_trials, rigid_active, rounds_trials, irreducible_trials, answer_trials, claim_trials, linear_trials, needs_linear as needs_linear_constraints, settles as settles_command, reply_trials, same_reply, entries_trials};
 ghost use Rattle.cert_check.specs.Stops.{first_stop, Says};
 ghost use Rattle.cert_check.specs.Uses.{IsShort, AreShort};
 ghost use Rattle.cert_check.specs.Replay.{Replays};
 
+use crate::leasts::check_least;
 use crate::members::{check_members, used_members};
 use crate::objectives::{check_bounded, check_unbounded};
 use crate::outcome::{Stop, settle};
-use crate::trees::check_tree;
+use crate::trees::{check_tree, line_behind};
 use crate::witnesses::check_witnesses;
+use bound_checks::has_mark;
 use certs::{Point, Proof, check_point};
+use least_checks::rigid_set;
 use lp_model::{MemberSet, Model};
 use model_session::Session;
-use report_text::{Answer, Core, Entry, OPENING_LINES, PROOF_LINES, Refusal};
+use report_text::{Answer, Command, Core, Entry, Method, OPENING_LINES, PROOF_LINES, Refusal};
 use std::alloc::Global;
 
 /// Checks the entries, in order, from a program of which nothing was edited yet.
@@ -43,7 +48,7 @@ fn check_entry(alloc: Global, session: &mut Session, entry: &Entry) -> Result<()
     requires short { IsShort session.old.model entry.now }
     ensures { Replays session.old entry.now result session.new }
 {
-    check_answer(alloc, session.model(), &entry.answer, entry.line)?;
+    check_claim(alloc, session.model(), entry)?;
     let Ok(right) = session.take(&entry.command) else {
         return Err(Stop::Memory);
     };
@@ -85,6 +90,50 @@ fn is_refused(answer: &Answer, reason: Refusal) -> bool
     }
 }
 
+// Checks what an entry claims of the program.
+fn check_claim(alloc: Global, model: &Model, entry: &Entry) -> Result<(), Stop>
+    requires form { IsAnswerFor model.now entry.now.answer }
+    requires short { IsShort model.now entry.now }
+    ensures { Says (first_stop (claim_trials model.now entry.now)) result }
+{
+    check_linear(alloc, model, entry)?;
+    check_answer(alloc, model, &entry.answer, entry.line)
+}
+
+// Checks that no active member is a mark, where the answer settles a command that is for linear constraints alone.
+fn check_linear(alloc: Global, model: &Model, entry: &Entry) -> Result<(), Stop>
+    requires { entry.now.line + 1 < 4294967296 }
+    ensures { Says (first_stop (linear_trials model.now entry.now)) result }
+{
+    if !needs_linear(&entry.command) || !settles(&entry.answer) {
+        return Ok(());
+    }
+    let Ok(active) = model.members(alloc) else {
+        return Err(Stop::Memory);
+    };
+    if has_mark(&active) {
+        return Err(Stop::Rejected(entry.line + 1));
+    }
+    Ok(())
+}
+
+// Whether a command is for linear constraints alone.
+fn needs_linear(command: &Command) -> bool
+    ensures { result ≡ needs_linear_constraints command.now }
+{
+    matches!(command, Command::Iis(Method::Elastic) | Command::Relax)
+}
+
+/// Whether an answer settles its command.
+pub fn settles(answer: &Answer) -> bool
+    ensures { result ≡ settles_command answer.now }
+{
+    match answer {
+        Answer::Reduced(_) | Answer::NotLinear(_) | Answer::Stopped(_) => false,
+        _ => true,
+    }
+}
+
 // Checks an answer, of which the command stands on the given line.
 fn check_answer(alloc: Global, model: &Model, answer: &Answer, line: u32) -> Result<(), Stop>
     requires form { IsAnswerFor model.now answer.now }
@@ -96,10 +145,18 @@ fn check_answer(alloc: Global, model: &Model, answer: &Answer, line: u32) -> Res
         Answer::Infeasible(members, proof) => {
             check_infeasible(alloc, model, members, proof, line)
         }
+        Answer::RigidInfeasible(members, proof) => {
+            check_rigid(alloc, model, members, proof, line)
+        }
         Answer::Irreducible(core) => check_core(alloc, model, core, line),
         Answer::Unbounded(point, ray) => check_unbounded(alloc, model, point, ray, line),
         Answer::Bounded(bounded) => check_bounded(alloc, model, bounded, line),
-        Answer::Reduced(_) | Answer::Done | Answer::Refused(_) | Answer::Stopped(_) => Ok(()),
+        Answer::Least(point, dual) => check_least(alloc, model, point, dual, line),
+        Answer::Reduced(_)
+        | Answer::Done
+        | Answer::Refused(_)
+        | Answer::NotLinear(_)
+        | Answer::Stopped(_) => Ok(()),
     }
 }
 
@@ -115,7 +172,7 @@ fn check_feasible(alloc: Global, model: &Model, point: &Point, line: u32) -> Res
     settle(line + OPENING_LINES, check_point(model, &active, point))
 }
 
-// Checks members and a proof that no point satisfies them.
+// Checks active members and a proof that no point satisfies them.
 fn check_infeasible(
     alloc: Global,
     model: &Model,
@@ -125,20 +182,71 @@ fn check_infeasible(
 ) -> Result<(), Stop>
     requires members { IsListed model.now members.now }
     requires proof { IsProofFor model.now proof.now }
-    requires short { line + (length members.now.members + length (flat_map node_phrases proof.now.nodes)) < 4294967290 }
-    ensures { Says (first_stop (infeasible_trials model.now line members.now proof.now)) result }
+    requires short { let nodes = flat_map node_phrases proof.now.nodes in
+        line + (length members.now.members + length nodes) < 4294967290 }
+    ensures { let active = active_members model.now in
+        Says (first_stop (refuted_trials model.now active line members.now proof.now)) result }
+{
+    let Ok(active) = model.members(alloc) else {
+        return Err(Stop::Memory);
+    };
+    check_refuted(alloc, model, &active, members, proof, line)
+}
+
+// Checks rigid active members and a proof that no point satisfies them.
+fn check_rigid(
+    alloc: Global,
+    model: &Model,
+    members: &MemberSet,
+    proof: &Proof,
+    line: u32,
+) -> Result<(), Stop>
+    requires members { IsListed model.now members.now }
+    requires proof { IsProofFor model.now proof.now }
+    requires short { let nodes = flat_map node_phrases proof.now.nodes in
+        line + (length members.now.members + length nodes) < 4294967290 }
+    ensures { let rigid = rigid_active model.now in
+        Says (first_stop (refuted_trials model.now rigid line members.now proof.now)) result }
+{
+    let Ok(active) = model.members(alloc) else {
+        return Err(Stop::Memory);
+    };
+    let Ok(rigid) = rigid_set(alloc, model, &active) else {
+        return Err(Stop::Memory);
+    };
+    check_refuted(alloc, model, &rigid, members, proof, line)
+}
+
+// Checks members, each of a set, and a proof that no point satisfies them.
+fn check_refuted(
+    alloc: Global,
+    model: &Model,
+    among: &MemberSet,
+    members: &MemberSet,
+    proof: &Proof,
+    line: u32,
+) -> Result<(), Stop>
+    requires same { IsSetOf model.now among.now }
+    requires members { IsListed model.now members.now }
+    requires proof { IsProofFor model.now proof.now }
+    requires short { let nodes = flat_map node_phrases proof.now.nodes in
+        line + (length members.now.members + length nodes) < 4294967290 }
+    ensures { let among = among.now.members in
+        Says (first_stop (refuted_trials model.now among line members.now proof.now)) result }
 {
     let Ok(used) = used_members(alloc, model, proof) else {
         return Err(Stop::Memory);
     };
-    let end = check_members(model, members, &used, line + OPENING_LINES)?;
+    let end = check_members(model, among, members, &used, line + OPENING_LINES)?;
     check_tree(alloc, model, members, proof, end + PROOF_LINES)
 }
 
-// Checks an irreducible set: its members with their witnesses, and its proof.
+// Checks an irreducible set: its members with their witnesses, its proof, and its rounds.
 fn check_core(alloc: Global, model: &Model, core: &Core, line: u32) -> Result<(), Stop>
     requires form { IsCoreFor model.now core.now }
-    requires short { line + (length (flat_map witness_phrases (witnesses_of core.now)) + length (flat_map node_phrases core.now.proof.nodes)) < 4294967290 }
+    requires short { let witnesses = flat_map witness_phrases (witnesses_of core.now) in
+        let nodes = flat_map node_phrases core.now.proof.nodes in
+        line + (length witnesses + length nodes) < 4294967290 }
     ensures { Says (first_stop (irreducible_trials model.now line core.now)) result }
 {
     let Ok(mut others) = core.members.copy(alloc) else {
@@ -147,5 +255,23 @@ fn check_core(alloc: Global, model: &Model, core: &Core, line: u32) -> Result<()
     let witnesses = core.witnesses.as_slice();
     let start = line + OPENING_LINES;
     let end = check_witnesses(model, &core.members, &mut others, witnesses, start)?;
-    check_tree(alloc, model, &core.members, &core.proof, end + PROOF_LINES)
+    check_tree(alloc, model, &core.members, &core.proof, end + PROOF_LINES)?;
+    check_rounds(core, end + PROOF_LINES)
+}
+
+// Checks the rounds of an irreducible set, where they are told, behind its proof, of which the first node stands on the given
+// line.
+fn check_rounds(core: &Core, first: u32) -> Result<(), Stop>
+    requires { first + length (flat_map node_phrases core.now.proof.nodes) < 4294967296 }
+    ensures { let members = length core.now.members.members in
+        let line = first + length (flat_map node_phrases core.now.proof.nodes) in
+        Says (first_stop (rounds_trials members line core.now.rounds)) result }
+{
+    let Some(rounds) = core.rounds else {
+        return Ok(());
+    };
+    if rounds >= 1 && rounds - 1 <= core.members.count() {
+        return Ok(());
+    }
+    Err(Stop::Rejected(line_behind(&core.proof, first)))
 }

@@ -2,6 +2,7 @@
 #![tactic(auto)]
 
 mod entries;
+mod leasts;
 mod members;
 mod notes;
 mod objectives;
@@ -10,5 +11,6 @@ mod reports;
 mod trees;
 mod witnesses;
 
+pub use entries::settles;
 pub use outcome::Outcome;
 pub use reports::{accepted_reports_are_true, verify};

@@ -1,11 +1,11 @@
-//! Whether printed members are active, and those that a proof uses.
+//! Whether printed members are of a set, and those that a proof uses.
 ghost use Rattle.std.specs.Prelude.{◌≡◌, ◌+◌, ◌<◌, ◌↔◌, All, IfOk, IsTrue, MatchResult, None, Some, length};
 ghost use Rattle.std.specs.List.{list_any};
 ghost use Rattle.lp_model.specs.MemberSets.{empty_set};
 ghost use Rattle.certs.specs.Checks.{IsSetOf};
 ghost use Rattle.certs.specs.Named.{IsKnownNode, IsKnownSource, node_uses};
 ghost use Rattle.certs.specs.Violation.{is_of};
-ghost use Rattle.cert_check.specs.Trials.{paired_trials, is_active_use, proof_members};
+ghost use Rattle.cert_check.specs.Trials.{paired_trials, is_use_of, proof_members};
 ghost use Rattle.cert_check.specs.Stops.{first_stop, IsStop};
 ghost use Rattle.cert_check.specs.Uses.{with_source, with_tested};
 
@@ -64,27 +64,30 @@ fn insert_source(set: &mut MemberSet, source: Source)
     }
 }
 
-/// Compares the printed members with the used ones position by position, the first on the given line. Each is to be
-/// active. It gives the number of the line after them.
+/// Compares the printed members with the used ones position by position, the first on the given line. Each is to be of
+/// the set. It gives the number of the line after them.
 pub(crate) fn check_members(
     model: &Model,
+    among: &MemberSet,
     printed: &MemberSet,
     used: &MemberSet,
     start: u32,
 ) -> Result<u32, Stop>
+    requires among { IsSetOf model.now among.now }
     requires printed { IsSetOf model.now printed.now }
     requires used { IsSetOf model.now used.now }
     requires short { start + length printed.now.members < 4294967296 }
-    ensures { MatchResult result
-        (λ line. (first_stop (paired_trials (is_active_use model.now) start printed.now.members used.now.members) ≡ None)
-        × (line ≡ start + length printed.now.members))
-        (IsStop (first_stop (paired_trials (is_active_use model.now) start printed.now.members used.now.members))) }
+    ensures { let agree = is_use_of among.now.members in
+        let stop = first_stop (paired_trials agree start printed.now.members used.now.members) in
+        MatchResult result
+        (λ line. (stop ≡ None) × (line ≡ start + length printed.now.members))
+        (IsStop stop) }
 {
     printed.stands_in_order();
     let mut line = start;
     let mut uses = used.iter();
     for member in printed.iter() {
-        if !model.is_active(member) {
+        if !among.contains(member) {
             return Err(Stop::Rejected(line));
         }
         if !is_next(uses.next(), member) {

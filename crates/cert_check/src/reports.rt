@@ -3,17 +3,18 @@ ghost use Rattle.std.specs.Prelude.{◌≡◌, ◌⊎◌, ◌<◌, [], length};
 ghost use Rattle.model_history.specs.History.{history_of};
 ghost use Rattle.report_text.specs.Form.{IsReportFor};
 ghost use Rattle.report_text.specs.Grammar.{report_lines};
-ghost use Rattle.cert_check.specs.Trials.{trials, settles as settles_command, settled_count, unsettled_count, outcome_of, IsAccepted};
+ghost use Rattle.cert_check.specs.Trials.{trials, settled_count, unsettled_count, outcome_of, IsAccepted};
 ghost use Rattle.cert_check.specs.Stops.{first_stop, Says, ending};
 ghost use Rattle.cert_check.specs.Truth.{AreTrue, AcceptedLaw};
 
-use crate::entries::check_entries;
+use crate::entries::{check_entries, settles};
 use crate::notes::check_notes;
 use crate::outcome::{Outcome, Stop};
 use evidence_laws::{bound_is_valid, ray_is_unbounded};
+use least_checks::{checked_violation, parts_show_least, reached_is_least};
 use lp_model::Model;
 use model_session::Session;
-use report_text::{Answer, Entry, Report};
+use report_text::{Entry, Report};
 use std::alloc::Global;
 
 /// Checks a report against a program, line by line, and answers with the first line that fails or has an operation that
@@ -24,14 +25,24 @@ use std::alloc::Global;
 /// satisfy the other members of its set. A member fails on its line where it is not active, and in `infeasible` also
 /// where it is not the one that the proof uses in its place; where one is missing, the line in its place fails, which
 /// may be the `proof` line. A proof fails on its `leaf` line where its shares are no combination of the printed
-/// members. A ray fails on its `ray` line where it leaves an active member or does not improve the objective. A value of the
-/// objective fails on its line where it is not the sum at the point. A dual fails on its `bound` line where it uses what is not
-/// active, where its numbers do not add up to the bound, where the value is left out without cause, or where no active member
-/// is a mark and the value is not the bound; and on its `dual` line where its columns are not the objective. The answer to an edit or an undo fails on its line where it is not the right one: that it is done, or the
-/// reason for which it is refused.
+/// members. Rounds fail on their line where there are none, or more than one more than the members. A ray fails on its `ray`
+/// line where it leaves an active member or does not improve the objective. A value of the objective fails on its line where
+/// it is not the sum at the point. A dual fails on its `bound` line where it uses what is not active, where its numbers do not
+/// add up to the bound, where the value is left out without cause, or where no active member is a mark and the value is not
+/// the bound; and on its `dual` line where its columns are not the objective.
+///
+/// In `least` the `total` line fails where the dual uses what is not active, where its numbers do not add up to the total,
+/// negated, or where the total is not the weighted violation at the point; the `point` line where the point does not satisfy
+/// the rigid active members; and the `dual` line where the columns do not cancel or a soft member is given more than its
+/// weight. In `rigid infeasible` a member fails as in `infeasible`, and also where it is not rigid. The first line of an
+/// answer that settles `iis elastic` or `relax` fails where an active member is a mark.
+///
+/// The answer to an edit or an undo fails on its line where it is not the right one: that it is done, or the reason for which
+/// it is refused.
 ///
 /// `Accepted` shows that the notes are those of the program, and that what each entry says is so. Each entry is settled
-/// but the stops, which say nothing of the program, and those that tell how far it is reduced: of these nothing is checked.
+/// but the stops, which say nothing of the program, and those that tell how far it is reduced, or that a column is to be whole
+/// where it may not be: of these nothing is checked.
 ///
 /// The report is to stand in the grammar for the program, as one that was read for it does, and to have fewer than 2^31
 /// lines.
@@ -45,8 +56,7 @@ pub fn verify(alloc: Global, model: Model, report: Report) -> Outcome
 {
     // That the program is well formed is told with the count.
     let _rows = model.row_count();
-    ray_is_unbounded();
-    bound_is_valid();
+    accepted_reports_are_true();
     let mut session = Session::new(alloc, model);
     match check_report(alloc, &mut session, &report) {
         Ok(()) => accepted(report.entries.as_slice()),
@@ -60,6 +70,9 @@ pub fn accepted_reports_are_true()
 {
     ray_is_unbounded();
     bound_is_valid();
+    parts_show_least();
+    checked_violation();
+    reached_is_least();
 }
 
 // Checks the notes, and then the entries.
@@ -95,16 +108,6 @@ fn count_settled(entries: &[Entry]) -> u64
         }
     }
     count
-}
-
-// Whether an answer settles its command.
-fn settles(answer: &Answer) -> bool
-    ensures { result ≡ settles_command answer.now }
-{
-    match answer {
-        Answer::Reduced(_) | Answer::Stopped(_) => false,
-        _ => true,
-    }
 }
 
 // What a stop is answered as.

@@ -49,6 +49,15 @@ fn line_of(nodes: &[Node], n: usize, first: u32) -> u32
     line
 }
 
+/// The line behind a proof, of which the first node stands on the given line.
+pub(crate) fn line_behind(proof: &Proof, first: u32) -> u32
+    requires { first + length (flat_map node_phrases proof.now.nodes) < 4294967296 }
+    ensures { result ≡ first + length (flat_map node_phrases proof.now.nodes) }
+{
+    let nodes = proof.nodes.as_slice();
+    line_of(nodes, nodes.len(), first)
+}
+
 // How many lines a node has.
 fn node_length(node: &Node) -> u32
     requires { length (node_phrases node.now) < 4294967296 }

@@ -55,6 +55,11 @@ pub record IsBoundedWithin (b : Bounded) : Type 0 where
   pub objective : IsValueWithin b.objective
   pub dual : IsDualWithin b.dual
 
+-- the values of the point, and those of the dual
+pub record IsLeastWithin (p : Point) (dual : Dual) : Type 0 where
+  pub point : HasValuesWithin p
+  pub weights : IsDualWithin dual
+
 -- the value of a fixed column
 abbrev pub IsStepWithin : ReduceStep → Type 0
 IsStepWithin (Fixed j v) = IsWithinLimit v

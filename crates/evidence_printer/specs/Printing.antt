@@ -17,6 +17,7 @@ use Rattle.certs.specs.declared.solving.Stop.{Stop}
 use Rattle.certs.specs.declared.solving.Stop.TheVariants.{Wide as TooWide, Pivots as Spent, Nodes, Large, Memory}
 use Rattle.reductions.specs.declared.steps.ReduceStep.{ReduceStep}
 use Rattle.reductions.specs.declared.steps.ReduceStep.TheVariants.{Empty, Singleton, Fixed, Redundant, Forcing, Doubleton}
+use Rattle.bound_checks.specs.declared.bounds.Dual.{Dual}
 use Rattle.report_text.specs.declared.report.Bounded.{Bounded}
 use Rattle.report_text.specs.Grammar.{Line, without_phrase, phrases_text}
 
@@ -66,9 +67,15 @@ pub record IsKnownBounded (model : Program) (b : Bounded) : Type 0 where
   pub point : IsKnownPoint model b.point
   pub sources : All (λ s. IsKnownSource model s.source) b.dual.combo.shares
 
--- a set of members of the program, and branches on columns that there are
+-- such a point, and a dual of known sources
+pub record IsKnownLeast (model : Program) (p : Point) (dual : Dual) : Type 0 where
+  pub point : IsKnownPoint model p
+  pub sources : All (λ s. IsKnownSource model s.source) dual.combo.shares
+
+-- sets of members of the program, and branches on columns that there are
 pub record IsKnownSite (model : Program) (site : Site) : Type 0 where
   pub set : IsSetOf model site.set
+  pub enforced : IsSetOf model site.enforced
   pub path : All (λ b. b.column < length model.columns) site.path
 
 -- such a site, where it has one

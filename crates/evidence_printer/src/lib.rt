@@ -1,6 +1,7 @@
-//! The printed lines of evidence: members, points, rays, proofs, duals, stops, and the steps of reductions.
+//! The printed lines of evidence: members, points, rays, proofs, duals, rounds, stops, and the steps of reductions.
 #![tactic(auto)]
 
+mod least;
 mod members;
 mod nodes;
 mod objectives;
@@ -10,7 +11,8 @@ mod steps;
 mod stops;
 mod words;
 
-pub use members::print_members;
+pub use least::{print_least, print_rounds};
+pub use members::{print_column, print_members};
 pub use nodes::print_proof;
 pub use objectives::{print_bounded, print_unbounded};
 pub use points::{print_point, print_witnesses};

@@ -1,9 +1,9 @@
 //! The lines of members.
 #![tactic(auto, using(crate::proofs::Kept::keeps_on, crate::proofs::Kept::keeps_more, crate::proofs::Kept::keeps_same))]
 
-ghost use Rattle.std.specs.Prelude.{◌≡◌, ◌++◌, ◌∷◌, [], OnOk, map};
+ghost use Rattle.std.specs.Prelude.{◌≡◌, ◌<◌, ◌++◌, ◌∷◌, [], OnOk, length, map};
 ghost use Rattle.certs.specs.Checks.{IsSetOf};
-ghost use Rattle.report_text.specs.Grammar.{spelled, name_of, kind_word, phrases_text};
+ghost use Rattle.report_text.specs.Grammar.{column_name, spelled, name_of, kind_word, phrases_text};
 ghost use Rattle.evidence_printer.specs.Printing.{ended, Keeps, IsKnownMember};
 
 use crate::words::{push_line, push_word};
@@ -52,6 +52,22 @@ pub(crate) fn print_member(
     push_word(word, into)?;
     push_word(kind_name(member).as_bytes(), into)?;
     push_line(member_name(model, member), into)
+}
+
+/// Appends the line of a word and the name of a column.
+/// Where memory is refused, a front of it may stand behind what was there.
+pub fn print_column(
+    word: &[u8],
+    model: &Model,
+    column: u32,
+    into: &mut Vec<u8>,
+) -> Result<(), AllocError>
+    requires { column < length model.now.columns }
+    ensures text { OnOk result (into.new.items ≡ into.old.items ++ ended (spelled word.now (column_name model.now column ∷ []))) }
+    ensures front { Keeps into.old.items into.new.items }
+{
+    push_word(word, into)?;
+    push_line(model.column_name(column), into)
 }
 
 /// Appends the lines of members. Where memory is refused, a front of them may stand behind what was there.

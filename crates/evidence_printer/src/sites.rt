@@ -3,14 +3,16 @@
 
 ghost use Rattle.std.specs.Prelude.{◌≡◌, ◌++◌, ◌∷◌, [], ◌<◌, ◌&&◌, not, OnOk, length, map, All};
 ghost use Rattle.certs.specs.Checks.{IsSetOf};
+ghost use Rattle.lp_model.specs.Program.{Program};
 ghost use Rattle.lp_model.specs.Members.{has, is_active as is_in_force};
-ghost use Rattle.report_text.specs.Grammar.{site_word, phrase_line, without_phrase, branch_phrase, branch_keyword, keyword_text, left_out, site_phrases, phrases_text};
+ghost use Rattle.report_text.specs.Grammar.{site_word, phrase_line, without_phrase, enforced_phrase, branch_phrase, branch_keyword, keyword_text, left_out, site_phrases, phrases_text};
 ghost use Rattle.evidence_printer.specs.Printing.{ended, missing_text, Keeps, IsKnownMember, IsKnownSite};
 
 use crate::members::print_member;
 use crate::words::{push_line, push_whole, push_word};
 use certs::{Branch, Site, SiteKind};
 use lp_model::{Member, MemberSet, Model};
+use report_text::{Phrase, StopPhrase};
 use std::alloc::AllocError;
 
 fn site_name(kind: SiteKind) -> &'static str
@@ -64,6 +66,19 @@ fn print_left_out(model: &Model, set: &MemberSet, into: &mut Vec<u8>) -> Result<
     Ok(())
 }
 
+// Appends the lines of the members that are enforced.
+fn print_enforced(model: &Model, set: &MemberSet, into: &mut Vec<u8>) -> Result<(), AllocError>
+    requires { IsSetOf model.now set.now }
+    ensures text { OnOk result (into.new.items ≡ into.old.items ++ phrases_text model.now (map enforced_phrase set.now.members)) }
+    ensures front { Keeps into.old.items into.new.items }
+{
+    set.stands_in_order();
+    for member in set.iter() {
+        print_member(b"enforced", model, member, into)?;
+    }
+    Ok(())
+}
+
 // The word for the side of its column on which a branch is.
 fn side_name(upper: bool) -> &'static str
     ensures { result.now ≡ keyword_text (branch_keyword upper) }
@@ -94,14 +109,25 @@ fn print_path(model: &Model, path: &[Branch], into: &mut Vec<u8>) -> Result<(), 
     Ok(())
 }
 
-/// Appends the lines of a site: its kind, the active members that are not in its set, and the branches of its path.
+// Appends the line of a kind of site.
+fn print_kind(kind: SiteKind, into: &mut Vec<u8>) -> Result<(), AllocError>
+    ensures text { (model : Program) → OnOk result (into.new.items ≡ into.old.items ++ ended (phrase_line model (Phrase.Stop (StopPhrase.Site kind)))) }
+    ensures front { Keeps into.old.items into.new.items }
+{
+    push_word(b"site", into)?;
+    push_line(site_name(kind).as_bytes(), into)
+}
+
+/// Appends the lines of a site: its kind, the active members that are not in its set, those of its set that are enforced,
+/// and the branches of its path.
 pub(crate) fn print_site(model: &Model, site: &Site, into: &mut Vec<u8>) -> Result<(), AllocError>
     requires { IsKnownSite model.now site.now }
     ensures text { OnOk result (into.new.items ≡ into.old.items ++ phrases_text model.now (site_phrases model.now site.now)) }
     ensures front { Keeps into.old.items into.new.items }
 {
-    push_word(b"site", into)?;
-    push_line(site_name(site.kind).as_bytes(), into)?;
+    print_kind(site.kind, into)?;
     print_left_out(model, &site.set, into)?;
-    print_path(model, site.path.as_slice(), into)
+    print_enforced(model, &site.enforced, into)?;
+    print_path(model, site.path.as_slice(), into)?;
+    Ok(())
 }

@@ -57,6 +57,7 @@ module _ (first : Program) (Allowed : Command → Type 0) (Holds : List Edit →
   holds_command Command.Check edits allowed h = h
   holds_command (Command.Iis method) edits allowed h = h
   holds_command Command.Unbounded edits allowed h = h
+  holds_command Command.Relax edits allowed h = h
   holds_command Command.Reduce edits allowed h = h
   holds_command (Command.Edit e) edits allowed h = holds_named e (named_edit first e) edits allowed refl h
   holds_command Command.Undo edits allowed h = holds_without edits h

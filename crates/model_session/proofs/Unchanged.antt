@@ -163,6 +163,7 @@ module _ (first model : Program) (same : SameNames first model) where
   stop_details_same (StopPhrase.Large size) = refl
   stop_details_same (StopPhrase.Site kind) = refl
   stop_details_same (StopPhrase.Without m) = simp (name_of_same m)
+  stop_details_same (StopPhrase.Enforced m) = simp (name_of_same m)
   stop_details_same (StopPhrase.Branch b) = simp (column_name_same b.column)
   stop_details_same (StopPhrase.Step k) = refl
   stop_details_same (StopPhrase.Operation o) = refl
@@ -188,9 +189,12 @@ module _ (first model : Program) (same : SameNames first model) where
   details_same Phrase.Irreducible = refl
   details_same Phrase.Unbounded = refl
   details_same Phrase.Bounded = refl
+  details_same Phrase.Least = refl
+  details_same Phrase.RigidInfeasible = refl
   details_same Phrase.Reduced = refl
   details_same Phrase.Done = refl
   details_same (Phrase.Refused r) = refl
+  details_same (Phrase.NotLinear j) = simp (column_name_same j)
   details_same (Phrase.Stop s) = stop_details_same s
   details_same Phrase.Point = refl
   details_same (Phrase.Value j v) = simp (column_name_same j)
@@ -198,6 +202,8 @@ module _ (first model : Program) (same : SameNames first model) where
   details_same (Phrase.Objective v) = refl
   details_same (Phrase.Bound v) = refl
   details_same Phrase.Dual = refl
+  details_same (Phrase.Total v) = refl
+  details_same (Phrase.Rounds n) = refl
   details_same (Phrase.Member m) = simp (name_of_same m)
   details_same Phrase.Proof = refl
   details_same (Phrase.Split j k) = simp (column_name_same j)

@@ -9,8 +9,8 @@ use Rattle.rational.specs.Rational.{ℚ}
 use Rattle.lp_model.specs.declared.members.Side.{Side}
 use Rattle.lp_model.specs.declared.members.Side.TheVariants.{Lo, Up}
 use Rattle.report_text.specs.declared.report.Command.{Command}
-use Rattle.report_text.specs.declared.report.Command.TheVariants.{Check, Iis, Unbounded, Reduce, Edit, Undo, Pivots, Nodes}
-use Rattle.report_text.specs.declared.report.Method.TheVariants.{Deletion, Additive, Sensitivity}
+use Rattle.report_text.specs.declared.report.Command.TheVariants.{Check, Iis, Unbounded, Relax, Reduce, Edit, Undo, Pivots, Nodes}
+use Rattle.report_text.specs.declared.report.Method.TheVariants.{Deletion, Additive, Sensitivity, Elastic}
 use Rattle.report_text.specs.declared.report.TargetKind.{TargetKind}
 use Rattle.report_text.specs.declared.report.TargetKind.TheVariants.{Row, RowLo, RowUp, Lower, Upper, Whole}
 use Rattle.report_text.specs.declared.report.EditKind.{EditKind}
@@ -38,6 +38,7 @@ unfoldable pub AreSaid : List (List ℕ) → Command → Type 0
 AreSaid words Check = words ≡ codes "check" ∷ []
 AreSaid words (Iis method) = words ≡ codes "iis" ∷ method_word method ∷ []
 AreSaid words Unbounded = words ≡ codes "unbounded" ∷ []
+AreSaid words Relax = words ≡ codes "relax" ∷ []
 AreSaid words Reduce = words ≡ codes "reduce" ∷ []
 AreSaid words (Edit e) = (is_word e.name ≡ true) × AreAsked words e.name e.kind
 AreSaid words Undo = words ≡ codes "undo" ∷ []
@@ -144,12 +145,15 @@ setting_asked a b name d last k e =
     words = a ∷ b ∷ name ∷ d ∷ last ∷ []
 
 -- ---- commands
--- what may stand in the place of `reduce`, of `unbounded` and of `check`
+-- what may stand in the place of `reduce`, of `relax`, of `unbounded` and of `check`
 abbrev behind_reduce : List ℕ → Option Command
 behind_reduce a = cond (bytes_eq a (codes "undo")) (Some Undo) None
 
+abbrev behind_relax : List ℕ → Option Command
+behind_relax a = cond (bytes_eq a (codes "reduce")) (Some Reduce) (behind_reduce a)
+
 abbrev behind_unbounded : List ℕ → Option Command
-behind_unbounded a = cond (bytes_eq a (codes "reduce")) (Some Reduce) (behind_reduce a)
+behind_unbounded a = cond (bytes_eq a (codes "relax")) (Some Relax) (behind_relax a)
 
 abbrev behind_check : List ℕ → Option Command
 behind_check a = cond (bytes_eq a (codes "unbounded")) (Some Unbounded) (behind_unbounded a)
@@ -159,8 +163,9 @@ unfolding AreSaid
 lone_said a c e =
     split_if (AreSaid (a ∷ []) c) a (codes "check") (Some Check) (behind_check a) c e (λ w g. subst (AreSaid (a ∷ [])) (same_Some Check c g) (ap (λ w. w ∷ []) w))
     (λ d. split_if (AreSaid (a ∷ []) c) a (codes "unbounded") (Some Unbounded) (behind_unbounded a) c d (λ w g. subst (AreSaid (a ∷ [])) (same_Some Unbounded c g) (ap (λ w. w ∷ []) w))
+    (λ r. split_if (AreSaid (a ∷ []) c) a (codes "relax") (Some Relax) (behind_relax a) c r (λ w g. subst (AreSaid (a ∷ [])) (same_Some Relax c g) (ap (λ w. w ∷ []) w))
     (λ f. split_if (AreSaid (a ∷ []) c) a (codes "reduce") (Some Reduce) (behind_reduce a) c f (λ w g. subst (AreSaid (a ∷ [])) (same_Some Reduce c g) (ap (λ w. w ∷ []) w))
-    (λ g. split_if (AreSaid (a ∷ []) c) a (codes "undo") (Some Undo) None c g (λ w h. subst (AreSaid (a ∷ [])) (same_Some Undo c h) (ap (λ w. w ∷ []) w)) (nothing (AreSaid (a ∷ []) c) c))))
+    (λ g. split_if (AreSaid (a ∷ []) c) a (codes "undo") (Some Undo) None c g (λ w h. subst (AreSaid (a ∷ [])) (same_Some Undo c h) (ap (λ w. w ∷ []) w)) (nothing (AreSaid (a ∷ []) c) c)))))
 
 search_said : (a b : List ℕ) (c : Command) → iis_command a b ≡ Some c → AreSaid (a ∷ b ∷ []) c
 unfolding AreSaid
@@ -168,7 +173,7 @@ search_said a b c e =
     let t = told_if (bytes_eq a (codes "iis")) (option_map Iis (method_of b)) c e in
     let m = told Iis (method_of b) c t.1 in
     subst (AreSaid (a ∷ b ∷ [])) m.1.1
-    (ap (λ w. w ∷ b ∷ []) ((bytes_eq-Decides a (codes "iis")).0 t.0) ∙ ap (λ w. codes "iis" ∷ w ∷ []) (found_spelled method_word (Deletion ∷ Additive ∷ Sensitivity ∷ []) b m.0 m.1.0))
+    (ap (λ w. w ∷ b ∷ []) ((bytes_eq-Decides a (codes "iis")).0 t.0) ∙ ap (λ w. codes "iis" ∷ w ∷ []) (found_spelled method_word (Deletion ∷ Additive ∷ Sensitivity ∷ Elastic ∷ []) b m.0 m.1.0))
 
 -- what stands behind `budget`
 behind_said : (b number : List ℕ) (c : Command) → budget_behind b number ≡ Some c → AreSaid (codes "budget" ∷ b ∷ number ∷ []) c
@@ -228,6 +233,7 @@ said_built words Check e = tt
 said_built words (Iis method) e = tt
 said_built words (Edit n) e = let s = words_said words (Edit n) e in record { word = s.0; kind = asked_built words n.name n.kind s.1 }
 said_built words Unbounded e = tt
+said_built words Relax e = tt
 said_built words Reduce e = tt
 said_built words Undo e = tt
 said_built words (Pivots n) e = let s = words_said words (Pivots n) e in budget_within s.0 n s.1.1
@@ -282,8 +288,10 @@ own_words Check h = refl
 own_words (Iis Deletion) h = refl
 own_words (Iis Additive) h = refl
 own_words (Iis Sensitivity) h = refl
+own_words (Iis Elastic) h = refl
 own_words (Edit e) h = own_edit e.name e.kind h.word h.kind
 own_words Unbounded h = refl
+own_words Relax h = refl
 own_words Reduce h = refl
 own_words Undo h = refl
 own_words (Pivots n) h = ap (option_map Pivots) (own_number n h)

@@ -54,6 +54,7 @@ leads model (Phrase.Stop (StopPhrase.Large size)) h = refl
 leads model (Phrase.Split j k) h = refl
 leads model (Phrase.Stop (StopPhrase.Site kind)) h = refl
 leads model (Phrase.Stop (StopPhrase.Without m)) h = refl
+leads model (Phrase.Stop (StopPhrase.Enforced m)) h = refl
 leads model (Phrase.Stop (StopPhrase.Branch b)) h = by b.upper
   where
     by : (upper : Bool) → leading_said (keyword_text (branch_keyword upper)) ≡ Some (branch_keyword upper)
@@ -64,6 +65,10 @@ leads model (Phrase.Stop (StopPhrase.Operation o)) h = refl
 leads model (Phrase.Value j v) h = refl
 leads model (Phrase.Objective v) h = refl
 leads model (Phrase.Bound v) h = refl
+leads model (Phrase.Total v) h = refl
+leads model (Phrase.Rounds n) h = refl
+leads model Phrase.RigidInfeasible h = refl
+leads model (Phrase.NotLinear j) h = refl
 leads model (Phrase.Member m) h = refl
 leads model (Phrase.Use s) h = refl
 leads model (Phrase.Reduction (Empty i)) h = refl
@@ -98,6 +103,7 @@ lone_is model Phrase.Infeasible e = refl
 lone_is model Phrase.Irreducible e = refl
 lone_is model Phrase.Unbounded e = refl
 lone_is model Phrase.Bounded e = refl
+lone_is model Phrase.Least e = refl
 lone_is model Phrase.Reduced e = refl
 lone_is model Phrase.Done e = refl
 lone_is model Phrase.Point e = refl
@@ -127,11 +133,12 @@ IsLone model p = IsPhraseFor model p × (details model p ≡ [])
 
 lone_each : (model : Program) → All (IsLone model) lone_phrases
 lone_each model =
-    more Phrase.Feasible (Phrase.Infeasible ∷ Phrase.Irreducible ∷ Phrase.Unbounded ∷ Phrase.Bounded ∷ Phrase.Reduced ∷ Phrase.Done ∷ Phrase.Point ∷ Phrase.Ray ∷ Phrase.Dual ∷ Phrase.Proof ∷ Phrase.Leaf ∷ Phrase.End ∷ []) (tt, refl)
-    (more Phrase.Infeasible (Phrase.Irreducible ∷ Phrase.Unbounded ∷ Phrase.Bounded ∷ Phrase.Reduced ∷ Phrase.Done ∷ Phrase.Point ∷ Phrase.Ray ∷ Phrase.Dual ∷ Phrase.Proof ∷ Phrase.Leaf ∷ Phrase.End ∷ []) (tt, refl)
-    (more Phrase.Irreducible (Phrase.Unbounded ∷ Phrase.Bounded ∷ Phrase.Reduced ∷ Phrase.Done ∷ Phrase.Point ∷ Phrase.Ray ∷ Phrase.Dual ∷ Phrase.Proof ∷ Phrase.Leaf ∷ Phrase.End ∷ []) (tt, refl)
-    (more Phrase.Unbounded (Phrase.Bounded ∷ Phrase.Reduced ∷ Phrase.Done ∷ Phrase.Point ∷ Phrase.Ray ∷ Phrase.Dual ∷ Phrase.Proof ∷ Phrase.Leaf ∷ Phrase.End ∷ []) (tt, refl)
-    (more Phrase.Bounded (Phrase.Reduced ∷ Phrase.Done ∷ Phrase.Point ∷ Phrase.Ray ∷ Phrase.Dual ∷ Phrase.Proof ∷ Phrase.Leaf ∷ Phrase.End ∷ []) (tt, refl)
+    more Phrase.Feasible (Phrase.Infeasible ∷ Phrase.Irreducible ∷ Phrase.Unbounded ∷ Phrase.Bounded ∷ Phrase.Least ∷ Phrase.Reduced ∷ Phrase.Done ∷ Phrase.Point ∷ Phrase.Ray ∷ Phrase.Dual ∷ Phrase.Proof ∷ Phrase.Leaf ∷ Phrase.End ∷ []) (tt, refl)
+    (more Phrase.Infeasible (Phrase.Irreducible ∷ Phrase.Unbounded ∷ Phrase.Bounded ∷ Phrase.Least ∷ Phrase.Reduced ∷ Phrase.Done ∷ Phrase.Point ∷ Phrase.Ray ∷ Phrase.Dual ∷ Phrase.Proof ∷ Phrase.Leaf ∷ Phrase.End ∷ []) (tt, refl)
+    (more Phrase.Irreducible (Phrase.Unbounded ∷ Phrase.Bounded ∷ Phrase.Least ∷ Phrase.Reduced ∷ Phrase.Done ∷ Phrase.Point ∷ Phrase.Ray ∷ Phrase.Dual ∷ Phrase.Proof ∷ Phrase.Leaf ∷ Phrase.End ∷ []) (tt, refl)
+    (more Phrase.Unbounded (Phrase.Bounded ∷ Phrase.Least ∷ Phrase.Reduced ∷ Phrase.Done ∷ Phrase.Point ∷ Phrase.Ray ∷ Phrase.Dual ∷ Phrase.Proof ∷ Phrase.Leaf ∷ Phrase.End ∷ []) (tt, refl)
+    (more Phrase.Bounded (Phrase.Least ∷ Phrase.Reduced ∷ Phrase.Done ∷ Phrase.Point ∷ Phrase.Ray ∷ Phrase.Dual ∷ Phrase.Proof ∷ Phrase.Leaf ∷ Phrase.End ∷ []) (tt, refl)
+    (more Phrase.Least (Phrase.Reduced ∷ Phrase.Done ∷ Phrase.Point ∷ Phrase.Ray ∷ Phrase.Dual ∷ Phrase.Proof ∷ Phrase.Leaf ∷ Phrase.End ∷ []) (tt, refl)
     (more Phrase.Reduced (Phrase.Done ∷ Phrase.Point ∷ Phrase.Ray ∷ Phrase.Dual ∷ Phrase.Proof ∷ Phrase.Leaf ∷ Phrase.End ∷ []) (tt, refl)
     (more Phrase.Done (Phrase.Point ∷ Phrase.Ray ∷ Phrase.Dual ∷ Phrase.Proof ∷ Phrase.Leaf ∷ Phrase.End ∷ []) (tt, refl)
     (more Phrase.Point (Phrase.Ray ∷ Phrase.Dual ∷ Phrase.Proof ∷ Phrase.Leaf ∷ Phrase.End ∷ []) (tt, refl)
@@ -140,7 +147,7 @@ lone_each model =
     (more Phrase.Proof (Phrase.Leaf ∷ Phrase.End ∷ []) (tt, refl)
     (more Phrase.Leaf (Phrase.End ∷ []) (tt, refl)
     (more Phrase.End [] (tt, refl)
-    (All-nil (IsLone model))))))))))))))
+    (All-nil (IsLone model)))))))))))))))
   where
     more : (p : Phrase) (ps : List Phrase) → IsPhraseFor model p × (details model p ≡ []) → All (IsLone model) ps → All (IsLone model) (p ∷ ps)
     more p ps h rest = All-cons (IsLone model) p ps h rest

@@ -193,6 +193,7 @@ module _ (model : Program) (f : IsWellFormed model) where
   stop_one (StopPhrase.Branch a) (StopPhrase.Branch b) h k e d = ap StopPhrase.Branch (branch_one a b h k e d)
   stop_one (StopPhrase.Site a) (StopPhrase.Site b) h k e d = let words : site_word a ≡ site_word b = cc in ap StopPhrase.Site (site_one a b words)
   stop_one (StopPhrase.Without m) (StopPhrase.Without n) h k e d = let kinds : kind_word m ≡ kind_word n = cc in let names : name_of model m ≡ name_of model n = cc in ap StopPhrase.Without (member_one m n h k kinds names)
+  stop_one (StopPhrase.Enforced m) (StopPhrase.Enforced n) h k e d = let kinds : kind_word m ≡ kind_word n = cc in let names : name_of model m ≡ name_of model n = cc in ap StopPhrase.Enforced (member_one m n h k kinds names)
   stop_one (StopPhrase.Large m) (StopPhrase.Large n) h k e d = let words : decimal m ≡ decimal n = cc in ap StopPhrase.Large (decimal_injective m n h k words)
   stop_one (StopPhrase.Step m) (StopPhrase.Step n) h k e d = let words : decimal m ≡ decimal n = cc in ap StopPhrase.Step (decimal_injective m n h k words)
   stop_one (StopPhrase.Operation a) (StopPhrase.Operation b) h k e d = ap StopPhrase.Operation (operation_one model a b h k d)
@@ -262,6 +263,8 @@ module _ (model : Program) (f : IsWellFormed model) where
   behind_one Phrase.Irreducible Phrase.Irreducible h k e d = refl
   behind_one Phrase.Unbounded Phrase.Unbounded h k e d = refl
   behind_one Phrase.Bounded Phrase.Bounded h k e d = refl
+  behind_one Phrase.Least Phrase.Least h k e d = refl
+  behind_one Phrase.RigidInfeasible Phrase.RigidInfeasible h k e d = refl
   behind_one Phrase.Reduced Phrase.Reduced h k e d = refl
   behind_one Phrase.Point Phrase.Point h k e d = refl
   behind_one Phrase.Ray Phrase.Ray h k e d = refl
@@ -277,6 +280,9 @@ module _ (model : Program) (f : IsWellFormed model) where
   behind_one (Phrase.Value i v) (Phrase.Value j w) h k e d = let names : column_name model i ≡ column_name model j = cc in let numbers : printed v ≡ printed w = cc in ap (λ n. Phrase.Value n v) (column_one i j h.0 k.0 names) ∙ ap (λ x. Phrase.Value j x) (fraction_one v w h.1.0 k.1.0 numbers)
   behind_one (Phrase.Objective v) (Phrase.Objective w) h k e d = let numbers : printed v ≡ printed w = cc in ap Phrase.Objective (fraction_one v w h k numbers)
   behind_one (Phrase.Bound v) (Phrase.Bound w) h k e d = let numbers : printed v ≡ printed w = cc in ap Phrase.Bound (fraction_one v w h k numbers)
+  behind_one (Phrase.Total v) (Phrase.Total w) h k e d = let numbers : printed v ≡ printed w = cc in ap Phrase.Total (fraction_one v w h k numbers)
+  behind_one (Phrase.Rounds m) (Phrase.Rounds n) h k e d = let words : decimal m ≡ decimal n = cc in ap Phrase.Rounds (decimal_injective m n h k words)
+  behind_one (Phrase.NotLinear i) (Phrase.NotLinear j) h k e d = let names : column_name model i ≡ column_name model j = cc in ap Phrase.NotLinear (column_one i j h k names)
   behind_one (Phrase.Member m) (Phrase.Member n) h k e d = let kinds : kind_word m ≡ kind_word n = cc in let names : name_of model m ≡ name_of model n = cc in ap Phrase.Member (member_one m n h k kinds names)
   behind_one (Phrase.Use a) (Phrase.Use b) h k e d = ap Phrase.Use (use_one a b h k d)
   behind_one (Phrase.Split i m) (Phrase.Split j n) h k e d =

@@ -14,7 +14,7 @@ use Rattle.text_fields.specs.Fields.{is_filled, fields_of, field_fault, is_long,
 use Rattle.text_fields.proofs.FieldLists.{fields_of-first}
 use Rattle.report_text.specs.Names.{is_shown}
 use Rattle.report_text.specs.declared.report.Command.{Command}
-use Rattle.report_text.specs.declared.report.Command.TheVariants.{Check, Iis, Unbounded, Reduce, Edit, Undo, Pivots, Nodes}
+use Rattle.report_text.specs.declared.report.Command.TheVariants.{Check, Iis, Unbounded, Relax, Reduce, Edit, Undo, Pivots, Nodes}
 use Rattle.report_text.specs.declared.report.EditKind.{EditKind}
 use Rattle.report_text.specs.declared.report.EditKind.TheVariants.{Drop, Keep, Weigh, SetSide, SetBound, SetMark}
 use Rattle.report_text.specs.Form.{is_word, IsCommand}
@@ -55,6 +55,7 @@ plain_words words Check plain s = s
 plain_words words (Iis method) plain s = s
 plain_words words (Edit e) plain s = plain_edit words e.name e.kind plain s.1
 plain_words words Unbounded plain s = s
+plain_words words Relax plain s = s
 plain_words words Reduce plain s = s
 plain_words words Undo plain s = s
 plain_words words (Pivots n) plain s = s.1.0 ∙ ap (λ w. codes "budget" ∷ codes "pivots" ∷ w ∷ []) (sym (ap last_word s.1.0) ∙ plain)
@@ -73,6 +74,7 @@ own_plain Check = tt
 own_plain (Iis method) = tt
 own_plain (Edit e) = own_plain_edit e.name e.kind
 own_plain Unbounded = tt
+own_plain Relax = tt
 own_plain Reduce = tt
 own_plain Undo = tt
 own_plain (Pivots n) = refl

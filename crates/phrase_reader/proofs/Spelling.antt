@@ -35,9 +35,9 @@ use Rattle.reductions.specs.declared.steps.ReduceStep.TheVariants.{Empty, Single
 use Rattle.lp_model.specs.declared.parts.Weight.{Weight}
 use Rattle.lp_model.specs.declared.parts.Weight.TheVariants.{Soft, Rigid}
 use Rattle.report_text.specs.declared.report.Command.{Command}
-use Rattle.report_text.specs.declared.report.Command.TheVariants.{Check, Iis, Unbounded, Reduce, Edit, Undo, Pivots, Nodes}
+use Rattle.report_text.specs.declared.report.Command.TheVariants.{Check, Iis, Unbounded, Relax, Reduce, Edit, Undo, Pivots, Nodes}
 use Rattle.report_text.specs.declared.report.Method.{Method}
-use Rattle.report_text.specs.declared.report.Method.TheVariants.{Deletion, Additive, Sensitivity}
+use Rattle.report_text.specs.declared.report.Method.TheVariants.{Deletion, Additive, Sensitivity, Elastic}
 use Rattle.report_text.specs.declared.report.TargetKind.{TargetKind}
 use Rattle.report_text.specs.declared.report.EditKind.{EditKind}
 use Rattle.report_text.specs.declared.report.Refusal.{Refusal}
@@ -123,6 +123,7 @@ method_is : (method : Method) → is_word (method_word method) ≡ true
 method_is Deletion = refl
 method_is Additive = refl
 method_is Sensitivity = refl
+method_is Elastic = refl
 
 target_is : (t : TargetKind) → is_word (target_word t) ≡ true
 target_is TargetKind.Row = refl
@@ -187,6 +188,7 @@ command_words_are Check h = one_word (codes "check") [] refl no_words
 command_words_are (Iis method) h = one_word (codes "iis") (method_word method ∷ []) refl (one_word (method_word method) [] (method_is method) no_words)
 command_words_are (Edit e) h = edit_words_are e.name e.kind h.word h.kind
 command_words_are Unbounded h = one_word (codes "unbounded") [] refl no_words
+command_words_are Relax h = one_word (codes "relax") [] refl no_words
 command_words_are Reduce h = one_word (codes "reduce") [] refl no_words
 command_words_are Undo h = one_word (codes "undo") [] refl no_words
 command_words_are (Pivots n) h = one_word (codes "budget") (codes "pivots" ∷ decimal n ∷ []) refl (one_word (codes "pivots") (decimal n ∷ []) refl (one_word (decimal n) [] (count_is n h) no_words))
@@ -270,6 +272,7 @@ module _ (model : Program) where
   stop_shown (StopPhrase.Large size) h = and_shown (codes "large") (decimal size ∷ []) (plain (codes "large") refl) (and_shown (decimal size) [] (count_shown size h) none_shown)
   stop_shown (StopPhrase.Site kind) h = and_shown (site_word kind) [] (site_shown kind) none_shown
   stop_shown (StopPhrase.Without m) h = and_shown (kind_word m) (name_of model m ∷ []) (kind_shown m) (and_shown (name_of model m) [] (word_shown (name_of model m) h.word) none_shown)
+  stop_shown (StopPhrase.Enforced m) h = and_shown (kind_word m) (name_of model m ∷ []) (kind_shown m) (and_shown (name_of model m) [] (word_shown (name_of model m) h.word) none_shown)
   stop_shown (StopPhrase.Branch b) h = and_shown (column_name model b.column) (signed_decimal b.at ∷ []) (word_shown (column_name model b.column) h.named.word) (and_shown (signed_decimal b.at) [] (fitting_shown b.at h.fits) none_shown)
   stop_shown (StopPhrase.Step k) h = and_shown (decimal k) [] (count_shown k h) none_shown
   stop_shown (StopPhrase.Operation o) h =
@@ -321,6 +324,10 @@ module _ (model : Program) where
   details_shown (Phrase.Value j v) h = two_shown (column_name model j) (printed v) (word_shown (column_name model j) h.0.word) (printed_shown v h.1.0)
   details_shown (Phrase.Objective v) h = and_shown (printed v) [] (printed_shown v h) none_shown
   details_shown (Phrase.Bound v) h = and_shown (printed v) [] (printed_shown v h) none_shown
+  details_shown (Phrase.Total v) h = and_shown (printed v) [] (printed_shown v h) none_shown
+  details_shown (Phrase.Rounds n) h = and_shown (decimal n) [] (count_shown n h) none_shown
+  details_shown Phrase.RigidInfeasible h = and_shown (codes "infeasible") [] (plain (codes "infeasible") refl) none_shown
+  details_shown (Phrase.NotLinear j) h = two_shown (codes "linear") (column_name model j) (plain (codes "linear") refl) (column_shown j h)
   details_shown (Phrase.Member m) h = two_shown (kind_word m) (name_of model m) (kind_shown m) (word_shown (name_of model m) h.word)
   details_shown (Phrase.Use s) h =
       let source = source_shown s.source h.named in

@@ -18,6 +18,7 @@ pub record IsNamedBranch (model : Program) (b : Branch) : Type 0 where
 -- the numbers of what is said of a stop fit, and names are words
 abbrev pub IsStopPhrase : Program → StopPhrase → Type 0
 IsStopPhrase model (StopPhrase.Without m) = IsNamedMember model m
+IsStopPhrase model (StopPhrase.Enforced m) = IsNamedMember model m
 IsStopPhrase model (StopPhrase.Branch b) = IsNamedBranch model b
 IsStopPhrase model (StopPhrase.Step k) = IsCount k
 IsStopPhrase model (StopPhrase.Operation o) = IsOperation o
@@ -30,6 +31,9 @@ IsPhraseFor model (Phrase.Note note) = IsNamedColumn model (noted_column note)
 IsPhraseFor model (Phrase.Value j v) = IsNamedColumn model j × (IsWithinLimit v × (v ≢ zero_ℚ))
 IsPhraseFor model (Phrase.Objective v) = IsWithinLimit v
 IsPhraseFor model (Phrase.Bound v) = IsWithinLimit v
+IsPhraseFor model (Phrase.Total v) = IsWithinLimit v
+IsPhraseFor model (Phrase.Rounds n) = IsCount n
+IsPhraseFor model (Phrase.NotLinear j) = IsNamedColumn model j
 IsPhraseFor model (Phrase.Member m) = IsNamedMember model m
 IsPhraseFor model (Phrase.Use s) = IsUse model s
 IsPhraseFor model (Phrase.Command c) = IsCommand c

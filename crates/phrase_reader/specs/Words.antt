@@ -21,7 +21,7 @@ use Rattle.phrase_reader.specs.Phrases.{IsPhraseFor}
 
 -- the phrases of one word
 abbrev pub lone_phrases : List Phrase
-lone_phrases = Phrase.Feasible ∷ Phrase.Infeasible ∷ Phrase.Irreducible ∷ Phrase.Unbounded ∷ Phrase.Bounded ∷ Phrase.Reduced ∷ Phrase.Done ∷ Phrase.Point ∷ Phrase.Ray ∷ Phrase.Dual ∷ Phrase.Proof ∷ Phrase.Leaf ∷ Phrase.End ∷ []
+lone_phrases = Phrase.Feasible ∷ Phrase.Infeasible ∷ Phrase.Irreducible ∷ Phrase.Unbounded ∷ Phrase.Bounded ∷ Phrase.Least ∷ Phrase.Reduced ∷ Phrase.Done ∷ Phrase.Point ∷ Phrase.Ray ∷ Phrase.Dual ∷ Phrase.Proof ∷ Phrase.Leaf ∷ Phrase.End ∷ []
 
 -- the phrase of one word that a word says
 abbrev pub lone_said : List ℕ → Option Phrase
@@ -29,7 +29,7 @@ lone_said word = find (λ p. bytes_eq word (keyword_text (keyword_of p))) lone_p
 
 -- the keywords with words behind them
 abbrev pub leading_keywords : List Keyword
-leading_keywords = Keyword.Value ∷ Keyword.Objective ∷ Keyword.Bound ∷ Keyword.Use ∷ Keyword.Member ∷ Keyword.Command ∷ Keyword.Unknown ∷ Keyword.No ∷ Keyword.Nothing ∷ Keyword.Too ∷ Keyword.Pivots ∷ Keyword.Site ∷ Keyword.Without ∷ Keyword.Step ∷ Keyword.Operation ∷ Keyword.Note ∷ Keyword.Split ∷ Keyword.Empty ∷ Keyword.Singleton ∷ Keyword.Fixed ∷ Keyword.Redundant ∷ Keyword.Forcing ∷ Keyword.Doubleton ∷ Keyword.Left ∷ Keyword.Nodes ∷ Keyword.BranchBelow ∷ Keyword.BranchAbove ∷ Keyword.Iisan ∷ Keyword.Report ∷ []
+leading_keywords = Keyword.Value ∷ Keyword.Objective ∷ Keyword.Bound ∷ Keyword.Total ∷ Keyword.Rounds ∷ Keyword.Rigid ∷ Keyword.Not ∷ Keyword.Use ∷ Keyword.Member ∷ Keyword.Command ∷ Keyword.Unknown ∷ Keyword.No ∷ Keyword.Nothing ∷ Keyword.Too ∷ Keyword.Pivots ∷ Keyword.Site ∷ Keyword.Without ∷ Keyword.Enforced ∷ Keyword.Step ∷ Keyword.Operation ∷ Keyword.Note ∷ Keyword.Split ∷ Keyword.Empty ∷ Keyword.Singleton ∷ Keyword.Fixed ∷ Keyword.Redundant ∷ Keyword.Forcing ∷ Keyword.Doubleton ∷ Keyword.Left ∷ Keyword.Nodes ∷ Keyword.BranchBelow ∷ Keyword.BranchAbove ∷ Keyword.Iisan ∷ Keyword.Report ∷ []
 
 -- the keyword among these that a word is
 abbrev pub leading_said : List ℕ → Option Keyword

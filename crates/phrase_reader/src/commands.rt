@@ -37,13 +37,14 @@ impl From<FieldStop> for CommandStop {
     }
 }
 
-// `check`, `unbounded`, `reduce` or `undo`.
+// `check`, `unbounded`, `relax`, `reduce` or `undo`.
 fn read_lone(word: &[u8]) -> Option<Command>
     ensures { result ≡ lone_command word.now }
 {
     match word {
         _ if word == b"check".as_slice() => Some(Command::Check),
         _ if word == b"unbounded".as_slice() => Some(Command::Unbounded),
+        _ if word == b"relax".as_slice() => Some(Command::Relax),
         _ if word == b"reduce".as_slice() => Some(Command::Reduce),
         _ if word == b"undo".as_slice() => Some(Command::Undo),
         _ => None,
@@ -58,6 +59,7 @@ fn read_method(word: &[u8]) -> Option<Method>
         _ if word == b"deletion".as_slice() => Some(Method::Deletion),
         _ if word == b"additive".as_slice() => Some(Method::Additive),
         _ if word == b"sensitivity".as_slice() => Some(Method::Sensitivity),
+        _ if word == b"elastic".as_slice() => Some(Method::Elastic),
         _ => None,
     }
 }
@@ -179,8 +181,8 @@ fn read_fields(alloc: Global, text: &[u8], spans: &[Span]) -> Result<Option<Comm
 ///
 /// Its fields, which blanks (32, 9 and 13) part, are one of these, in lower case:
 ///
-/// - `check`, `unbounded`, `reduce` or `undo`;
-/// - `iis` and `deletion`, `additive` or `sensitivity`;
+/// - `check`, `unbounded`, `relax`, `reduce` or `undo`;
+/// - `iis` and `deletion`, `additive`, `sensitivity` or `elastic`;
 /// - `budget`, `pivots` or `nodes`, and a number of at most 1,000,000 in one digit or more;
 /// - `drop` or `keep`; `row`, `rowlo`, `rowup`, `lower`, `upper` or `whole`; and a name;
 /// - `weight`; one of these but `whole`; a name; and `rigid` or a value above 0;

@@ -17,8 +17,8 @@ use crate::step_words::{
     read_doubleton, read_empty, read_fixed, read_forcing, read_left, read_redundant, read_singleton,
 };
 use crate::stop_words::{
-    read_branch, read_large, read_nodes, read_operation, read_pivots, read_site, read_step,
-    read_too, read_without,
+    read_branch, read_enforced, read_large, read_nodes, read_operation, read_pivots, read_site,
+    read_step, read_too, read_without,
 };
 use certs::Share;
 use frac128::Frac;
@@ -50,6 +50,30 @@ fn read_bound(number: &[u8]) -> Option<Phrase>
     Some(Phrase::Bound(fraction_of(number)?))
 }
 
+// The total of a least weighted violation.
+fn read_total(number: &[u8]) -> Option<Phrase>
+    ensures { (model : Program) → Finds (IsSpelled model Keyword.Total (number.now ∷ [])) result }
+{
+    Some(Phrase::Total(fraction_of(number)?))
+}
+
+// How many rounds were made.
+fn read_rounds(number: &[u8]) -> Option<Phrase>
+    ensures { (model : Program) → Finds (IsSpelled model Keyword.Rounds (number.now ∷ [])) result }
+{
+    Some(Phrase::Rounds(count_of(number)?))
+}
+
+// `rigid infeasible`.
+fn read_rigid(word: &[u8]) -> Option<Phrase>
+    ensures { (model : Program) → Finds (IsSpelled model Keyword.Rigid (word.now ∷ [])) result }
+{
+    if word == b"infeasible".as_slice() {
+        return Some(Phrase::RigidInfeasible);
+    }
+    None
+}
+
 // What one word says behind a keyword other than that of commands.
 fn read_one(model: &Model, keyword: Keyword, word: &[u8]) -> Option<Phrase>
     requires { keyword ≢ Keyword.Command }
@@ -59,6 +83,9 @@ fn read_one(model: &Model, keyword: Keyword, word: &[u8]) -> Option<Phrase>
         Keyword::Report => read_foot(word),
         Keyword::Objective => read_objective(word),
         Keyword::Bound => read_bound(word),
+        Keyword::Total => read_total(word),
+        Keyword::Rounds => read_rounds(word),
+        Keyword::Rigid => read_rigid(word),
         Keyword::Unknown => read_unknown(word),
         Keyword::No => read_no(word),
         Keyword::Too => read_too(word),
@@ -81,6 +108,16 @@ fn read_head(first: &[u8], second: &[u8]) -> Option<Phrase>
         return Some(Phrase::Head);
     }
     None
+}
+
+// `not linear`, and the column that is to be whole.
+fn read_not(model: &Model, word: &[u8], name: &[u8]) -> Option<Phrase>
+    ensures { Finds (IsSpelled model.now Keyword.Not (word.now ∷ name.now ∷ [])) result }
+{
+    if word != b"linear".as_slice() {
+        return None;
+    }
+    Some(Phrase::NotLinear(column_of(model, name)?))
 }
 
 // The value of a column, which is not 0.
@@ -130,10 +167,12 @@ fn read_two(model: &Model, keyword: Keyword, first: &[u8], second: &[u8]) -> Opt
     match keyword {
         Keyword::Iisan => read_head(first, second),
         Keyword::Nothing => read_nothing(first, second),
+        Keyword::Not => read_not(model, first, second),
         Keyword::Too => read_large(first, second),
         Keyword::Value => read_value(model, first, second),
         Keyword::Member => read_member(model, first, second),
         Keyword::Without => read_without(model, first, second),
+        Keyword::Enforced => read_enforced(model, first, second),
         Keyword::Split => read_split(model, first, second),
         Keyword::BranchBelow => read_branch(model, true, first, second),
         Keyword::BranchAbove => read_branch(model, false, first, second),

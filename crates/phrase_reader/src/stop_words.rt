@@ -82,6 +82,13 @@ pub(crate) fn read_without(model: &Model, kind: &[u8], name: &[u8]) -> Option<Ph
     Some(Phrase::Stop(StopPhrase::Without(member_of(model, kind, name)?)))
 }
 
+/// `enforced`, and a member that is enforced.
+pub(crate) fn read_enforced(model: &Model, kind: &[u8], name: &[u8]) -> Option<Phrase>
+    ensures { Finds (IsSpelled model.now Keyword.Enforced (kind.now ∷ name.now ∷ [])) result }
+{
+    Some(Phrase::Stop(StopPhrase::Enforced(member_of(model, kind, name)?)))
+}
+
 /// A branch on the path of the site, which says at most where it is an upper one.
 pub(crate) fn read_branch(model: &Model, upper: bool, name: &[u8], number: &[u8]) -> Option<Phrase>
     ensures { Finds (IsSpelled model.now (branch_keyword upper) (name.now ∷ number.now ∷ [])) result }

@@ -9,6 +9,7 @@ pub mod Drawing
 pub mod Steps
 pub mod Points
 pub mod Objectives
+pub mod Leasts
 pub mod Stops
 pub mod Edits
 pub mod Page

@@ -7,6 +7,7 @@ use Rattle.report_page.specs.declared.markup.Account.{Account}
 use Rattle.report_page.specs.declared.markup.Change.{Change}
 use Rattle.report_page.specs.declared.markup.Removal.{Removal}
 use Rattle.report_page.specs.declared.markup.Reach.{Reach}
+use Rattle.report_page.specs.declared.markup.Giving.{Giving}
 
 -- markup
 unfoldable pub tag_text : Tag → List ℕ
@@ -71,13 +72,14 @@ sign_text Sign.IsWhole = codes " is a whole number"
 -- what is said of answers
 unfoldable pub words_text : Words → List ℕ
 words_text Words.Settled = codes "This report was checked against the model. Answers that hold: "
-words_text Words.Unsettled = codes "; calculations that stopped before there was an answer, and reductions, into which the check does not look: "
+words_text Words.Unsettled = codes "; calculations that stopped before there was an answer, questions that are asked only where no quantity has to be whole, and reductions, into which the check does not look: "
 words_text Words.LowerRemoved = codes ": its upper bound is below 0, and the model was read so that it has no lower bound"
 words_text Words.LowerKept = codes ": its upper bound is below 0, and the model was read so that it keeps its lower bound 0"
 words_text Words.CheckAsked = codes "Can all requirements be met?"
 words_text Words.DeletionAsked = codes "Which requirements contradict one another? (deletion)"
 words_text Words.AdditiveAsked = codes "Which requirements contradict one another? (additive)"
 words_text Words.SensitivityAsked = codes "Which requirements contradict one another? (sensitivity)"
+words_text Words.ElasticAsked = codes "Which requirements contradict one another? (elastic)"
 words_text Words.PivotBudget = codes "From here on, how many pivots a calculation may take: "
 words_text Words.NodeBudget = codes "From here on, how many cases a calculation may tell apart: "
 words_text Words.Feasible = codes "All requirements can be met at once."
@@ -103,6 +105,7 @@ words_text Words.IsFalse = codes ", which is false. "
 words_text Words.Together = codes "So together they have to give way by at least "
 words_text Words.InAll = codes ", each counted as often as it is taken."
 words_text Words.SharedFold = codes "Quantities that two or more of them share: "
+words_text Words.Rounds = codes "Rounds of enforcing, until the enforced requirements contradicted one another: "
 
 -- what is said of cases and stops
 unfoldable pub account_text : Account → List ℕ
@@ -121,11 +124,15 @@ account_text Account.StoppedLarge = codes "This calculation stopped before there
 account_text Account.StoppedMemory = codes "This calculation stopped before there was an answer: there was no memory."
 account_text Account.Asking = codes " It was asking whether "
 account_text Account.AskingReach = codes " It was asking how far the objective can go while "
+account_text Account.AskingStretch = codes " It was asking for the least violation, with all weights 1, of "
+account_text Account.AskingRelax = codes " It was asking for the least weighted violation of "
 account_text Account.CanBeMet = codes " requirements can be met together"
 account_text Account.Hold = codes " requirements are met"
+account_text Account.OfThese = codes " requirements"
 account_text Account.Where = codes ", where "
 account_text Account.Step = codes " That was in turn "
 account_text Account.At = codes ", at "
+account_text Account.EnforcedFold = codes "Enforced requirements, which had to be met: "
 
 -- what is said of edits
 unfoldable pub change_text : Change → List ℕ
@@ -178,3 +185,17 @@ reach_text Reach.LeftOut = codes " What it is with the values below is left out:
 reach_text Reach.HoldersFold = codes "Requirements that hold the objective: "
 reach_text Reach.AddUpAtMost = codes "Take each as often as it says, turn round those with &gt;=, and add up: on the left this comes to the objective, and together they say that it is at most "
 reach_text Reach.AddUpAtLeast = codes "Take each as often as it says, turn round those with &lt;=, and add up: on the left this comes to the objective, and together they say that it is at least "
+
+-- what is said of what has to give way
+unfoldable pub giving_text : Giving → List ℕ
+giving_text Giving.Asked = codes "How little must give way?"
+giving_text Giving.NoneGives = codes "All requirements can be met at once. The least weighted violation is "
+giving_text Giving.SomeGive = codes "Not all requirements can be met at once. The least weighted violation is "
+giving_text Giving.Meaning = codes "That is by how much each requirement is missed, times its weight, added up over those that are not rigid. The rigid ones are met."
+giving_text Giving.ValuesFold = codes "Values at which it is so little (any other is 0): "
+giving_text Giving.ShowingFold = codes "Requirements that show that no less is enough: "
+giving_text Giving.NoLess = codes ". None is taken more often than it weighs, rigid ones aside: so wherever the rigid ones are met, the weighted violation is at least "
+giving_text Giving.OneRigid = codes "This requirement is rigid, and it cannot be met, whatever else gives way."
+giving_text Giving.RigidCannot = codes " requirements are rigid, and they cannot all be met, whatever else gives way."
+giving_text Giving.OnlyLinear = codes "This is asked only where no quantity has to be whole. The first that has to be is "
+giving_text Giving.NotLooked = codes ". The check does not look into this."

@@ -11,6 +11,8 @@ use Rattle.certs.specs.Violation.{is_of}
 use Rattle.report_page.specs.declared.markup.Tag.{Tag}
 use Rattle.report_page.specs.declared.markup.Sign.{Sign}
 use Rattle.report_page.specs.declared.markup.Words.{Words}
+use Rattle.report_page.specs.declared.markup.Giving.{Giving}
+use Rattle.report_page.specs.declared.members.Among.{Among}
 use Rattle.report_page.specs.Pieces.{Piece}
 use Rattle.report_page.specs.Demands.{title_pieces, demand_pieces, values_pieces}
 
@@ -47,20 +49,29 @@ members_pieces model shares [] ws = []
 members_pieces model shares (m ∷ ms) ws = member_pieces model shares m ws ++ members_pieces model shares ms (drop 1 ws)
 
 -- ---- all of them
--- that they cannot all be met
-abbrev pub cannot_pieces : ℕ → List Piece
-cannot_pieces n = cond (n == 1) (Piece.Words Words.OneCannot ∷ []) (Piece.Words Words.These ∷ Piece.Count n ∷ Piece.Words Words.Cannot ∷ [])
+-- that one cannot be met, and that some cannot all be met; of rigid ones, whatever else gives way
+abbrev pub one_piece : Among → Piece
+one_piece Among.Any = Piece.Words Words.OneCannot
+one_piece Among.Rigid = Piece.Giving Giving.OneRigid
+
+abbrev pub some_piece : Among → Piece
+some_piece Among.Any = Piece.Words Words.Cannot
+some_piece Among.Rigid = Piece.Giving Giving.RigidCannot
+
+-- that so many cannot all be met
+abbrev pub cannot_pieces : Among → ℕ → List Piece
+cannot_pieces among n = cond (n == 1) (one_piece among ∷ []) (Piece.Words Words.These ∷ Piece.Count n ∷ some_piece among ∷ [])
 
 -- a fold is open where it has at most 20 items
 abbrev pub fold_tag : ℕ → Tag
 fold_tag n = cond (nat_le n 20) Tag.OpenFold Tag.Fold
 
 -- what stands before so many members
-abbrev pub lead_pieces : ℕ → List Piece
-lead_pieces n =
-    Piece.Tag Tag.Lead ∷ (cannot_pieces n
+abbrev pub lead_pieces : Among → ℕ → List Piece
+lead_pieces among n =
+    Piece.Tag Tag.Lead ∷ (cannot_pieces among n
     ++ Piece.Tag Tag.ParagraphEnd ∷ Piece.Tag (fold_tag n) ∷ Piece.Words Words.MembersFold ∷ Piece.Count n ∷ Piece.Tag Tag.FoldBody ∷ Piece.Tag Tag.Ordered ∷ [])
 
 -- that members cannot all be met, and the members, in a fold
-abbrev pub list_pieces : Program → List Share → List Member → List Point → List Piece
-list_pieces model shares members ws = lead_pieces (length members) ++ (members_pieces model shares members ws ++ Piece.Tag Tag.OrderedEnd ∷ Piece.Tag Tag.FoldEnd ∷ [])
+abbrev pub list_pieces : Program → Among → List Share → List Member → List Point → List Piece
+list_pieces model among shares members ws = lead_pieces among (length members) ++ (members_pieces model shares members ws ++ Piece.Tag Tag.OrderedEnd ∷ Piece.Tag Tag.FoldEnd ∷ [])

@@ -9,7 +9,9 @@ use Rattle.report_text.specs.declared.report.Bounded.{Bounded}
 use Rattle.report_page.specs.declared.markup.Tag.{Tag}
 use Rattle.report_page.specs.declared.markup.Sign.{Sign}
 use Rattle.report_page.specs.declared.markup.Reach.{Reach}
+use Rattle.report_page.specs.declared.markup.Giving.{Giving}
 use Rattle.report_page.specs.declared.points.Told.{Told}
+use Rattle.report_page.specs.declared.objectives.Support.{Support}
 use Rattle.report_page.specs.Pieces.{Piece}
 use Rattle.report_page.specs.Members.{asking_pieces, fold_tag, taken_pieces}
 use Rattle.report_page.specs.Cases.{source_pieces}
@@ -52,10 +54,15 @@ holder_pieces model (Above j) = limit_pieces model (Above j)
 abbrev pub held_pieces : Program → Share → List Piece
 held_pieces model s = holder_pieces model s.source ++ (taken_pieces (Some s.weight) ++ Piece.Tag Tag.ItemEnd ∷ [])
 
+-- what a fold of them is called: they hold the objective, or they show that no less violation is enough
+abbrev pub holders_words : Support → Piece
+holders_words Support.Bound = Piece.Reach Reach.HoldersFold
+holders_words Support.Total = Piece.Giving Giving.ShowingFold
+
 -- each share once, in order, in a fold
-abbrev pub holders_pieces : Program → List Share → List Piece
-holders_pieces model shares =
-    Piece.Tag (fold_tag (length shares)) ∷ Piece.Reach Reach.HoldersFold ∷ Piece.Count (length shares) ∷ Piece.Tag Tag.FoldBody ∷ Piece.Tag Tag.Ordered
+abbrev pub holders_pieces : Program → Support → List Share → List Piece
+holders_pieces model support shares =
+    Piece.Tag (fold_tag (length shares)) ∷ holders_words support ∷ Piece.Count (length shares) ∷ Piece.Tag Tag.FoldBody ∷ Piece.Tag Tag.Ordered
     ∷ (flat_map (held_pieces model) shares ++ Piece.Tag Tag.OrderedEnd ∷ Piece.Tag Tag.FoldEnd ∷ [])
 
 -- what they add up to: at most the bound where the objective is made greatest, and else at least
@@ -68,7 +75,7 @@ add_up_pieces model b = Piece.Tag Tag.Paragraph ∷ Piece.Reach (add_up_words mo
 
 -- the shares, and what they add up to
 abbrev pub support_pieces : Program → List Share → ℚ → List Piece
-support_pieces model shares b = holders_pieces model shares ++ add_up_pieces model b
+support_pieces model shares b = holders_pieces model Support.Bound shares ++ add_up_pieces model b
 
 -- the bound, a point, and what holds the objective
 abbrev pub bounded_pieces : Program → Bounded → List Piece

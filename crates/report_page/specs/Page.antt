@@ -1,5 +1,5 @@
 -- The page of a report.
-use Rattle.std.specs.Prelude.{◌≡◌, ℕ, List, [], ◌∷◌, ◌++◌, flat_map}
+use Rattle.std.specs.Prelude.{◌≡◌, ℕ, List, [], ◌∷◌, ◌++◌, flat_map, Option, Some, None}
 use Rattle.lp_model.specs.declared.parts.Note.{Note}
 use Rattle.lp_model.specs.declared.parts.Note.TheVariants.{LowerRemoved, LowerKept}
 use Rattle.lp_model.specs.declared.members.Member.{Member}
@@ -9,11 +9,12 @@ use Rattle.certs.specs.declared.evidence.Node.{Node}
 use Rattle.certs.specs.declared.solving.Stop.{Stop}
 use Rattle.model_history.specs.History.{HistoryValue}
 use Rattle.report_text.specs.declared.report.Method.{Method}
-use Rattle.report_text.specs.declared.report.Method.TheVariants.{Deletion, Additive, Sensitivity}
+use Rattle.report_text.specs.declared.report.Method.TheVariants.{Deletion, Additive, Sensitivity, Elastic}
 use Rattle.report_text.specs.declared.report.Command.{Command}
-use Rattle.report_text.specs.declared.report.Command.TheVariants.{Check, Iis, Unbounded, Reduce, Edit, Undo, Pivots, Nodes}
+use Rattle.report_text.specs.declared.report.Command.TheVariants.{Check, Iis, Unbounded, Relax, Reduce, Edit, Undo, Pivots, Nodes}
+use Rattle.report_text.specs.declared.report.Core.{Core}
 use Rattle.report_text.specs.declared.report.Answer.{Answer}
-use Rattle.report_text.specs.declared.report.Answer.TheVariants.{Feasible, Infeasible, Irreducible, Unbounded as RunsAway, Bounded as BoundedBy, Reduced, Done, Refused, Stopped}
+use Rattle.report_text.specs.declared.report.Answer.TheVariants.{Feasible, Infeasible, Irreducible, Unbounded as RunsAway, Bounded as BoundedBy, Least, RigidInfeasible, Reduced, Done, Refused, NotLinear, Stopped}
 use Rattle.report_text.specs.declared.report.Entry.{Entry}
 use Rattle.report_text.specs.declared.report.Report.{Report}
 use Rattle.report_text.specs.Grammar.{column_name}
@@ -26,6 +27,8 @@ use Rattle.report_page.specs.declared.markup.Words.{Words}
 use Rattle.report_page.specs.declared.markup.Change.{Change}
 use Rattle.report_page.specs.declared.markup.Removal.{Removal}
 use Rattle.report_page.specs.declared.markup.Reach.{Reach}
+use Rattle.report_page.specs.declared.markup.Giving.{Giving}
+use Rattle.report_page.specs.declared.members.Among.{Among}
 use Rattle.report_page.specs.Pieces.{Piece, bytes_of}
 use Rattle.report_page.specs.Members.{list_pieces}
 use Rattle.report_page.specs.Reasons.{leaf_shares, reason_pieces}
@@ -33,7 +36,8 @@ use Rattle.report_page.specs.Drawing.{drawing_pieces}
 use Rattle.report_page.specs.Steps.{reduced_pieces}
 use Rattle.report_page.specs.Points.{feasible_pieces}
 use Rattle.report_page.specs.Objectives.{unbounded_pieces, bounded_pieces}
-use Rattle.report_page.specs.Stops.{stop_pieces}
+use Rattle.report_page.specs.Leasts.{least_pieces, not_linear_pieces}
+use Rattle.report_page.specs.Stops.{stop_pieces, enforced_at}
 use Rattle.report_page.specs.Edits.{edit_pieces, refused_pieces}
 
 -- ---- commands
@@ -42,12 +46,14 @@ abbrev pub method_words : Method → Words
 method_words Deletion = Words.DeletionAsked
 method_words Additive = Words.AdditiveAsked
 method_words Sensitivity = Words.SensitivityAsked
+method_words Elastic = Words.ElasticAsked
 
 -- what a command asks, edits, or sets
 abbrev pub command_pieces : Command → List Piece
 command_pieces Check = Piece.Words Words.CheckAsked ∷ []
 command_pieces (Iis method) = Piece.Words (method_words method) ∷ []
 command_pieces Unbounded = Piece.Reach Reach.Asked ∷ []
+command_pieces Relax = Piece.Giving Giving.Asked ∷ []
 command_pieces Reduce = Piece.Removal Removal.Asked ∷ []
 command_pieces (Edit e) = edit_pieces e
 command_pieces Undo = Piece.Change Change.Undo ∷ []
@@ -56,23 +62,35 @@ command_pieces (Nodes n) = Piece.Words Words.NodeBudget ∷ Piece.Count n ∷ []
 
 -- ---- answers
 -- members that cannot all be met, and why, and what ties them together
-abbrev pub conflict_pieces : Program → List Member → List Point → List Node → List Piece
-conflict_pieces model members ws nodes = list_pieces model (leaf_shares nodes) members ws ++ (reason_pieces model nodes ++ drawing_pieces model members)
+abbrev pub conflict_pieces : Program → Among → List Member → List Point → List Node → List Piece
+conflict_pieces model among members ws nodes = list_pieces model among (leaf_shares nodes) members ws ++ (reason_pieces model nodes ++ drawing_pieces model members)
 
--- a calculation that stopped
+-- in how many rounds members were enforced, where it is told
+abbrev pub rounds_pieces : Option ℕ → List Piece
+rounds_pieces None = []
+rounds_pieces (Some n) = Piece.Tag Tag.Paragraph ∷ Piece.Words Words.Rounds ∷ Piece.Count n ∷ Piece.Sign Sign.FullStop ∷ Piece.Tag Tag.ParagraphEnd ∷ []
+
+-- an irreducible set
+abbrev pub irreducible_pieces : Program → Core → List Piece
+irreducible_pieces model core = conflict_pieces model Among.Any core.members.members core.witnesses core.proof.nodes ++ rounds_pieces core.rounds
+
+-- a calculation that stopped, and what was enforced
 abbrev pub stopped_pieces : Program → Stop → List Piece
-stopped_pieces model stop = Piece.Tag Tag.Paragraph ∷ (stop_pieces model stop ++ Piece.Tag Tag.ParagraphEnd ∷ [])
+stopped_pieces model stop = Piece.Tag Tag.Paragraph ∷ (stop_pieces model stop ++ Piece.Tag Tag.ParagraphEnd ∷ enforced_at model stop)
 
 -- an answer; that a command is done needs no words
 abbrev pub answer_pieces : Program → Answer → List Piece
 answer_pieces model (Feasible p) = feasible_pieces model p.values
-answer_pieces model (Infeasible set proof) = conflict_pieces model set.members [] proof.nodes
-answer_pieces model (Irreducible core) = conflict_pieces model core.members.members core.witnesses core.proof.nodes
+answer_pieces model (Infeasible set proof) = conflict_pieces model Among.Any set.members [] proof.nodes
+answer_pieces model (Irreducible core) = irreducible_pieces model core
 answer_pieces model (RunsAway p ray) = unbounded_pieces model p.values ray.values
 answer_pieces model (BoundedBy b) = bounded_pieces model b
+answer_pieces model (Least p dual) = least_pieces model p.values dual.combo.shares dual.bound
+answer_pieces model (RigidInfeasible set proof) = conflict_pieces model Among.Rigid set.members [] proof.nodes
 answer_pieces model (Reduced r) = reduced_pieces model r
 answer_pieces model Done = []
 answer_pieces model (Refused reason) = refused_pieces reason
+answer_pieces model (NotLinear j) = not_linear_pieces model j
 answer_pieces model (Stopped stop) = stopped_pieces model stop
 
 -- ---- the page

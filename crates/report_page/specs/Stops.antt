@@ -1,19 +1,22 @@
 -- Calculations that stopped, each in a sentence with its site.
-use Rattle.std.specs.Prelude.{cond, List, [], ◌∷◌, ◌++◌, length}
+use Rattle.std.specs.Prelude.{◌==◌, cond, List, [], ◌∷◌, ◌++◌, flat_map, length}
 use Rattle.frac128.specs.declared.Op.{Op}
 use Rattle.frac128.specs.declared.Op.TheVariants.{Plus, Minus, Times, Over}
 use Rattle.frac128.specs.declared.Wide.{Wide as Operation}
 use Rattle.lp_model.specs.Program.{Program}
+use Rattle.lp_model.specs.declared.members.Member.{Member}
 use Rattle.certs.specs.declared.evidence.Branch.{Branch}
 use Rattle.certs.specs.declared.solving.SiteKind.{SiteKind}
-use Rattle.certs.specs.declared.solving.SiteKind.TheVariants.{Improve}
+use Rattle.certs.specs.declared.solving.SiteKind.TheVariants.{Improve, Stretch, Relax}
 use Rattle.certs.specs.declared.solving.Site.{Site}
 use Rattle.certs.specs.declared.solving.Stop.{Stop}
 use Rattle.certs.specs.declared.solving.Stop.TheVariants.{Wide as TooWide, Pivots as Spent, Nodes as NodesSpent, Large, Memory}
 use Rattle.report_text.specs.Grammar.{column_name}
+use Rattle.report_page.specs.declared.markup.Tag.{Tag}
 use Rattle.report_page.specs.declared.markup.Sign.{Sign}
 use Rattle.report_page.specs.declared.markup.Account.{Account}
 use Rattle.report_page.specs.Pieces.{Piece, first_then}
+use Rattle.report_page.specs.Members.{asking_pieces, fold_tag}
 
 -- the sign of an operation
 abbrev pub op_sign : Op → Sign
@@ -37,13 +40,17 @@ next_branch model b = Piece.Sign Sign.Comma ∷ branch_pieces model b
 abbrev pub path_pieces : Program → List Branch → List Piece
 path_pieces model path = first_then (first_branch model) (next_branch model) path
 
--- what a run asks, and what of its members: how far the objective can go while they are met, or whether they can be met
+-- what a run asks, and what of its members: how far the objective can go while they are met, the least violation of them with weights 1 or their own, or whether they can be met
 abbrev pub asking_words : SiteKind → Account
 asking_words Improve = Account.AskingReach
+asking_words Stretch = Account.AskingStretch
+asking_words Relax = Account.AskingRelax
 asking_words _ = Account.Asking
 
 abbrev pub members_words : SiteKind → Account
 members_words Improve = Account.Hold
+members_words Stretch = Account.OfThese
+members_words Relax = Account.OfThese
 members_words _ = Account.CanBeMet
 
 -- the site: what was asked, of how many members, and on which path
@@ -61,3 +68,26 @@ stop_pieces model (Spent site) = Piece.Account Account.StoppedPivots ∷ site_pi
 stop_pieces model (NodesSpent site) = Piece.Account Account.StoppedNodes ∷ site_pieces model site
 stop_pieces model (Large size) = Piece.Account Account.StoppedLarge ∷ Piece.Count size ∷ Piece.Sign Sign.FullStop ∷ []
 stop_pieces model Memory = Piece.Account Account.StoppedMemory ∷ []
+
+-- ---- what was enforced
+-- an item with a member and what it asks for
+abbrev pub enforced_item : Program → Member → List Piece
+enforced_item model m = asking_pieces model m ++ Piece.Tag Tag.ItemEnd ∷ []
+
+-- enforced members, each once, in order, in a fold
+abbrev pub enforced_fold : Program → List Member → List Piece
+enforced_fold model members =
+    Piece.Tag (fold_tag (length members)) ∷ Piece.Account Account.EnforcedFold ∷ Piece.Count (length members) ∷ Piece.Tag Tag.FoldBody ∷ Piece.Tag Tag.Ordered
+    ∷ (flat_map (enforced_item model) members ++ Piece.Tag Tag.OrderedEnd ∷ Piece.Tag Tag.FoldEnd ∷ [])
+
+-- where there are any
+abbrev pub enforced_pieces : Program → List Member → List Piece
+enforced_pieces model members = cond (length members == 0) [] (enforced_fold model members)
+
+-- those of the site of a stop
+abbrev pub enforced_at : Program → Stop → List Piece
+enforced_at model (TooWide site k o) = enforced_pieces model site.enforced.members
+enforced_at model (Spent site) = enforced_pieces model site.enforced.members
+enforced_at model (NodesSpent site) = enforced_pieces model site.enforced.members
+enforced_at model (Large size) = []
+enforced_at model Memory = []

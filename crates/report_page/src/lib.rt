@@ -6,6 +6,7 @@ mod cases;
 mod demands;
 mod drawing;
 mod edits;
+mod leasts;
 mod markup;
 mod members;
 mod objectives;
@@ -18,6 +19,6 @@ mod steps;
 mod stops;
 mod totals;
 
-pub use markup::{Account, Change, Reach, Removal, Sign, Tag, Words};
+pub use markup::{Account, Change, Giving, Reach, Removal, Sign, Tag, Words};
 pub use pages::page;
 pub use pieces::{Piece, escape, escaping_law, write};

@@ -1,6 +1,6 @@
 //! The fixed parts of a page.
 ghost use Rattle.std.specs.Prelude.{◌≡◌};
-ghost use Rattle.report_page.specs.Markup.{tag_text, sign_text, words_text, account_text, change_text, removal_text, reach_text};
+ghost use Rattle.report_page.specs.Markup.{tag_text, sign_text, words_text, account_text, change_text, removal_text, reach_text, giving_text};
 
 /// What marks up a page.
 #[derive(Clone, Copy, PartialEq, Eq, Debug)]
@@ -171,6 +171,7 @@ pub enum Words {
     DeletionAsked,
     AdditiveAsked,
     SensitivityAsked,
+    ElasticAsked,
     PivotBudget,
     NodeBudget,
     Feasible,
@@ -196,6 +197,7 @@ pub enum Words {
     Together,
     InAll,
     SharedFold,
+    Rounds,
 }
 
 impl Words {
@@ -207,7 +209,7 @@ impl Words {
         match self {
             Words::Settled => "This report was checked against the model. Answers that hold: ",
             Words::Unsettled =>
-                "; calculations that stopped before there was an answer, and reductions, into which the check does not look: ",
+                "; calculations that stopped before there was an answer, questions that are asked only where no quantity has to be whole, and reductions, into which the check does not look: ",
             Words::LowerRemoved =>
                 ": its upper bound is below 0, and the model was read so that it has no lower bound",
             Words::LowerKept =>
@@ -216,6 +218,7 @@ impl Words {
             Words::DeletionAsked => "Which requirements contradict one another? (deletion)",
             Words::AdditiveAsked => "Which requirements contradict one another? (additive)",
             Words::SensitivityAsked => "Which requirements contradict one another? (sensitivity)",
+            Words::ElasticAsked => "Which requirements contradict one another? (elastic)",
             Words::PivotBudget => "From here on, how many pivots a calculation may take: ",
             Words::NodeBudget => "From here on, how many cases a calculation may tell apart: ",
             Words::Feasible => "All requirements can be met at once.",
@@ -242,6 +245,8 @@ impl Words {
             Words::Together => "So together they have to give way by at least ",
             Words::InAll => ", each counted as often as it is taken.",
             Words::SharedFold => "Quantities that two or more of them share: ",
+            Words::Rounds =>
+                "Rounds of enforcing, until the enforced requirements contradicted one another: ",
         }
     }
 }
@@ -264,11 +269,15 @@ pub enum Account {
     StoppedMemory,
     Asking,
     AskingReach,
+    AskingStretch,
+    AskingRelax,
     CanBeMet,
     Hold,
+    OfThese,
     Where,
     Step,
     At,
+    EnforcedFold,
 }
 
 impl Account {
@@ -299,11 +308,16 @@ impl Account {
                 "This calculation stopped before there was an answer: there was no memory.",
             Account::Asking => " It was asking whether ",
             Account::AskingReach => " It was asking how far the objective can go while ",
+            Account::AskingStretch =>
+                " It was asking for the least violation, with all weights 1, of ",
+            Account::AskingRelax => " It was asking for the least weighted violation of ",
             Account::CanBeMet => " requirements can be met together",
             Account::Hold => " requirements are met",
+            Account::OfThese => " requirements",
             Account::Where => ", where ",
             Account::Step => " That was in turn ",
             Account::At => ", at ",
+            Account::EnforcedFold => "Enforced requirements, which had to be met: ",
         }
     }
 }
@@ -448,6 +462,51 @@ impl Reach {
                 "Take each as often as it says, turn round those with &gt;=, and add up: on the left this comes to the objective, and together they say that it is at most ",
             Reach::AddUpAtLeast =>
                 "Take each as often as it says, turn round those with &lt;=, and add up: on the left this comes to the objective, and together they say that it is at least ",
+        }
+    }
+}
+
+/// What a page says of what has to give way.
+#[derive(Clone, Copy, PartialEq, Eq, Debug)]
+pub enum Giving {
+    Asked,
+    NoneGives,
+    SomeGive,
+    Meaning,
+    ValuesFold,
+    ShowingFold,
+    NoLess,
+    OneRigid,
+    RigidCannot,
+    OnlyLinear,
+    NotLooked,
+}
+
+impl Giving {
+    /// How it is written.
+    #[tactic(auto, unfolding(crate::specs::Markup::giving_text))]
+    pub fn text(self) -> &'static str
+        ensures { result.now ≡ giving_text self }
+    {
+        match self {
+            Giving::Asked => "How little must give way?",
+            Giving::NoneGives =>
+                "All requirements can be met at once. The least weighted violation is ",
+            Giving::SomeGive =>
+                "Not all requirements can be met at once. The least weighted violation is ",
+            Giving::Meaning =>
+                "That is by how much each requirement is missed, times its weight, added up over those that are not rigid. The rigid ones are met.",
+            Giving::ValuesFold => "Values at which it is so little (any other is 0): ",
+            Giving::ShowingFold => "Requirements that show that no less is enough: ",
+            Giving::NoLess =>
+                ". None is taken more often than it weighs, rigid ones aside: so wherever the rigid ones are met, the weighted violation is at least ",
+            Giving::OneRigid =>
+                "This requirement is rigid, and it cannot be met, whatever else gives way.",
+            Giving::RigidCannot =>
+                " requirements are rigid, and they cannot all be met, whatever else gives way.",
+            Giving::OnlyLinear =>
+                "This is asked only where no quantity has to be whole. The first that has to be is ",
+            Giving::NotLooked => ". The check does not look into this.",
         }
     }
 }

@@ -4,11 +4,11 @@
 ghost use Rattle.std.specs.Prelude.{◌≡◌, OnOk, drop, length};
 ghost use Rattle.rational.specs.Rational.{ℚ};
 ghost use Rattle.certs.specs.Violation.{is_of};
-ghost use Rattle.report_page.specs.Pieces.{Writes};
-ghost use Rattle.report_page.specs.Members.{weight_of as weight_among, times_pieces, taken_pieces, witness_pieces, asking_pieces, member_pieces, members_pieces, cannot_pieces, fold_tag as tag_of_fold, lead_pieces, list_pieces};
+ghost use Rattle.report_page.specs.Pieces.{piece_shown, Writes};
+ghost use Rattle.report_page.specs.Members.{weight_of as weight_among, times_pieces, taken_pieces, witness_pieces, asking_pieces, member_pieces, members_pieces, one_piece, some_piece, cannot_pieces, fold_tag as tag_of_fold, lead_pieces, list_pieces};
 
 use crate::demands::{is_one, write_demand, write_title, write_values};
-use crate::markup::{Sign, Tag, Words};
+use crate::markup::{Giving, Sign, Tag, Words};
 use crate::pieces::{Piece, write};
 use certs::{Point, Share, Source};
 use frac128::Frac;
@@ -17,6 +17,13 @@ use std::alloc::AllocError;
 
 /// The most items of a fold that is open.
 const MOST_OPEN: u64 = 20;
+
+/// Which members cannot all be met: any, or rigid ones alone.
+#[derive(Clone, Copy, PartialEq, Eq, Debug)]
+pub enum Among {
+    Any,
+    Rigid,
+}
 
 // Whether a share is of a member.
 fn is_share_of(share: &Share, member: Member) -> bool
@@ -151,18 +158,38 @@ fn write_members(
     Ok(())
 }
 
+// That one member cannot be met.
+fn one_cannot(among: Among) -> Piece<'static>
+    ensures { piece_shown result ≡ one_piece among }
+{
+    match among {
+        Among::Any => Piece::Words(Words::OneCannot),
+        Among::Rigid => Piece::Giving(Giving::OneRigid),
+    }
+}
+
+// That some members cannot all be met.
+fn some_cannot(among: Among) -> Piece<'static>
+    ensures { piece_shown result ≡ some_piece among }
+{
+    match among {
+        Among::Any => Piece::Words(Words::Cannot),
+        Among::Rigid => Piece::Giving(Giving::RigidCannot),
+    }
+}
+
 // Writes that so many members cannot all be met.
-fn write_cannot(count: u64, into: &mut Vec<u8>) -> Result<(), AllocError>
-    ensures { OnOk result (Writes into.old.items into.new.items (cannot_pieces count)) }
+fn write_cannot(among: Among, count: u64, into: &mut Vec<u8>) -> Result<(), AllocError>
+    ensures { OnOk result (Writes into.old.items into.new.items (cannot_pieces among count)) }
 {
     if count == 1 {
-        return write(&[Piece::Words(Words::OneCannot)], into);
+        return write(&[one_cannot(among)], into);
     }
     write(
         &[
             Piece::Words(Words::These),
             Piece::Count(count),
-            Piece::Words(Words::Cannot),
+            some_cannot(among),
         ],
         into,
     )
@@ -180,11 +207,11 @@ pub(crate) fn fold_tag(count: u64) -> Tag
 }
 
 // Writes what stands before the members.
-fn write_lead(count: u64, into: &mut Vec<u8>) -> Result<(), AllocError>
-    ensures { OnOk result (Writes into.old.items into.new.items (lead_pieces count)) }
+fn write_lead(among: Among, count: u64, into: &mut Vec<u8>) -> Result<(), AllocError>
+    ensures { OnOk result (Writes into.old.items into.new.items (lead_pieces among count)) }
 {
     write(&[Piece::Tag(Tag::Lead)], into)?;
-    write_cannot(count, into)?;
+    write_cannot(among, count, into)?;
     write(
         &[
             Piece::Tag(Tag::ParagraphEnd),
@@ -201,14 +228,16 @@ fn write_lead(count: u64, into: &mut Vec<u8>) -> Result<(), AllocError>
 /// Writes that members cannot all be met, and the members, with their witnesses as far as there are witnesses.
 pub(crate) fn write_list(
     model: &Model,
+    among: Among,
     shares: &[Share],
     set: &MemberSet,
     witnesses: &[Point],
     into: &mut Vec<u8>,
 ) -> Result<(), AllocError>
-    ensures { OnOk result (Writes into.old.items into.new.items (list_pieces model.now shares.now set.now.members witnesses.now)) }
+    ensures { let pieces = list_pieces model.now among shares.now set.now.members witnesses.now in
+        OnOk result (Writes into.old.items into.new.items pieces) }
 {
-    write_lead(set.count(), into)?;
+    write_lead(among, set.count(), into)?;
     write_members(model, shares, set, witnesses, into)?;
     write(
         &[Piece::Tag(Tag::OrderedEnd), Piece::Tag(Tag::FoldEnd)],

@@ -2,11 +2,11 @@
 #![tactic(auto, using(crate::proofs::Pieced::more))]
 
 ghost use Rattle.std.specs.Prelude.{◌≡◌, OnOk, flat_map};
-ghost use Rattle.report_page.specs.Pieces.{Writes};
-ghost use Rattle.report_page.specs.Objectives.{unbounded_pieces, best_words, reached_pieces, never_better, limit_pieces, holder_pieces, held_pieces, holders_pieces, add_up_words, add_up_pieces, support_pieces, bounded_pieces};
+ghost use Rattle.report_page.specs.Pieces.{piece_shown, Writes};
+ghost use Rattle.report_page.specs.Objectives.{unbounded_pieces, best_words, reached_pieces, never_better, limit_pieces, holder_pieces, held_pieces, holders_words, holders_pieces, add_up_words, add_up_pieces, support_pieces, bounded_pieces};
 
 use crate::cases::write_source;
-use crate::markup::{Reach, Sign, Tag};
+use crate::markup::{Giving, Reach, Sign, Tag};
 use crate::members::{fold_tag, write_asking, write_taken};
 use crate::pieces::{Piece, write};
 use crate::points::{Told, write_fold};
@@ -15,6 +15,13 @@ use frac128::Frac;
 use lp_model::Model;
 use report_text::Bounded;
 use std::alloc::AllocError;
+
+/// What shares show: how far the objective can go, or how little must give way.
+#[derive(Clone, Copy, PartialEq, Eq, Debug)]
+pub enum Support {
+    Bound,
+    Total,
+}
 
 /// Writes a point from which the objective gets better without end, and a ray along which it does.
 pub(crate) fn write_unbounded(
@@ -128,15 +135,31 @@ fn write_each(model: &Model, shares: &[Share], into: &mut Vec<u8>) -> Result<(),
     Ok(())
 }
 
-// Writes shares in a fold.
-fn write_holders(model: &Model, shares: &[Share], into: &mut Vec<u8>) -> Result<(), AllocError>
-    ensures { OnOk result (Writes into.old.items into.new.items (holders_pieces model.now shares.now)) }
+// What a fold of shares is called.
+fn holders_title(support: Support) -> Piece<'static>
+    ensures { piece_shown result ≡ holders_words support }
+{
+    match support {
+        Support::Bound => Piece::Reach(Reach::HoldersFold),
+        Support::Total => Piece::Giving(Giving::ShowingFold),
+    }
+}
+
+/// Writes shares in a fold.
+pub(crate) fn write_holders(
+    model: &Model,
+    support: Support,
+    shares: &[Share],
+    into: &mut Vec<u8>,
+) -> Result<(), AllocError>
+    ensures { let pieces = holders_pieces model.now support shares.now in
+        OnOk result (Writes into.old.items into.new.items pieces) }
 {
     let count = shares.len() as u64;
     write(
         &[
             Piece::Tag(fold_tag(count)),
-            Piece::Reach(Reach::HoldersFold),
+            holders_title(support),
             Piece::Count(count),
             Piece::Tag(Tag::FoldBody),
             Piece::Tag(Tag::Ordered),
@@ -185,7 +208,7 @@ fn write_support(
 ) -> Result<(), AllocError>
     ensures { OnOk result (Writes into.old.items into.new.items (support_pieces model.now shares.now bound)) }
 {
-    write_holders(model, shares, into)?;
+    write_holders(model, Support::Bound, shares, into)?;
     write_add_up(model, bound, into)
 }
 

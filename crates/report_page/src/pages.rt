@@ -3,7 +3,7 @@
 
 ghost use Rattle.std.specs.Prelude.{◌≡◌, ◌++◌, [], All, OnOk, flat_map};
 ghost use Rattle.report_text.specs.Form.{IsCommand};
-ghost use Rattle.cert_check.specs.Trials.{settles as settles_command, settled_count, unsettled_count};
+ghost use Rattle.cert_check.specs.Trials.{settled_count, unsettled_count};
 ghost use Rattle.report_page.specs.Pieces.{Writes};
 ghost use Rattle.report_page.specs.Page.{entry_pieces, noted_pieces, note_pieces, notes_pieces, head_pieces, entries_pieces, page_pieces, page_of, IsSessionOf};
 
@@ -11,20 +11,11 @@ use crate::answers::{write_answer, write_command};
 use crate::markup::{Sign, Tag, Words};
 use crate::parts::column_name;
 use crate::pieces::{Piece, write};
+use cert_check::settles;
 use lp_model::{Model, Note};
 use model_session::Session;
-use report_text::{Answer, Entry, Report};
+use report_text::{Entry, Report};
 use std::alloc::AllocError;
-
-// Whether an answer settles its command.
-fn settles(answer: &Answer) -> bool
-    ensures { result ≡ settles_command answer.now }
-{
-    match answer {
-        Answer::Reduced(_) | Answer::Stopped(_) => false,
-        _ => true,
-    }
-}
 
 // How many entries are settled.
 fn count_settled(entries: &[Entry]) -> u64
@@ -177,10 +168,12 @@ fn write_page(session: &mut Session, report: &Report, into: &mut Vec<u8>) -> Res
 /// The page says that the report was checked, and how many of its answers are settled; so it is to be written of a report
 /// that a check accepted. It has, in the words of the model and in the order of the report, each note, and each command
 /// with its answer: the values of a point; the members that cannot all be met, each once, in order, with what it asks for,
-/// how often it is taken, and what its witness gives the columns of its form; and why they cannot, as a sum or as cases; or
-/// the point and the ray along which the objective gets better without end, or how far it can go, with what holds it there; or
-/// how far the program is reduced, step by step; or why an edit is refused; or why a calculation stopped, and where. Each
-/// answer is written of the program as the commands before it edited it. Names are escaped.
+/// how often it is taken, and what its witness gives the columns of its form; and why they cannot, as a sum or as cases, and
+/// in how many rounds members were enforced; or the point and the ray along which the objective gets better without end, or how
+/// far it can go, with what holds it there; or the least weighted violation, with a point that has it and what shows that none
+/// is less; or that a question is not asked where a column is to be whole; or how far the program is reduced, step by step; or
+/// why an edit is refused; or why a calculation stopped, where, and what was enforced there. Each answer is written of the
+/// program as the commands before it edited it. Names are escaped.
 ///
 /// The session is one of which nothing was edited yet, and it is so again in the end, whether memory is refused or not.
 /// The commands of the report are to be such as may be asked, as those of one that was read are.

@@ -4,14 +4,15 @@
 ghost use Rattle.std.specs.Prelude.{◌≡◌, ◌∷◌, [], OnOk, flat_map, cond};
 ghost use Rattle.certs.specs.declared.solving.Stop.TheVariants.{Wide as TooWide};
 ghost use Rattle.report_page.specs.Pieces.{Piece as Shown, Writes};
-ghost use Rattle.report_page.specs.Stops.{op_sign, branch_pieces, first_branch, next_branch, path_pieces, asking_words, members_words, site_pieces, operation_pieces, stop_pieces};
+ghost use Rattle.report_page.specs.Stops.{op_sign, branch_pieces, first_branch, next_branch, path_pieces, asking_words, members_words, site_pieces, operation_pieces, stop_pieces, enforced_item, enforced_fold, enforced_pieces, enforced_at};
 
-use crate::markup::{Account, Sign};
+use crate::markup::{Account, Sign, Tag};
+use crate::members::{fold_tag, write_asking};
 use crate::parts::column_name;
 use crate::pieces::{Piece, write};
 use certs::{Branch, Site, SiteKind, Stop};
 use frac128::{Op, Wide};
-use lp_model::Model;
+use lp_model::{Member, MemberSet, Model};
 use std::alloc::AllocError;
 
 // The sign of an operation.
@@ -94,6 +95,8 @@ fn asking(kind: SiteKind) -> Account
 {
     match kind {
         SiteKind::Improve => Account::AskingReach,
+        SiteKind::Stretch => Account::AskingStretch,
+        SiteKind::Relax => Account::AskingRelax,
         _ => Account::Asking,
     }
 }
@@ -104,6 +107,7 @@ fn asking_members(kind: SiteKind) -> Account
 {
     match kind {
         SiteKind::Improve => Account::Hold,
+        SiteKind::Stretch | SiteKind::Relax => Account::OfThese,
         _ => Account::CanBeMet,
     }
 }
@@ -193,5 +197,74 @@ pub(crate) fn write_stop(model: &Model, stop: &Stop, into: &mut Vec<u8>) -> Resu
         Stop::Nodes(site) => write_spent(model, Account::StoppedNodes, site, into),
         Stop::Large(size) => write_large(*size, into),
         Stop::Memory => write(&[Piece::Account(Account::StoppedMemory)], into),
+    }
+}
+
+// Writes an item with an enforced member.
+fn write_enforced_item(model: &Model, member: Member, into: &mut Vec<u8>) -> Result<(), AllocError>
+    ensures { OnOk result (Writes into.old.items into.new.items (enforced_item model.now member)) }
+{
+    write_asking(model, member, into)?;
+    write(&[Piece::Tag(Tag::ItemEnd)], into)
+}
+
+// Writes an item for each enforced member.
+fn write_each_enforced(model: &Model, set: &MemberSet, into: &mut Vec<u8>) -> Result<(), AllocError>
+    ensures { let pieces = flat_map (enforced_item model.now) set.now.members in
+        OnOk result (Writes into.old.items into.new.items pieces) }
+{
+    for member in set.iter() {
+        write_enforced_item(model, member, into)?;
+    }
+    Ok(())
+}
+
+// Writes enforced members in a fold.
+fn write_enforced_fold(model: &Model, set: &MemberSet, into: &mut Vec<u8>) -> Result<(), AllocError>
+    ensures { let pieces = enforced_fold model.now set.now.members in
+        OnOk result (Writes into.old.items into.new.items pieces) }
+{
+    let count = set.count();
+    write(
+        &[
+            Piece::Tag(fold_tag(count)),
+            Piece::Account(Account::EnforcedFold),
+            Piece::Count(count),
+            Piece::Tag(Tag::FoldBody),
+            Piece::Tag(Tag::Ordered),
+        ],
+        into,
+    )?;
+    write_each_enforced(model, set, into)?;
+    write(
+        &[Piece::Tag(Tag::OrderedEnd), Piece::Tag(Tag::FoldEnd)],
+        into,
+    )
+}
+
+// Writes enforced members, where there are any.
+fn write_enforced(model: &Model, set: &MemberSet, into: &mut Vec<u8>) -> Result<(), AllocError>
+    ensures { let pieces = enforced_pieces model.now set.now.members in
+        OnOk result (Writes into.old.items into.new.items pieces) }
+{
+    if set.count() == 0 {
+        return Ok(());
+    }
+    write_enforced_fold(model, set, into)
+}
+
+/// Writes the members that were enforced at the site of a stop.
+pub(crate) fn write_enforced_at(
+    model: &Model,
+    stop: &Stop,
+    into: &mut Vec<u8>,
+) -> Result<(), AllocError>
+    ensures { OnOk result (Writes into.old.items into.new.items (enforced_at model.now stop.now)) }
+{
+    match stop {
+        Stop::Wide(site, _, _) => write_enforced(model, &site.enforced, into),
+        Stop::Pivots(site) => write_enforced(model, &site.enforced, into),
+        Stop::Nodes(site) => write_enforced(model, &site.enforced, into),
+        Stop::Large(_) | Stop::Memory => Ok(()),
     }
 }

@@ -1,13 +1,15 @@
 -- Answers whose numbers are those of the code: fractions within the limit, and counts of 64 bits.
-pub use Rattle.evidence_printer.specs.Numbers.{HasValuesWithin, HasWitnessesWithin, HasWeightsWithin, IsProofWithin, IsStopWithin, IsRayWithin, IsDualWithin, IsBoundedWithin, IsReducedWithin}
+pub use Rattle.evidence_printer.specs.Numbers.{HasValuesWithin, HasWitnessesWithin, HasWeightsWithin, IsProofWithin, IsStopWithin, IsRayWithin, IsDualWithin, IsBoundedWithin, IsLeastWithin, IsReducedWithin}
+use Rattle.report_text.specs.Form.{IsCountWithin}
 use Rattle.report_text.specs.declared.report.Core.{Core}
 use Rattle.report_text.specs.declared.report.Answer.{Answer}
-use Rattle.report_text.specs.declared.report.Answer.TheVariants.{Feasible, Infeasible, Irreducible, Unbounded as RunsAway, Bounded as BoundedBy, Reduced as ReducedTo, Done, Refused, Stopped}
+use Rattle.report_text.specs.declared.report.Answer.TheVariants.{Feasible, Infeasible, Irreducible, Unbounded as RunsAway, Bounded as BoundedBy, Least as LeastBy, RigidInfeasible as RigidRefuted, Reduced as ReducedTo, Done, Refused, NotLinear, Stopped}
 
--- those of the witnesses and of the proof
+-- those of the witnesses and of the proof, and the count of rounds where it is told
 pub record IsCoreWithin (core : Core) : Type 0 where
   pub witnesses : HasWitnessesWithin core.members.members core.witnesses
   pub proof : IsProofWithin core.proof
+  pub rounds : IsCountWithin core.rounds
 
 -- all numbers of an answer
 abbrev pub HasNumbersWithin : Answer → Type 0
@@ -16,7 +18,10 @@ HasNumbersWithin (Infeasible set proof) = IsProofWithin proof
 HasNumbersWithin (Irreducible core) = IsCoreWithin core
 HasNumbersWithin (RunsAway p ray) = HasValuesWithin p × IsRayWithin ray
 HasNumbersWithin (BoundedBy b) = IsBoundedWithin b
+HasNumbersWithin (LeastBy p dual) = IsLeastWithin p dual
+HasNumbersWithin (RigidRefuted set proof) = IsProofWithin proof
 HasNumbersWithin (ReducedTo r) = IsReducedWithin r
 HasNumbersWithin Done = Unit {0}
 HasNumbersWithin (Refused r) = Unit {0}
+HasNumbersWithin (NotLinear j) = Unit {0}
 HasNumbersWithin (Stopped stop) = IsStopWithin stop

@@ -1,14 +1,14 @@
 -- What can be printed, and the parts of a printed report.
-use Rattle.std.specs.Prelude.{◌≡◌, ℕ, List, [], ◌∷◌, ◌++◌, map, codes, Option, All}
+use Rattle.std.specs.Prelude.{◌≡◌, ℕ, ◌<◌, List, [], ◌∷◌, ◌++◌, length, map, codes, Option, All}
 use Rattle.lp_model.specs.declared.parts.Note.{Note}
 use Rattle.lp_model.specs.Program.{Program}
 use Rattle.rational.specs.Rational.{ℚ}
 use Rattle.lp_model.specs.declared.members.Side.{Side}
 use Rattle.certs.specs.Checks.{IsSetOf}
-pub use Rattle.evidence_printer.specs.Printing.{ended, Keeps, IsKnownMember, IsKnownSource, IsKnownNode, IsKnownProof, IsKnownPoint, IsKnownRay, IsKnownBounded, IsKnownSite, IsKnownStop, IsKnownStep}
+pub use Rattle.evidence_printer.specs.Printing.{ended, Keeps, IsKnownMember, IsKnownSource, IsKnownNode, IsKnownProof, IsKnownPoint, IsKnownRay, IsKnownBounded, IsKnownLeast, IsKnownSite, IsKnownStop, IsKnownStep}
 use Rattle.report_text.specs.declared.report.Core.{Core}
 use Rattle.report_text.specs.declared.report.Answer.{Answer}
-use Rattle.report_text.specs.declared.report.Answer.TheVariants.{Feasible, Infeasible, Irreducible, Unbounded as RunsAway, Bounded as BoundedBy, Reduced as ReducedTo, Done, Refused, Stopped}
+use Rattle.report_text.specs.declared.report.Answer.TheVariants.{Feasible, Infeasible, Irreducible, Unbounded as RunsAway, Bounded as BoundedBy, Least as LeastBy, RigidInfeasible as RigidRefuted, Reduced as ReducedTo, Done, Refused, NotLinear, Stopped}
 use Rattle.report_text.specs.declared.report.Report.{Report}
 use Rattle.report_text.specs.Turns.{after, gathered}
 use Rattle.report_text.specs.Grammar.{joined, side_word, limit_word, entry_phrases, report_lines, phrases_text, text_of}
@@ -37,9 +37,12 @@ IsKnownAnswer model (Infeasible set proof) = IsSetOf model set × IsKnownProof m
 IsKnownAnswer model (Irreducible core) = IsKnownCore model core
 IsKnownAnswer model (RunsAway p ray) = IsKnownPoint model p × IsKnownRay model ray
 IsKnownAnswer model (BoundedBy b) = IsKnownBounded model b
+IsKnownAnswer model (LeastBy p dual) = IsKnownLeast model p dual
+IsKnownAnswer model (RigidRefuted set proof) = IsSetOf model set × IsKnownProof model proof
 IsKnownAnswer model (ReducedTo r) = All (IsKnownStep model) r.steps
 IsKnownAnswer model Done = Unit {0}
 IsKnownAnswer model (Refused r) = Unit {0}
+IsKnownAnswer model (NotLinear j) = j < length model.columns
 IsKnownAnswer model (Stopped stop) = IsKnownStop model stop
 
 -- ---- the parts of a report

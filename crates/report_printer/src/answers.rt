@@ -1,20 +1,20 @@
 //! The printed lines of answers.
 #![tactic(auto, using(crate::proofs::Kept::keeps_on, crate::proofs::Kept::keeps_more, crate::proofs::Kept::keeps_same))]
 
-ghost use Rattle.std.specs.Prelude.{◌≡◌, ◌++◌, OnErr, OnOk};
+ghost use Rattle.std.specs.Prelude.{◌≡◌, ◌≢◌, ◌++◌, ℕ, OnErr, OnOk};
 ghost use Rattle.certs.specs.Checks.{IsSetOf};
 ghost use Rattle.lp_model.specs.Program.{Program};
 ghost use Rattle.report_text.specs.Grammar.{phrase_line, answer_front, answer_end, answer_phrases, phrases_text};
 ghost use Rattle.evidence_printer.specs.Numbers.{HasValuesWithin, IsProofWithin};
-ghost use Rattle.evidence_printer.specs.Printing.{Keeps, IsKnownProof, IsKnownPoint};
+ghost use Rattle.evidence_printer.specs.Printing.{ended, Keeps, IsKnownProof, IsKnownPoint};
 ghost use Rattle.report_printer.specs.Numbers.{HasNumbersWithin, IsCoreWithin};
 ghost use Rattle.report_printer.specs.Printing.{CanPrintLaw, IsKnownCore, IsKnownAnswer};
 
 use crate::back::take_back;
 use certs::{Point, Proof};
 use evidence_printer::{
-    print_bounded, print_members, print_point, print_proof, print_reduced, print_stop,
-    print_unbounded, print_witnesses, push_line,
+    print_bounded, print_column, print_least, print_members, print_point, print_proof,
+    print_reduced, print_rounds, print_stop, print_unbounded, print_witnesses, push_line,
 };
 use lp_model::{MemberSet, Model};
 use report_text::{Answer, Command, Core, Phrase, Refusal};
@@ -60,6 +60,26 @@ fn print_irreducible(model: &Model, core: &Core, into: &mut Vec<u8>) -> Result<(
     push_line(b"irreducible", into)?;
     print_witnesses(model, &core.members, core.witnesses.as_slice(), into)?;
     print_proof(model, &core.proof, into)?;
+    print_rounds(model, core.rounds, into)?;
+    Ok(())
+}
+
+// Appends the lines of rigid members and a proof that are an answer, but for its end.
+fn print_rigid(
+    model: &Model,
+    set: &MemberSet,
+    proof: &Proof,
+    into: &mut Vec<u8>,
+) -> Result<(), AllocError>
+    requires set { IsSetOf model.now set.now }
+    requires proof { IsKnownProof model.now proof.now }
+    ensures text { OnOk result (into.new.items ≡ into.old.items ++ phrases_text model.now (answer_front model.now (Answer.RigidInfeasible set.now proof.now))) }
+    ensures front { Keeps into.old.items into.new.items }
+    ensures within { OnOk result (IsProofWithin proof.now) }
+{
+    push_line(b"rigid infeasible", into)?;
+    print_members(model, set, into)?;
+    print_proof(model, proof, into)?;
     Ok(())
 }
 
@@ -76,9 +96,10 @@ fn print_front(model: &Model, answer: &Answer, into: &mut Vec<u8>) -> Result<(),
         Answer::Irreducible(core) => print_irreducible(model, core, into),
         Answer::Unbounded(point, ray) => print_unbounded(model, point, ray, into),
         Answer::Bounded(bounded) => print_bounded(model, bounded, into),
+        Answer::Least(point, dual) => print_least(model, point, dual, into),
+        Answer::RigidInfeasible(set, proof) => print_rigid(model, set, proof, into),
         Answer::Reduced(reduced) => print_reduced(model, reduced, into),
-        Answer::Done => Ok(()),
-        Answer::Refused(_) => Ok(()),
+        Answer::Done | Answer::Refused(_) | Answer::NotLinear(_) => Ok(()),
         Answer::Stopped(stop) => print_stop(model, stop, into),
     }
 }
@@ -94,8 +115,9 @@ fn refusal_line(refusal: Refusal) -> &'static str
     }
 }
 
-// The last line of an answer.
+// The last line of an answer, but for that which names a column.
 fn last_word(answer: &Answer) -> &'static str
+    requires { (j : ℕ) → answer.now ≢ Answer.NotLinear j }
     ensures { (model : Program) → result.now ≡ phrase_line model (answer_end answer.now) }
 {
     match answer {
@@ -103,6 +125,18 @@ fn last_word(answer: &Answer) -> &'static str
         Answer::Refused(refusal) => refusal_line(*refusal),
         _ => "end",
     }
+}
+
+// Appends the last line of an answer.
+fn print_last(model: &Model, answer: &Answer, into: &mut Vec<u8>) -> Result<(), AllocError>
+    requires { IsKnownAnswer model.now answer.now }
+    ensures text { OnOk result (into.new.items ≡ into.old.items ++ ended (phrase_line model.now (answer_end answer.now))) }
+    ensures front { Keeps into.old.items into.new.items }
+{
+    if let Answer::NotLinear(column) = answer {
+        return print_column(b"not linear", model, *column, into);
+    }
+    push_line(last_word(answer).as_bytes(), into)
 }
 
 /// Appends the lines of an answer.
@@ -117,7 +151,7 @@ pub(crate) fn put_answer(
     ensures within { OnOk result (HasNumbersWithin answer.now) }
 {
     print_front(model, answer, into)?;
-    push_line(last_word(answer).as_bytes(), into)?;
+    print_last(model, answer, into)?;
     Ok(())
 }
 

@@ -20,6 +20,7 @@ fn method_name(method: Method) -> &'static str
         Method::Deletion => "deletion",
         Method::Additive => "additive",
         Method::Sensitivity => "sensitivity",
+        Method::Elastic => "elastic",
     }
 }
 
@@ -181,6 +182,7 @@ pub(crate) fn put_command(command: &Command, into: &mut Vec<u8>) -> Result<(), A
         Command::Check => into.extend_from_slice(b"check"),
         Command::Iis(method) => print_iis(*method, into),
         Command::Unbounded => into.extend_from_slice(b"unbounded"),
+        Command::Relax => into.extend_from_slice(b"relax"),
         Command::Reduce => into.extend_from_slice(b"reduce"),
         Command::Edit(edit) => print_edit(edit, into),
         Command::Undo => into.extend_from_slice(b"undo"),

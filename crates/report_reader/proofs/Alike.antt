@@ -51,6 +51,7 @@ module _ (a b : Program) (names : HasNamesOf a b) where
 
   stop_alike : (s : StopPhrase) → IsStopPhrase a s → IsStopPhrase b s
   stop_alike (StopPhrase.Without m) h = member_alike m h
+  stop_alike (StopPhrase.Enforced m) h = member_alike m h
   stop_alike (StopPhrase.Branch branch) h = record { named = column_alike branch.column h.named; fits = h.fits }
   stop_alike s h = h
 
@@ -65,6 +66,7 @@ module _ (a b : Program) (names : HasNamesOf a b) where
   phrase_alike : (p : Phrase) → IsPhraseFor a p → IsPhraseFor b p
   phrase_alike (Phrase.Note note) h = column_alike (noted_column note) h
   phrase_alike (Phrase.Value j v) h = (column_alike j h.0, h.1)
+  phrase_alike (Phrase.NotLinear j) h = column_alike j h
   phrase_alike (Phrase.Member m) h = member_alike m h
   phrase_alike (Phrase.Use s) h = record { named = source_alike s.source h.named; positive = h.positive; fits = h.fits }
   phrase_alike (Phrase.Stop s) h = stop_alike s h

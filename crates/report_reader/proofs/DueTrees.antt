@@ -1,5 +1,5 @@
 -- Nodes of a proof, and how many subtrees are due behind them.
-use Rattle.std.proofs.Common.{◌≡◌, ◌<◌, refl, sym, ap, subst, ◌∙◌, ℕ, ◌+◌, ℤ, true, true≢false, List, [], ◌∷◌, ◌++◌, length, append_assoc, append-nil, arith}
+use Rattle.std.proofs.Common.{◌≡◌, ◌<◌, refl, sym, ap, subst, ◌∙◌, ℕ, ◌+◌, ℤ, true, false, true≢false, List, [], ◌∷◌, ◌++◌, length, append_assoc, append-nil, arith}
 use Rattle.std.specs.Prelude.{flat_map}
 use Rattle.std.proofs.lemmas.List.{length-append}
 use Rattle.std.specs.Prelude.{All}
@@ -10,7 +10,6 @@ use Rattle.certs.specs.declared.evidence.Node.{Node}
 use Rattle.certs.specs.declared.evidence.Node.TheVariants.{Split}
 use Rattle.certs.specs.Proof.{Tree, Tip, Fork, preorder}
 use Rattle.report_text.specs.declared.report.Command.{Command}
-use Rattle.report_text.specs.declared.report.Command.TheVariants.{Reduce}
 use Rattle.report_text.specs.Form.{AreUses, IsNodeFor, IsOneTree, IsProofFor, is_one_leaf}
 use Rattle.report_reader.specs.Drafts.{leaf_of, may_split, may_stand, AreNodes}
 
@@ -64,11 +63,12 @@ module _ (model : Program) (c : Command) where
   pub none_due : (nodes : List Node) → AreNodes model c nodes 0 → IsProofFor model (record { nodes = nodes })
   none_due nodes h = record { one = subst IsOneTree (append-nil nodes) (h.one [] refl); each = h.each }
 
--- a proof of a reduction is one leaf
-pub one_leaf_due : (model : Program) (nodes : List Node) → AreNodes model Reduce nodes 0 → is_one_leaf nodes ≡ true
-one_leaf_due model nodes h = let proof = none_due model Reduce nodes h in by proof.one.tree nodes proof.one.listed h.may
+-- where there may be no split it is one leaf
+pub one_leaf_due : (model : Program) (c : Command) (nodes : List Node) → may_split c ≡ false → AreNodes model c nodes 0 → is_one_leaf nodes ≡ true
+one_leaf_due model c nodes never h = let proof = none_due model c nodes h in by proof.one.tree nodes proof.one.listed h.may
   where
-    by : (tree : Tree) (nodes : List Node) → preorder tree ≡ nodes → All (λ node. may_stand node Reduce ≡ true) nodes → is_one_leaf nodes ≡ true
+    by : (tree : Tree) (nodes : List Node) → preorder tree ≡ nodes → All (λ node. may_stand node c ≡ true) nodes → is_one_leaf nodes ≡ true
     by (Tip shares) nodes e may = ap is_one_leaf (sym e)
     by (Fork j k lower upper) nodes e may =
-        absurd (true≢false (sym (All-head (λ node. may_stand node Reduce ≡ true) (Split j k) (preorder lower ++ preorder upper) (subst (All (λ node. may_stand node Reduce ≡ true)) (sym e) may))))
+        let split : may_split c ≡ true = All-head (λ node. may_stand node c ≡ true) (Split j k) (preorder lower ++ preorder upper) (subst (All (λ node. may_stand node c ≡ true)) (sym e) may) in
+        absurd (true≢false (sym split ∙ never))

@@ -23,7 +23,7 @@ use Rattle.certs.specs.declared.evidence.Share.{Share}
 use Rattle.certs.specs.declared.evidence.Point.{Point}
 use Rattle.certs.specs.declared.evidence.Node.TheVariants.{Split, Leaf}
 use Rattle.certs.specs.declared.evidence.Proof.{Proof}
-use Rattle.report_text.specs.declared.report.Method.TheVariants.{Deletion}
+use Rattle.report_text.specs.declared.report.Method.TheVariants.{Deletion, Elastic}
 use Rattle.lp_model.specs.declared.members.Side.TheVariants.{Lo, Up}
 use Rattle.lp_model.specs.declared.parts.Weight.TheVariants.{Soft}
 use Rattle.report_text.specs.declared.report.TargetKind.{TargetKind}
@@ -32,17 +32,17 @@ use Rattle.report_text.specs.declared.report.EditKind.TheVariants.{Drop, Weigh, 
 use Rattle.report_text.specs.declared.report.Refusal.TheVariants.{UnknownName, NoChange, NothingToUndo}
 use Rattle.reductions.specs.declared.steps.ReduceStep.TheVariants.{Empty, Singleton, Fixed, Redundant, Forcing, Doubleton}
 use Rattle.report_text.specs.declared.report.Command.{Command}
-use Rattle.report_text.specs.declared.report.Command.TheVariants.{Check, Iis, Unbounded, Reduce, Edit, Undo, Nodes}
+use Rattle.report_text.specs.declared.report.Command.TheVariants.{Check, Iis, Unbounded, Relax as RelaxIt, Reduce, Edit, Undo, Nodes}
 use Rattle.report_text.specs.declared.report.Answer.{Answer}
-use Rattle.report_text.specs.declared.report.Answer.TheVariants.{Feasible, Infeasible, Irreducible, Unbounded as RunsAway, Bounded as BoundedBy, Reduced as ReducedTo, Done, Refused, Stopped}
+use Rattle.report_text.specs.declared.report.Answer.TheVariants.{Feasible, Infeasible, Irreducible, Unbounded as RunsAway, Bounded as BoundedBy, Least as LeastBy, RigidInfeasible as RigidRefuted, Reduced as ReducedTo, Done, Refused, NotLinear, Stopped}
 use Rattle.report_text.specs.declared.report.Report.{Report}
 use Rattle.report_text.specs.Grammar.{Line, report_lines, text_of}
 use Rattle.report_reader.proofs.Endings.{pair_in_order, nothing_is_front, foot, NotFoot, body, body_is, needs_foot, needs_head, whole_ends}
 use Rattle.certs.specs.Order.{source_before}
 use Rattle.certs.specs.Proof.{Tip, at_most, at_least}
-use Rattle.certs.specs.declared.solving.SiteKind.TheVariants.{Settle}
+use Rattle.certs.specs.declared.solving.SiteKind.TheVariants.{Settle, Stretch}
 use Rattle.certs.specs.declared.solving.Site.{Site}
-use Rattle.certs.specs.declared.solving.Stop.TheVariants.{Nodes as NodesSpent, Large}
+use Rattle.certs.specs.declared.solving.Stop.TheVariants.{Pivots as Spent, Nodes as NodesSpent, Large}
 use Rattle.report_text.specs.Form.{IsNamedColumn, IsNamedMember, IsListed, IsUse, AreUses, IsNodeFor, IsReportFor, can_answer}
 use Rattle.report_reader.specs.Reading.{Reads, IsFront, IsWhole, IsBadLine, IsTruncated}
 
@@ -184,6 +184,62 @@ bounded_has_lines = refl
 -- a point alone is no answer to it
 no_point_alone : can_answer Unbounded (Feasible (point (zero_ℚ ∷ one_ℚ ∷ []))) ≡ false
 no_point_alone = refl
+
+-- ---- how little must give way, rigid members that no point satisfies, and a column that is to be whole
+abbrev least_report : Report
+least_report = record {
+  notes = [];
+  entries = record { command = RelaxIt; answer = LeastBy (point (zero_ℚ ∷ frac (pos 1) 3 ∷ [])) (record { combo = record { shares = both }; bound = frac (pos 1) 2 }); line = 2 }
+      ∷ record { command = RelaxIt; answer = RigidRefuted rows_set proof; line = 11 } ∷ record { command = RelaxIt; answer = NotLinear 1; line = 20 } ∷ [];
+}
+
+least_has_lines : report_lines two_rows least_report
+    ≡ codes "iisan report 2" ∷ codes "command relax" ∷ codes "least" ∷ codes "total 1/2" ∷ codes "point" ∷ codes "value y 1/3" ∷ codes "dual"
+    ∷ codes "use rowup c1 1" ∷ codes "use rowlo c2 3/2" ∷ codes "end"
+    ∷ codes "command relax" ∷ codes "rigid infeasible" ∷ codes "member rowup c1" ∷ codes "member rowlo c2"
+    ∷ codes "proof" ∷ codes "leaf" ∷ codes "use rowup c1 1" ∷ codes "use rowlo c2 3/2" ∷ codes "end"
+    ∷ codes "command relax" ∷ codes "not linear y"
+    ∷ codes "report end" ∷ []
+unfolding frac gcd gcd_within digits eq_ℚ
+least_has_lines = refl
+
+-- a tree that is no leaf is no answer to it
+no_tree_of_rigid : can_answer RelaxIt (RigidRefuted rows_set tree) ≡ false
+no_tree_of_rigid = refl
+
+-- ---- the elastic method tells its rounds, and stops at a run in which members are enforced
+abbrev elastic : Answer
+elastic = Irreducible (record { members = rows_set; witnesses = point (zero_ℚ ∷ frac (pos 1) 2 ∷ []) ∷ point (zero_ℚ ∷ zero_ℚ ∷ []) ∷ []; proof = proof; rounds = Some 2; price = None })
+
+abbrev stretch_site : Site
+stretch_site = record { kind = Stretch; set = rows_set; enforced = record { rows = 2; columns = 2; members = RowLo 1 ∷ [] }; path = [] }
+
+abbrev elastic_report : Report
+elastic_report = record {
+  notes = [];
+  entries = record { command = Iis Elastic; answer = elastic; line = 2 } ∷ record { command = Iis Elastic; answer = NotLinear 0; line = 15 }
+      ∷ record { command = Iis Elastic; answer = Stopped (Spent stretch_site); line = 17 } ∷ [];
+}
+
+elastic_has_lines : report_lines two_rows elastic_report
+    ≡ codes "iisan report 2" ∷ codes "command iis elastic" ∷ codes "irreducible"
+    ∷ codes "member rowup c1" ∷ codes "point" ∷ codes "value y 1/2" ∷ codes "member rowlo c2" ∷ codes "point"
+    ∷ codes "proof" ∷ codes "leaf" ∷ codes "use rowup c1 1" ∷ codes "use rowlo c2 3/2" ∷ codes "rounds 2" ∷ codes "end"
+    ∷ codes "command iis elastic" ∷ codes "not linear x"
+    ∷ codes "command iis elastic" ∷ codes "pivots spent" ∷ codes "site stretch" ∷ codes "without lower x" ∷ codes "without lower y" ∷ codes "enforced rowlo c2" ∷ codes "end"
+    ∷ codes "report end" ∷ []
+unfolding frac gcd gcd_within digits eq_ℚ
+elastic_has_lines = refl
+
+-- the other methods tell none, and take a column that is to be whole
+rounds_of_elastic : can_answer (Iis Elastic) irreducible ≡ false
+rounds_of_elastic = refl
+
+no_rounds_of_deletion : can_answer (Iis Deletion) elastic ≡ false
+no_rounds_of_deletion = refl
+
+deletion_of_whole : can_answer (Iis Deletion) (NotLinear 0) ≡ false
+deletion_of_whole = refl
 
 -- ---- edits, some of which are refused
 abbrev asked : List ℕ → EditKind → Command

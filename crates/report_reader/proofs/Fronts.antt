@@ -1,5 +1,5 @@
 -- Each phrase that is taken stands behind what is read, and what is read is the front of a report.
-use Rattle.std.proofs.Common.{eqb-true, ◌≡◌, ◌≢◌, ◌<◌, ◌≤◌, refl, sym, ap, subst, ◌∙◌, ℕ, zero, suc, ◌+◌, ◌-◌, ◌==◌, Bool, true, false, cond, ◌&&◌, List, [], ◌∷◌, ◌++◌, length, append_assoc, append-nil, Some, None, arith, ◌⊎◌, inl, inr}
+use Rattle.std.proofs.Common.{eqb-true, ◌≡◌, ◌≢◌, ◌<◌, ◌≤◌, refl, sym, ap, subst, ◌∙◌, ℕ, zero, suc, ◌+◌, ◌-◌, ◌==◌, Bool, true, false, cond, not, ◌&&◌, true≢false, List, [], ◌∷◌, ◌++◌, length, append_assoc, append-nil, Some, None, arith, ◌⊎◌, inl, inr}
 use Rattle.std.specs.Prelude.{map, flat_map, zip, replicate, option_map, All, IsTrue, nat_lt, nat_le}
 use Rattle.std.specs.List.{list_all}
 use Rattle.std.proofs.lemmas.List.{length-append, length-replicate, length-map, map-append}
@@ -26,7 +26,8 @@ use Rattle.frac128.specs.declared.Wide.{Wide as Operation}
 use Rattle.certs.specs.declared.solving.Stop.{Stop}
 use Rattle.certs.specs.declared.solving.Stop.TheVariants.{Wide as TooWide, Pivots as Spent, Nodes as NodesSpent, Large}
 use Rattle.report_text.specs.declared.report.Command.{Command}
-use Rattle.report_text.specs.declared.report.Command.TheVariants.{Check, Iis, Unbounded, Reduce, Edit, Undo, Pivots, Nodes}
+use Rattle.report_text.specs.declared.report.Command.TheVariants.{Check, Iis, Unbounded, Relax, Reduce, Edit, Undo, Pivots, Nodes}
+use Rattle.bound_checks.specs.declared.bounds.Dual.{Dual}
 use Rattle.reductions.specs.declared.steps.ReduceStep.{ReduceStep}
 use Rattle.report_text.specs.declared.report.Bounded.{Bounded}
 use Rattle.report_text.specs.declared.report.Reduced.{Reduced}
@@ -41,25 +42,28 @@ use Rattle.report_reader.specs.declared.drafts.SitePart.{SitePart}
 use Rattle.report_reader.specs.declared.drafts.StopPart.{StopPart}
 use Rattle.report_reader.specs.declared.drafts.Claim.{Claim}
 use Rattle.report_reader.specs.declared.drafts.BoundPart.{BoundPart}
+use Rattle.report_reader.specs.declared.drafts.LeastPart.{LeastPart}
 use Rattle.report_reader.specs.declared.drafts.Part.{Part}
 use Rattle.report_reader.specs.declared.drafts.Next.{Next}
 use Rattle.report_reader.specs.declared.drafts.Stage.{Stage}
 use Rattle.report_reader.specs.declared.drafts.Draft.{Draft}
 use Rattle.report_text.specs.Turns.{after, entry_commands}
-use Rattle.report_text.specs.Grammar.{column_name, entries_phrases, value_phrases, point_phrases, objective_phrases, node_phrases, witness_phrases, without_phrase, branch_phrase, site_phrases, answer_front, answer_end, entry_phrases, body_phrases}
+use Rattle.report_text.specs.Grammar.{column_name, entries_phrases, value_phrases, point_phrases, objective_phrases, node_phrases, proof_phrases, witness_phrases, without_phrase, enforced_phrase, branch_phrase, site_phrases, answer_front, answer_end, entry_phrases, body_phrases}
 use Rattle.report_text.proofs.InTurn.{gathered-push, AllEntries-push, numbered-push}
 use Rattle.certs.specs.Order.{source_before}
 use Rattle.report_text.specs.Form.{is_word, IsNamedColumn, IsNamedMember, IsWithinLimit, IsUse, AreUses, IsListed, IsPointFor, IsRayFor, is_run_kind, IsStepFor, IsAnswerFor, IsEntryFor, can_answer}
 use Rattle.phrase_reader.specs.Phrases.{IsNamedBranch, IsStopPhrase, IsPhraseFor}
-use Rattle.report_reader.specs.Drafts.{filled, point_of, ray_of, leaf_of, set_of, answer_of, only_if, may_split, proof_with, witnessed_with, site_of, run_of, stop_begun, stop_with, claim_with, bound_with, reply_said, extended, placed, between, advanced, AreValues, AreMembers, AreWitnesses, IsFound, IsOneMore, AreLeftOut, IsTold, IsStopPart, AreNodes, Asks, Seeks, Bounds, IsBoundPart, Reduces, IsPartFor, IsDraftFor}
+use Rattle.report_reader.specs.Drafts.{filled, point_of, ray_of, leaf_of, set_of, answer_of, only_if, is_within, may_split, counts_rounds, proof_with, witnessed_with, site_of, run_of, stop_begun, stop_with, claim_with, bound_with, least_with, not_linear_said, reply_said, extended, placed, between, advanced, AreValues, AreMembers, AreWitnesses, IsFound, IsOneMore, AreLeftOut, AreEnforced, IsTold, IsStopPart, AreNodes, Asks, Seeks, Bounds, IsBoundPart, Relaxes, IsLeastPart, Reduces, IsPartFor, IsDraftFor}
 use Rattle.phrase_reader.proofs.Named.{told}
 use Rattle.report_reader.proofs.DueTrees.{whole_due, split_due, leaf_due, none_due, one_leaf_due}
-use Rattle.report_reader.proofs.LeftOut.{none_told, left_twice, site_in_form}
+use Rattle.report_reader.proofs.Rounds.{rounds_told, no_rounds_told}
+use Rattle.report_reader.proofs.LeftOut.{no_members, none_told, none_enforced, left_twice, site_in_form}
 
 -- ---- what is read, as phrases
 abbrev pub found_phrases : Found → List Phrase
 found_phrases (Found.Members members) = Phrase.Infeasible ∷ map Phrase.Member members
 found_phrases (Found.Witnessed members witnesses) = Phrase.Irreducible ∷ flat_map witness_phrases (zip members witnesses)
+found_phrases (Found.Rigid members) = Phrase.RigidInfeasible ∷ map Phrase.Member members
 
 -- what a stop says first
 abbrev pub opening : StopCause → StopPhrase
@@ -67,9 +71,9 @@ opening StopCause.Wide = StopPhrase.Wide
 opening StopCause.Spent = StopPhrase.Spent
 opening StopCause.Nodes = StopPhrase.Nodes
 
--- the same, the site of its run, the members left out, and the branches
+-- the same, the site of its run, the members left out, those enforced, and the branches
 abbrev pub begun_phrases : StopCause → SitePart → List Phrase
-begun_phrases cause site = Phrase.Stop (opening cause) ∷ Phrase.Stop (StopPhrase.Site site.kind) ∷ (map without_phrase site.left ++ map branch_phrase site.path)
+begun_phrases cause site = Phrase.Stop (opening cause) ∷ Phrase.Stop (StopPhrase.Site site.kind) ∷ (map without_phrase site.left ++ (map enforced_phrase site.enforced ++ map branch_phrase site.path))
 
 abbrev pub stop_part_phrases : StopPart → List Phrase
 stop_part_phrases (StopPart.Begun cause) = Phrase.Stop (opening cause) ∷ []
@@ -90,6 +94,13 @@ bound_part_phrases (BoundPart.Objective p v) = Phrase.Bounded ∷ (point_phrases
 bound_part_phrases (BoundPart.Bound p v b) = Phrase.Bounded ∷ (point_phrases p ++ (objective_phrases v ++ Phrase.Bound b ∷ []))
 bound_part_phrases (BoundPart.Dual p v b shares) = Phrase.Bounded ∷ (point_phrases p ++ (objective_phrases v ++ Phrase.Bound b ∷ Phrase.Dual ∷ map Phrase.Use shares))
 
+-- a total, a point, and the shares of a dual
+abbrev pub least_part_phrases : LeastPart → List Phrase
+least_part_phrases LeastPart.Begun = Phrase.Least ∷ []
+least_part_phrases (LeastPart.Total t) = Phrase.Least ∷ Phrase.Total t ∷ []
+least_part_phrases (LeastPart.Point t values) = Phrase.Least ∷ Phrase.Total t ∷ Phrase.Point ∷ value_phrases 0 values
+least_part_phrases (LeastPart.Dual t p shares) = Phrase.Least ∷ Phrase.Total t ∷ (point_phrases p ++ Phrase.Dual ∷ map Phrase.Use shares)
+
 -- a set, and the nodes of its proof
 abbrev pub nodes_phrases : Found → List Node → List Phrase
 nodes_phrases found nodes = found_phrases found ++ Phrase.Proof ∷ flat_map node_phrases nodes
@@ -100,11 +111,13 @@ part_phrases (Part.Claimed claim) = claim_phrase claim ∷ []
 part_phrases (Part.Point claim values) = claim_phrase claim ∷ Phrase.Point ∷ value_phrases 0 values
 part_phrases (Part.Ray point values) = Phrase.Unbounded ∷ (point_phrases point ++ Phrase.Ray ∷ value_phrases 0 values)
 part_phrases (Part.Bounded part) = bound_part_phrases part
+part_phrases (Part.Least part) = least_part_phrases part
 part_phrases (Part.Listed found) = found_phrases found
 part_phrases (Part.Member members witnesses m) = found_phrases (Found.Witnessed members witnesses) ++ Phrase.Member m ∷ []
 part_phrases (Part.Witness members witnesses m values) = found_phrases (Found.Witnessed members witnesses) ++ Phrase.Member m ∷ Phrase.Point ∷ value_phrases 0 values
 part_phrases (Part.Proof found nodes due) = nodes_phrases found nodes
 part_phrases (Part.Leaf found nodes due shares) = nodes_phrases found nodes ++ Phrase.Leaf ∷ map Phrase.Use shares
+part_phrases (Part.Counted found nodes n) = nodes_phrases found nodes ++ Phrase.Rounds n ∷ []
 part_phrases (Part.Reduced steps) = Phrase.Reduced ∷ map Phrase.Reduction steps
 part_phrases (Part.Left steps rows columns) = Phrase.Reduced ∷ (map Phrase.Reduction steps ++ Phrase.Left rows columns ∷ [])
 part_phrases (Part.Stop part) = stop_part_phrases part
@@ -277,9 +290,6 @@ module _ (model : Program) where
       → Took c part p next
   list_taken c part p make b x next took e = let t = mapped_told (λ y. Next.More (make y)) b x (Next.More next) e in subst (Took c part p) (same_more (make x) next t.1) (took t.0)
 
-  no_members : AreMembers model []
-  no_members = record { named = All-nil (IsNamedMember model); in_order = λ i j d l m. absurd (omega arith) }
-
   no_witnesses : AreWitnesses model [] []
   no_witnesses = record { each = refl; points = All-nil (IsPointFor model) }
 
@@ -314,6 +324,15 @@ module _ (model : Program) where
   members_found Reduce members more h k = k
   members_found c members more h k = absurd h
 
+  -- and rigid ones
+  rigid_told : (c : Command) (members : List Member) → IsFound model c (Found.Rigid members) → AreMembers model members
+  rigid_told Relax members h = h
+  rigid_told c members h = absurd h
+
+  rigid_found : (c : Command) (members more : List Member) → IsFound model c (Found.Rigid members) → AreMembers model more → IsFound model c (Found.Rigid more)
+  rigid_found Relax members more h k = k
+  rigid_found c members more h k = absurd h
+
   -- what is found with one member more
   one_more_found : (c : Command) (members : List Member) (witnesses : List Point) (m : Member) (values : List ℚ) → IsOneMore model c members witnesses m → AreValues model values
       → IsFound model c (Found.Witnessed (members ++ m ∷ []) (witnesses ++ point_of model values ∷ []))
@@ -339,25 +358,71 @@ module _ (model : Program) where
   begun_taken c (StopPhrase.Large size) next asks k e = subst (Took c Part.Nothing (Phrase.Stop (StopPhrase.Large size))) (more_is (Part.Stop (StopPart.Large size)) next e) ((asks, k), refl)
   begun_taken c _ next asks k e = absurd (cc)
 
-  -- a member more that is left out, where no branch stands yet
-  without_taken : (c : Command) (cause : StopCause) (kind : SiteKind) (left : List Member) (path : List Branch) (m : Member) (next : Part) → Asks c → IsTold model (record { kind = kind; left = left; path = path }) → IsNamedMember model m
-      → stop_with model (StopPart.Site cause (record { kind = kind; left = left; path = path })) (without_phrase m) ≡ Some (Next.More next)
-      → Took c (Part.Stop (StopPart.Site cause (record { kind = kind; left = left; path = path }))) (without_phrase m) next
+  -- one member more that is enforced
+  one_more_enforced : (left enforced : List Member) (m : Member) → AreEnforced model left enforced → IsNamedMember model m → (is_within model left m && list_all (λ n. comes_before n m) enforced) ≡ true → AreEnforced model left (enforced ++ m ∷ [])
+  one_more_enforced left enforced m h named may =
+      let both = and_parts (is_within model left m) (list_all (λ n. comes_before n m) enforced) may in
+      record { members = member_taken enforced m h.members named both.1; within = All-push (λ n. IsTrue (is_within model left n)) enforced m h.within both.0 }
+
+  -- where a member is left out, none is enforced and no branch stands
+  without_told : (cause : StopCause) (kind : SiteKind) (left enforced : List Member) (path : List Branch) (m : Member) (next : Part)
+      → stop_with model (StopPart.Site cause (record { kind = kind; left = left; enforced = enforced; path = path })) (without_phrase m) ≡ Some (Next.More next)
+      → ((length enforced == 0) ≡ true) × ((length path == 0) ≡ true)
+  without_told cause kind left enforced path m next e =
+      let none : Bool = length enforced == 0 in
+      let first : Bool = length path == 0 in
+      let with_left : List Member → SitePart = λ ms. record { kind = kind; left = ms; enforced = enforced; path = path } in
+      let t = mapped_told (λ members. Next.More (Part.Stop (StopPart.Site cause (with_left members)))) (((none && first) && is_active model m) && list_all (λ n. comes_before n m) left) (left ++ m ∷ []) (Next.More next) e in
+      and_parts none first (and_parts (none && first) (is_active model m) (and_parts ((none && first) && is_active model m) (list_all (λ n. comes_before n m) left) t.0).0).0
+
+  -- a member more that is left out, where none is enforced and no branch stands yet
+  without_taken : (c : Command) (cause : StopCause) (kind : SiteKind) (left enforced : List Member) (path : List Branch) (m : Member) (next : Part) → Asks c
+      → IsTold model (record { kind = kind; left = left; enforced = enforced; path = path }) → IsNamedMember model m
+      → stop_with model (StopPart.Site cause (record { kind = kind; left = left; enforced = enforced; path = path })) (without_phrase m) ≡ Some (Next.More next)
+      → Took c (Part.Stop (StopPart.Site cause (record { kind = kind; left = left; enforced = enforced; path = path }))) (without_phrase m) next
   unfolding Took
-  without_taken c cause kind left [] m next asks h k e =
-      let with_left : List Member → SitePart = λ ms. record { kind = kind; left = ms; path = [] } in
+  without_taken c cause kind left [] [] m next asks h k e =
+      let with_left : List Member → SitePart = λ ms. record { kind = kind; left = ms; enforced = []; path = [] } in
       list_taken c (Part.Stop (StopPart.Site cause (with_left left))) (without_phrase m) (λ members. Part.Stop (StopPart.Site cause (with_left members))) (is_active model m && list_all (λ n. comes_before n m) left) (left ++ m ∷ []) next
       (λ t. (
-        (asks, record { run = h.run; left = left_taken left m h.left k t; path = h.path }),
+        (asks, record { run = h.run; left = left_taken left m h.left k t; enforced = none_enforced model (left ++ m ∷ []); path = h.path }),
         ap (λ l. Phrase.Stop (opening cause) ∷ Phrase.Stop (StopPhrase.Site kind) ∷ l)
             (append-nil (map without_phrase (left ++ m ∷ [])) ∙ map_push without_phrase left m ∙ ap (λ l. l ++ without_phrase m ∷ []) (sym (append-nil (map without_phrase left)))),
       )) e
-  without_taken c cause kind left (b ∷ path) m next asks h k e =
-      let first : Bool = length (b ∷ path) == 0 in
-      let with_left : List Member → SitePart = λ ms. record { kind = kind; left = ms; path = b ∷ path } in
-      let t = mapped_told (λ members. Next.More (Part.Stop (StopPart.Site cause (with_left members)))) ((first && is_active model m) && list_all (λ n. comes_before n m) left) (left ++ m ∷ []) (Next.More next) e in
-      let none : length (b ∷ path) ≡ 0 = eqb-true (length (b ∷ path)) 0 (and_parts first (is_active model m) (and_parts (first && is_active model m) (list_all (λ n. comes_before n m) left) t.0).0).0 in
+  without_taken c cause kind left (n ∷ enforced) path m next asks h k e =
+      let none : length (n ∷ enforced) ≡ 0 = eqb-true (length (n ∷ enforced)) 0 (without_told cause kind left (n ∷ enforced) path m next e).0 in
       absurd (omega arith)
+  without_taken c cause kind left enforced (b ∷ path) m next asks h k e =
+      let none : length (b ∷ path) ≡ 0 = eqb-true (length (b ∷ path)) 0 (without_told cause kind left enforced (b ∷ path) m next e).1 in
+      absurd (omega arith)
+
+  -- a member more that is enforced, where no branch stands yet
+  enforced_taken : (c : Command) (cause : StopCause) (kind : SiteKind) (left enforced : List Member) (path : List Branch) (m : Member) (next : Part) → Asks c
+      → IsTold model (record { kind = kind; left = left; enforced = enforced; path = path }) → IsNamedMember model m
+      → stop_with model (StopPart.Site cause (record { kind = kind; left = left; enforced = enforced; path = path })) (enforced_phrase m) ≡ Some (Next.More next)
+      → Took c (Part.Stop (StopPart.Site cause (record { kind = kind; left = left; enforced = enforced; path = path }))) (enforced_phrase m) next
+  unfolding Took
+  enforced_taken c cause kind left enforced [] m next asks h k e =
+      let with_enforced : List Member → SitePart = λ ms. record { kind = kind; left = left; enforced = ms; path = [] } in
+      let front : List Phrase → List Phrase = λ l. Phrase.Stop (opening cause) ∷ Phrase.Stop (StopPhrase.Site kind) ∷ l in
+      list_taken c (Part.Stop (StopPart.Site cause (with_enforced enforced))) (enforced_phrase m) (λ members. Part.Stop (StopPart.Site cause (with_enforced members)))
+      (is_within model left m && list_all (λ n. comes_before n m) enforced) (enforced ++ m ∷ []) next
+      (λ t. (
+        (asks, record { run = h.run; left = h.left; enforced = one_more_enforced left enforced m h.enforced k t; path = h.path }),
+        ap (λ l. front (map without_phrase left ++ l))
+            (append-nil (map enforced_phrase (enforced ++ m ∷ [])) ∙ map_push enforced_phrase enforced m ∙ ap (λ l. l ++ enforced_phrase m ∷ []) (sym (append-nil (map enforced_phrase enforced))))
+            ∙ ap front (sym (append_assoc (map without_phrase left) (map enforced_phrase enforced ++ []) (enforced_phrase m ∷ []))),
+      )) e
+  enforced_taken c cause kind left enforced (b ∷ path) m next asks h k e =
+      let first : Bool = length (b ∷ path) == 0 in
+      let with_enforced : List Member → SitePart = λ ms. record { kind = kind; left = left; enforced = ms; path = b ∷ path } in
+      let t = mapped_told (λ members. Next.More (Part.Stop (StopPart.Site cause (with_enforced members)))) ((first && is_within model left m) && list_all (λ n. comes_before n m) enforced) (enforced ++ m ∷ []) (Next.More next) e in
+      let none : length (b ∷ path) ≡ 0 = eqb-true (length (b ∷ path)) 0 (and_parts first (is_within model left m) (and_parts (first && is_within model left m) (list_all (λ n. comes_before n m) enforced) t.0).0).0 in
+      absurd (omega arith)
+
+  -- the last part of phrases, moved out of the others
+  moved_out : (a b d e : List Phrase) → a ++ (b ++ (d ++ e)) ≡ (a ++ (b ++ d)) ++ e
+  moved_out a b d e = ap (λ l. a ++ l) (sym (append_assoc b d e)) ∙ sym (append_assoc a (b ++ d) e)
 
   stop_taken : (c : Command) (part : StopPart) (p : Phrase) (next : Part) → Asks c × IsStopPart model part → IsPhraseFor model p → stop_with model part p ≡ Some (Next.More next) → Took c (Part.Stop part) p next
   unfolding Took
@@ -366,12 +431,13 @@ module _ (model : Program) where
       let t = only_told (is_run_kind kind) (Next.More more) (Next.More next) e in
       subst (Took c (Part.Stop (StopPart.Begun cause)) (Phrase.Stop (StopPhrase.Site kind))) (same_more more next t.1) ((h.0, none_told model kind t.0), refl)
   stop_taken c (StopPart.Large size) Phrase.End next h k e = absurd (cc)
-  stop_taken c (StopPart.Site cause site) (Phrase.Stop (StopPhrase.Without m)) next h k e = without_taken c cause site.kind site.left site.path m next h.0 h.1 k e
+  stop_taken c (StopPart.Site cause site) (Phrase.Stop (StopPhrase.Without m)) next h k e = without_taken c cause site.kind site.left site.enforced site.path m next h.0 h.1 k e
+  stop_taken c (StopPart.Site cause site) (Phrase.Stop (StopPhrase.Enforced m)) next h k e = enforced_taken c cause site.kind site.left site.enforced site.path m next h.0 h.1 k e
   stop_taken c (StopPart.Site cause site) (Phrase.Stop (StopPhrase.Branch b)) next h k e =
       subst (Took c (Part.Stop (StopPart.Site cause site)) (branch_phrase b)) (more_is (Part.Stop (StopPart.Site cause (record site { path = site.path ++ b ∷ [] }))) next e) (
-        (h.0, record { run = h.1.run; left = h.1.left; path = All-push (IsNamedBranch model) site.path b h.1.path k }),
-        ap (λ l. Phrase.Stop (opening cause) ∷ Phrase.Stop (StopPhrase.Site site.kind) ∷ (map without_phrase site.left ++ l)) (map-append branch_phrase site.path (b ∷ []))
-            ∙ ap (λ l. Phrase.Stop (opening cause) ∷ Phrase.Stop (StopPhrase.Site site.kind) ∷ l) (sym (append_assoc (map without_phrase site.left) (map branch_phrase site.path) (branch_phrase b ∷ []))),
+        (h.0, record { run = h.1.run; left = h.1.left; enforced = h.1.enforced; path = All-push (IsNamedBranch model) site.path b h.1.path k }),
+        ap (λ l. Phrase.Stop (opening cause) ∷ Phrase.Stop (StopPhrase.Site site.kind) ∷ (map without_phrase site.left ++ (map enforced_phrase site.enforced ++ l))) (map-append branch_phrase site.path (b ∷ []))
+            ∙ ap (λ l. Phrase.Stop (opening cause) ∷ Phrase.Stop (StopPhrase.Site site.kind) ∷ l) (moved_out (map without_phrase site.left) (map enforced_phrase site.enforced) (map branch_phrase site.path) (branch_phrase b ∷ [])),
       )
   stop_taken c (StopPart.Site StopCause.Wide site) (Phrase.Stop (StopPhrase.Step n)) next h k e =
       subst (Took c (Part.Stop (StopPart.Site StopCause.Wide site)) (Phrase.Stop (StopPhrase.Step n))) (more_is (Part.Stop (StopPart.Step site n)) next e) ((h.0, (h.1, k)), refl)
@@ -399,10 +465,6 @@ module _ (model : Program) where
   claim_taken c Claim.Feasible values Phrase.End next h k e = absurd (cc)
   claim_taken c claim values p next h k e = absurd (cc)
 
-  -- the last part of phrases, moved out of the others
-  moved_out : (a b d e : List Phrase) → a ++ (b ++ (d ++ e)) ≡ (a ++ (b ++ d)) ++ e
-  moved_out a b d e = ap (λ l. a ++ l) (sym (append_assoc b d e)) ∙ sym (append_assoc a (b ++ d) e)
-
   -- what stands behind the point, and a phrase
   bound_taken : (c : Command) (part : BoundPart) (p : Phrase) (next : Part) → Bounds c × IsBoundPart model part → IsPhraseFor model p → bound_with part p ≡ Some (Next.More next) → Took c (Part.Bounded part) p next
   unfolding Took
@@ -421,9 +483,32 @@ module _ (model : Program) where
       )) e
   bound_taken c part p next h k e = absurd (cc)
 
+  -- what stands behind `least`, and a phrase
+  least_taken : (c : Command) (part : LeastPart) (p : Phrase) (next : Part) → Relaxes c × IsLeastPart model part → IsPhraseFor model p → least_with model part p ≡ Some (Next.More next) → Took c (Part.Least part) p next
+  unfolding Took
+  least_taken c LeastPart.Begun (Phrase.Total t) next h k e = subst (Took c (Part.Least LeastPart.Begun) (Phrase.Total t)) (more_is (Part.Least (LeastPart.Total t)) next e) ((h.0, k), refl)
+  least_taken c (LeastPart.Total t) Phrase.Point next h k e = subst (Took c (Part.Least (LeastPart.Total t)) Phrase.Point) (more_is (Part.Least (LeastPart.Point t [])) next e) ((h.0, (h.1, no_values)), refl)
+  least_taken c (LeastPart.Point t values) (Phrase.Value j v) next h k e =
+      list_taken c (Part.Least (LeastPart.Point t values)) (Phrase.Value j v) (λ vs. Part.Least (LeastPart.Point t vs)) (nat_le (length values) j) (filled j values ++ v ∷ []) next
+      (λ b. (let le : length values ≤ j = leb-true (length values) j b in (
+        (h.0, (h.1.0, value_taken values j v h.1.1 k le)),
+        ap (λ l. Phrase.Least ∷ Phrase.Total t ∷ Phrase.Point ∷ l) (value_said values j v le k.1.1),
+      ))) e
+  least_taken c (LeastPart.Point t values) Phrase.Dual next h k e =
+      subst (Took c (Part.Least (LeastPart.Point t values)) Phrase.Dual) (more_is (Part.Least (LeastPart.Dual t (point_of model values) [])) next e)
+      ((h.0, (h.1.0, (point_taken values h.1.1, no_uses))), ap (λ l. Phrase.Least ∷ Phrase.Total t ∷ (l ++ Phrase.Dual ∷ [])) (point_said values))
+  least_taken c (LeastPart.Dual t point shares) (Phrase.Use s) next h k e =
+      list_taken c (Part.Least (LeastPart.Dual t point shares)) (Phrase.Use s) (λ ss. Part.Least (LeastPart.Dual t point ss)) (list_all (λ u. source_before u.source s.source) shares) (shares ++ s ∷ []) next
+      (λ b. (
+        (h.0, (h.1.0, (h.1.1.0, share_taken shares s h.1.1.1 k b))),
+        ap (λ l. Phrase.Least ∷ Phrase.Total t ∷ (point_phrases point ++ Phrase.Dual ∷ l)) (map_push Phrase.Use shares s)
+            ∙ ap (λ l. Phrase.Least ∷ Phrase.Total t ∷ l) (sym (append_assoc (point_phrases point) (Phrase.Dual ∷ map Phrase.Use shares) (Phrase.Use s ∷ []))),
+      )) e
+  least_taken c part p next h k e = absurd (cc)
+
   -- the nodes of a proof, and a phrase
-  no_more : (found : Found) (nodes : List Node) (b : Bool) (next : Part) → only_if b (Next.Whole (answer_of model found nodes)) ≡ Some (Next.More next) → ⊥
-  no_more found nodes b next e = let t = only_told b (Next.Whole (answer_of model found nodes)) (Next.More next) e in let s : Next.Whole (answer_of model found nodes) ≡ Next.More next = t.1 in cc
+  no_more : (found : Found) (nodes : List Node) (b : Bool) (next : Part) → only_if b (Next.Whole (answer_of model found nodes None)) ≡ Some (Next.More next) → ⊥
+  no_more found nodes b next e = let t = only_told b (Next.Whole (answer_of model found nodes None)) (Next.More next) e in let s : Next.Whole (answer_of model found nodes None) ≡ Next.More next = t.1 in cc
 
   nodes_taken : (c : Command) (found : Found) (nodes : List Node) (due : ℕ) (p : Phrase) (next : Part) → IsFound model c found → AreNodes model c nodes due → IsPhraseFor model p
       → proof_with model c found nodes due p ≡ Some (Next.More next) → IsPartFor model c next × (part_phrases next ≡ nodes_phrases found nodes ++ p ∷ [])
@@ -442,7 +527,13 @@ module _ (model : Program) where
       let some : 0 < due = ltb-true 0 due t.0 in
       subst (λ q. IsPartFor model c q × (part_phrases q ≡ nodes_phrases found nodes ++ Phrase.Leaf ∷ [])) (same_more more next t.1)
       ((f, (subst (AreNodes model c nodes) (let e : due ≡ (due - 1) + 1 = omega arith in e) h, no_uses)), refl)
-  nodes_taken c found nodes due Phrase.End next f h named e = absurd (no_more found nodes (due == 0) next e)
+  nodes_taken c found nodes due (Phrase.Rounds n) next f h named e =
+      let more = Part.Counted found nodes n in
+      let t = only_told (counts_rounds c && (due == 0)) (Next.More more) (Next.More next) e in
+      let both = and_parts (counts_rounds c) (due == 0) t.0 in
+      subst (λ q. IsPartFor model c q × (part_phrases q ≡ nodes_phrases found nodes ++ Phrase.Rounds n ∷ [])) (same_more more next t.1)
+      ((f, (subst (AreNodes model c nodes) (eqb-true due 0 both.1) h, (named, both.0))), refl)
+  nodes_taken c found nodes due Phrase.End next f h named e = absurd (no_more found nodes (not (counts_rounds c) && (due == 0)) next e)
   nodes_taken c found nodes due _ next f h named e = absurd (cc)
 
   -- a leaf behind the nodes
@@ -457,6 +548,9 @@ module _ (model : Program) where
   no_more_reply c (Phrase.Refused r) next e = let t = only_told (can_answer c (Answer.Refused r)) (Next.Whole (Answer.Refused r)) (Next.More next) e in let s : Next.Whole (Answer.Refused r) ≡ Next.More next = t.1 in cc
   no_more_reply c _ next e = cc
 
+  no_more_column : (c : Command) (j : ℕ) (next : Part) → not_linear_said c j ≡ Some (Next.More next) → ⊥
+  no_more_column c j next e = let t = only_told (can_answer c (Answer.NotLinear j)) (Next.Whole (Answer.NotLinear j)) (Next.More next) e in let s : Next.Whole (Answer.NotLinear j) ≡ Next.More next = t.1 in cc
+
   more_taken : (c : Command) (part : Part) (p : Phrase) (next : Part) → IsPartFor model c part → IsPhraseFor model p → extended model c part p ≡ Some (Next.More next) → Took c part p next
   unfolding Took
   more_taken Check Part.Nothing Phrase.Feasible next h k e = subst (Took Check Part.Nothing Phrase.Feasible) (more_is (Part.Claimed Claim.Feasible) next e) (tt, refl)
@@ -466,21 +560,26 @@ module _ (model : Program) where
   more_taken Check Part.Nothing (Phrase.Stop s) next h k e = begun_taken Check s next tt k e
   more_taken (Iis method) Part.Nothing (Phrase.Stop s) next h k e = begun_taken (Iis method) s next tt k e
   more_taken Unbounded Part.Nothing (Phrase.Stop s) next h k e = begun_taken Unbounded s next tt k e
+  more_taken Relax Part.Nothing (Phrase.Stop s) next h k e = begun_taken Relax s next tt k e
+  more_taken Relax Part.Nothing Phrase.Least next h k e = subst (Took Relax Part.Nothing Phrase.Least) (more_is (Part.Least LeastPart.Begun) next e) ((tt, tt), refl)
+  more_taken Relax Part.Nothing Phrase.RigidInfeasible next h k e = subst (Took Relax Part.Nothing Phrase.RigidInfeasible) (more_is (Part.Listed (Found.Rigid [])) next e) (no_members model, refl)
+  more_taken Relax Part.Nothing (Phrase.NotLinear j) next h k e = absurd (no_more_column Relax j next e)
+  more_taken (Iis method) Part.Nothing (Phrase.NotLinear j) next h k e = absurd (no_more_column (Iis method) j next e)
   more_taken (Edit edit) Part.Nothing p next h k e = absurd (no_more_reply (Edit edit) p next e)
   more_taken Undo Part.Nothing p next h k e = absurd (no_more_reply Undo p next e)
   more_taken (Pivots n) Part.Nothing p next h k e = absurd (no_more_reply (Pivots n) p next e)
   more_taken (Nodes n) Part.Nothing p next h k e = absurd (no_more_reply (Nodes n) p next e)
   more_taken c (Part.Stop part) p next h k e = stop_taken c part p next h k e
-  more_taken Check Part.Nothing Phrase.Infeasible next h k e = subst (Took Check Part.Nothing Phrase.Infeasible) (more_is (Part.Listed (Found.Members [])) next e) (no_members, refl)
-  more_taken Unbounded Part.Nothing Phrase.Infeasible next h k e = subst (Took Unbounded Part.Nothing Phrase.Infeasible) (more_is (Part.Listed (Found.Members [])) next e) (no_members, refl)
-  more_taken Reduce Part.Nothing Phrase.Infeasible next h k e = subst (Took Reduce Part.Nothing Phrase.Infeasible) (more_is (Part.Listed (Found.Members [])) next e) (no_members, refl)
+  more_taken Check Part.Nothing Phrase.Infeasible next h k e = subst (Took Check Part.Nothing Phrase.Infeasible) (more_is (Part.Listed (Found.Members [])) next e) (no_members model, refl)
+  more_taken Unbounded Part.Nothing Phrase.Infeasible next h k e = subst (Took Unbounded Part.Nothing Phrase.Infeasible) (more_is (Part.Listed (Found.Members [])) next e) (no_members model, refl)
+  more_taken Reduce Part.Nothing Phrase.Infeasible next h k e = subst (Took Reduce Part.Nothing Phrase.Infeasible) (more_is (Part.Listed (Found.Members [])) next e) (no_members model, refl)
   more_taken Reduce Part.Nothing Phrase.Reduced next h k e = subst (Took Reduce Part.Nothing Phrase.Reduced) (more_is (Part.Reduced []) next e) ((tt, All-nil (IsStepFor model)), refl)
   more_taken c (Part.Reduced steps) (Phrase.Reduction s) next h k e =
       subst (Took c (Part.Reduced steps) (Phrase.Reduction s)) (more_is (Part.Reduced (steps ++ s ∷ [])) next e) ((h.0, All-push (IsStepFor model) steps s h.1 k), ap (λ l. Phrase.Reduced ∷ l) (map_push Phrase.Reduction steps s))
   more_taken c (Part.Reduced steps) (Phrase.Left rows columns) next h k e =
       subst (Took c (Part.Reduced steps) (Phrase.Left rows columns)) (more_is (Part.Left steps rows columns) next e) ((h.0, (h.1, k)), refl)
   more_taken c (Part.Left steps rows columns) Phrase.End next h k e = absurd (cc)
-  more_taken (Iis method) Part.Nothing Phrase.Irreducible next h k e = subst (Took (Iis method) Part.Nothing Phrase.Irreducible) (more_is (Part.Listed (Found.Witnessed [] [])) next e) ((no_members, no_witnesses), refl)
+  more_taken (Iis method) Part.Nothing Phrase.Irreducible next h k e = subst (Took (Iis method) Part.Nothing Phrase.Irreducible) (more_is (Part.Listed (Found.Witnessed [] [])) next e) ((no_members model, no_witnesses), refl)
   more_taken c (Part.Claimed claim) Phrase.Point next h k e = subst (Took c (Part.Claimed claim) Phrase.Point) (more_is (Part.Point claim []) next e) ((h, no_values), refl)
   more_taken c (Part.Point claim values) (Phrase.Value j v) next h k e =
       list_taken c (Part.Point claim values) (Phrase.Value j v) (λ vs. Part.Point claim vs) (nat_le (length values) j) (filled j values ++ v ∷ []) next
@@ -494,10 +593,15 @@ module _ (model : Program) where
             ∙ ap (λ l. Phrase.Unbounded ∷ l) (sym (append_assoc (point_phrases point) (Phrase.Ray ∷ value_phrases 0 values) (Phrase.Value j v ∷ []))),
       ))) e
   more_taken c (Part.Bounded part) p next h k e = bound_taken c part p next h k e
+  more_taken c (Part.Least part) p next h k e = least_taken c part p next h k e
   more_taken c (Part.Listed (Found.Members members)) (Phrase.Member m) next h k e =
       list_taken c (Part.Listed (Found.Members members)) (Phrase.Member m) (λ ms. Part.Listed (Found.Members ms)) (list_all (λ n. comes_before n m) members) (members ++ m ∷ []) next
       (λ t. (members_found c members (members ++ m ∷ []) h (member_taken members m (members_told c members h) k t), ap (λ l. Phrase.Infeasible ∷ l) (map_push Phrase.Member members m))) e
   more_taken c (Part.Listed (Found.Members members)) Phrase.Proof next h k e = subst (Took c (Part.Listed (Found.Members members)) Phrase.Proof) (more_is (Part.Proof (Found.Members members) [] 1) next e) ((h, whole_due model c), refl)
+  more_taken c (Part.Listed (Found.Rigid members)) (Phrase.Member m) next h k e =
+      list_taken c (Part.Listed (Found.Rigid members)) (Phrase.Member m) (λ ms. Part.Listed (Found.Rigid ms)) (list_all (λ n. comes_before n m) members) (members ++ m ∷ []) next
+      (λ t. (rigid_found c members (members ++ m ∷ []) h (member_taken members m (rigid_told c members h) k t), ap (λ l. Phrase.RigidInfeasible ∷ l) (map_push Phrase.Member members m))) e
+  more_taken c (Part.Listed (Found.Rigid members)) Phrase.Proof next h k e = subst (Took c (Part.Listed (Found.Rigid members)) Phrase.Proof) (more_is (Part.Proof (Found.Rigid members) [] 1) next e) ((h, whole_due model c), refl)
   more_taken c (Part.Listed (Found.Witnessed members witnesses)) p next h k e = witnessed_taken c members witnesses p next h k e
   more_taken c (Part.Member members witnesses m) Phrase.Point next h k e =
       subst (Took c (Part.Member members witnesses m) Phrase.Point) (more_is (Part.Witness members witnesses m []) next e)
@@ -523,6 +627,7 @@ module _ (model : Program) where
   more_taken c (Part.Leaf found nodes due shares) p next h k e =
       let t = nodes_taken c found (nodes ++ leaf_of shares ∷ []) due p next h.0 (leaf_due model c nodes due shares h.1.0 h.1.1) k e in
       (t.0, t.1 ∙ ap (λ l. l ++ p ∷ []) (leaf_said found nodes shares))
+  more_taken c (Part.Counted found nodes n) Phrase.End next h k e = absurd (cc)
   more_taken c part p next h k e = absurd (cc)
 
   -- ---- answers
@@ -539,14 +644,37 @@ module _ (model : Program) where
   listed_taken : (members : List Member) → AreMembers model members → IsListed model (set_of model members)
   listed_taken members h = record { of_model = record { rows = refl; columns = refl }; named = h.named; in_order = h.in_order }
 
-  proof_ends : (c : Command) (found : Found) (nodes : List Node) → IsFound model c found → AreNodes model c nodes 0
-      → (can_answer c (answer_of model found nodes) ≡ true) × (IsAnswerFor model (answer_of model found nodes) × ((answer_front model (answer_of model found nodes) ≡ nodes_phrases found nodes) × (answer_end (answer_of model found nodes) ≡ Phrase.End)))
-  proof_ends Check (Found.Members members) nodes h k = (refl, ((listed_taken members h, none_due model Check nodes k), (refl, refl)))
-  proof_ends Unbounded (Found.Members members) nodes h k = (refl, ((listed_taken members h, none_due model Unbounded nodes k), (refl, refl)))
-  proof_ends Reduce (Found.Members members) nodes h k = (one_leaf_due model nodes k, ((listed_taken members h, none_due model Reduce nodes k), (refl, refl)))
-  proof_ends (Iis method) (Found.Witnessed members witnesses) nodes h k =
-      (refl, (record { members = listed_taken members h.0; each = h.1.each; points = h.1.points; proof = none_due model (Iis method) nodes k; rounds = refl; price = refl }, (refl, refl)))
-  proof_ends c found nodes h k = absurd h
+  -- an answer without rounds
+  abbrev Proved : Command → Found → List Node → Type 0
+  Proved c found nodes =
+      let a : Answer = answer_of model found nodes None in
+      (can_answer c a ≡ true) × (IsAnswerFor model a × ((answer_front model a ≡ nodes_phrases found nodes) × (answer_end a ≡ Phrase.End)))
+
+  proof_ends : (c : Command) (found : Found) (nodes : List Node) → not (counts_rounds c) ≡ true → IsFound model c found → AreNodes model c nodes 0 → Proved c found nodes
+  proof_ends Check (Found.Members members) nodes none h k = (refl, ((listed_taken members h, none_due model Check nodes k), (refl, refl)))
+  proof_ends Unbounded (Found.Members members) nodes none h k = (refl, ((listed_taken members h, none_due model Unbounded nodes k), (refl, refl)))
+  proof_ends Reduce (Found.Members members) nodes none h k = (one_leaf_due model Reduce nodes refl k, ((listed_taken members h, none_due model Reduce nodes k), (refl, refl)))
+  proof_ends Relax (Found.Rigid members) nodes none h k = (one_leaf_due model Relax nodes refl k, ((listed_taken members h, none_due model Relax nodes k), (refl, refl)))
+  proof_ends (Iis method) (Found.Witnessed members witnesses) nodes none h k = (
+    no_rounds_told method ∙ none,
+    (
+      record { members = listed_taken members h.0; each = h.1.each; points = h.1.points; proof = none_due model (Iis method) nodes k; rounds = tt; price = refl },
+      (ap (λ l. Phrase.Irreducible ∷ (flat_map witness_phrases (zip members witnesses) ++ l)) (append-nil (proof_phrases (record { nodes = nodes }))), refl),
+    ),
+  )
+  proof_ends c found nodes none h k = absurd h
+
+  -- an irreducible set with its rounds
+  counted_ends : (c : Command) (found : Found) (nodes : List Node) (n : ℕ) → IsPartFor model c (Part.Counted found nodes n) → Ends c (Part.Counted found nodes n) Phrase.End (answer_of model found nodes (Some n))
+  counted_ends (Iis method) (Found.Witnessed members witnesses) nodes n h = record {
+    ended = refl;
+    kind = rounds_told method n ∙ h.1.1.1;
+    form = record { members = listed_taken members h.0.0; each = h.0.1.each; points = h.0.1.points; proof = none_due model (Iis method) nodes h.1.0; rounds = h.1.1.0; price = refl };
+    said = sym (append_assoc (Phrase.Irreducible ∷ flat_map witness_phrases (zip members witnesses)) (proof_phrases (record { nodes = nodes })) (Phrase.Rounds n ∷ []));
+  }
+  counted_ends (Iis method) (Found.Members members) nodes n h = absurd h.0
+  counted_ends (Iis method) (Found.Rigid members) nodes n h = absurd h.0
+  counted_ends c found nodes n h = absurd (true≢false (sym h.1.1.1))
 
   -- a point alone answers what seeks one
   can_seek : (c : Command) (p : Point) → Seeks c → can_answer c (Answer.Feasible p) ≡ true
@@ -590,6 +718,31 @@ module _ (model : Program) where
   bound_ends c (BoundPart.Bound point v b) Phrase.Dual a h e = absurd (cc)
   bound_ends c part p a h e = absurd (cc)
 
+  -- a total with its point answers how little must give way
+  can_relax : (c : Command) (p : Point) (dual : Dual) → Relaxes c → can_answer c (Answer.Least p dual) ≡ true
+  can_relax Relax p dual h = refl
+  can_relax c p dual h = absurd h
+
+  least_ends : (c : Command) (part : LeastPart) (p : Phrase) (a : Answer) → Relaxes c × IsLeastPart model part → least_with model part p ≡ Some (Next.Whole a) → Ends c (Part.Least part) p a
+  least_ends c (LeastPart.Dual t point shares) Phrase.End a h e =
+      let dual : Dual = record { combo = record { shares = shares }; bound = t } in
+      subst (Ends c (Part.Least (LeastPart.Dual t point shares)) Phrase.End) (whole_is (Answer.Least point dual) a e)
+      (record { ended = refl; kind = can_relax c point dual h.0; form = record { point = h.1.1.0; total = h.1.0; uses = h.1.1.1 }; said = refl })
+  least_ends c (LeastPart.Dual t point shares) (Phrase.Use s) a h e =
+      absurd (let told = mapped_told (λ ss. Next.More (Part.Least (LeastPart.Dual t point ss))) (list_all (λ u. source_before u.source s.source) shares) (shares ++ s ∷ []) (Next.Whole a) e in let n : Next.More (Part.Least (LeastPart.Dual t point (shares ++ s ∷ []))) ≡ Next.Whole a = told.1 in cc)
+  least_ends c (LeastPart.Point t values) (Phrase.Value j v) a h e =
+      absurd (let told = mapped_told (λ vs. Next.More (Part.Least (LeastPart.Point t vs))) (nat_le (length values) j) (filled j values ++ v ∷ []) (Next.Whole a) e in let n : Next.More (Part.Least (LeastPart.Point t (filled j values ++ v ∷ []))) ≡ Next.Whole a = told.1 in cc)
+  least_ends c (LeastPart.Point t values) Phrase.Dual a h e = absurd (cc)
+  least_ends c (LeastPart.Total t) Phrase.Point a h e = absurd (cc)
+  least_ends c LeastPart.Begun (Phrase.Total t) a h e = absurd (cc)
+  least_ends c part p a h e = absurd (cc)
+
+  -- a column that is to be whole
+  column_ends : (c : Command) (j : ℕ) (a : Answer) → IsNamedColumn model j → not_linear_said c j ≡ Some (Next.Whole a) → Ends c Part.Nothing (Phrase.NotLinear j) a
+  column_ends c j a named e =
+      let t = only_told (can_answer c (Answer.NotLinear j)) (Next.Whole (Answer.NotLinear j)) (Next.Whole a) e in
+      subst (Ends c Part.Nothing (Phrase.NotLinear j)) (whole_is (Answer.NotLinear j) a (ap Some t.1)) (record { ended = refl; kind = t.0; form = named; said = refl })
+
   begun_ends : (s : StopPhrase) (a : Answer) → stop_begun s ≡ Some (Next.Whole a) → ⊥
   begun_ends StopPhrase.Wide a e = cc
   begun_ends StopPhrase.Spent a e = cc
@@ -605,6 +758,7 @@ module _ (model : Program) where
   can_stop Check stop h = refl
   can_stop (Iis method) stop h = refl
   can_stop Unbounded stop h = refl
+  can_stop Relax stop h = refl
   can_stop Reduce stop h = absurd h
   can_stop (Edit edit) stop h = absurd h
   can_stop Undo stop h = absurd h
@@ -653,7 +807,9 @@ module _ (model : Program) where
       subst (Ends c (Part.Stop (StopPart.Site StopCause.Nodes site)) Phrase.End) (whole_is (Answer.Stopped stop) a e)
       (record { ended = refl; kind = can_stop c stop h.0; form = site_in_form model site h.1; said = site_said StopCause.Nodes site h.1 })
   stop_ends c (StopPart.Site cause site) (Phrase.Stop (StopPhrase.Without m)) a h e =
-      absurd (not_whole (λ members. Next.More (Part.Stop (StopPart.Site cause (record site { left = members })))) (((length site.path == 0) && is_active model m) && list_all (λ n. comes_before n m) site.left) (site.left ++ m ∷ []) a (λ y s. cc) e)
+      absurd (not_whole (λ members. Next.More (Part.Stop (StopPart.Site cause (record site { left = members })))) ((((length site.enforced == 0) && (length site.path == 0)) && is_active model m) && list_all (λ n. comes_before n m) site.left) (site.left ++ m ∷ []) a (λ y s. cc) e)
+  stop_ends c (StopPart.Site cause site) (Phrase.Stop (StopPhrase.Enforced m)) a h e =
+      absurd (not_whole (λ members. Next.More (Part.Stop (StopPart.Site cause (record site { enforced = members })))) (((length site.path == 0) && is_within model site.left m) && list_all (λ n. comes_before n m) site.enforced) (site.enforced ++ m ∷ []) a (λ y s. cc) e)
   stop_ends c (StopPart.Site cause site) (Phrase.Stop (StopPhrase.Branch b)) a h e = absurd (cc)
   stop_ends c (StopPart.Site StopCause.Wide site) (Phrase.Stop (StopPhrase.Step n)) a h e = absurd (cc)
   stop_ends c (StopPart.Begun cause) (Phrase.Stop (StopPhrase.Site kind)) a h e =
@@ -671,10 +827,13 @@ module _ (model : Program) where
   nodes_end : (c : Command) (found : Found) (nodes : List Node) (due : ℕ) (part : Part) (p : Phrase) (a : Answer) → part_phrases part ≡ nodes_phrases found nodes → IsFound model c found → AreNodes model c nodes due
       → proof_with model c found nodes due p ≡ Some (Next.Whole a) → Ends c part p a
   nodes_end c found nodes due part Phrase.End a same h k e =
-      let t = only_told (due == 0) (Next.Whole (answer_of model found nodes)) (Next.Whole a) e in
-      let none : due ≡ 0 = eqb-true due 0 t.0 in
-      let r = proof_ends c found nodes h (subst (AreNodes model c nodes) none k) in
-      subst (Ends c part Phrase.End) (whole_is (answer_of model found nodes) a (ap Some t.1)) (record { ended = sym r.1.1.1; kind = r.0; form = r.1.0; said = r.1.1.0 ∙ sym same })
+      let t = only_told (not (counts_rounds c) && (due == 0)) (Next.Whole (answer_of model found nodes None)) (Next.Whole a) e in
+      let both = and_parts (not (counts_rounds c)) (due == 0) t.0 in
+      let none : due ≡ 0 = eqb-true due 0 both.1 in
+      let r = proof_ends c found nodes both.0 h (subst (AreNodes model c nodes) none k) in
+      subst (Ends c part Phrase.End) (whole_is (answer_of model found nodes None) a (ap Some t.1)) (record { ended = sym r.1.1.1; kind = r.0; form = r.1.0; said = r.1.1.0 ∙ sym same })
+  nodes_end c found nodes due part (Phrase.Rounds n) a same h k e =
+      absurd (let t = only_told (counts_rounds c && (due == 0)) (Next.More (Part.Counted found nodes n)) (Next.Whole a) e in let s : Next.More (Part.Counted found nodes n) ≡ Next.Whole a = t.1 in cc)
   nodes_end c found nodes due part (Phrase.Split j n) a same h k e =
       absurd (let t = only_told (may_split c && nat_lt 0 due) (Next.More (Part.Proof found (nodes ++ Split j n ∷ []) (due + 1))) (Next.Whole a) e in let s : Next.More (Part.Proof found (nodes ++ Split j n ∷ []) (due + 1)) ≡ Next.Whole a = t.1 in cc)
   nodes_end c found nodes due part Phrase.Leaf a same h k e =
@@ -691,43 +850,51 @@ module _ (model : Program) where
       subst (Ends c Part.Nothing (Phrase.Refused r)) (whole_is (Answer.Refused r) a (ap Some t.1)) (record { ended = refl; kind = t.0; form = tt; said = refl })
   reply_ends c _ a e = absurd (cc)
 
-  whole_taken : (c : Command) (part : Part) (p : Phrase) (a : Answer) → IsPartFor model c part → extended model c part p ≡ Some (Next.Whole a) → Ends c part p a
-  whole_taken c (Part.Point claim values) (Phrase.Value j v) a h e = absurd (not_whole (λ vs. Next.More (Part.Point claim vs)) (nat_le (length values) j) (filled j values ++ v ∷ []) a (λ y s. cc) e)
-  whole_taken c (Part.Point claim values) p a h e = claim_ends c claim values p a h e
-  whole_taken c (Part.Ray point values) Phrase.End a h e = subst (Ends c (Part.Ray point values) Phrase.End) (whole_is (Answer.Unbounded point (ray_of model values)) a e) (ray_ends c point values h)
-  whole_taken c (Part.Ray point values) (Phrase.Value j v) a h e = absurd (not_whole (λ vs. Next.More (Part.Ray point vs)) (nat_le (length values) j) (filled j values ++ v ∷ []) a (λ y s. cc) e)
-  whole_taken c (Part.Bounded part) p a h e = bound_ends c part p a h e
-  whole_taken c (Part.Proof found nodes due) p a h e = nodes_end c found nodes due (Part.Proof found nodes due) p a refl h.0 h.1 e
-  whole_taken c (Part.Leaf found nodes due shares) (Phrase.Use s) a h e =
+  whole_taken : (c : Command) (part : Part) (p : Phrase) (a : Answer) → IsPartFor model c part → IsPhraseFor model p → extended model c part p ≡ Some (Next.Whole a) → Ends c part p a
+  whole_taken c (Part.Point claim values) (Phrase.Value j v) a h k e = absurd (not_whole (λ vs. Next.More (Part.Point claim vs)) (nat_le (length values) j) (filled j values ++ v ∷ []) a (λ y s. cc) e)
+  whole_taken c (Part.Point claim values) p a h k e = claim_ends c claim values p a h e
+  whole_taken c (Part.Ray point values) Phrase.End a h k e = subst (Ends c (Part.Ray point values) Phrase.End) (whole_is (Answer.Unbounded point (ray_of model values)) a e) (ray_ends c point values h)
+  whole_taken c (Part.Ray point values) (Phrase.Value j v) a h k e = absurd (not_whole (λ vs. Next.More (Part.Ray point vs)) (nat_le (length values) j) (filled j values ++ v ∷ []) a (λ y s. cc) e)
+  whole_taken c (Part.Bounded part) p a h k e = bound_ends c part p a h e
+  whole_taken c (Part.Least part) p a h k e = least_ends c part p a h e
+  whole_taken c (Part.Counted found nodes n) Phrase.End a h k e = subst (Ends c (Part.Counted found nodes n) Phrase.End) (whole_is (answer_of model found nodes (Some n)) a e) (counted_ends c found nodes n h)
+  whole_taken c (Part.Proof found nodes due) p a h k e = nodes_end c found nodes due (Part.Proof found nodes due) p a refl h.0 h.1 e
+  whole_taken c (Part.Leaf found nodes due shares) (Phrase.Use s) a h k e =
       absurd (not_whole (λ ss. Next.More (Part.Leaf found nodes due ss)) (list_all (λ u. source_before u.source s.source) shares) (shares ++ s ∷ []) a (λ y s. cc) e)
-  whole_taken c (Part.Leaf found nodes due shares) p a h e =
+  whole_taken c (Part.Leaf found nodes due shares) p a h k e =
       nodes_end c found (nodes ++ leaf_of shares ∷ []) due (Part.Leaf found nodes due shares) p a (sym (leaf_said found nodes shares)) h.0 (leaf_due model c nodes due shares h.1.0 h.1.1) e
-  whole_taken c (Part.Listed (Found.Members members)) (Phrase.Member m) a h e =
+  whole_taken c (Part.Listed (Found.Members members)) (Phrase.Member m) a h k e =
       absurd (not_whole (λ ms. Next.More (Part.Listed (Found.Members ms))) (list_all (λ n. comes_before n m) members) (members ++ m ∷ []) a (λ y s. cc) e)
-  whole_taken c (Part.Listed (Found.Witnessed members witnesses)) p a h e = absurd (no_answer members witnesses p a e)
-  whole_taken c (Part.Witness members witnesses m values) (Phrase.Value j v) a h e =
+  whole_taken c (Part.Listed (Found.Rigid members)) (Phrase.Member m) a h k e =
+      absurd (not_whole (λ ms. Next.More (Part.Listed (Found.Rigid ms))) (list_all (λ n. comes_before n m) members) (members ++ m ∷ []) a (λ y s. cc) e)
+  whole_taken c (Part.Listed (Found.Witnessed members witnesses)) p a h k e = absurd (no_answer members witnesses p a e)
+  whole_taken c (Part.Witness members witnesses m values) (Phrase.Value j v) a h k e =
       absurd (not_whole (λ vs. Next.More (Part.Witness members witnesses m vs)) (nat_le (length values) j) (filled j values ++ v ∷ []) a (λ y s. cc) e)
-  whole_taken c (Part.Witness members witnesses m values) p a h e = absurd (no_answer (members ++ m ∷ []) (witnesses ++ point_of model values ∷ []) p a e)
-  whole_taken c (Part.Left steps rows columns) Phrase.End a h e =
+  whole_taken c (Part.Witness members witnesses m values) p a h k e = absurd (no_answer (members ++ m ∷ []) (witnesses ++ point_of model values ∷ []) p a e)
+  whole_taken c (Part.Left steps rows columns) Phrase.End a h k e =
       subst (Ends c (Part.Left steps rows columns) Phrase.End) (whole_is (Answer.Reduced (record { steps = steps; rows = rows; columns = columns })) a e) (left_ends c steps rows columns h)
-  whole_taken c (Part.Reduced steps) (Phrase.Reduction s) a h e = absurd (cc)
-  whole_taken c (Part.Reduced steps) (Phrase.Left rows columns) a h e = absurd (cc)
-  whole_taken c (Part.Stop part) p a h e = stop_ends c part p a h e
-  whole_taken (Edit edit) Part.Nothing p a h e = reply_ends (Edit edit) p a e
-  whole_taken Undo Part.Nothing p a h e = reply_ends Undo p a e
-  whole_taken (Pivots n) Part.Nothing p a h e = reply_ends (Pivots n) p a e
-  whole_taken (Nodes n) Part.Nothing p a h e = reply_ends (Nodes n) p a e
-  whole_taken Check Part.Nothing (Phrase.Stop s) a h e = absurd (begun_ends s a e)
-  whole_taken (Iis method) Part.Nothing (Phrase.Stop s) a h e = absurd (begun_ends s a e)
-  whole_taken Unbounded Part.Nothing (Phrase.Stop s) a h e = absurd (begun_ends s a e)
-  whole_taken Check Part.Nothing Phrase.Feasible a h e = absurd (cc)
-  whole_taken (Iis method) Part.Nothing Phrase.Feasible a h e = absurd (cc)
-  whole_taken Reduce Part.Nothing Phrase.Reduced a h e = absurd (cc)
-  whole_taken Unbounded Part.Nothing Phrase.Unbounded a h e = absurd (cc)
-  whole_taken Unbounded Part.Nothing Phrase.Bounded a h e = absurd (cc)
-  whole_taken c (Part.Claimed claim) Phrase.Point a h e = absurd (cc)
-  whole_taken c (Part.Member members witnesses m) Phrase.Point a h e = absurd (cc)
-  whole_taken c part p a h e = absurd (cc)
+  whole_taken c (Part.Reduced steps) (Phrase.Reduction s) a h k e = absurd (cc)
+  whole_taken c (Part.Reduced steps) (Phrase.Left rows columns) a h k e = absurd (cc)
+  whole_taken c (Part.Stop part) p a h k e = stop_ends c part p a h e
+  whole_taken (Edit edit) Part.Nothing p a h k e = reply_ends (Edit edit) p a e
+  whole_taken Undo Part.Nothing p a h k e = reply_ends Undo p a e
+  whole_taken (Pivots n) Part.Nothing p a h k e = reply_ends (Pivots n) p a e
+  whole_taken (Nodes n) Part.Nothing p a h k e = reply_ends (Nodes n) p a e
+  whole_taken Check Part.Nothing (Phrase.Stop s) a h k e = absurd (begun_ends s a e)
+  whole_taken (Iis method) Part.Nothing (Phrase.Stop s) a h k e = absurd (begun_ends s a e)
+  whole_taken Unbounded Part.Nothing (Phrase.Stop s) a h k e = absurd (begun_ends s a e)
+  whole_taken Relax Part.Nothing (Phrase.Stop s) a h k e = absurd (begun_ends s a e)
+  whole_taken Relax Part.Nothing (Phrase.NotLinear j) a h k e = column_ends Relax j a k e
+  whole_taken (Iis method) Part.Nothing (Phrase.NotLinear j) a h k e = column_ends (Iis method) j a k e
+  whole_taken Relax Part.Nothing Phrase.Least a h k e = absurd (cc)
+  whole_taken Check Part.Nothing Phrase.Feasible a h k e = absurd (cc)
+  whole_taken (Iis method) Part.Nothing Phrase.Feasible a h k e = absurd (cc)
+  whole_taken Reduce Part.Nothing Phrase.Reduced a h k e = absurd (cc)
+  whole_taken Unbounded Part.Nothing Phrase.Unbounded a h k e = absurd (cc)
+  whole_taken Unbounded Part.Nothing Phrase.Bounded a h k e = absurd (cc)
+  whole_taken c (Part.Claimed claim) Phrase.Point a h k e = absurd (cc)
+  whole_taken c (Part.Member members witnesses m) Phrase.Point a h k e = absurd (cc)
+  whole_taken c part p a h k e = absurd (cc)
 
 -- ---- drafts
 module _ (model : Program) where
@@ -779,7 +946,7 @@ module _ (model : Program) where
         ap (λ l. body_phrases model notes entries ++ Phrase.Command question.command ∷ l) t.1 ∙ sym (append_assoc (body_phrases model notes entries) (Phrase.Command question.command ∷ part_phrases part) (p ∷ [])),
       )
   answering_taken notes entries question part p (Next.Whole answer) h k e =
-      let t = whole_taken (after model (entry_commands entries)) question.command part p answer h.stage.1.1 e in
+      let t = whole_taken (after model (entry_commands entries)) question.command part p answer h.stage.1.1 k e in
       let entry : Entry = record { command = question.command; answer = answer; line = question.line } in (
         record {
           notes = h.notes;

@@ -2,6 +2,7 @@ pub mod DueTrees
 pub mod Endings
 pub mod OneEnding
 pub mod Examples
+pub mod Rounds
 pub mod Said
 pub mod Runs
 pub mod Fronts

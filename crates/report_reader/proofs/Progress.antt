@@ -1,8 +1,9 @@
 -- What the lines so far have led to, and what one line more, or the end, makes of it.
-use Rattle.std.proofs.Common.{◌≡◌, ◌≢◌, ◌<◌, ◌≤◌, refl, sym, ap, subst, ◌∙◌, ℕ, zero, suc, ◌+◌, List, [], ◌∷◌, ◌++◌, length, append_assoc, append-nil, Option, Some, None, arith, inl, inr}
+use Rattle.std.proofs.Common.{◌≡◌, ◌≢◌, ◌<◌, ◌≤◌, refl, sym, ap, subst, ◌∙◌, ℕ, zero, suc, ◌+◌, ◌==◌, Bool, true, false, not, ◌&&◌, List, [], ◌∷◌, ◌++◌, length, append_assoc, append-nil, Option, Some, None, arith, inl, inr}
 use Rattle.std.specs.Prelude.{map, All, option_and_then, option_map, Result, Ok, Err}
 use Rattle.std.proofs.lemmas.List.{length-append, length-map, map-append, append_cancel_left, append_cancel_right}
 use Rattle.std.proofs.lemmas.List.Elements.{All-nil, All-cons, All-head, All-tail}
+use Rattle.std.proofs.lemmas.Bool.{and_from}
 use Rattle.phrase_reader.specs.Parts.{parts}
 use Rattle.lp_model.specs.Program.{Program}
 use Rattle.lp_model.specs.declared.parts.Note.{Note}
@@ -17,7 +18,7 @@ use Rattle.frac128.specs.declared.Wide.{Wide as Operation}
 use Rattle.algebra.specs.Gcd.{gcd, gcd_within}
 use Rattle.rational.specs.Rational.{ℚ, frac, zero_ℚ}
 use Rattle.report_text.specs.declared.report.Command.{Command}
-use Rattle.report_text.specs.declared.report.Command.TheVariants.{Check, Iis, Unbounded, Reduce, Edit, Undo, Pivots, Nodes}
+use Rattle.report_text.specs.declared.report.Command.TheVariants.{Check, Iis, Unbounded, Relax, Reduce, Edit, Undo, Pivots, Nodes}
 use Rattle.reductions.specs.declared.steps.ReduceStep.{ReduceStep}
 use Rattle.report_text.specs.declared.report.Answer.{Answer}
 use Rattle.report_text.specs.declared.report.Entry.{Entry}
@@ -31,6 +32,7 @@ use Rattle.report_reader.specs.declared.drafts.SitePart.{SitePart}
 use Rattle.report_reader.specs.declared.drafts.StopPart.{StopPart}
 use Rattle.report_reader.specs.declared.drafts.Claim.{Claim}
 use Rattle.report_reader.specs.declared.drafts.BoundPart.{BoundPart}
+use Rattle.report_reader.specs.declared.drafts.LeastPart.{LeastPart}
 use Rattle.report_reader.specs.declared.drafts.Part.{Part}
 use Rattle.report_reader.specs.declared.drafts.Next.{Next}
 use Rattle.report_reader.specs.declared.drafts.Stage.{Stage}
@@ -40,11 +42,11 @@ use Rattle.report_text.specs.Grammar.{Line, text_of, report_lines, phrase_line, 
 use Rattle.report_text.specs.Form.{IsReportFor, IsOperation}
 use Rattle.report_reader.specs.Reading.{Reads, IsFront, IsWhole, IsBadLine, IsTruncated, IsReportStop}
 use Rattle.phrase_reader.specs.Phrases.{IsPhraseFor, Says}
-use Rattle.report_reader.specs.Drafts.{point_of, ray_of, leaf_of, answer_of, site_of, run_of, extended, placed, program_now, advanced, nothing_read, Takes, IsLineStop, ended, IsDraftFor}
+use Rattle.report_reader.specs.Drafts.{point_of, ray_of, leaf_of, answer_of, site_of, run_of, counts_rounds, proof_with, extended, placed, program_now, advanced, nothing_read, Takes, IsLineStop, ended, IsDraftFor}
 use Rattle.report_reader.proofs.Said.{report_for, parts_of_read}
 use Rattle.report_reader.proofs.Alike.{same_line, says_after}
 use Rattle.phrase_reader.proofs.Spelling.{some_parts, text_of_parts}
-use Rattle.report_reader.proofs.Runs.{run, run_append, run_step, leaf_opens, done, report_read}
+use Rattle.report_reader.proofs.Runs.{run, run_append, run_step, only_true, leaf_opens, done, report_read}
 use Rattle.report_reader.proofs.Fronts.{draft_phrases, taken}
 use Rattle.report_reader.specs.declared.reader.ReportStop.{ReportStop}
 use Rattle.report_reader.specs.declared.reader.ReportStop.TheVariants.{BadLine, Truncated, Memory}
@@ -139,15 +141,47 @@ module _ (model : Program) where
     front_point Claim.Bounded values =
         more_back (Part.Point Claim.Bounded values) (Part.Bounded (BoundPart.Bound (point_of now values) None zero_ℚ)) (Phrase.Bound zero_ℚ) zeros_fit.left refl (front_bound (point_of now values) None zero_ℚ)
 
+    front_least_dual : (t : ℚ) (point : Point) (shares : List Share) → Within (Part.Least (LeastPart.Dual t point shares))
+    front_least_dual t point shares = end_back (Part.Least (LeastPart.Dual t point shares)) (Answer.Least point (record { combo = record { shares = shares }; bound = t })) refl
+
+    front_least_point : (t : ℚ) (values : List ℚ) → Within (Part.Least (LeastPart.Point t values))
+    front_least_point t values = more_back (Part.Least (LeastPart.Point t values)) (Part.Least (LeastPart.Dual t (point_of now values) [])) Phrase.Dual tt refl (front_least_dual t (point_of now values) [])
+
+    front_total : (t : ℚ) → Within (Part.Least (LeastPart.Total t))
+    front_total t = more_back (Part.Least (LeastPart.Total t)) (Part.Least (LeastPart.Point t [])) Phrase.Point tt refl (front_least_point t [])
+
+    -- a total that fits may stand
+    front_least : (part : LeastPart) → Within (Part.Least part)
+    front_least LeastPart.Begun = more_back (Part.Least LeastPart.Begun) (Part.Least (LeastPart.Total zero_ℚ)) (Phrase.Total zero_ℚ) zeros_fit.left refl (front_total zero_ℚ)
+    front_least (LeastPart.Total t) = front_total t
+    front_least (LeastPart.Point t values) = front_least_point t values
+    front_least (LeastPart.Dual t point shares) = front_least_dual t point shares
+
+    front_counted : (found : Found) (nodes : List Node) (n : ℕ) → Within (Part.Counted found nodes n)
+    front_counted found nodes n = end_back (Part.Counted found nodes n) (answer_of now found nodes (Some n)) refl
+
+    -- where no subtree is due the proof ends, or no round may have been made
+    front_whole : (part : Part) (found : Found) (nodes : List Node) → extended now question.command part Phrase.End ≡ proof_with now question.command found nodes 0 Phrase.End
+        → extended now question.command part (Phrase.Rounds 0) ≡ proof_with now question.command found nodes 0 (Phrase.Rounds 0) → Within part
+    front_whole part found nodes ends counts = by (counts_rounds question.command) refl
+      where
+        by : (b : Bool) → counts_rounds question.command ≡ b → Within part
+        by true e =
+            more_back part (Part.Counted found nodes 0) (Phrase.Rounds 0) (omega arith)
+            (counts ∙ only_true (counts_rounds question.command && (0 == 0)) (Next.More (Part.Counted found nodes 0)) (and_from (counts_rounds question.command) (0 == 0) e refl)) (front_counted found nodes 0)
+        by false e =
+            end_back part (answer_of now found nodes None)
+            (ends ∙ only_true (not (counts_rounds question.command) && (0 == 0)) (Next.Whole (answer_of now found nodes None)) (and_from (not (counts_rounds question.command)) (0 == 0) (ap not e) refl))
+
     -- where subtrees are due, a leaf may stand for each
     front_leaf : (found : Found) (nodes : List Node) (due : ℕ) (shares : List Share) → Within (Part.Leaf found nodes due shares)
-    front_leaf found nodes zero shares = end_back (Part.Leaf found nodes 0 shares) (answer_of now found (nodes ++ leaf_of shares ∷ [])) refl
+    front_leaf found nodes zero shares = front_whole (Part.Leaf found nodes 0 shares) found (nodes ++ leaf_of shares ∷ []) refl refl
     front_leaf found nodes (suc due) shares =
         more_back (Part.Leaf found nodes (suc due) shares) (Part.Leaf found (nodes ++ leaf_of shares ∷ []) due []) Phrase.Leaf tt
         (leaf_opens now question.command found (nodes ++ leaf_of shares ∷ []) (suc due) due (omega arith)) (front_leaf found (nodes ++ leaf_of shares ∷ []) due [])
 
     front_nodes : (found : Found) (nodes : List Node) (due : ℕ) → Within (Part.Proof found nodes due)
-    front_nodes found nodes zero = end_back (Part.Proof found nodes 0) (answer_of now found nodes) refl
+    front_nodes found nodes zero = front_whole (Part.Proof found nodes 0) found nodes refl refl
     front_nodes found nodes (suc due) = more_back (Part.Proof found nodes (suc due)) (Part.Leaf found nodes due []) Phrase.Leaf tt (leaf_opens now question.command found nodes (suc due) due (omega arith)) (front_leaf found nodes due [])
 
     front_proof : (found : Found) → Within (Part.Proof found [] 1)
@@ -173,6 +207,7 @@ module _ (model : Program) where
     front_nothing Check e = more_back Part.Nothing (Part.Claimed Claim.Feasible) Phrase.Feasible tt (ap (λ d. extended now d Part.Nothing Phrase.Feasible) e) (front_claimed Claim.Feasible)
     front_nothing (Iis method) e = more_back Part.Nothing (Part.Claimed Claim.Feasible) Phrase.Feasible tt (ap (λ d. extended now d Part.Nothing Phrase.Feasible) e) (front_claimed Claim.Feasible)
     front_nothing Unbounded e = more_back Part.Nothing (Part.Claimed Claim.Unbounded) Phrase.Unbounded tt (ap (λ d. extended now d Part.Nothing Phrase.Unbounded) e) (front_claimed Claim.Unbounded)
+    front_nothing Relax e = more_back Part.Nothing (Part.Least LeastPart.Begun) Phrase.Least tt (ap (λ d. extended now d Part.Nothing Phrase.Least) e) (front_least LeastPart.Begun)
     front_nothing Reduce e = more_back Part.Nothing (Part.Reduced []) Phrase.Reduced tt (ap (λ d. extended now d Part.Nothing Phrase.Reduced) e) (front_steps [])
     front_nothing (Edit edit) e = last_back Part.Nothing Phrase.Done Answer.Done tt (ap (λ d. extended now d Part.Nothing Phrase.Done) e)
     front_nothing Undo e = last_back Part.Nothing Phrase.Done Answer.Done tt (ap (λ d. extended now d Part.Nothing Phrase.Done) e)
@@ -206,8 +241,11 @@ module _ (model : Program) where
     front_part (Part.Point claim values) = front_point claim values
     front_part (Part.Ray point values) = front_ray point values
     front_part (Part.Bounded part) = front_bounded part
+    front_part (Part.Least part) = front_least part
+    front_part (Part.Counted found nodes n) = front_counted found nodes n
     front_part (Part.Listed (Found.Members members)) = more_back (Part.Listed (Found.Members members)) (Part.Proof (Found.Members members) [] 1) Phrase.Proof tt refl (front_proof (Found.Members members))
     front_part (Part.Listed (Found.Witnessed members witnesses)) = more_back (Part.Listed (Found.Witnessed members witnesses)) (Part.Proof (Found.Witnessed members witnesses) [] 1) Phrase.Proof tt refl (front_proof (Found.Witnessed members witnesses))
+    front_part (Part.Listed (Found.Rigid members)) = more_back (Part.Listed (Found.Rigid members)) (Part.Proof (Found.Rigid members) [] 1) Phrase.Proof tt refl (front_proof (Found.Rigid members))
     front_part (Part.Member members witnesses m) = more_back (Part.Member members witnesses m) (Part.Witness members witnesses m []) Phrase.Point tt refl (front_witness members witnesses m [])
     front_part (Part.Witness members witnesses m values) = front_witness members witnesses m values
     front_part (Part.Proof found nodes due) = front_nodes found nodes due

@@ -1,5 +1,5 @@
 -- The phrases of a report lead from nothing to the whole report.
-use Rattle.std.proofs.Common.{◌≡◌, ◌≤◌, refl, sym, ap, subst, ◌∙◌, ℕ, suc, ◌+◌, ◌-◌, ◌<◌, ℤ, Bool, true, false, true≢false, cond, ◌&&◌, List, [], ◌∷◌, ◌++◌, length, append_assoc, append-nil, Option, Some, None, arith}
+use Rattle.std.proofs.Common.{◌≡◌, ◌≤◌, refl, sym, ap, subst, ◌∙◌, ℕ, suc, ◌+◌, ◌-◌, ◌<◌, ℤ, Bool, true, false, true≢false, cond, not, ◌&&◌, ◌==◌, List, [], ◌∷◌, ◌++◌, length, append_assoc, append-nil, Option, Some, None, arith}
 use Rattle.std.specs.Prelude.{map, flat_map, zip, replicate, option_and_then, option_map, All, AllPairs, nat_lt, nat_le}
 use Rattle.std.specs.List.{list_all}
 use Rattle.std.proofs.lemmas.List.{replicate_more, length-append, length-map}
@@ -29,9 +29,12 @@ use Rattle.reductions.specs.declared.steps.ReduceStep.{ReduceStep}
 use Rattle.report_text.specs.declared.report.Bounded.{Bounded}
 use Rattle.report_text.specs.declared.report.Reduced.{Reduced}
 use Rattle.report_text.specs.declared.report.Command.{Command}
-use Rattle.report_text.specs.declared.report.Command.TheVariants.{Check, Iis, Unbounded, Reduce, Edit, Undo, Pivots, Nodes}
+use Rattle.report_text.specs.declared.report.Command.TheVariants.{Check, Iis, Unbounded, Relax, Reduce, Edit, Undo, Pivots, Nodes}
+use Rattle.report_text.specs.declared.report.Core.{Core}
+use Rattle.report_text.specs.declared.report.Method.{Method}
+use Rattle.bound_checks.specs.declared.bounds.Dual.{Dual}
 use Rattle.report_text.specs.declared.report.Answer.{Answer}
-use Rattle.report_text.specs.declared.report.Answer.TheVariants.{Feasible, Infeasible, Irreducible, Unbounded as RunsAway, Bounded as BoundedBy, Reduced as ReducedTo, Done, Refused, Stopped}
+use Rattle.report_text.specs.declared.report.Answer.TheVariants.{Feasible, Infeasible, Irreducible, Unbounded as RunsAway, Bounded as BoundedBy, Least as LeastBy, RigidInfeasible as RigidRefuted, Reduced as ReducedTo, Done, Refused, NotLinear, Stopped}
 use Rattle.report_text.specs.declared.report.Entry.{Entry}
 use Rattle.report_text.specs.declared.report.Report.{Report}
 use Rattle.report_text.specs.declared.phrases.Phrase.{Phrase}
@@ -43,18 +46,20 @@ use Rattle.report_reader.specs.declared.drafts.SitePart.{SitePart}
 use Rattle.report_reader.specs.declared.drafts.StopPart.{StopPart}
 use Rattle.report_reader.specs.declared.drafts.Claim.{Claim}
 use Rattle.report_reader.specs.declared.drafts.BoundPart.{BoundPart}
+use Rattle.report_reader.specs.declared.drafts.LeastPart.{LeastPart}
 use Rattle.report_reader.specs.declared.drafts.Part.{Part}
 use Rattle.report_reader.specs.declared.drafts.Next.{Next}
 use Rattle.report_reader.specs.declared.drafts.Stage.{Stage}
 use Rattle.report_reader.specs.declared.drafts.Draft.{Draft}
-use Rattle.lp_model.specs.MemberSets.{SetValue, empty_set}
-use Rattle.report_text.specs.Grammar.{left_out, value_phrases, point_phrases, objective_phrases, dual_phrases, node_phrases, proof_phrases, witness_phrases, without_phrase, branch_phrase, site_phrases, answer_front, answer_end, entry_phrases, entries_phrases, report_phrases}
+use Rattle.lp_model.specs.MemberSets.{SetValue}
+use Rattle.report_text.specs.Grammar.{left_out, value_phrases, point_phrases, objective_phrases, dual_phrases, node_phrases, proof_phrases, rounds_phrases, witness_phrases, without_phrase, enforced_phrase, branch_phrase, site_phrases, answer_front, answer_end, entry_phrases, entries_phrases, report_phrases}
 use Rattle.report_text.specs.Turns.{after, entry_commands}
 use Rattle.report_text.proofs.InTurn.{commands_push}
 use Rattle.certs.specs.Order.{source_before}
-use Rattle.report_text.specs.Form.{AreUses, IsListed, IsNodeFor, IsProofFor, IsPointFor, IsRayFor, IsBoundedFor, is_run_kind, IsRunSite, IsStopFor, IsAnswerFor, IsEntryFor, AreEntriesFor, AreNumbered, IsReportFor, is_one_leaf, can_answer}
-use Rattle.report_reader.specs.Drafts.{filled, point_of, ray_of, leaf_of, set_of, answer_of, only_if, with_value, with_next, may_split, may_stand, proof_begun, proof_with, witnessed_with, site_of, run_of, stop_begun, extended, placed, program_now, advanced, nothing_read}
-use Rattle.report_reader.proofs.LeftOut.{left_in_order, left_active, set_twice}
+use Rattle.report_text.specs.Form.{AreUses, IsListed, IsNodeFor, IsProofFor, IsPointFor, IsRayFor, IsBoundedFor, IsLeastFor, IsCoreFor, is_run_kind, IsRunSite, IsStopFor, IsAnswerFor, IsEntryFor, AreEntriesFor, AreNumbered, IsReportFor, is_one_leaf, has_rounds, can_answer}
+use Rattle.report_reader.specs.Drafts.{filled, point_of, ray_of, leaf_of, set_of, answer_of, only_if, with_value, with_member, with_next, is_within, may_split, counts_rounds, may_stand, proof_begun, proof_with, witnessed_with, site_of, run_of, stop_begun, extended, placed, program_now, advanced, nothing_read}
+use Rattle.report_reader.proofs.Rounds.{rounds_told, no_rounds_told}
+use Rattle.report_reader.proofs.LeftOut.{left_in_order, left_active, set_twice, part_in_order, part_within}
 
 -- ---- runs
 -- the draft that phrases lead to, where the first is that of line number n
@@ -260,6 +265,7 @@ module _ (model : Program) (c : Command) where
 record TakesNodes (model : Program) (c : Command) (part : Part) (found : Found) (nodes : List Node) (due : ℕ) : Type 0 where
   split : (j : ℕ) (k : ℤ) → extended model c part (Phrase.Split j k) ≡ proof_with model c found nodes due (Phrase.Split j k)
   leaf : extended model c part Phrase.Leaf ≡ proof_with model c found nodes due Phrase.Leaf
+  rounds : (n : ℕ) → extended model c part (Phrase.Rounds n) ≡ proof_with model c found nodes due (Phrase.Rounds n)
   end : extended model c part Phrase.End ≡ proof_with model c found nodes due Phrase.End
 
 -- a node where a subtree is due
@@ -275,7 +281,7 @@ leaf_opens model c found nodes due behind e =
 module _ (model : Program) (c : Command) (found : Found) where
   -- the part of these nodes
   own_part : (nodes : List Node) (due : ℕ) → TakesNodes model c (Part.Proof found nodes due) found nodes due
-  own_part nodes due = record { split = λ j k. refl; leaf = refl; end = refl }
+  own_part nodes due = record { split = λ j k. refl; leaf = refl; rounds = λ n. refl; end = refl }
 
   -- a leaf, where a subtree is due
   leaf_read : (part : Part) (nodes : List Node) (due : ℕ) (shares : List Share) → TakesNodes model c part found nodes (due + 1) → AreUses model shares
@@ -295,7 +301,7 @@ module _ (model : Program) (c : Command) (found : Found) where
 
   tree_read : (tree : Tree) (part : Part) (nodes : List Node) (due : ℕ) → TakesNodes model c part found nodes (due + 1) → All (IsNodeFor model) (preorder tree) → All MayStand (preorder tree) → TreeRead part nodes due (preorder tree)
   tree_read (Tip shares) part nodes due takes h may =
-      (Part.Leaf found nodes due shares, (leaf_read part nodes due shares takes (All-head (IsNodeFor model) (leaf_of shares) [] h), record { split = λ j k. refl; leaf = refl; end = refl }))
+      (Part.Leaf found nodes due shares, (leaf_read part nodes due shares takes (All-head (IsNodeFor model) (leaf_of shares) [] h), record { split = λ j k. refl; leaf = refl; rounds = λ n. refl; end = refl }))
   tree_read (Fork j k lower upper) part nodes due takes h may =
       let more : List Node = nodes ++ Split j k ∷ [] in
       let start = Part.Proof found more ((due + 1) + 1) in
@@ -316,13 +322,20 @@ module _ (model : Program) (c : Command) (found : Found) where
         ),
       )
 
-  -- the lines of a proof lead to a part that the end makes the answer
+  -- the lines of a proof lead to a part in which no subtree is due
   proof_read : (part : Part) (proof : Proof) → IsProofFor model proof → All MayStand proof.nodes → extended model c part Phrase.Proof ≡ Some (proof_begun found)
-      → (end : Part) × ((grown model c part (proof_phrases proof) ≡ Some end) × (extended model c end Phrase.End ≡ Some (Next.Whole (answer_of model found proof.nodes))))
+      → (end : Part) × ((grown model c part (proof_phrases proof) ≡ Some end) × TakesNodes model c end found proof.nodes 0)
   proof_read part proof h may e =
       let start = Part.Proof found [] 1 in
       let r = subst (TreeRead start [] 0) h.one.listed (tree_read h.one.tree start [] 0 (own_part [] 1) (subst (All (IsNodeFor model)) (sym h.one.listed) h.each) (subst (All MayStand) (sym h.one.listed) may)) in
-      (r.0, (grown_step model c part start Phrase.Proof (flat_map node_phrases proof.nodes) e ∙ r.1.0, r.1.1.end))
+      (r.0, (grown_step model c part start Phrase.Proof (flat_map node_phrases proof.nodes) e ∙ r.1.0, r.1.1))
+
+  -- which the end makes the answer, or so many rounds, where they are told
+  proof_ended : (end : Part) (nodes : List Node) → TakesNodes model c end found nodes 0 → not (counts_rounds c) ≡ true → extended model c end Phrase.End ≡ Some (Next.Whole (answer_of model found nodes None))
+  proof_ended end nodes takes e = takes.end ∙ only_true (not (counts_rounds c) && (0 == 0)) (Next.Whole (answer_of model found nodes None)) (and_from (not (counts_rounds c)) (0 == 0) e refl)
+
+  proof_counted : (end : Part) (nodes : List Node) (n : ℕ) → TakesNodes model c end found nodes 0 → counts_rounds c ≡ true → extended model c end (Phrase.Rounds n) ≡ Some (Next.More (Part.Counted found nodes n))
+  proof_counted end nodes n takes e = takes.rounds n ∙ only_true (counts_rounds c && (0 == 0)) (Next.More (Part.Counted found nodes n)) (and_from (counts_rounds c) (0 == 0) e refl)
 
 -- any node may stand in a proof that may have splits
 any_stands : (c : Command) → may_split c ≡ true → (nodes : List Node) → All (λ node. may_stand node c ≡ true) nodes
@@ -331,9 +344,9 @@ any_stands c may (Split j k ∷ nodes) = All-cons (λ node. may_stand node c ≡
 any_stands c may (Leaf combo ∷ nodes) = All-cons (λ node. may_stand node c ≡ true) (Leaf combo) nodes refl (any_stands c may nodes)
 
 -- and one leaf in each
-leaf_stands : (nodes : List Node) → is_one_leaf nodes ≡ true → All (λ node. may_stand node Reduce ≡ true) nodes
-leaf_stands (Leaf combo ∷ []) e = All-cons (λ node. may_stand node Reduce ≡ true) (Leaf combo) [] refl (All-nil (λ node. may_stand node Reduce ≡ true))
-leaf_stands nodes e = absurd (true≢false (sym e))
+leaf_stands : (c : Command) (nodes : List Node) → is_one_leaf nodes ≡ true → All (λ node. may_stand node c ≡ true) nodes
+leaf_stands c (Leaf combo ∷ []) e = All-cons (λ node. may_stand node c ≡ true) (Leaf combo) [] refl (All-nil (λ node. may_stand node c ≡ true))
+leaf_stands c nodes e = absurd (true≢false (sym e))
 
 -- ---- answers
 -- the set that stands there
@@ -342,11 +355,11 @@ same_set model set h = ap (λ r. record { rows = r; columns = length model.colum
 
 -- what the lines of a site tell
 abbrev told_of : Program → Site → SitePart
-told_of model site = record { kind = site.kind; left = left_out model site.set.members; path = site.path }
+told_of model site = record { kind = site.kind; left = left_out model site.set.members; enforced = site.enforced.members; path = site.path }
 
 -- the site of a stop
 same_site : (model : Program) (site : Site) → IsRunSite model site → site_of model (told_of model site) ≡ site
-same_site model site h = by site.set site.enforced set_is h.enforced_is
+same_site model site h = by site.set site.enforced set_is enforced_is
   where
     members_of : left_out model (left_out model site.set.members) ≡ site.set.members
     members_of = set_twice model site.set.members h.active
@@ -357,10 +370,15 @@ same_site model site h = by site.set site.enforced set_is h.enforced_is
         ∙ ap (λ c. record { rows = length model.rows; columns = c; members = site.set.members }) h.of_model.columns
         ∙ ap (set_of model) (sym members_of)
 
-    by : (set enforced : SetValue) → set ≡ set_of model (left_out model (left_out model site.set.members)) → enforced ≡ empty_set model
+    enforced_is : site.enforced ≡ set_of model site.enforced.members
+    enforced_is =
+        ap (λ r. record { rows = r; columns = site.enforced.columns; members = site.enforced.members }) h.enforced_of.rows
+        ∙ ap (λ c. record { rows = length model.rows; columns = c; members = site.enforced.members }) h.enforced_of.columns
+
+    by : (set enforced : SetValue) → set ≡ set_of model (left_out model (left_out model site.set.members)) → enforced ≡ set_of model site.enforced.members
         → site_of model (told_of model site) ≡ record { kind = site.kind; set = set; enforced = enforced; path = site.path }
     by set enforced s e =
-        ap (λ x. record { kind = site.kind; set = x; enforced = empty_set model; path = site.path }) (sym s)
+        ap (λ x. record { kind = site.kind; set = x; enforced = set_of model site.enforced.members; path = site.path }) (sym s)
         ∙ ap (λ x. record { kind = site.kind; set = set; enforced = x; path = site.path }) (sym e)
 
 -- an answer's front leads to a part that its last line makes the answer
@@ -382,12 +400,18 @@ site_read : (model : Program) (c : Command) (cause : StopCause) (site : Site) �
     → grown model c (Part.Stop (StopPart.Begun cause)) (site_phrases model site) ≡ Some (Part.Stop (StopPart.Site cause (told_of model site)))
 site_read model c cause site h =
     let left = left_out model site.set.members in
+    let enforced = site.enforced.members in
     let begun = Part.Stop (StopPart.Site cause (run_of site.kind)) in
-    let with_left : List Member → SitePart = λ ms. record { kind = site.kind; left = ms; path = [] } in
-    grown_step model c (Part.Stop (StopPart.Begun cause)) begun (Phrase.Stop (StopPhrase.Site site.kind)) (map without_phrase left ++ map branch_phrase site.path) (only_true (is_run_kind site.kind) (Next.More begun) h.kind)
-    ∙ grown_append model c begun (Part.Stop (StopPart.Site cause (with_left left))) (map without_phrase left) (map branch_phrase site.path)
+    let behind = map enforced_phrase enforced ++ map branch_phrase site.path in
+    let with_left : List Member → SitePart = λ ms. record { kind = site.kind; left = ms; enforced = []; path = [] } in
+    let with_enforced : List Member → SitePart = λ ms. record { kind = site.kind; left = left; enforced = ms; path = [] } in
+    grown_step model c (Part.Stop (StopPart.Begun cause)) begun (Phrase.Stop (StopPhrase.Site site.kind)) (map without_phrase left ++ behind) (only_true (is_run_kind site.kind) (Next.More begun) h.kind)
+    ∙ grown_append model c begun (Part.Stop (StopPart.Site cause (with_left left))) (map without_phrase left) behind
     (list_read model c (is_active model) comes_before (λ ms. Part.Stop (StopPart.Site cause (with_left ms))) without_phrase (λ ms m. refl) [] left (left_in_order model site.set.members) (left_active model site.set.members))
-    ∙ path_read model c cause (with_left left) site.path
+    ∙ grown_append model c (Part.Stop (StopPart.Site cause (with_left left))) (Part.Stop (StopPart.Site cause (with_enforced enforced))) (map enforced_phrase enforced) (map branch_phrase site.path)
+    (list_read model c (is_within model left) comes_before (λ ms. Part.Stop (StopPart.Site cause (with_enforced ms))) enforced_phrase (λ ms m. refl) [] enforced
+    (part_in_order model site.set.members enforced h.active h.enforced_part) (part_within model site.set.members enforced h.active h.enforced_part))
+    ∙ path_read model c cause (with_enforced enforced) site.path
 
 -- a stop
 stop_read : (model : Program) (c : Command) (stop : Stop) → IsStopFor model stop → ((s : StopPhrase) → extended model c Part.Nothing (Phrase.Stop s) ≡ stop_begun s) → AnswerRead model c (Stopped stop)
@@ -486,24 +510,128 @@ bounded_read model b h =
         grown_step model Unbounded (Part.Point Claim.Bounded values) (Part.Bounded (BoundPart.Objective b.point v)) (Phrase.Objective v) (dual_phrases b.dual) (ap (λ q. Some (Next.More (Part.Bounded (BoundPart.Objective q v)))) e)
         ∙ grown_step model Unbounded (Part.Bounded (BoundPart.Objective b.point v)) (Part.Bounded (BoundPart.Bound b.point (Some v) b.dual.bound)) (Phrase.Bound b.dual.bound) (Phrase.Dual ∷ map Phrase.Use b.dual.combo.shares) refl
 
--- members, and a proof
-infeasible_read : (model : Program) (c : Command) (set : SetValue) (proof : Proof) → IsListed model set → IsProofFor model proof → All (λ node. may_stand node c ≡ true) proof.nodes
-    → extended model c Part.Nothing Phrase.Infeasible ≡ Some (Next.More (Part.Listed (Found.Members []))) → AnswerRead model c (Infeasible set proof)
-unfolding AnswerRead
-infeasible_read model c set proof listed form may e =
+-- members, and a proof: a list that takes members and the start of its proof
+listed_read : (model : Program) (c : Command) (make : List Member → Found) (say : Phrase) (set : SetValue) (proof : Proof) → IsListed model set → IsProofFor model proof → All (λ node. may_stand node c ≡ true) proof.nodes → not (counts_rounds c) ≡ true
+    → extended model c Part.Nothing say ≡ Some (Next.More (Part.Listed (make [])))
+    → ((members : List Member) (m : Member) → extended model c (Part.Listed (make members)) (Phrase.Member m) ≡ option_map (λ ms. Next.More (Part.Listed (make ms))) (with_member members m))
+    → ((members : List Member) → extended model c (Part.Listed (make members)) Phrase.Proof ≡ Some (proof_begun (make members)))
+    → (end : Part) × ((grown model c Part.Nothing (say ∷ (map Phrase.Member set.members ++ proof_phrases proof)) ≡ Some end) × (extended model c end Phrase.End ≡ Some (Next.Whole (answer_of model (make set.members) proof.nodes None))))
+listed_read model c make say set proof listed form may none e takes begins =
     let members = set.members in
-    let found = Found.Members members in
-    let start = Part.Listed (Found.Members []) in
-    let read = list_read model c (λ m. true) comes_before (λ ms. Part.Listed (Found.Members ms)) Phrase.Member (λ ms m. refl) [] members listed.in_order (λ k d l. refl) in
-    let proved = proof_read model c found (Part.Listed found) proof form may refl in (
+    let found = make members in
+    let start = Part.Listed (make []) in
+    let read = list_read model c (λ m. true) comes_before (λ ms. Part.Listed (make ms)) Phrase.Member takes [] members listed.in_order (λ k d l. refl) in
+    let proved = proof_read model c found (Part.Listed found) proof form may (begins members) in (
       proved.0,
       (
-        grown_step model c Part.Nothing start Phrase.Infeasible (map Phrase.Member members ++ proof_phrases proof) e
+        grown_step model c Part.Nothing start say (map Phrase.Member members ++ proof_phrases proof) e
             ∙ grown_append model c start (Part.Listed found) (map Phrase.Member members) (proof_phrases proof) read
             ∙ proved.1.0,
-        proved.1.1 ∙ ap (λ s. Some (Next.Whole (Infeasible s proof))) (same_set model set listed),
+        proof_ended model c found proved.0 proof.nodes proved.1.1 none,
       ),
     )
+
+infeasible_read : (model : Program) (c : Command) (set : SetValue) (proof : Proof) → IsListed model set → IsProofFor model proof → All (λ node. may_stand node c ≡ true) proof.nodes → not (counts_rounds c) ≡ true
+    → extended model c Part.Nothing Phrase.Infeasible ≡ Some (Next.More (Part.Listed (Found.Members []))) → AnswerRead model c (Infeasible set proof)
+unfolding AnswerRead
+infeasible_read model c set proof listed form may none e =
+    let r = listed_read model c (λ ms. Found.Members ms) Phrase.Infeasible set proof listed form may none e (λ ms m. refl) (λ ms. refl) in
+    (r.0, (r.1.0, r.1.1 ∙ ap (λ s. Some (Next.Whole (Infeasible s proof))) (same_set model set listed)))
+
+-- rigid ones, whose proof is one leaf
+rigid_read : (model : Program) (set : SetValue) (proof : Proof) → IsListed model set → IsProofFor model proof → is_one_leaf proof.nodes ≡ true → AnswerRead model Relax (RigidRefuted set proof)
+unfolding AnswerRead
+rigid_read model set proof listed form leaf =
+    let r = listed_read model Relax (λ ms. Found.Rigid ms) Phrase.RigidInfeasible set proof listed form (leaf_stands Relax proof.nodes leaf) refl refl (λ ms m. refl) (λ ms. refl) in
+    (r.0, (r.1.0, r.1.1 ∙ ap (λ s. Some (Next.Whole (RigidRefuted s proof))) (same_set model set listed)))
+
+-- a total, a point, and a dual
+least_read : (model : Program) (p : Point) (dual : Dual) → IsLeastFor model p dual → AnswerRead model Relax (LeastBy p dual)
+unfolding AnswerRead
+least_read model p dual h =
+    let t = dual.bound in
+    let shares = dual.combo.shares in
+    let uses = map Phrase.Use shares in
+    let told = Part.Least (LeastPart.Total t) in
+    let point : List ℚ → Part = λ vs. Part.Least (LeastPart.Point t vs) in
+    let with_shares : List Share → Part = λ ss. Part.Least (LeastPart.Dual t p ss) in
+    let values = value_phrases 0 p.values in
+    let r = point_read model Relax point (λ vs j v. refl) p h.point in (
+      with_shares shares,
+      (
+        grown_step model Relax Part.Nothing (Part.Least LeastPart.Begun) Phrase.Least (Phrase.Total t ∷ (point_phrases p ++ Phrase.Dual ∷ uses)) refl
+            ∙ grown_step model Relax (Part.Least LeastPart.Begun) told (Phrase.Total t) (point_phrases p ++ Phrase.Dual ∷ uses) refl
+            ∙ grown_step model Relax told (point []) Phrase.Point (values ++ Phrase.Dual ∷ uses) refl
+            ∙ grown_append model Relax (point []) (point r.0) values (Phrase.Dual ∷ uses) r.1.0
+            ∙ grown_step model Relax (point r.0) (with_shares []) Phrase.Dual uses (ap (λ q. Some (Next.More (Part.Least (LeastPart.Dual t q [])))) r.1.1)
+            ∙ list_read model Relax (λ s. true) (λ s u. source_before s.source u.source) with_shares Phrase.Use (λ ss s. refl) [] shares h.uses.in_order (λ k d l. refl),
+        refl,
+      ),
+    )
+
+-- members with witnesses, a proof, and the rounds just where the method has them
+module _ (model : Program) (method : Method) (core : Core) (h : IsCoreFor model core) where
+  abbrev listed : List Phrase
+  listed = flat_map witness_phrases (zip core.members.members core.witnesses)
+
+  -- the lines, with such rounds
+  abbrev Grows : Option ℕ → Part → Type 0
+  Grows rounds end = grown model (Iis method) Part.Nothing (Phrase.Irreducible ∷ (listed ++ (proof_phrases core.proof ++ rounds_phrases rounds))) ≡ Some end
+
+  found : Found
+  found = Found.Witnessed core.members.members core.witnesses
+
+  -- the answer that these rounds make
+  same_core : (rounds : Option ℕ) → core.rounds ≡ rounds → answer_of model found core.proof.nodes rounds ≡ Irreducible core
+  unfolding found
+  same_core rounds e =
+      ap (λ s. Irreducible (record { members = s; witnesses = core.witnesses; proof = core.proof; rounds = rounds; price = None })) (same_set model core.members h.members)
+      ∙ ap (λ r. Irreducible (record { members = core.members; witnesses = core.witnesses; proof = core.proof; rounds = r; price = None })) (sym e)
+      ∙ ap (λ p. Irreducible (record { members = core.members; witnesses = core.witnesses; proof = core.proof; rounds = core.rounds; price = p })) (sym h.price)
+
+  -- what stands before the rounds
+  core_read : (end : Part) × ((grown model (Iis method) Part.Nothing (Phrase.Irreducible ∷ (listed ++ proof_phrases core.proof)) ≡ Some end) × TakesNodes model (Iis method) end found core.proof.nodes 0)
+  unfolding found
+  core_read =
+      let members = core.members.members in
+      let start = Part.Listed (Found.Witnessed [] []) in
+      let w = witnesses_read model (Iis method) start [] members [] core.witnesses ((λ m. refl), refl) h.members.in_order h.each h.points in
+      let proved = proof_read model (Iis method) found w.0 core.proof h.proof (any_stands (Iis method) refl core.proof.nodes) w.1.1.1 in (
+        proved.0,
+        (
+          grown_step model (Iis method) Part.Nothing start Phrase.Irreducible (listed ++ proof_phrases core.proof) refl
+              ∙ grown_append model (Iis method) start w.0 listed (proof_phrases core.proof) w.1.0
+              ∙ proved.1.0,
+          proved.1.1,
+        ),
+      )
+
+  irreducible_read : has_rounds method core.rounds ≡ true → AnswerRead model (Iis method) (Irreducible core)
+  unfolding found AnswerRead
+  irreducible_read can = by core.rounds refl
+    where
+      by : (rounds : Option ℕ) → core.rounds ≡ rounds → AnswerRead model (Iis method) (Irreducible core)
+      by None e =
+          let r = core_read in (
+            r.0,
+            (
+              subst (λ o. Grows o r.0) (sym e) (ap (λ l. grown model (Iis method) Part.Nothing (Phrase.Irreducible ∷ (listed ++ l))) (append-nil (proof_phrases core.proof)) ∙ r.1.0),
+              proof_ended model (Iis method) found r.0 core.proof.nodes r.1.1 (sym (no_rounds_told method) ∙ ap (has_rounds method) (sym e) ∙ can) ∙ ap (λ a. Some (Next.Whole a)) (same_core None e),
+            ),
+          )
+      by (Some n) e =
+          let r = core_read in
+          let rounds = Phrase.Rounds n ∷ [] in
+          let counted = Part.Counted found core.proof.nodes n in (
+            counted,
+            (
+              subst (λ o. Grows o counted) (sym e)
+                  (ap (λ l. grown model (Iis method) Part.Nothing (Phrase.Irreducible ∷ l)) (sym (append_assoc listed (proof_phrases core.proof) rounds))
+                  ∙ grown_append model (Iis method) Part.Nothing r.0 (Phrase.Irreducible ∷ (listed ++ proof_phrases core.proof)) rounds r.1.0
+                  ∙ grown_step model (Iis method) r.0 counted (Phrase.Rounds n) [] (proof_counted model (Iis method) found r.0 core.proof.nodes n r.1.1 (sym (rounds_told method n) ∙ ap (has_rounds method) (sym e) ∙ can))),
+              ap (λ a. Some (Next.Whole a)) (same_core (Some n) e),
+            ),
+          )
 
 -- steps, and what is left
 steps_read : (model : Program) (c : Command) (steps rest : List ReduceStep) → grown model c (Part.Reduced steps) (map Phrase.Reduction rest) ≡ Some (Part.Reduced (steps ++ rest))
@@ -541,26 +669,16 @@ answer_read model (Iis method) (Stopped stop) can h = stop_read model (Iis metho
 answer_read model Unbounded (Stopped stop) can h = stop_read model Unbounded stop h (λ s. refl)
 answer_read model Unbounded (RunsAway p ray) can h = unbounded_read model p ray h.0 h.1
 answer_read model Unbounded (BoundedBy b) can h = bounded_read model b h
-answer_read model Unbounded (Infeasible set proof) can h = infeasible_read model Unbounded set proof h.0 h.1 (any_stands Unbounded refl proof.nodes) refl
-answer_read model Check (Infeasible set proof) can h = infeasible_read model Check set proof h.0 h.1 (any_stands Check refl proof.nodes) refl
-answer_read model Reduce (Infeasible set proof) can h = infeasible_read model Reduce set proof h.0 h.1 (leaf_stands proof.nodes can) refl
+answer_read model Unbounded (Infeasible set proof) can h = infeasible_read model Unbounded set proof h.0 h.1 (any_stands Unbounded refl proof.nodes) refl refl
+answer_read model Check (Infeasible set proof) can h = infeasible_read model Check set proof h.0 h.1 (any_stands Check refl proof.nodes) refl refl
+answer_read model Reduce (Infeasible set proof) can h = infeasible_read model Reduce set proof h.0 h.1 (leaf_stands Reduce proof.nodes can) refl refl
 answer_read model Reduce (ReducedTo r) can h = reduced_read model r
-answer_read model (Iis method) (Irreducible core) can h =
-    let members = core.members.members in
-    let found = Found.Witnessed members core.witnesses in
-    let w = witnesses_read model (Iis method) (Part.Listed (Found.Witnessed [] [])) [] members [] core.witnesses ((λ m. refl), refl) h.members.in_order h.each h.points in
-    let proved = proof_read model (Iis method) found w.0 core.proof h.proof (any_stands (Iis method) refl core.proof.nodes) w.1.1.1 in (
-      proved.0,
-      (
-        grown_step model (Iis method) Part.Nothing (Part.Listed (Found.Witnessed [] [])) Phrase.Irreducible (flat_map witness_phrases (zip members core.witnesses) ++ proof_phrases core.proof) refl
-            ∙ grown_append model (Iis method) (Part.Listed (Found.Witnessed [] [])) w.0 (flat_map witness_phrases (zip members core.witnesses)) (proof_phrases core.proof) w.1.0
-            ∙ proved.1.0,
-        proved.1.1
-            ∙ ap (λ s. Some (Next.Whole (Irreducible (record { members = s; witnesses = core.witnesses; proof = core.proof; rounds = None; price = None })))) (same_set model core.members h.members)
-            ∙ ap (λ r. Some (Next.Whole (Irreducible (record { members = core.members; witnesses = core.witnesses; proof = core.proof; rounds = r; price = None })))) (sym h.rounds)
-            ∙ ap (λ r. Some (Next.Whole (Irreducible (record { members = core.members; witnesses = core.witnesses; proof = core.proof; rounds = core.rounds; price = r })))) (sym h.price),
-      ),
-    )
+answer_read model (Iis method) (Irreducible core) can h = irreducible_read model method core h can
+answer_read model (Iis method) (NotLinear j) can h = (Part.Nothing, (refl, only_true (can_answer (Iis method) (NotLinear j)) (Next.Whole (NotLinear j)) can))
+answer_read model Relax (NotLinear j) can h = (Part.Nothing, (refl, refl))
+answer_read model Relax (LeastBy p dual) can h = least_read model p dual h
+answer_read model Relax (RigidRefuted set proof) can h = rigid_read model set proof h.0 h.1 can
+answer_read model Relax (Stopped stop) can h = stop_read model Relax stop h (λ s. refl)
 answer_read model c a can h = absurd (true≢false (sym can))
 
 -- ---- entries, notes and the whole

@@ -19,15 +19,17 @@ use Rattle.certs.specs.declared.solving.Stop.{Stop}
 use Rattle.certs.specs.declared.solving.Stop.TheVariants.{Wide as TooWide, Pivots as Spent, Nodes as NodesSpent, Large}
 use Rattle.report_text.specs.declared.report.Command.{Command}
 use Rattle.report_text.specs.declared.report.Bounded.{Bounded}
+use Rattle.report_text.specs.declared.report.Core.{Core}
+use Rattle.bound_checks.specs.declared.bounds.Dual.{Dual}
 use Rattle.report_text.specs.declared.report.Answer.{Answer}
-use Rattle.report_text.specs.declared.report.Answer.TheVariants.{Feasible, Infeasible, Irreducible, Unbounded as RunsAway, Bounded as BoundedBy, Reduced as ReducedTo, Done, Refused, Stopped}
+use Rattle.report_text.specs.declared.report.Answer.TheVariants.{Feasible, Infeasible, Irreducible, Unbounded as RunsAway, Bounded as BoundedBy, Least as LeastBy, RigidInfeasible as RigidRefuted, Reduced as ReducedTo, Done, Refused, NotLinear, Stopped}
 use Rattle.report_text.specs.declared.report.Entry.{Entry}
 use Rattle.report_text.specs.declared.report.Report.{Report}
 use Rattle.report_text.specs.declared.phrases.Phrase.{Phrase}
 use Rattle.report_text.specs.declared.phrases.StopPhrase.{StopPhrase}
 use Rattle.lp_model.specs.Satisfaction.{values_at}
-use Rattle.report_text.specs.Form.{is_word, IsWithinLimit, IsNamedColumn, IsNamedMember, IsUse, IsNodeFor, IsProofFor, IsPointFor, IsRayFor, IsBoundedFor, IsValueWithin, IsSiteFor, IsStopFor, IsStepFor, IsAnswerFor, IsEntryFor, AreEntriesFor, IsReportFor}
-use Rattle.report_text.specs.Grammar.{column_name, left_out, value_phrases, point_phrases, unbounded_phrases, objective_phrases, dual_phrases, bounded_phrases, node_phrases, proof_phrases, witness_phrases, without_phrase, branch_phrase, site_phrases, stop_phrases, answer_front, answer_end, entry_phrases, entries_phrases, body_phrases, report_phrases, report_lines}
+use Rattle.report_text.specs.Form.{is_word, IsWithinLimit, IsNamedColumn, IsNamedMember, IsUse, IsNodeFor, IsProofFor, IsPointFor, IsRayFor, IsBoundedFor, IsLeastFor, IsCoreFor, IsCountWithin, IsValueWithin, IsSiteFor, IsStopFor, IsStepFor, IsAnswerFor, IsEntryFor, AreEntriesFor, IsReportFor}
+use Rattle.report_text.specs.Grammar.{column_name, left_out, value_phrases, point_phrases, unbounded_phrases, objective_phrases, dual_phrases, bounded_phrases, least_phrases, node_phrases, proof_phrases, rounds_phrases, irreducible_phrases, witness_phrases, without_phrase, enforced_phrase, branch_phrase, site_phrases, stop_phrases, answer_front, answer_end, entry_phrases, entries_phrases, body_phrases, report_phrases, report_lines}
 use Rattle.report_text.specs.Turns.{after}
 use Rattle.phrase_reader.specs.Phrases.{IsNamedBranch, IsPhraseFor}
 use Rattle.phrase_reader.specs.Parts.{parts}
@@ -113,6 +115,15 @@ module _ (model : Program) where
       (All-cons For (Phrase.Bound b.dual.bound) (Phrase.Dual ∷ uses) (own (Phrase.Bound b.dual.bound) h.bound refl)
       (All-cons For Phrase.Dual uses (own Phrase.Dual tt refl) (each_for (IsUse model) Phrase.Use (λ s u. own (Phrase.Use s) u refl) b.dual.combo.shares h.uses.each)))))
 
+  least_for : (p : Point) (dual : Dual) → IsLeastFor model p dual → All For (least_phrases p dual)
+  unfolding For
+  least_for p dual h =
+      let uses = map Phrase.Use dual.combo.shares in
+      All-cons For Phrase.Least (Phrase.Total dual.bound ∷ (point_phrases p ++ Phrase.Dual ∷ uses)) (own Phrase.Least tt refl)
+      (All-cons For (Phrase.Total dual.bound) (point_phrases p ++ Phrase.Dual ∷ uses) (own (Phrase.Total dual.bound) h.total refl)
+      (All-append For (point_phrases p) (Phrase.Dual ∷ uses) (point_for p h.point)
+      (All-cons For Phrase.Dual uses (own Phrase.Dual tt refl) (each_for (IsUse model) Phrase.Use (λ s u. own (Phrase.Use s) u refl) dual.combo.shares h.uses.each))))
+
   node_for : (node : Node) → IsNodeFor model node → All For (node_phrases node)
   unfolding For
   node_for (Split j k) h = All-cons For (Phrase.Split j k) [] (own (Phrase.Split j k) h refl) (All-nil For)
@@ -133,6 +144,22 @@ module _ (model : Program) where
       All-cons (λ w. IsNamedMember model w.0 × IsPointFor model w.1) (m, p) (zip members witnesses) (All-head (IsNamedMember model) m members q, All-head (IsPointFor model) p witnesses r)
       (zipped members witnesses (All-tail (IsNamedMember model) m members q) (All-tail (IsPointFor model) p witnesses r))
 
+  -- how many rounds were made, where it is told
+  rounds_for : (rounds : Option ℕ) → IsCountWithin rounds → All For (rounds_phrases rounds)
+  unfolding For
+  rounds_for None h = All-nil For
+  rounds_for (Some n) h = All-cons For (Phrase.Rounds n) [] (own (Phrase.Rounds n) h refl) (All-nil For)
+
+  irreducible_for : (core : Core) → IsCoreFor model core → All For (irreducible_phrases core)
+  unfolding For
+  irreducible_for core h =
+      let listed = flat_map witness_phrases (zip core.members.members core.witnesses) in
+      let behind = proof_phrases core.proof ++ rounds_phrases core.rounds in
+      All-cons For Phrase.Irreducible (listed ++ behind) (own Phrase.Irreducible tt refl)
+      (All-append For listed behind
+      (flat_for (λ w. IsNamedMember model w.0 × IsPointFor model w.1) witness_phrases witness_for (zip core.members.members core.witnesses) (zipped core.members.members core.witnesses h.members.named h.points))
+      (All-append For (proof_phrases core.proof) (rounds_phrases core.rounds) (proof_for core.proof h.proof) (rounds_for core.rounds h.rounds)))
+
   path_named : (path : List Branch) → All (λ b. IsNamedColumn model b.column) path → All IsFitting path → All (IsNamedBranch model) path
   path_named path h k i d l = record { named = h i d l; fits = k i d l }
 
@@ -140,10 +167,12 @@ module _ (model : Program) where
   unfolding For
   site_for site h =
       let left = map without_phrase (left_out model site.set.members) in
+      let enforced = map enforced_phrase site.enforced.members in
       let path = map branch_phrase site.path in
-      All-cons For (Phrase.Stop (StopPhrase.Site site.kind)) (left ++ path) (own (Phrase.Stop (StopPhrase.Site site.kind)) tt refl)
-      (All-append For left path (each_for (IsNamedMember model) without_phrase (λ m k. own (without_phrase m) k refl) (left_out model site.set.members) h.named)
-      (each_for (IsNamedBranch model) branch_phrase (λ b k. own (branch_phrase b) k refl) site.path (path_named site.path h.path h.run.fits)))
+      All-cons For (Phrase.Stop (StopPhrase.Site site.kind)) (left ++ (enforced ++ path)) (own (Phrase.Stop (StopPhrase.Site site.kind)) tt refl)
+      (All-append For left (enforced ++ path) (each_for (IsNamedMember model) without_phrase (λ m k. own (without_phrase m) k refl) (left_out model site.set.members) h.named)
+      (All-append For enforced path (each_for (IsNamedMember model) enforced_phrase (λ m k. own (enforced_phrase m) k refl) site.enforced.members h.enforced)
+      (each_for (IsNamedBranch model) branch_phrase (λ b k. own (branch_phrase b) k refl) site.path (path_named site.path h.path h.run.fits))))
 
   stop_for : (stop : Stop) → IsStopFor model stop → All For (stop_phrases model stop)
   unfolding For
@@ -157,27 +186,28 @@ module _ (model : Program) where
   stop_for (Large size) h = All-cons For (Phrase.Stop (StopPhrase.Large size)) [] (own (Phrase.Stop (StopPhrase.Large size)) h refl) (All-nil For)
   stop_for stop h = absurd h
 
-  end_for : (a : Answer) → For (answer_end a)
+  end_for : (a : Answer) → IsAnswerFor model a → For (answer_end a)
   unfolding For
-  end_for (Feasible p) = own Phrase.End tt refl
-  end_for Done = own Phrase.Done tt refl
-  end_for (Refused r) = own (Phrase.Refused r) tt refl
-  end_for a = own (answer_end a) tt refl
+  end_for Done h = own Phrase.Done tt refl
+  end_for (Refused r) h = own (Phrase.Refused r) tt refl
+  end_for (NotLinear j) h = own (Phrase.NotLinear j) h refl
+  end_for a h = own (answer_end a) tt refl
 
   answer_for : (a : Answer) → IsAnswerFor model a → All For (answer_front model a)
   unfolding For
   answer_for Done h = All-nil For
   answer_for (Refused r) h = All-nil For
+  answer_for (NotLinear j) h = All-nil For
   answer_for (Stopped stop) h = stop_for stop h
   answer_for (Feasible p) h = All-cons For Phrase.Feasible (point_phrases p) (own Phrase.Feasible tt refl) (point_for p h)
   answer_for (Infeasible set proof) h =
       All-cons For Phrase.Infeasible (map Phrase.Member set.members ++ proof_phrases proof) (own Phrase.Infeasible tt refl)
       (All-append For (map Phrase.Member set.members) (proof_phrases proof) (each_for (IsNamedMember model) Phrase.Member (λ m k. own (Phrase.Member m) k refl) set.members h.0.named) (proof_for proof h.1))
-  answer_for (Irreducible core) h =
-      All-cons For Phrase.Irreducible (flat_map witness_phrases (zip core.members.members core.witnesses) ++ proof_phrases core.proof) (own Phrase.Irreducible tt refl)
-      (All-append For (flat_map witness_phrases (zip core.members.members core.witnesses)) (proof_phrases core.proof)
-      (flat_for (λ w. IsNamedMember model w.0 × IsPointFor model w.1) witness_phrases witness_for (zip core.members.members core.witnesses) (zipped core.members.members core.witnesses h.members.named h.points))
-      (proof_for core.proof h.proof))
+  answer_for (RigidRefuted set proof) h =
+      All-cons For Phrase.RigidInfeasible (map Phrase.Member set.members ++ proof_phrases proof) (own Phrase.RigidInfeasible tt refl)
+      (All-append For (map Phrase.Member set.members) (proof_phrases proof) (each_for (IsNamedMember model) Phrase.Member (λ m k. own (Phrase.Member m) k refl) set.members h.0.named) (proof_for proof h.1))
+  answer_for (Irreducible core) h = irreducible_for core h
+  answer_for (LeastBy p dual) h = least_for p dual h
   answer_for (RunsAway p ray) h = unbounded_for p ray h.0 h.1
   answer_for (BoundedBy b) h = bounded_for b h
   answer_for (ReducedTo r) h =
@@ -188,7 +218,7 @@ module _ (model : Program) where
 
   entry_for : (e : Entry) → IsEntryFor model e → All For (entry_phrases model e)
   unfolding For
-  entry_for e h = All-cons For (Phrase.Command e.command) (answer_front model e.answer ++ answer_end e.answer ∷ []) (own (Phrase.Command e.command) h.command refl) (All-push For (answer_front model e.answer) (answer_end e.answer) (answer_for e.answer h.answer) (end_for e.answer))
+  entry_for e h = All-cons For (Phrase.Command e.command) (answer_front model e.answer ++ answer_end e.answer ∷ []) (own (Phrase.Command e.command) h.command refl) (All-push For (answer_front model e.answer) (answer_end e.answer) (answer_for e.answer h.answer) (end_for e.answer h.answer))
 
 -- the phrases of entries, each for the program after the commands before it, are phrases for the first one
 entries_for : (model : Program) (before : List Command) (entries : List Entry) → AreEntriesFor model before entries → All (IsBefore model) (entries_phrases model before entries)

@@ -1,11 +1,11 @@
 -- What may follow in a report, line by line: the draft that a phrase makes of a draft.
-use Rattle.std.specs.Prelude.{◌≡◌, ◌≢◌, ⊤, ℕ, ◌+◌, ◌-◌, ◌≤◌, ◌==◌, nat_lt, nat_le, Bool, true, false, ◌&&◌, IsTrue, List, [], ◌∷◌, ◌++◌, length, replicate, Option, Some, None, option_map, Result, Ok, Err, flat_map, All}
+use Rattle.std.specs.Prelude.{◌≡◌, ◌≢◌, ⊤, ℕ, ◌+◌, ◌-◌, ◌≤◌, ◌==◌, nat_lt, nat_le, Bool, true, false, not, ◌&&◌, IsTrue, List, [], ◌∷◌, ◌++◌, length, replicate, Option, Some, None, option_map, Result, Ok, Err, flat_map, All}
 use Rattle.std.specs.List.{list_all}
 use Rattle.rational.specs.Rational.{ℚ, zero_ℚ}
 use Rattle.lp_model.specs.Program.{Program, noted_column}
 use Rattle.lp_model.specs.declared.members.Member.{Member}
-use Rattle.lp_model.specs.Members.{comes_before, is_active, IsInOrder}
-use Rattle.lp_model.specs.MemberSets.{SetValue, empty_set}
+use Rattle.lp_model.specs.Members.{comes_before, has, is_active, IsInOrder}
+use Rattle.lp_model.specs.MemberSets.{SetValue}
 use Rattle.lp_model.specs.Satisfaction.{values_at}
 use Rattle.lp_model.specs.declared.parts.Note.{Note}
 use Rattle.model_history.specs.History.{HistoryValue}
@@ -21,7 +21,8 @@ use Rattle.certs.specs.declared.solving.SiteKind.{SiteKind}
 use Rattle.certs.specs.declared.solving.Site.{Site}
 use Rattle.certs.specs.declared.solving.Stop.{Stop}
 use Rattle.report_text.specs.declared.report.Command.{Command}
-use Rattle.report_text.specs.declared.report.Command.TheVariants.{Check, Iis, Unbounded, Reduce, Edit, Undo, Pivots, Nodes}
+use Rattle.report_text.specs.declared.report.Command.TheVariants.{Check, Iis, Unbounded, Relax, Reduce, Edit, Undo, Pivots, Nodes}
+use Rattle.report_text.specs.declared.report.Method.TheVariants.{Elastic}
 use Rattle.report_text.specs.declared.report.Answer.{Answer}
 use Rattle.report_text.specs.declared.report.Entry.{Entry}
 use Rattle.report_text.specs.declared.phrases.Phrase.{Phrase}
@@ -33,6 +34,7 @@ use Rattle.report_reader.specs.declared.drafts.SitePart.{SitePart}
 use Rattle.report_reader.specs.declared.drafts.StopPart.{StopPart}
 use Rattle.report_reader.specs.declared.drafts.Claim.{Claim}
 use Rattle.report_reader.specs.declared.drafts.BoundPart.{BoundPart}
+use Rattle.report_reader.specs.declared.drafts.LeastPart.{LeastPart}
 use Rattle.report_reader.specs.declared.drafts.Part.{Part}
 use Rattle.report_reader.specs.declared.drafts.Next.{Next}
 use Rattle.report_reader.specs.declared.drafts.Stage.{Stage}
@@ -70,12 +72,14 @@ leaf_of shares = Leaf (record { shares = shares })
 abbrev pub members_of : Found → List Member
 members_of (Found.Members members) = members
 members_of (Found.Witnessed members witnesses) = members
+members_of (Found.Rigid members) = members
 
--- the answer that a set with the nodes of its proof is
-abbrev pub answer_of : Program → Found → List Node → Answer
-answer_of model (Found.Members members) nodes = Answer.Infeasible (set_of model members) (record { nodes = nodes })
-answer_of model (Found.Witnessed members witnesses) nodes =
-    Answer.Irreducible (record { members = set_of model members; witnesses = witnesses; proof = record { nodes = nodes }; rounds = None; price = None })
+-- the answer that a set with the nodes of its proof is, and with how many rounds were made, where that is told
+abbrev pub answer_of : Program → Found → List Node → Option ℕ → Answer
+answer_of model (Found.Members members) nodes rounds = Answer.Infeasible (set_of model members) (record { nodes = nodes })
+answer_of model (Found.Witnessed members witnesses) nodes rounds =
+    Answer.Irreducible (record { members = set_of model members; witnesses = witnesses; proof = record { nodes = nodes }; rounds = rounds; price = None })
+answer_of model (Found.Rigid members) nodes rounds = Answer.RigidInfeasible (set_of model members) (record { nodes = nodes })
 
 -- so far, if it may be
 abbrev pub only_if : {X : Type 0} → Bool → X → Option X
@@ -99,13 +103,22 @@ with_member members m = with_next (λ n. true) comes_before members m
 abbrev pub with_share : List Share → Share → Option (List Share)
 with_share shares s = with_next (λ t. true) (λ t u. source_before t.source u.source) shares s
 
--- active members that are left out, which stand before the branches of a path
-abbrev pub with_left_out : Program → List Branch → List Member → Member → Option (List Member)
-with_left_out model path left m = with_next (λ n. (length path == 0) && is_active model n) comes_before left m
+-- active members that are left out, which stand before those that are enforced and before the branches of a path
+abbrev pub with_left_out : Program → List Member → List Branch → List Member → Member → Option (List Member)
+with_left_out model enforced path left m = with_next (λ n. ((length enforced == 0) && (length path == 0)) && is_active model n) comes_before left m
+
+-- members of the set of a site: the active ones that are not left out
+abbrev pub is_within : Program → List Member → Member → Bool
+is_within model left m = is_active model m && not (has left m)
+
+-- such members that are enforced, which stand before the branches of a path
+abbrev pub with_enforced : Program → List Member → List Branch → List Member → Member → Option (List Member)
+with_enforced model left path enforced m = with_next (λ n. (length path == 0) && is_within model left n) comes_before enforced m
 
 -- ---- answers
--- whether a proof of an answer to the command may have a split: that of a reduction is one leaf
+-- whether a proof of an answer to the command may have a split: that of a reduction is one leaf, and so is that of rigid members
 abbrev pub may_split : Command → Bool
+may_split Relax = false
 may_split Reduce = false
 may_split command = true
 
@@ -114,15 +127,21 @@ abbrev pub may_stand : Node → Command → Bool
 may_stand (Split j k) command = may_split command
 may_stand (Leaf combo) command = true
 
+-- whether an answer to the command tells how many rounds were made, where it is an irreducible set
+abbrev pub counts_rounds : Command → Bool
+counts_rounds (Iis Elastic) = true
+counts_rounds command = false
+
 -- a proof without nodes: one subtree is due, the whole tree
 abbrev pub proof_begun : Found → Next
 proof_begun found = Next.More (Part.Proof found [] 1)
 
--- What the nodes of a proof, behind which so many subtrees are due, are with one phrase more. Where one is due a node is its root, and a split, where there may be one, puts two in its place, a leaf none. Where none is due the proof ends.
+-- What the nodes of a proof, behind which so many subtrees are due, are with one phrase more. Where one is due a node is its root, and a split, where there may be one, puts two in its place, a leaf none. Where none is due the proof ends: the answer does too, or tells how many rounds were made.
 abbrev pub proof_with : Program → Command → Found → List Node → ℕ → Phrase → Option Next
 proof_with model command found nodes due (Phrase.Split j k) = only_if (may_split command && nat_lt 0 due) (Next.More (Part.Proof found (nodes ++ Split j k ∷ []) (due + 1)))
 proof_with model command found nodes due Phrase.Leaf = only_if (nat_lt 0 due) (Next.More (Part.Leaf found nodes (due - 1) []))
-proof_with model command found nodes due Phrase.End = only_if (due == 0) (Next.Whole (answer_of model found nodes))
+proof_with model command found nodes due (Phrase.Rounds n) = only_if (counts_rounds command && (due == 0)) (Next.More (Part.Counted found nodes n))
+proof_with model command found nodes due Phrase.End = only_if (not (counts_rounds command) && (due == 0)) (Next.Whole (answer_of model found nodes None))
 proof_with model command found nodes due _ = None
 
 -- what a list with witnesses is with one phrase more: a member, or the start of the proof
@@ -131,13 +150,13 @@ witnessed_with members witnesses (Phrase.Member m) = only_if (list_all (λ n. co
 witnessed_with members witnesses Phrase.Proof = Some (proof_begun (Found.Witnessed members witnesses))
 witnessed_with members witnesses _ = None
 
--- the site that is told: a run of the active members but those that are left out, on a path
+-- the site that is told: a run of the active members but those that are left out, some of them enforced, on a path
 abbrev pub site_of : Program → SitePart → Site
-site_of model site = record { kind = site.kind; set = set_of model (left_out model site.left); enforced = empty_set model; path = site.path }
+site_of model site = record { kind = site.kind; set = set_of model (left_out model site.left); enforced = set_of model site.enforced; path = site.path }
 
 -- a run of which no more is told than its kind
 abbrev pub run_of : SiteKind → SitePart
-run_of kind = record { kind = kind; left = []; path = [] }
+run_of kind = record { kind = kind; left = []; enforced = []; path = [] }
 
 -- how a stop begins
 abbrev pub stop_begun : StopPhrase → Option Next
@@ -147,11 +166,12 @@ stop_begun StopPhrase.Nodes = Some (Next.More (Part.Stop (StopPart.Begun StopCau
 stop_begun (StopPhrase.Large size) = Some (Next.More (Part.Stop (StopPart.Large size)))
 stop_begun _ = None
 
--- what a part of a stop is with one phrase more; only the settle run and the improve run stop as yet
+-- what a part of a stop is with one phrase more; a run of an alternative system is not told as yet
 abbrev pub stop_with : Program → StopPart → Phrase → Option Next
 stop_with model (StopPart.Begun cause) (Phrase.Stop (StopPhrase.Site kind)) = only_if (is_run_kind kind) (Next.More (Part.Stop (StopPart.Site cause (run_of kind))))
 stop_with model (StopPart.Large size) Phrase.End = Some (Next.Whole (Answer.Stopped (Stop.Large size)))
-stop_with model (StopPart.Site cause site) (Phrase.Stop (StopPhrase.Without m)) = option_map (λ members. Next.More (Part.Stop (StopPart.Site cause (record site { left = members })))) (with_left_out model site.path site.left m)
+stop_with model (StopPart.Site cause site) (Phrase.Stop (StopPhrase.Without m)) = option_map (λ members. Next.More (Part.Stop (StopPart.Site cause (record site { left = members })))) (with_left_out model site.enforced site.path site.left m)
+stop_with model (StopPart.Site cause site) (Phrase.Stop (StopPhrase.Enforced m)) = option_map (λ members. Next.More (Part.Stop (StopPart.Site cause (record site { enforced = members })))) (with_enforced model site.left site.path site.enforced m)
 stop_with model (StopPart.Site cause site) (Phrase.Stop (StopPhrase.Branch b)) = Some (Next.More (Part.Stop (StopPart.Site cause (record site { path = site.path ++ b ∷ [] }))))
 stop_with model (StopPart.Site StopCause.Wide site) (Phrase.Stop (StopPhrase.Step k)) = Some (Next.More (Part.Stop (StopPart.Step site k)))
 stop_with model (StopPart.Site StopCause.Spent site) Phrase.End = Some (Next.Whole (Answer.Stopped (Stop.Pivots (site_of model site))))
@@ -176,6 +196,20 @@ bound_with (BoundPart.Dual p v b shares) (Phrase.Use s) = option_map (λ ss. Nex
 bound_with (BoundPart.Dual p v b shares) Phrase.End = Some (Next.Whole (Answer.Bounded (record { point = p; objective = v; dual = record { combo = record { shares = shares }; bound = b } })))
 bound_with _ _ = None
 
+-- what a part of a least weighted violation is with one phrase more: the total, the point, the start of the dual, a share of it, or the end
+abbrev pub least_with : Program → LeastPart → Phrase → Option Next
+least_with model LeastPart.Begun (Phrase.Total t) = Some (Next.More (Part.Least (LeastPart.Total t)))
+least_with model (LeastPart.Total t) Phrase.Point = Some (Next.More (Part.Least (LeastPart.Point t [])))
+least_with model (LeastPart.Point t values) (Phrase.Value j v) = option_map (λ vs. Next.More (Part.Least (LeastPart.Point t vs))) (with_value values j v)
+least_with model (LeastPart.Point t values) Phrase.Dual = Some (Next.More (Part.Least (LeastPart.Dual t (point_of model values) [])))
+least_with model (LeastPart.Dual t p shares) (Phrase.Use s) = option_map (λ ss. Next.More (Part.Least (LeastPart.Dual t p ss))) (with_share shares s)
+least_with model (LeastPart.Dual t p shares) Phrase.End = Some (Next.Whole (Answer.Least p (record { combo = record { shares = shares }; bound = t })))
+least_with model _ _ = None
+
+-- that a column is to be whole is an answer of one line to a command that needs a linear program
+abbrev pub not_linear_said : Command → ℕ → Option Next
+not_linear_said command j = only_if (can_answer command (Answer.NotLinear j)) (Next.Whole (Answer.NotLinear j))
+
 -- the answer of one line to a command: that it is done, or why it is refused
 abbrev pub reply_said : Command → Phrase → Option Next
 reply_said command Phrase.Done = only_if (can_answer command Answer.Done) (Next.Whole Answer.Done)
@@ -192,11 +226,16 @@ extended model Unbounded Part.Nothing Phrase.Bounded = Some (Next.More (Part.Cla
 extended model Unbounded Part.Nothing Phrase.Infeasible = Some (Next.More (Part.Listed (Found.Members [])))
 extended model Check Part.Nothing Phrase.Infeasible = Some (Next.More (Part.Listed (Found.Members [])))
 extended model (Iis method) Part.Nothing Phrase.Irreducible = Some (Next.More (Part.Listed (Found.Witnessed [] [])))
+extended model (Iis method) Part.Nothing (Phrase.NotLinear j) = not_linear_said (Iis method) j
+extended model Relax Part.Nothing Phrase.Least = Some (Next.More (Part.Least LeastPart.Begun))
+extended model Relax Part.Nothing Phrase.RigidInfeasible = Some (Next.More (Part.Listed (Found.Rigid [])))
+extended model Relax Part.Nothing (Phrase.NotLinear j) = not_linear_said Relax j
 extended model Reduce Part.Nothing Phrase.Reduced = Some (Next.More (Part.Reduced []))
 extended model Reduce Part.Nothing Phrase.Infeasible = Some (Next.More (Part.Listed (Found.Members [])))
 extended model Check Part.Nothing (Phrase.Stop s) = stop_begun s
 extended model (Iis method) Part.Nothing (Phrase.Stop s) = stop_begun s
 extended model Unbounded Part.Nothing (Phrase.Stop s) = stop_begun s
+extended model Relax Part.Nothing (Phrase.Stop s) = stop_begun s
 extended model (Edit e) Part.Nothing p = reply_said (Edit e) p
 extended model Undo Part.Nothing p = reply_said Undo p
 extended model (Pivots n) Part.Nothing p = reply_said (Pivots n) p
@@ -206,8 +245,11 @@ extended model command (Part.Point claim values) p = claim_with claim (point_of 
 extended model command (Part.Ray point values) (Phrase.Value j v) = option_map (λ vs. Next.More (Part.Ray point vs)) (with_value values j v)
 extended model command (Part.Ray point values) Phrase.End = Some (Next.Whole (Answer.Unbounded point (ray_of model values)))
 extended model command (Part.Bounded part) p = bound_with part p
+extended model command (Part.Least part) p = least_with model part p
 extended model command (Part.Listed (Found.Members members)) (Phrase.Member m) = option_map (λ ms. Next.More (Part.Listed (Found.Members ms))) (with_member members m)
 extended model command (Part.Listed (Found.Members members)) Phrase.Proof = Some (proof_begun (Found.Members members))
+extended model command (Part.Listed (Found.Rigid members)) (Phrase.Member m) = option_map (λ ms. Next.More (Part.Listed (Found.Rigid ms))) (with_member members m)
+extended model command (Part.Listed (Found.Rigid members)) Phrase.Proof = Some (proof_begun (Found.Rigid members))
 extended model command (Part.Listed (Found.Witnessed members witnesses)) p = witnessed_with members witnesses p
 extended model command (Part.Member members witnesses m) Phrase.Point = Some (Next.More (Part.Witness members witnesses m []))
 extended model command (Part.Witness members witnesses m values) (Phrase.Value j v) = option_map (λ vs. Next.More (Part.Witness members witnesses m vs)) (with_value values j v)
@@ -215,6 +257,7 @@ extended model command (Part.Witness members witnesses m values) p = witnessed_w
 extended model command (Part.Proof found nodes due) p = proof_with model command found nodes due p
 extended model command (Part.Leaf found nodes due shares) (Phrase.Use s) = option_map (λ ss. Next.More (Part.Leaf found nodes due ss)) (with_share shares s)
 extended model command (Part.Leaf found nodes due shares) p = proof_with model command found (nodes ++ leaf_of shares ∷ []) due p
+extended model command (Part.Counted found nodes n) Phrase.End = Some (Next.Whole (answer_of model found nodes (Some n)))
 extended model command (Part.Reduced steps) (Phrase.Reduction s) = Some (Next.More (Part.Reduced (steps ++ s ∷ [])))
 extended model command (Part.Reduced steps) (Phrase.Left rows columns) = Some (Next.More (Part.Left steps rows columns))
 extended model command (Part.Left steps rows columns) Phrase.End = Some (Next.Whole (Answer.Reduced (record { steps = steps; rows = rows; columns = columns })))
@@ -319,6 +362,7 @@ abbrev pub IsFound : Program → Command → Found → Type 0
 IsFound model Check (Found.Members members) = AreMembers model members
 IsFound model Unbounded (Found.Members members) = AreMembers model members
 IsFound model Reduce (Found.Members members) = AreMembers model members
+IsFound model Relax (Found.Rigid members) = AreMembers model members
 IsFound model (Iis method) (Found.Witnessed members witnesses) = AreMembers model members × AreWitnesses model members witnesses
 IsFound model command _ = ⊥
 
@@ -326,6 +370,7 @@ IsFound model command _ = ⊥
 abbrev pub IsOneMore : Program → Command → List Member → List Point → Member → Type 0
 IsOneMore model Check members witnesses m = ⊥
 IsOneMore model Unbounded members witnesses m = ⊥
+IsOneMore model Relax members witnesses m = ⊥
 IsOneMore model Reduce members witnesses m = ⊥
 IsOneMore model (Edit e) members witnesses m = ⊥
 IsOneMore model Undo members witnesses m = ⊥
@@ -338,10 +383,16 @@ pub record AreLeftOut (model : Program) (left : List Member) : Type 0 where
   pub members : AreMembers model left
   pub active : All (λ m. IsTrue (is_active model m)) left
 
--- a part of a site: a run that may stop, such members, and branches
+-- members of the set of a site in order, with words for names
+pub record AreEnforced (model : Program) (left enforced : List Member) : Type 0 where
+  pub members : AreMembers model enforced
+  pub within : All (λ m. IsTrue (is_within model left m)) enforced
+
+-- a part of a site: a run that may stop, members left out and members enforced, and branches
 pub record IsTold (model : Program) (site : SitePart) : Type 0 where
   pub run : is_run_kind site.kind ≡ true
   pub left : AreLeftOut model site.left
+  pub enforced : AreEnforced model site.left site.enforced
   pub path : All (IsNamedBranch model) site.path
 
 -- a part of a stop
@@ -359,7 +410,7 @@ pub record AreNodes (model : Program) (command : Command) (nodes : List Node) (d
   pub one : (trees : List Tree) → length trees ≡ due → IsOneTree (nodes ++ flat_map preorder trees)
   pub few : due ≤ length nodes + 1
 
--- only a check, the search for an irreducible set, or the question how far the objective can go is answered by a stop
+-- only a check, the search for an irreducible set, or the question how far the objective can go or how little must give way is answered by a stop
 abbrev pub Asks : Command → Type 0
 Asks Reduce = ⊥
 Asks (Edit e) = ⊥
@@ -395,6 +446,24 @@ IsBoundPart model (BoundPart.Objective p v) = IsPointFor model p × IsWithinLimi
 IsBoundPart model (BoundPart.Bound p v b) = IsPointFor model p × (IsValueWithin v × IsWithinLimit b)
 IsBoundPart model (BoundPart.Dual p v b shares) = IsPointFor model p × (IsValueWithin v × (IsWithinLimit b × AreUses model shares))
 
+-- only the question how little must give way is answered by a least weighted violation
+abbrev pub Relaxes : Command → Type 0
+Relaxes Relax = ⊤
+Relaxes command = ⊥
+
+-- the values so far are few enough, and the shares of a dual stand in order
+abbrev pub IsLeastInForm : Program → LeastPart → Type 0
+IsLeastInForm model (LeastPart.Point t values) = length values ≤ length model.columns
+IsLeastInForm model (LeastPart.Dual t p shares) = AreSharesInOrder shares
+IsLeastInForm model _ = ⊤
+
+-- a part of a least weighted violation
+abbrev pub IsLeastPart : Program → LeastPart → Type 0
+IsLeastPart model LeastPart.Begun = ⊤
+IsLeastPart model (LeastPart.Total t) = IsWithinLimit t
+IsLeastPart model (LeastPart.Point t values) = IsWithinLimit t × AreValues model values
+IsLeastPart model (LeastPart.Dual t p shares) = IsWithinLimit t × (IsPointFor model p × AreUses model shares)
+
 -- only a reduction is answered by steps
 abbrev pub Reduces : Command → Type 0
 Reduces Reduce = ⊤
@@ -407,11 +476,13 @@ IsPartFor model command (Part.Claimed claim) = Claims command claim
 IsPartFor model command (Part.Point claim values) = Claims command claim × AreValues model values
 IsPartFor model command (Part.Ray point values) = Bounds command × (IsPointFor model point × AreValues model values)
 IsPartFor model command (Part.Bounded part) = Bounds command × IsBoundPart model part
+IsPartFor model command (Part.Least part) = Relaxes command × IsLeastPart model part
 IsPartFor model command (Part.Listed found) = IsFound model command found
 IsPartFor model command (Part.Member members witnesses m) = IsOneMore model command members witnesses m
 IsPartFor model command (Part.Witness members witnesses m values) = IsOneMore model command members witnesses m × AreValues model values
 IsPartFor model command (Part.Proof found nodes due) = IsFound model command found × AreNodes model command nodes due
 IsPartFor model command (Part.Leaf found nodes due shares) = IsFound model command found × (AreNodes model command nodes (due + 1) × AreUses model shares)
+IsPartFor model command (Part.Counted found nodes n) = IsFound model command found × (AreNodes model command nodes 0 × (IsCount n × (counts_rounds command ≡ true)))
 IsPartFor model command (Part.Reduced steps) = Reduces command × All (IsStepFor model) steps
 IsPartFor model command (Part.Left steps rows columns) = Reduces command × (All (IsStepFor model) steps × (IsCount rows × IsCount columns))
 IsPartFor model command (Part.Stop part) = Asks command × IsStopPart model part

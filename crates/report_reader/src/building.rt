@@ -5,10 +5,10 @@ ghost use Rattle.lp_model.specs.MemberSets.{IsMemberFor};
 ghost use Rattle.report_text.specs.Grammar.{left_out};
 ghost use Rattle.certs.specs.Order.{AreSharesInOrder};
 ghost use Rattle.report_text.specs.Form.{IsNamedMember};
-ghost use Rattle.report_reader.specs.Drafts.{filled, point_of, ray_of, leaf_of, set_of, answer_of, with_value, with_member, with_share, with_left_out, site_of, IsFound, AreLeftOut};
+ghost use Rattle.report_reader.specs.Drafts.{filled, point_of, ray_of, leaf_of, set_of, answer_of, with_value, with_member, with_share, with_left_out, with_enforced, site_of, IsFound, AreEnforced, AreLeftOut};
 
 use crate::drafts::{Found, Members, SitePart};
-use crate::ordering::{member_follows, source_follows};
+use crate::ordering::{is_listed, member_follows, source_follows};
 use certs::{Branch, Combo, Node, Nodes, Path, Point, Proof, Ray, Share, Shares, Site, Values};
 use frac128::Frac;
 use lp_model::{Member, MemberSet, Model};
@@ -79,18 +79,22 @@ pub(crate) fn add_member(members: Members, member: Member) -> Result<Option<Memb
     Ok(Some(Members::new(items)))
 }
 
-/// The active members that are left out with one more, where no branch stands yet, and it is active and comes after all of
-/// them.
+/// The active members that are left out with one more, where no member is enforced and no branch stands yet, and it is
+/// active and comes after all of them.
 pub(crate) fn add_left_out(
     model: &Model,
+    enforced: &[Member],
     path: &[Branch],
     left: Members,
     member: Member,
 ) -> Result<Option<Members>, AllocError>
     requires named { IsNamedMember model.now member }
     requires in_order { IsInOrder left }
-    ensures { IfOk result (λ m. m ≡ with_left_out model.now path.now left member) }
+    ensures { IfOk result (λ m. m ≡ with_left_out model.now enforced.now path.now left member) }
 {
+    if !enforced.is_empty() {
+        return Ok(None);
+    }
     if !path.is_empty() {
         return Ok(None);
     }
@@ -98,6 +102,33 @@ pub(crate) fn add_left_out(
         return Ok(None);
     }
     add_member(left, member)
+}
+
+/// The enforced members with one more, where no branch stands yet, and it is active, not left out, and comes after all of
+/// them.
+pub(crate) fn add_enforced(
+    model: &Model,
+    left: &[Member],
+    path: &[Branch],
+    enforced: Members,
+    member: Member,
+) -> Result<Option<Members>, AllocError>
+    requires named { IsNamedMember model.now member }
+    requires left_in_order { IsInOrder left.now }
+    requires in_order { IsInOrder enforced }
+    ensures { IfOk result (λ m.
+        m ≡ with_enforced model.now left.now path.now enforced member) }
+{
+    if path.len() != 0 {
+        return Ok(None);
+    }
+    if !model.is_active(member) {
+        return Ok(None);
+    }
+    if is_listed(left, member) {
+        return Ok(None);
+    }
+    add_member(enforced, member)
 }
 
 /// The branches with one more.
@@ -162,16 +193,17 @@ pub(crate) fn add_leaf(nodes: Nodes, shares: Shares) -> Result<Nodes, AllocError
     Ok(Nodes::new(items))
 }
 
-/// The answer that a set with the nodes of its proof is.
+/// The answer that a set with the nodes of its proof is, and with how many rounds were made, where that is told.
 pub(crate) fn make_answer(
     alloc: Global,
     model: &Model,
     command: &Command,
     found: Found,
     nodes: Nodes,
+    rounds: Option<u64>,
 ) -> Result<Answer, AllocError>
     requires { IsFound model.now command.now found }
-    ensures { IfOk result (λ a. a ≡ answer_of model.now found nodes) }
+    ensures { IfOk result (λ a. a ≡ answer_of model.now found nodes rounds) }
 {
     let proof = Proof { nodes };
     match found {
@@ -185,9 +217,13 @@ pub(crate) fn make_answer(
                 members,
                 witnesses,
                 proof,
-                rounds: None,
+                rounds,
                 price: None,
             }))
+        }
+        Found::Rigid(members) => {
+            let set = make_set(alloc, model, members.as_slice())?;
+            Ok(Answer::RigidInfeasible(set, proof))
         }
     }
 }
@@ -204,14 +240,20 @@ fn make_others(alloc: Global, model: &Model, left: &[Member]) -> Result<MemberSe
     Ok(set)
 }
 
-/// The site that is told: a run of the active members but those that are left out, on a path.
+/// The site that is told: a run of the active members but those that are left out, some of them enforced, on a path.
 pub(crate) fn make_site(alloc: Global, model: &Model, site: SitePart) -> Result<Site, AllocError>
-    requires { AreLeftOut model.now site.left }
+    requires left { AreLeftOut model.now site.left }
+    requires enforced { AreEnforced model.now site.left site.enforced }
     ensures { IfOk result (λ s. s ≡ site_of model.now site) }
 {
-    let SitePart { kind, left, path } = site;
+    let SitePart {
+        kind,
+        left,
+        enforced,
+        path,
+    } = site;
     let set = make_others(alloc, model, left.as_slice())?;
-    let enforced = MemberSet::empty(alloc, model)?;
+    let enforced = make_set(alloc, model, enforced.as_slice())?;
     Ok(Site {
         kind,
         set,

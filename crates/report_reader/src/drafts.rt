@@ -45,11 +45,12 @@ impl Members {
     }
 }
 
-/// What stands before a proof: members, or members with a witness for each.
+/// What stands before a proof: members, members with a witness for each, or rigid members.
 #[derive(Drop)]
 pub(crate) enum Found {
     Members(Members),
     Witnessed(Members, Witnesses),
+    Rigid(Members),
 }
 
 /// The command that is being answered, and the number of its line.
@@ -67,12 +68,13 @@ pub(crate) enum StopCause {
     Nodes,
 }
 
-/// How far a site is read: its kind, the active members so far that are not in its set, and the branches so far of its
-/// path.
+/// How far a site is read: its kind, the active members so far that are not in its set, the members of its set so far that
+/// are enforced, and the branches so far of its path.
 #[derive(Drop)]
 pub(crate) struct SitePart {
     pub(crate) kind: SiteKind,
     pub(crate) left: Members,
+    pub(crate) enforced: Members,
     pub(crate) path: Path,
 }
 
@@ -110,6 +112,19 @@ pub(crate) enum BoundPart {
     Dual(Point, Option<Frac>, Frac, Shares),
 }
 
+/// How far a least weighted violation is read.
+#[derive(Drop)]
+pub(crate) enum LeastPart {
+    /// `least` alone.
+    Begun,
+    /// The total.
+    Total(Frac),
+    /// The same, and a point, up to its last value that is not 0.
+    Point(Frac, Values),
+    /// The total and the point, `dual`, and its shares so far.
+    Dual(Frac, Point, Shares),
+}
+
 /// How far an answer is read.
 #[derive(Drop)]
 pub(crate) enum Part {
@@ -123,7 +138,9 @@ pub(crate) enum Part {
     Ray(Point, Values),
     /// `bounded`, and what stands behind it.
     Bounded(BoundPart),
-    /// Members of an infeasible set, or of an irreducible one with their witnesses.
+    /// `least`, and what stands behind it.
+    Least(LeastPart),
+    /// Members of an infeasible set, or of an irreducible one with their witnesses, or rigid ones.
     Listed(Found),
     /// Members with their witnesses, and one member more.
     Member(Members, Witnesses, Member),
@@ -133,6 +150,8 @@ pub(crate) enum Part {
     Proof(Found, Nodes, u64),
     /// The same, a leaf, and its shares so far; the count is of the subtrees that are due behind the leaf.
     Leaf(Found, Nodes, u64, Shares),
+    /// A whole proof, and how many rounds were made.
+    Counted(Found, Nodes, u64),
     /// `reduced`, and its steps so far.
     Reduced(ReduceSteps),
     /// The same, and how many rows and columns are left.

@@ -3,9 +3,9 @@ ghost use Rattle.std.specs.Prelude.{◌≡◌, ℕ, ◌+◌, ◌≤◌, ◌++◌
 ghost use Rattle.certs.specs.Order.{AreSharesInOrder};
 ghost use Rattle.lp_model.specs.Members.{IsInOrder};
 ghost use Rattle.phrase_reader.specs.Phrases.{IsPhraseFor};
-ghost use Rattle.report_reader.specs.Drafts.{members_of, point_of, may_split, proof_begun, proof_with, witnessed_with, extended, IsFound, IsPartFor};
+ghost use Rattle.report_reader.specs.Drafts.{members_of, point_of, may_split, counts_rounds, not_linear_said, proof_begun, proof_with, witnessed_with, extended, IsFound, IsPartFor};
 ghost use Rattle.lp_model.specs.Program.{Program};
-ghost use Rattle.report_text.specs.declared.report.Method.{Method};
+ghost use Rattle.report_text.specs.declared.report.Method.{Method as OneMethod};
 ghost use Rattle.report_text.specs.declared.report.Command.TheVariants.{Check, Iis, Edit, Undo, Pivots, Nodes};
 ghost use Rattle.report_text.specs.declared.report.NamedEdit.{NamedEdit as OneEdit};
 
@@ -14,12 +14,13 @@ use crate::building::{
     add_leaf, add_member, add_share, add_split, add_value, make_answer, make_point,
 };
 use crate::drafts::{Claim, Found, Members, Next, Part};
+use crate::least::{begin_relaxing, follow_least};
 use crate::ordering::member_follows;
 use crate::reducing::{begin_reduction, follow_left, follow_steps};
 use crate::stopping::{begin_stop, follow_stop};
 use certs::{Nodes, Shares, Values};
 use lp_model::{Member, Model};
-use report_text::{Answer, Command, Phrase, Refusal, Witnesses};
+use report_text::{Answer, Command, Method, Phrase, Refusal, Witnesses};
 use std::alloc::{AllocError, Global};
 
 // What may follow `command check`.
@@ -39,9 +40,19 @@ fn follow_check(alloc: Global, phrase: Phrase) -> Option<Next>
     }
 }
 
+// That a column is to be whole, where the method needs a linear program.
+fn refuse_column(method: Method, column: u32) -> Option<Next>
+    ensures { result ≡ not_linear_said (Iis method) column }
+{
+    match method {
+        Method::Elastic => Some(Next::Whole(Answer::NotLinear(column))),
+        Method::Deletion | Method::Additive | Method::Sensitivity => None,
+    }
+}
+
 // What may follow `command iis`.
-fn follow_search(alloc: Global, phrase: Phrase) -> Option<Next>
-    ensures { (model : Program) (method : Method) → result ≡ extended model (Iis method) Part.Nothing phrase }
+fn follow_search(alloc: Global, method: Method, phrase: Phrase) -> Option<Next>
+    ensures { (model : Program) → result ≡ extended model (Iis method) Part.Nothing phrase }
 {
     if let Phrase::Stop(stop) = phrase {
         return begin_stop(stop);
@@ -53,6 +64,7 @@ fn follow_search(alloc: Global, phrase: Phrase) -> Option<Next>
             let witnesses = Witnesses::new(Vec::new(alloc));
             Some(Next::More(Part::Listed(Found::Witnessed(members, witnesses))))
         }
+        Phrase::NotLinear(column) => refuse_column(method, column),
         _ => None,
     }
 }
@@ -103,8 +115,9 @@ fn follow_command(alloc: Global, command: &Command, phrase: Phrase) -> Option<Ne
 {
     match command {
         Command::Check => follow_check(alloc, phrase),
-        Command::Iis(_) => follow_search(alloc, phrase),
+        Command::Iis(method) => follow_search(alloc, *method, phrase),
         Command::Unbounded => begin_bounding(alloc, phrase),
+        Command::Relax => begin_relaxing(alloc, phrase),
         Command::Reduce => begin_reduction(alloc, phrase),
         Command::Edit(_) => follow_edit(phrase),
         Command::Undo => follow_undo(phrase),
@@ -169,6 +182,22 @@ fn follow_members(
     }
 }
 
+// What may follow rigid members.
+fn follow_rigid(alloc: Global, members: Members, phrase: Phrase) -> Result<Option<Next>, AllocError>
+    requires { IsInOrder members }
+    ensures { (model : Program) (command : Command) → IfOk result (λ n.
+        n ≡ extended model command (Part.Listed (Found.Rigid members)) phrase) }
+{
+    match phrase {
+        Phrase::Member(member) => {
+            let members = add_member(members, member)?;
+            Ok(members.map(|members| Next::More(Part::Listed(Found::Rigid(members)))))
+        }
+        Phrase::Proof => Ok(Some(begin_proof(alloc, Found::Rigid(members)))),
+        _ => Ok(None),
+    }
+}
+
 // What may follow members with witnesses.
 fn follow_witnessed(
     alloc: Global,
@@ -201,6 +230,7 @@ fn follow_list(alloc: Global, found: Found, phrase: Phrase) -> Result<Option<Nex
         Found::Witnessed(members, witnesses) => {
             Ok(follow_witnessed(alloc, members, witnesses, phrase))
         }
+        Found::Rigid(members) => follow_rigid(alloc, members, phrase),
     }
 }
 
@@ -266,11 +296,11 @@ fn follow_witness(
     Ok(follow_witnessed(alloc, members, witnesses, phrase))
 }
 
-// Whether a proof of an answer to the command may have a split: that of a reduction is one leaf.
+// Whether a proof of an answer to the command may have a split: that of a reduction, or of rigid members, is one leaf.
 fn allows_split(command: &Command) -> bool
     ensures { result ≡ may_split command.now }
 {
-    !matches!(command, Command::Reduce)
+    !matches!(command, Command::Reduce | Command::Relax)
 }
 
 // A split in the place of a subtree that is due, where there may be one.
@@ -307,7 +337,37 @@ fn open_leaf(alloc: Global, found: Found, nodes: Nodes, due: u64) -> Option<Next
     Some(Next::More(Part::Leaf(found, nodes, due - 1, shares)))
 }
 
-// The answer of a proof in which no subtree is due.
+// Whether an answer to the command tells how many rounds were made, where it is an irreducible set.
+fn tells_rounds(command: &Command) -> bool
+    ensures { result ≡ counts_rounds command.now }
+{
+    match command {
+        Command::Iis(method) => matches!(method, Method::Elastic),
+        _ => false,
+    }
+}
+
+// How many rounds were made, where the command tells them and no subtree is due.
+fn count_rounds(
+    command: &Command,
+    found: Found,
+    nodes: Nodes,
+    due: u64,
+    rounds: u64,
+) -> Option<Next>
+    ensures { (model : Program) →
+        result ≡ proof_with model command.now found nodes due (Phrase.Rounds rounds) }
+{
+    if !tells_rounds(command) {
+        return None;
+    }
+    if due > 0 {
+        return None;
+    }
+    Some(Next::More(Part::Counted(found, nodes, rounds)))
+}
+
+// The answer of a proof in which no subtree is due, where no rounds are told.
 fn close_proof(
     alloc: Global,
     model: &Model,
@@ -319,10 +379,13 @@ fn close_proof(
     requires { IsFound model.now command.now found }
     ensures { IfOk result (λ n. n ≡ proof_with model.now command.now found nodes due Phrase.End) }
 {
+    if tells_rounds(command) {
+        return Ok(None);
+    }
     if due != 0 {
         return Ok(None);
     }
-    let answer = make_answer(alloc, model, command, found, nodes)?;
+    let answer = make_answer(alloc, model, command, found, nodes, None)?;
     Ok(Some(Next::Whole(answer)))
 }
 
@@ -344,6 +407,7 @@ fn follow_nodes(
     match phrase {
         Phrase::Split(column, at) => open_split(command, found, nodes, due, column, at),
         Phrase::Leaf => Ok(open_leaf(alloc, found, nodes, due)),
+        Phrase::Rounds(rounds) => Ok(count_rounds(command, found, nodes, due, rounds)),
         Phrase::End => close_proof(alloc, model, command, found, nodes, due),
         _ => Ok(None),
     }
@@ -374,6 +438,29 @@ fn follow_leaf(
     follow_nodes(alloc, model, command, found, nodes, due, phrase)
 }
 
+// What may follow how many rounds were made: the end.
+fn close_rounds(
+    alloc: Global,
+    model: &Model,
+    command: &Command,
+    found: Found,
+    nodes: Nodes,
+    rounds: u64,
+    phrase: Phrase,
+) -> Result<Option<Next>, AllocError>
+    requires { IsFound model.now command.now found }
+    ensures { IfOk result (λ n.
+        n ≡ extended model.now command.now (Part.Counted found nodes rounds) phrase) }
+{
+    match phrase {
+        Phrase::End => {
+            let answer = make_answer(alloc, model, command, found, nodes, Some(rounds))?;
+            Ok(Some(Next::Whole(answer)))
+        }
+        _ => Ok(None),
+    }
+}
+
 /// What a phrase makes of a part of an answer to the command, if it may follow.
 pub(crate) fn follow(
     alloc: Global,
@@ -392,6 +479,7 @@ pub(crate) fn follow(
         Part::Point(claim, values) => follow_point(alloc, model, claim, values, phrase),
         Part::Ray(point, values) => follow_ray(model, point, values, phrase),
         Part::Bounded(part) => follow_bounding(alloc, part, phrase),
+        Part::Least(part) => follow_least(alloc, model, part, phrase),
         Part::Listed(found) => follow_list(alloc, found, phrase),
         Part::Member(members, witnesses, member) => {
             Ok(follow_member(alloc, members, witnesses, member, phrase))
@@ -404,6 +492,9 @@ pub(crate) fn follow(
         }
         Part::Leaf(found, nodes, due, shares) => {
             follow_leaf(alloc, model, command, found, nodes, due, shares, phrase)
+        }
+        Part::Counted(found, nodes, rounds) => {
+            close_rounds(alloc, model, command, found, nodes, rounds, phrase)
         }
         Part::Reduced(steps) => follow_steps(steps, phrase),
         Part::Left(steps, rows, columns) => Ok(follow_left(steps, rows, columns, phrase)),

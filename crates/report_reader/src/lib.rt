@@ -7,6 +7,7 @@ mod building;
 mod drafts;
 mod following;
 mod laws;
+mod least;
 mod ordering;
 mod reader;
 mod reducing;

@@ -3,9 +3,9 @@ ghost use Rattle.std.specs.Prelude.{◌≡◌, IfOk};
 ghost use Rattle.lp_model.specs.Program.{Program};
 ghost use Rattle.report_text.specs.Form.{is_run_kind, IsNamedMember};
 ghost use Rattle.phrase_reader.specs.Phrases.{IsStopPhrase, IsPhraseFor};
-ghost use Rattle.report_reader.specs.Drafts.{stop_begun, stop_with, AreLeftOut, IsStopPart};
+ghost use Rattle.report_reader.specs.Drafts.{stop_begun, stop_with, IsStopPart, IsTold};
 
-use crate::building::{add_branch, add_left_out, make_site};
+use crate::building::{add_branch, add_enforced, add_left_out, make_site};
 use crate::drafts::{Members, Next, Part, SitePart, StopCause, StopPart};
 use certs::{Branch, Path, SiteKind, Stop};
 use frac128::Wide;
@@ -26,11 +26,11 @@ pub(crate) fn begin_stop(phrase: StopPhrase) -> Option<Next>
     }
 }
 
-// Whether a run of that kind may be the site of a stop: the settle run, or the improve run.
+// Whether a run of that kind may be the site of a stop: every one but that of an alternative system.
 fn is_run(kind: SiteKind) -> bool
     ensures { result ≡ is_run_kind kind }
 {
-    matches!(kind, SiteKind::Settle | SiteKind::Improve)
+    !matches!(kind, SiteKind::Alternative)
 }
 
 // A site of that kind, of which no more is told yet.
@@ -42,8 +42,14 @@ fn begin_site(alloc: Global, cause: StopCause, kind: SiteKind) -> Option<Next>
         return None;
     }
     let left = Members::new(Vec::new(alloc));
+    let enforced = Members::new(Vec::new(alloc));
     let path = Path::new(Vec::new(alloc));
-    let site = SitePart { kind, left, path };
+    let site = SitePart {
+        kind,
+        left,
+        enforced,
+        path,
+    };
     Some(Next::More(Part::Stop(StopPart::Site(cause, site))))
 }
 
@@ -96,14 +102,54 @@ fn leave_out(
     site: SitePart,
     member: Member,
 ) -> Result<Option<Next>, AllocError>
-    requires left { AreLeftOut model.now site.left }
+    requires told { IsTold model.now site }
     requires member { IsNamedMember model.now member }
     ensures { IfOk result (λ n. n ≡ stop_with model.now (StopPart.Site cause site) (Phrase.Stop (StopPhrase.Without member))) }
 {
-    let SitePart { kind, left, path } = site;
-    let left = add_left_out(model, path.as_slice(), left, member)?;
+    let SitePart {
+        kind,
+        left,
+        enforced,
+        path,
+    } = site;
+    let left = add_left_out(model, enforced.as_slice(), path.as_slice(), left, member)?;
     Ok(left.map(|left| {
-        let site = SitePart { kind, left, path };
+        let site = SitePart {
+            kind,
+            left,
+            enforced,
+            path,
+        };
+        Next::More(Part::Stop(StopPart::Site(cause, site)))
+    }))
+}
+
+// A member more that is enforced.
+fn enforce(
+    model: &Model,
+    cause: StopCause,
+    site: SitePart,
+    member: Member,
+) -> Result<Option<Next>, AllocError>
+    requires told { IsTold model.now site }
+    requires member { IsNamedMember model.now member }
+    ensures { IfOk result (λ n. n ≡ stop_with model.now (StopPart.Site cause site)
+        (Phrase.Stop (StopPhrase.Enforced member))) }
+{
+    let SitePart {
+        kind,
+        left,
+        enforced,
+        path,
+    } = site;
+    let enforced = add_enforced(model, left.as_slice(), path.as_slice(), enforced, member)?;
+    Ok(enforced.map(|enforced| {
+        let site = SitePart {
+            kind,
+            left,
+            enforced,
+            path,
+        };
         Next::More(Part::Stop(StopPart::Site(cause, site)))
     }))
 }
@@ -112,9 +158,19 @@ fn leave_out(
 fn go_on(cause: StopCause, site: SitePart, branch: Branch) -> Result<Option<Next>, AllocError>
     ensures { (model : Program) → IfOk result (λ n. n ≡ stop_with model (StopPart.Site cause site) (Phrase.Stop (StopPhrase.Branch branch))) }
 {
-    let SitePart { kind, left, path } = site;
+    let SitePart {
+        kind,
+        left,
+        enforced,
+        path,
+    } = site;
     let path = add_branch(path, branch)?;
-    let site = SitePart { kind, left, path };
+    let site = SitePart {
+        kind,
+        left,
+        enforced,
+        path,
+    };
     Ok(Some(Next::More(Part::Stop(StopPart::Site(cause, site)))))
 }
 
@@ -125,12 +181,13 @@ fn extend_site(
     site: SitePart,
     phrase: StopPhrase,
 ) -> Result<Option<Next>, AllocError>
-    requires left { AreLeftOut model.now site.left }
+    requires told { IsTold model.now site }
     requires phrase { IsStopPhrase model.now phrase }
     ensures { IfOk result (λ n. n ≡ stop_with model.now (StopPart.Site cause site) (Phrase.Stop phrase)) }
 {
     match phrase {
         StopPhrase::Without(member) => leave_out(model, cause, site, member),
+        StopPhrase::Enforced(member) => enforce(model, cause, site, member),
         StopPhrase::Branch(branch) => go_on(cause, site, branch),
         StopPhrase::Step(step) => Ok(open_step(cause, site, step)),
         _ => Ok(None),
@@ -144,7 +201,7 @@ fn close_site(
     cause: StopCause,
     site: SitePart,
 ) -> Result<Option<Next>, AllocError>
-    requires { AreLeftOut model.now site.left }
+    requires { IsTold model.now site }
     ensures { IfOk result (λ n. n ≡ stop_with model.now (StopPart.Site cause site) Phrase.End) }
 {
     match cause {
@@ -168,7 +225,7 @@ fn follow_site(
     site: SitePart,
     phrase: Phrase,
 ) -> Result<Option<Next>, AllocError>
-    requires left { AreLeftOut model.now site.left }
+    requires told { IsTold model.now site }
     requires phrase { IsPhraseFor model.now phrase }
     ensures { IfOk result (λ n. n ≡ stop_with model.now (StopPart.Site cause site) phrase) }
 {
@@ -200,7 +257,7 @@ fn close_wide(
     wide: Wide,
     phrase: Phrase,
 ) -> Result<Option<Next>, AllocError>
-    requires { AreLeftOut model.now site.left }
+    requires { IsTold model.now site }
     ensures { IfOk result (λ n. n ≡ stop_with model.now (StopPart.Operation site step wide) phrase) }
 {
     match phrase {

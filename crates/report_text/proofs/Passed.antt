@@ -15,3 +15,9 @@ past_two a b one two three end =
     let n : (2 + length one) + length two ≡ 2 + length (one ++ two) = omega (arith, length-append one two) in
     ap (λ k. drop k (a ∷ b ∷ ((one ++ (two ++ three)) ++ end))) n
     ∙ (ap (λ l. drop (2 + length (one ++ two)) (a ∷ b ∷ (l ++ end))) (sym (append_assoc one two three)) ∙ past_one a b (one ++ two) three end)
+
+-- behind three lines
+pub past_third : {A : Type 0} (a b c : A) (one two end : List A) → drop (3 + length one) (a ∷ b ∷ c ∷ ((one ++ two) ++ end)) ≡ two ++ end
+past_third a b c one two end =
+    let three_more : 3 + length one ≡ suc (2 + length one) = omega arith in
+    ap (λ k. drop k (a ∷ b ∷ c ∷ ((one ++ two) ++ end))) three_more ∙ past_one b c one two end

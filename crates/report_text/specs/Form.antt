@@ -11,7 +11,7 @@ use Rattle.lp_model.specs.Program.{Program, row_at, noted_column}
 use Rattle.text_fields.specs.Numbers.{is_far}
 use Rattle.lp_model.specs.declared.members.Member.{Member}
 use Rattle.lp_model.specs.Members.{has, active_members, IsInOrder}
-use Rattle.lp_model.specs.MemberSets.{SetValue, IsMemberFor, empty_set}
+use Rattle.lp_model.specs.MemberSets.{SetValue, IsMemberFor}
 use Rattle.lp_model.specs.Satisfaction.{values_at}
 use Rattle.certs.specs.declared.evidence.Source.{Source}
 use Rattle.certs.specs.declared.evidence.Source.TheVariants.{Member as Of, Below, Above}
@@ -21,12 +21,13 @@ use Rattle.certs.specs.declared.evidence.Node.{Node}
 use Rattle.certs.specs.declared.evidence.Node.TheVariants.{Split, Leaf}
 use Rattle.certs.specs.declared.evidence.Proof.{Proof}
 use Rattle.certs.specs.declared.evidence.Ray.{Ray}
+use Rattle.bound_checks.specs.declared.bounds.Dual.{Dual}
 use Rattle.certs.specs.Checks.{IsSetOf}
 use Rattle.certs.specs.Combination.{IsFitting}
 use Rattle.certs.specs.Proof.{Tree, preorder, IsFittingNode}
 use Rattle.certs.specs.Order.{AreSharesInOrder}
 use Rattle.certs.specs.declared.solving.SiteKind.{SiteKind}
-use Rattle.certs.specs.declared.solving.SiteKind.TheVariants.{Settle, Improve}
+use Rattle.certs.specs.declared.solving.SiteKind.TheVariants.{Settle, Improve, Stretch, Relax}
 use Rattle.certs.specs.declared.solving.Site.{Site}
 use Rattle.certs.specs.declared.solving.Stop.{Stop}
 use Rattle.certs.specs.declared.solving.Stop.TheVariants.{Wide as TooWide, Pivots as Spent, Nodes as NodesSpent, Large, Memory}
@@ -34,7 +35,9 @@ use Rattle.frac128.specs.declared.Wide.{Wide as Operation}
 use Rattle.reductions.specs.declared.steps.ReduceStep.{ReduceStep}
 use Rattle.reductions.specs.declared.steps.ReduceStep.TheVariants.{Empty, Singleton, Fixed, Redundant, Forcing, Doubleton}
 use Rattle.report_text.specs.declared.report.Command.{Command}
-use Rattle.report_text.specs.declared.report.Command.TheVariants.{Check, Iis, Unbounded, Reduce, Edit, Undo, Pivots, Nodes}
+use Rattle.report_text.specs.declared.report.Command.TheVariants.{Check, Iis, Unbounded, Relax as RelaxIt, Reduce, Edit, Undo, Pivots, Nodes}
+use Rattle.report_text.specs.declared.report.Method.{Method}
+use Rattle.report_text.specs.declared.report.Method.TheVariants.{Elastic}
 use Rattle.report_text.specs.declared.report.TargetKind.{TargetKind}
 use Rattle.report_text.specs.declared.report.EditKind.{EditKind}
 use Rattle.report_text.specs.declared.report.NamedEdit.{NamedEdit}
@@ -43,7 +46,7 @@ use Rattle.report_text.specs.declared.report.Core.{Core}
 use Rattle.report_text.specs.declared.report.Bounded.{Bounded}
 use Rattle.report_text.specs.declared.report.Reduced.{Reduced}
 use Rattle.report_text.specs.declared.report.Answer.{Answer}
-use Rattle.report_text.specs.declared.report.Answer.TheVariants.{Feasible, Infeasible, Irreducible, Unbounded as RunsAway, Bounded as BoundedBy, Reduced as ReducedTo, Done, Refused, Stopped}
+use Rattle.report_text.specs.declared.report.Answer.TheVariants.{Feasible, Infeasible, Irreducible, Unbounded as RunsAway, Bounded as BoundedBy, Least as LeastBy, RigidInfeasible as RigidRefuted, Reduced as ReducedTo, Done, Refused, NotLinear, Stopped}
 use Rattle.report_text.specs.declared.report.Entry.{Entry}
 use Rattle.report_text.specs.declared.report.Report.{Report}
 use Rattle.report_text.specs.Turns.{after, AllEntries}
@@ -126,25 +129,29 @@ pub record IsProofFor (model : Program) (proof : Proof) : Type 0 where
   pub each : All (IsNodeFor model) proof.nodes
 
 -- ---- stops
--- a run that is printed as yet: the settle run, or the improve run
+-- a run that is printed as yet: every one but that of an alternative system
 abbrev pub is_run_kind : SiteKind → Bool
 is_run_kind Settle = true
 is_run_kind Improve = true
+is_run_kind Stretch = true
+is_run_kind Relax = true
 is_run_kind _ = false
 
--- such a run of active members in member order on a path of columns that there are, with no enforced part
+-- such a run of active members in member order, some of which may be enforced, on a path of columns that there are
 pub record IsRunSite (model : Program) (site : Site) : Type 0 where
   pub kind : is_run_kind site.kind ≡ true
   pub of_model : IsSetOf model site.set
   pub active : site.set.members ≡ filter (has site.set.members) (active_members model)
-  pub enforced_is : site.enforced ≡ empty_set model
+  pub enforced_of : IsSetOf model site.enforced
+  pub enforced_part : site.enforced.members ≡ filter (has site.enforced.members) site.set.members
   pub known : All (λ b. b.column < length model.columns) site.path
   pub fits : All IsFitting site.path
 
--- such a site, where each active member that is not in its set has a word for a name, and so has each column of its path
+-- such a site, where each active member that is not in its set has a word for a name, and so has each enforced one, and each column of its path
 pub record IsSiteFor (model : Program) (site : Site) : Type 0 where
   pub run : IsRunSite model site
   pub named : All (IsNamedMember model) (left_out model site.set.members)
+  pub enforced : All (IsNamedMember model) site.enforced.members
   pub path : All (λ b. IsNamedColumn model b.column) site.path
 
 -- an operation on numbers within the limit
@@ -165,13 +172,18 @@ IsStopFor model (Large size) = IsCount size
 IsStopFor model Memory = ⊥
 
 -- ---- answers
--- an irreducible set: a witness for each member, and a proof; no rounds and no price have a line as yet
+-- a count of 64 bits, where there is one
+abbrev pub IsCountWithin : Option ℕ → Type 0
+IsCountWithin None = Unit {0}
+IsCountWithin (Some n) = IsCount n
+
+-- an irreducible set: a witness for each member, a proof, and a count of rounds where it is told; no price has a line as yet
 pub record IsCoreFor (model : Program) (core : Core) : Type 0 where
   pub members : IsListed model core.members
   pub each : length core.witnesses ≡ length core.members.members
   pub points : All (IsPointFor model) core.witnesses
   pub proof : IsProofFor model core.proof
-  pub rounds : core.rounds ≡ None
+  pub rounds : IsCountWithin core.rounds
   pub price : core.price ≡ None
 
 -- a value, where there is one, whose parts are within the limit
@@ -185,6 +197,12 @@ pub record IsBoundedFor (model : Program) (b : Bounded) : Type 0 where
   pub objective : IsValueWithin b.objective
   pub bound : IsWithinLimit b.dual.bound
   pub uses : AreUses model b.dual.combo.shares
+
+-- a point, a total that fits, and uses
+pub record IsLeastFor (model : Program) (p : Point) (dual : Dual) : Type 0 where
+  pub point : IsPointFor model p
+  pub total : IsWithinLimit dual.bound
+  pub uses : AreUses model dual.combo.shares
 
 -- the rows and columns of a step are there, their names are words, and the value of a fixed column fits
 abbrev pub IsStepFor : Program → ReduceStep → Type 0
@@ -208,9 +226,12 @@ IsAnswerFor model (Infeasible set proof) = IsListed model set × IsProofFor mode
 IsAnswerFor model (Irreducible core) = IsCoreFor model core
 IsAnswerFor model (RunsAway p ray) = IsPointFor model p × IsRayFor model ray
 IsAnswerFor model (BoundedBy b) = IsBoundedFor model b
+IsAnswerFor model (LeastBy p dual) = IsLeastFor model p dual
+IsAnswerFor model (RigidRefuted set proof) = IsListed model set × IsProofFor model proof
 IsAnswerFor model (ReducedTo r) = IsReducedFor model r
 IsAnswerFor model Done = Unit {0}
 IsAnswerFor model (Refused r) = Unit {0}
+IsAnswerFor model (NotLinear j) = IsNamedColumn model j
 IsAnswerFor model (Stopped stop) = IsStopFor model stop
 
 -- the most that a budget may be
@@ -246,6 +267,7 @@ abbrev pub IsCommand : Command → Type 0
 IsCommand Check = Unit {0}
 IsCommand (Iis method) = Unit {0}
 IsCommand Unbounded = Unit {0}
+IsCommand RelaxIt = Unit {0}
 IsCommand Reduce = Unit {0}
 IsCommand (Edit e) = IsNamedEdit e
 IsCommand Undo = Unit {0}
@@ -257,18 +279,30 @@ abbrev pub is_one_leaf : List Node → Bool
 is_one_leaf (Leaf combo ∷ []) = true
 is_one_leaf _ = false
 
+-- whether rounds are told just where the method has them
+abbrev pub has_rounds : Method → Option ℕ → Bool
+has_rounds Elastic (Some n) = true
+has_rounds Elastic None = false
+has_rounds _ (Some n) = false
+has_rounds _ None = true
+
 -- whether the answer is of a kind that the command may have
 abbrev pub can_answer : Command → Answer → Bool
 can_answer Check (Feasible p) = true
 can_answer Check (Infeasible set proof) = true
 can_answer Check (Stopped stop) = true
 can_answer (Iis method) (Feasible p) = true
-can_answer (Iis method) (Irreducible core) = true
+can_answer (Iis method) (Irreducible core) = has_rounds method core.rounds
+can_answer (Iis Elastic) (NotLinear j) = true
 can_answer (Iis method) (Stopped stop) = true
 can_answer Unbounded (Infeasible set proof) = true
 can_answer Unbounded (RunsAway p ray) = true
 can_answer Unbounded (BoundedBy b) = true
 can_answer Unbounded (Stopped stop) = true
+can_answer RelaxIt (LeastBy p dual) = true
+can_answer RelaxIt (RigidRefuted set proof) = is_one_leaf proof.nodes
+can_answer RelaxIt (NotLinear j) = true
+can_answer RelaxIt (Stopped stop) = true
 can_answer Reduce (Infeasible set proof) = is_one_leaf proof.nodes
 can_answer Reduce (ReducedTo r) = true
 can_answer (Edit e) Done = true

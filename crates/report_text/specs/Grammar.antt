@@ -21,6 +21,7 @@ use Rattle.lp_model.specs.declared.members.Member.TheVariants.{RowLo, RowUp, Low
 use Rattle.lp_model.specs.declared.members.Side.{Side}
 use Rattle.lp_model.specs.declared.members.Side.TheVariants.{Lo, Up}
 use Rattle.lp_model.specs.Members.{has, active_members}
+use Rattle.lp_model.specs.MemberSets.{SetValue}
 use Rattle.certs.specs.declared.evidence.Branch.{Branch}
 use Rattle.certs.specs.declared.evidence.Source.{Source}
 use Rattle.certs.specs.declared.evidence.Source.TheVariants.{Member as Of, Below, Above}
@@ -34,16 +35,17 @@ use Rattle.bound_checks.specs.declared.bounds.Dual.{Dual}
 use Rattle.reductions.specs.declared.steps.ReduceStep.{ReduceStep}
 use Rattle.reductions.specs.declared.steps.ReduceStep.TheVariants.{Empty, Singleton, Fixed, Redundant, Forcing, Doubleton}
 use Rattle.report_text.specs.declared.report.Method.{Method}
-use Rattle.report_text.specs.declared.report.Method.TheVariants.{Deletion, Additive, Sensitivity}
+use Rattle.report_text.specs.declared.report.Method.TheVariants.{Deletion, Additive, Sensitivity, Elastic}
 use Rattle.report_text.specs.declared.report.Command.{Command}
-use Rattle.report_text.specs.declared.report.Command.TheVariants.{Check, Iis, Unbounded, Reduce, Edit, Undo, Pivots, Nodes}
+use Rattle.report_text.specs.declared.report.Command.TheVariants.{Check, Iis, Unbounded, Relax as RelaxIt, Reduce, Edit, Undo, Pivots, Nodes}
 use Rattle.report_text.specs.declared.report.TargetKind.{TargetKind}
 use Rattle.report_text.specs.declared.report.EditKind.{EditKind}
 use Rattle.report_text.specs.declared.report.Refusal.{Refusal}
+use Rattle.report_text.specs.declared.report.Core.{Core}
 use Rattle.report_text.specs.declared.report.Bounded.{Bounded}
 use Rattle.report_text.specs.declared.report.Reduced.{Reduced}
 use Rattle.report_text.specs.declared.report.Answer.{Answer}
-use Rattle.report_text.specs.declared.report.Answer.TheVariants.{Feasible, Infeasible, Irreducible, Unbounded as RunsAway, Bounded as BoundedBy, Reduced as ReducedTo, Done, Refused, Stopped}
+use Rattle.report_text.specs.declared.report.Answer.TheVariants.{Feasible, Infeasible, Irreducible, Unbounded as RunsAway, Bounded as BoundedBy, Least as LeastBy, RigidInfeasible as RigidRefuted, Reduced as ReducedTo, Done, Refused, NotLinear, Stopped}
 use Rattle.report_text.specs.declared.report.Entry.{Entry}
 use Rattle.report_text.specs.declared.report.Report.{Report}
 use Rattle.report_text.specs.Turns.{after, gathered}
@@ -114,6 +116,7 @@ abbrev pub method_word : Method → List ℕ
 method_word Deletion = codes "deletion"
 method_word Additive = codes "additive"
 method_word Sensitivity = codes "sensitivity"
+method_word Elastic = codes "elastic"
 
 -- the word for what an edit is of
 abbrev pub target_word : TargetKind → List ℕ
@@ -163,6 +166,7 @@ abbrev pub command_words : Command → List (List ℕ)
 command_words Check = codes "check" ∷ []
 command_words (Iis method) = codes "iis" ∷ method_word method ∷ []
 command_words Unbounded = codes "unbounded" ∷ []
+command_words RelaxIt = codes "relax" ∷ []
 command_words Reduce = codes "reduce" ∷ []
 command_words (Edit e) = edit_words e.name e.kind
 command_words Undo = codes "undo" ∷ []
@@ -179,17 +183,22 @@ keyword_text Keyword.Infeasible = codes "infeasible"
 keyword_text Keyword.Irreducible = codes "irreducible"
 keyword_text Keyword.Unbounded = codes "unbounded"
 keyword_text Keyword.Bounded = codes "bounded"
+keyword_text Keyword.Least = codes "least"
+keyword_text Keyword.Rigid = codes "rigid"
 keyword_text Keyword.Reduced = codes "reduced"
 keyword_text Keyword.Done = codes "done"
 keyword_text Keyword.Unknown = codes "unknown"
 keyword_text Keyword.No = codes "no"
 keyword_text Keyword.Nothing = codes "nothing"
+keyword_text Keyword.Not = codes "not"
 keyword_text Keyword.Point = codes "point"
 keyword_text Keyword.Value = codes "value"
 keyword_text Keyword.Ray = codes "ray"
 keyword_text Keyword.Objective = codes "objective"
 keyword_text Keyword.Bound = codes "bound"
 keyword_text Keyword.Dual = codes "dual"
+keyword_text Keyword.Total = codes "total"
+keyword_text Keyword.Rounds = codes "rounds"
 keyword_text Keyword.Member = codes "member"
 keyword_text Keyword.Proof = codes "proof"
 keyword_text Keyword.Split = codes "split"
@@ -207,6 +216,7 @@ keyword_text Keyword.Pivots = codes "pivots"
 keyword_text Keyword.Nodes = codes "nodes"
 keyword_text Keyword.Site = codes "site"
 keyword_text Keyword.Without = codes "without"
+keyword_text Keyword.Enforced = codes "enforced"
 keyword_text Keyword.BranchBelow = codes "below"
 keyword_text Keyword.BranchAbove = codes "above"
 keyword_text Keyword.Step = codes "step"
@@ -238,6 +248,7 @@ stop_keyword StopPhrase.Nodes = Keyword.Nodes
 stop_keyword (StopPhrase.Large size) = Keyword.Too
 stop_keyword (StopPhrase.Site kind) = Keyword.Site
 stop_keyword (StopPhrase.Without m) = Keyword.Without
+stop_keyword (StopPhrase.Enforced m) = Keyword.Enforced
 stop_keyword (StopPhrase.Branch b) = branch_keyword b.upper
 stop_keyword (StopPhrase.Step k) = Keyword.Step
 stop_keyword (StopPhrase.Operation o) = Keyword.Operation
@@ -269,9 +280,12 @@ keyword_of Phrase.Infeasible = Keyword.Infeasible
 keyword_of Phrase.Irreducible = Keyword.Irreducible
 keyword_of Phrase.Unbounded = Keyword.Unbounded
 keyword_of Phrase.Bounded = Keyword.Bounded
+keyword_of Phrase.Least = Keyword.Least
+keyword_of Phrase.RigidInfeasible = Keyword.Rigid
 keyword_of Phrase.Reduced = Keyword.Reduced
 keyword_of Phrase.Done = Keyword.Done
 keyword_of (Phrase.Refused r) = refusal_keyword r
+keyword_of (Phrase.NotLinear j) = Keyword.Not
 keyword_of (Phrase.Stop s) = stop_keyword s
 keyword_of Phrase.Point = Keyword.Point
 keyword_of (Phrase.Value j v) = Keyword.Value
@@ -279,6 +293,8 @@ keyword_of Phrase.Ray = Keyword.Ray
 keyword_of (Phrase.Objective v) = Keyword.Objective
 keyword_of (Phrase.Bound v) = Keyword.Bound
 keyword_of Phrase.Dual = Keyword.Dual
+keyword_of (Phrase.Total v) = Keyword.Total
+keyword_of (Phrase.Rounds n) = Keyword.Rounds
 keyword_of (Phrase.Member m) = Keyword.Member
 keyword_of Phrase.Proof = Keyword.Proof
 keyword_of (Phrase.Split j k) = Keyword.Split
@@ -297,6 +313,7 @@ stop_details model StopPhrase.Nodes = codes "spent" ∷ []
 stop_details model (StopPhrase.Large size) = codes "large" ∷ decimal size ∷ []
 stop_details model (StopPhrase.Site kind) = site_word kind ∷ []
 stop_details model (StopPhrase.Without m) = kind_word m ∷ name_of model m ∷ []
+stop_details model (StopPhrase.Enforced m) = kind_word m ∷ name_of model m ∷ []
 stop_details model (StopPhrase.Branch b) = column_name model b.column ∷ signed_decimal b.at ∷ []
 stop_details model (StopPhrase.Step k) = decimal k ∷ []
 stop_details model (StopPhrase.Operation o) = op_word o.op ∷ printed o.left ∷ printed o.right ∷ []
@@ -312,9 +329,12 @@ details model Phrase.Infeasible = []
 details model Phrase.Irreducible = []
 details model Phrase.Unbounded = []
 details model Phrase.Bounded = []
+details model Phrase.Least = []
+details model Phrase.RigidInfeasible = codes "infeasible" ∷ []
 details model Phrase.Reduced = []
 details model Phrase.Done = []
 details model (Phrase.Refused r) = refusal_details r
+details model (Phrase.NotLinear j) = codes "linear" ∷ column_name model j ∷ []
 details model (Phrase.Stop s) = stop_details model s
 details model Phrase.Point = []
 details model (Phrase.Value j v) = column_name model j ∷ printed v ∷ []
@@ -322,6 +342,8 @@ details model Phrase.Ray = []
 details model (Phrase.Objective v) = printed v ∷ []
 details model (Phrase.Bound v) = printed v ∷ []
 details model Phrase.Dual = []
+details model (Phrase.Total v) = printed v ∷ []
+details model (Phrase.Rounds n) = decimal n ∷ []
 details model (Phrase.Member m) = kind_word m ∷ name_of model m ∷ []
 details model Phrase.Proof = []
 details model (Phrase.Split j k) = column_name model j ∷ signed_decimal k ∷ []
@@ -390,6 +412,23 @@ dual_phrases dual = Phrase.Bound dual.bound ∷ Phrase.Dual ∷ map Phrase.Use d
 abbrev pub bounded_phrases : Bounded → List Phrase
 bounded_phrases b = Phrase.Bounded ∷ (point_phrases b.point ++ (objective_phrases b.objective ++ dual_phrases b.dual))
 
+-- of a least weighted violation: the total, a point, and the shares of the dual
+abbrev pub least_phrases : Point → Dual → List Phrase
+least_phrases p dual = Phrase.Least ∷ Phrase.Total dual.bound ∷ (point_phrases p ++ Phrase.Dual ∷ map Phrase.Use dual.combo.shares)
+
+-- of rigid members that no point satisfies
+abbrev pub rigid_phrases : SetValue → Proof → List Phrase
+rigid_phrases set proof = Phrase.RigidInfeasible ∷ (map Phrase.Member set.members ++ proof_phrases proof)
+
+-- of how many rounds were made, where it is told
+abbrev pub rounds_phrases : Option ℕ → List Phrase
+rounds_phrases None = []
+rounds_phrases (Some n) = Phrase.Rounds n ∷ []
+
+-- of an irreducible set: each member with its witness, the proof, and the rounds
+abbrev pub irreducible_phrases : Core → List Phrase
+irreducible_phrases core = Phrase.Irreducible ∷ (flat_map witness_phrases (zip core.members.members core.witnesses) ++ (proof_phrases core.proof ++ rounds_phrases core.rounds))
+
 -- of how far a program is reduced: the steps, and what is left
 abbrev pub reduced_phrases : Reduced → List Phrase
 reduced_phrases r = Phrase.Reduced ∷ (map Phrase.Reduction r.steps ++ Phrase.Left r.rows r.columns ∷ [])
@@ -402,13 +441,17 @@ left_out model set = filter (λ m. not (has set m)) (active_members model)
 abbrev pub without_phrase : Member → Phrase
 without_phrase m = Phrase.Stop (StopPhrase.Without m)
 
+-- a member that is enforced at a site
+abbrev pub enforced_phrase : Member → Phrase
+enforced_phrase m = Phrase.Stop (StopPhrase.Enforced m)
+
 -- a branch of the path of a site
 abbrev pub branch_phrase : Branch → Phrase
 branch_phrase b = Phrase.Stop (StopPhrase.Branch b)
 
--- a site: its kind, the active members that are not in its set, and the branches on the way to its node
+-- a site: its kind, the active members that are not in its set, those of its set that are enforced, and the branches on the way to its node
 abbrev pub site_phrases : Program → Site → List Phrase
-site_phrases model site = Phrase.Stop (StopPhrase.Site site.kind) ∷ (map without_phrase (left_out model site.set.members) ++ map branch_phrase site.path)
+site_phrases model site = Phrase.Stop (StopPhrase.Site site.kind) ∷ (map without_phrase (left_out model site.set.members) ++ (map enforced_phrase site.enforced.members ++ map branch_phrase site.path))
 
 -- a stop without its end; want of memory is never printed
 abbrev pub stop_phrases : Program → Stop → List Phrase
@@ -422,18 +465,22 @@ stop_phrases model Memory = []
 abbrev pub answer_front : Program → Answer → List Phrase
 answer_front model (Feasible p) = Phrase.Feasible ∷ point_phrases p
 answer_front model (Infeasible set proof) = Phrase.Infeasible ∷ (map Phrase.Member set.members ++ proof_phrases proof)
-answer_front model (Irreducible core) = Phrase.Irreducible ∷ (flat_map witness_phrases (zip core.members.members core.witnesses) ++ proof_phrases core.proof)
+answer_front model (Irreducible core) = irreducible_phrases core
 answer_front model (RunsAway p ray) = unbounded_phrases p ray
 answer_front model (BoundedBy b) = bounded_phrases b
+answer_front model (LeastBy p dual) = least_phrases p dual
+answer_front model (RigidRefuted set proof) = rigid_phrases set proof
 answer_front model (ReducedTo r) = reduced_phrases r
 answer_front model Done = []
 answer_front model (Refused r) = []
+answer_front model (NotLinear j) = []
 answer_front model (Stopped stop) = stop_phrases model stop
 
 -- the last line of an answer
 abbrev pub answer_end : Answer → Phrase
 answer_end Done = Phrase.Done
 answer_end (Refused r) = Phrase.Refused r
+answer_end (NotLinear j) = Phrase.NotLinear j
 answer_end _ = Phrase.End
 
 -- an answer

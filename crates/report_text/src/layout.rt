@@ -21,6 +21,10 @@ pub const MEMBER_LINES: u32 = 1;
 /// How many lines of a proof stand before its first leaf: that of the proof.
 pub const PROOF_LINES: u32 = 1;
 
+/// How many lines of a least violation stand before its point: that of the command, that which tells what the answer is, and
+/// that of the total.
+pub const LEAST_LINES: u32 = 3;
+
 /// How many lines of a dual stand before the line that tells that its uses follow: that of its bound.
 pub const BOUND_LINES: u32 = 1;
 

@@ -14,6 +14,7 @@ pub enum Method {
     Deletion,
     Additive,
     Sensitivity,
+    Elastic,
 }
 
 /// What an edit is of: a row with those sides that it has, one side of a row, a bound of a column, or its mark.
@@ -47,14 +48,15 @@ pub struct NamedEdit {
 }
 
 /// What is asked of a program: whether some point satisfies its active members, or which of them no point satisfies
-/// though each part of them has one; whether its objective runs away, or how far it can go; how far its linear relaxation
-/// is reduced before any run; an edit of it, or that the last edit that stands is taken back. Or how many pivots each
-/// later run may make, or how many nodes each later tree may have, up to 1,000,000.
+/// though each part of them has one; whether its objective runs away, or how far it can go; how little of its members must
+/// give way; how far its linear relaxation is reduced before any run; an edit of it, or that the last edit that stands is
+/// taken back. Or how many pivots each later run may make, or how many nodes each later tree may have, up to 1,000,000.
 #[derive(Drop)]
 pub enum Command {
     Check,
     Iis(Method),
     Unbounded,
+    Relax,
     Reduce,
     Edit(NamedEdit),
     Undo,
@@ -81,8 +83,8 @@ impl Model for Script {
 pub type Witnesses = Items<Point>;
 
 /// An irreducible set: its members, for each of them in member order a point that is to satisfy all the others, and a
-/// proof that no point satisfies them all. How many rounds a method took, and a price with its point, are given by no
-/// method as yet.
+/// proof that no point satisfies them all. How many rounds it took is told by the elastic method alone, and a price with its
+/// point is given by no method as yet.
 #[derive(Drop)]
 pub struct Core {
     pub members: MemberSet,
@@ -123,8 +125,10 @@ pub enum Refusal {
 }
 
 /// What a report answers to a command: a point, members with a proof that no point satisfies them, or an irreducible
-/// set; a point with a ray along which the objective runs away, or how far it can go; how far the program is reduced; that
-/// a command is done, or refused; or why a solve stopped, which is never for want of memory. Members are the printed ones.
+/// set; a point with a ray along which the objective runs away, or how far it can go; a point of least weighted violation
+/// with a dual whose bound is the total, or rigid members with a proof of one leaf that no point satisfies them; how far the
+/// program is reduced; that a command is done, or refused, or that a column is to be whole where it may not be; or why a solve
+/// stopped, which is never for want of memory. Members are the printed ones.
 #[derive(Drop)]
 pub enum Answer {
     Feasible(Point),
@@ -132,9 +136,12 @@ pub enum Answer {
     Irreducible(Core),
     Unbounded(Point, Ray),
     Bounded(Bounded),
+    Least(Point, Dual),
+    RigidInfeasible(MemberSet, Proof),
     Reduced(Reduced),
     Done,
     Refused(Refusal),
+    NotLinear(u32),
     Stopped(Stop),
 }
 

@@ -47,6 +47,7 @@ fn is_unsettled(line: &[u8]) -> bool {
         || line == b"pivots spent".as_slice()
         || line == b"nodes spent".as_slice()
         || line.starts_with(b"too large ")
+        || line.starts_with(b"not linear ")
 }
 
 // Whether some answer of a report is one that no check looks into.

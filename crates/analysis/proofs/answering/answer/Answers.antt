@@ -2,7 +2,7 @@ use Rattle.std.proofs.Common.{sym, subst}
 use Rattle.std.specs.Prelude.{IfOk}
 use Rattle.report_text.specs.declared.report.Command.{Command}
 use Rattle.analysis.specs.Answers.{IsNext, budgets_of}
-use Rattle.analysis.proofs.Nexts.{check_nexts, diagnosis_nexts, reduce_nexts, search_nexts, budget_next, edit_nexts, undo_next, known_reply, known_replies}
+use Rattle.analysis.proofs.Nexts.{check_nexts, diagnosis_nexts, reduce_nexts, relaxation_nexts, search_nexts, budget_next, edit_nexts, undo_next, known_reply, known_replies}
 use Rattle.analysis.proofs.answering.answer.Goals as goal
 
 pub returns-in-Edit-clause-next : goal.returns-in-Edit-clause-next
@@ -43,3 +43,8 @@ pub returns-in-Unbounded-clause-next : goal.returns-in-Unbounded-clause-next
 returns-in-Unbounded-clause-next c =
     subst (λ (command : Command). IfOk c.diagnosis.result (IsNext c.args.session.now c.args.session.now (budgets_of c.args.budgets) command)) (sym c.in-Unbounded.is)
     (diagnosis_nexts c.args.session.now (budgets_of c.args.budgets) c.model-in-Unbounded.result.now c.diagnosis.result c.model-in-Unbounded.ensures c.diagnosis.ensures.right)
+
+pub returns-in-Relax-clause-next : goal.returns-in-Relax-clause-next
+returns-in-Relax-clause-next c =
+    subst (λ (command : Command). IfOk c.relaxation.result (IsNext c.args.session.now c.args.session.now (budgets_of c.args.budgets) command)) (sym c.in-Relax.is)
+    (relaxation_nexts c.args.session.now (budgets_of c.args.budgets) c.model-in-Relax.result.now c.relaxation.result c.model-in-Relax.ensures c.relaxation.ensures.right)

@@ -17,11 +17,11 @@ isolate-requires-clause-served c = all_served c.args.set.now.members
 pub isolate-requires-in-Additive-clause-served : goal.isolate-requires-in-Additive-clause-served
 isolate-requires-in-Additive-clause-served c = all_served c.args.set.now.members
 
-pub isolate_with-requires-clause-served : goal.isolate_with-requires-clause-served
-isolate_with-requires-clause-served c = all_served c.args.set.now.members
+pub isolate_with-given-requires-clause-served : goal.isolate_with-given-requires-clause-served
+isolate_with-given-requires-clause-served c = all_served c.args.set.now.members
 
-pub isolate_with-requires-clause-served_later : goal.isolate_with-requires-clause-served_later
-isolate_with-requires-clause-served_later c = all_served c.args.set.now.members
+pub isolate_with-given-requires-clause-served_later : goal.isolate_with-given-requires-clause-served_later
+isolate_with-given-requires-clause-served_later c = all_served c.args.set.now.members
 
 pub returns-in-Deletion-clause-right : goal.returns-in-Deletion-clause-right
 returns-in-Deletion-clause-right c =
@@ -78,7 +78,7 @@ returns-in-Sensitivity-clause-right c =
     let model = c.args.model.now in
     let budgets = budgets_of c.args.budgets in
     let old = c.args.oracle.now in
-    let call = c.isolate_with in
+    let call = c.isolate_with-given in
     let new = call.new.later in
     let answer = c.concluded-in-Sensitivity in
     subst (λ (m : Method). IfOk answer.result (IsFound m model budgets)) (sym c.in-Sensitivity.is)
@@ -90,7 +90,7 @@ returns-in-Sensitivity-clause-known c =
     let model = c.args.model.now in
     let budgets = budgets_of c.args.budgets in
     let old = c.args.oracle.now in
-    let call = c.isolate_with in
+    let call = c.isolate_with-given in
     let new = call.new.later in
     let answer = c.concluded-in-Sensitivity in
     (core_answer model c.args.set.now budgets c.reference_oracle-first.result old.inner old.tale (branch_state call.new.first) (state_with (branch_state new.inner) new.tale) call.result answer.result c.reference_oracle-first.ensures c.requires.inner c.requires.whole

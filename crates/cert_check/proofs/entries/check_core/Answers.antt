@@ -1,10 +1,10 @@
-use Rattle.std.proofs.Common.{◌≡◌, ◌+◌, sym, ◌∙◌, ap, List, zip, flat_map, length, arith}
+use Rattle.std.proofs.Common.{◌≡◌, ◌+◌, sym, ◌∙◌, ap, suc, List, ◌++◌, zip, flat_map, length, arith}
 use Rattle.std.proofs.lemmas.Result.{err_from_is_err_and}
 use Rattle.certs.specs.declared.evidence.Point.{Point}
-use Rattle.report_text.specs.Grammar.{witness_phrases}
-use Rattle.cert_check.specs.Trials.{proof_trials, witness_trials, witnesses_of}
+use Rattle.report_text.specs.Grammar.{node_phrases, proof_phrases, witness_phrases}
+use Rattle.cert_check.specs.Trials.{proof_trials, rounds_trials, witness_trials, witnesses_of}
 use Rattle.cert_check.specs.Stops.{first_stop}
-use Rattle.cert_check.proofs.Firsts.{stop_first, stop_of, says_second, says_of}
+use Rattle.cert_check.proofs.Firsts.{stop_first, stop_second, stop_of, says_second, says_of}
 use Rattle.cert_check.proofs.entries.check_core.Goals as goal
 
 pub returns-in_err-end : goal.returns-in_err-end
@@ -17,14 +17,34 @@ returns-in_err-end c =
     (stop_first (witness_trials model set (c.args.line + 2) (witnesses_of c.args.core.now)) _ s
     (stop_of _ _ s (ap (λ (l : List Point). first_stop (witness_trials model set (c.args.line + 2) (zip set l))) c.as_slice-witnesses.ensures) c.in_err-end.ensures))
 
+pub returns-in_err-check_tree : goal.returns-in_err-check_tree
+returns-in_err-check_tree c =
+    let model = c.args.model.now in
+    let core = c.args.core.now in
+    let set = core.members.members in
+    let s = c.in_err-check_tree.field-0.0 in
+    let p = err_from_is_err_and c.from_residual-in_err-check_tree.result c.from_residual-in_err-check_tree.ensures.1 in
+    let both = c.in_ok-end.ensures in
+    let passes = sym (ap (λ (l : List Point). first_stop (witness_trials model set (c.args.line + 2) (zip set l))) c.as_slice-witnesses.ensures) ∙ both.0 in
+    let end = both.1 ∙ ap (λ (l : List Point). c.args.line + 2 + length (flat_map witness_phrases (zip set l))) c.as_slice-witnesses.ensures in
+    let place : c.in_ok-end.end + 1 ≡ c.args.line + (2 + length (flat_map witness_phrases (witnesses_of core))) + 1 = omega (arith, end) in
+    rw (p.1, p.2)
+    (stop_second (witness_trials model set (c.args.line + 2) (witnesses_of core)) _ s passes
+    (stop_first (proof_trials model set (c.args.line + (2 + length (flat_map witness_phrases (witnesses_of core))) + 1) core.proof) _ s
+    (stop_of _ _ s (ap (λ k. first_stop (proof_trials model set k core.proof)) place) c.in_err-check_tree.ensures)))
+
 pub returns : goal.returns
 returns c =
     let model = c.args.model.now in
     let core = c.args.core.now in
     let set = core.members.members in
+    let next = c.args.line + (2 + length (flat_map witness_phrases (witnesses_of core))) in
     let both = c.in_ok-end.ensures in
     let passes = sym (ap (λ (l : List Point). first_stop (witness_trials model set (c.args.line + 2) (zip set l))) c.as_slice-witnesses.ensures) ∙ both.0 in
     let end = both.1 ∙ ap (λ (l : List Point). c.args.line + 2 + length (flat_map witness_phrases (zip set l))) c.as_slice-witnesses.ensures in
-    let place : c.in_ok-end.end + 1 ≡ c.args.line + (3 + length (flat_map witness_phrases (witnesses_of core))) = omega (arith, end) in
-    says_second (witness_trials model set (c.args.line + 2) (witnesses_of core)) _ c.check_tree.result passes
-    (says_of _ _ c.check_tree.result (ap (λ k. first_stop (proof_trials model set k core.proof)) place) c.check_tree.ensures)
+    let place : c.in_ok-end.end + 1 ≡ next + 1 = omega (arith, end) in
+    let behind : c.in_ok-end.end + 1 + length (flat_map node_phrases core.proof.nodes) ≡ next + suc (length (flat_map node_phrases core.proof.nodes)) = omega (arith, end) in
+    says_second (witness_trials model set (c.args.line + 2) (witnesses_of core)) (proof_trials model set (next + 1) core.proof ++ rounds_trials (length set) (next + length (proof_phrases core.proof)) core.rounds) c.check_rounds.result passes
+    (says_second (proof_trials model set (next + 1) core.proof) (rounds_trials (length set) (next + length (proof_phrases core.proof)) core.rounds) c.check_rounds.result
+    (sym (ap (λ k. first_stop (proof_trials model set k core.proof)) place) ∙ c.in_ok-check_tree.ensures)
+    (says_of _ _ c.check_rounds.result (ap (λ k. first_stop (rounds_trials (length set) k core.rounds)) behind) c.check_rounds.ensures))

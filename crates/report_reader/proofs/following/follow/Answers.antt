@@ -33,3 +33,6 @@ returns-in-Left c = c.follow_left.ensures c.args.model.now c.args.command.now �
 
 pub returns-in-Proof : goal.returns-in-Proof
 returns-in-Proof c = subst (λ (p : Part). IfOk c.follow_nodes.result (λ n. n ≡ extended c.args.model.now c.args.command.now p c.args.phrase)) (sym c.in-Proof.is) c.follow_nodes.ensures
+
+pub returns-in-Counted : goal.returns-in-Counted
+returns-in-Counted c = subst (λ (p : Part). IfOk c.close_rounds.result (λ n. n ≡ extended c.args.model.now c.args.command.now p c.args.phrase)) (sym c.in-Counted.is) c.close_rounds.ensures

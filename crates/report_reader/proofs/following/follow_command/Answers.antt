@@ -8,10 +8,13 @@ pub returns-in-Check : goal.returns-in-Check
 returns-in-Check c = λ model. c.follow_check.ensures model ∙ ap (λ (d : Command). extended model d Part.Nothing c.args.phrase) (sym c.in-Check.is)
 
 pub returns-in-Iis : goal.returns-in-Iis
-returns-in-Iis c = λ model. c.follow_search.ensures model c.in-Iis.field-0 ∙ ap (λ (d : Command). extended model d Part.Nothing c.args.phrase) (sym c.in-Iis.is)
+returns-in-Iis c = λ model. c.follow_search.ensures model ∙ ap (λ (d : Command). extended model d Part.Nothing c.args.phrase) (sym c.in-Iis.is)
 
 pub returns-in-Unbounded : goal.returns-in-Unbounded
 returns-in-Unbounded c = λ model. c.begin_bounding.ensures model ∙ ap (λ (d : Command). extended model d Part.Nothing c.args.phrase) (sym c.in-Unbounded.is)
+
+pub returns-in-Relax : goal.returns-in-Relax
+returns-in-Relax c = λ model. c.begin_relaxing.ensures model ∙ ap (λ (d : Command). extended model d Part.Nothing c.args.phrase) (sym c.in-Relax.is)
 
 pub returns-in-Reduce : goal.returns-in-Reduce
 returns-in-Reduce c = λ model. c.begin_reduction.ensures model ∙ ap (λ (d : Command). extended model d Part.Nothing c.args.phrase) (sym c.in-Reduce.is)

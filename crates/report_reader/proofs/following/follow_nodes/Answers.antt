@@ -18,3 +18,6 @@ returns-in-Split c =
 
 pub returns-in-Leaf : goal.returns-in-Leaf
 returns-in-Leaf c = c.open_leaf.ensures c.args.model.now c.args.command.now ∙ ap (λ (p : Phrase). proof_with c.args.model.now c.args.command.now c.args.found c.args.nodes c.args.due p) (sym c.in-Leaf.is)
+
+pub returns-in-Rounds : goal.returns-in-Rounds
+returns-in-Rounds c = c.count_rounds.ensures c.args.model.now ∙ ap (λ (p : Phrase). proof_with c.args.model.now c.args.command.now c.args.found c.args.nodes c.args.due p) (sym c.in-Rounds.is)

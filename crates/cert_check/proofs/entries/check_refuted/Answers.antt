@@ -1,15 +1,15 @@
 use Rattle.std.proofs.Common.{◌≡◌, ◌+◌, sym, ◌∙◌, ap, length, arith}
 use Rattle.std.proofs.lemmas.Result.{err_from_is_err_and}
-use Rattle.cert_check.specs.Trials.{paired_trials, is_active_use, proof_members, proof_trials}
+use Rattle.cert_check.specs.Trials.{paired_trials, is_use_of, proof_members, proof_trials}
 use Rattle.cert_check.specs.Stops.{first_stop}
 use Rattle.cert_check.proofs.Firsts.{stop_first, stop_of, says_second, says_of}
-use Rattle.cert_check.proofs.entries.check_infeasible.Goals as goal
+use Rattle.cert_check.proofs.entries.check_refuted.Goals as goal
 
 pub returns-in_err-end : goal.returns-in_err-end
 returns-in_err-end c =
     let model = c.args.model.now in
     let set = c.args.members.now.members in
-    let agree = is_active_use model in
+    let agree = is_use_of c.args.among.now.members in
     let s = c.in_err-end.field-0.0 in
     let p = err_from_is_err_and c.from_residual.result c.from_residual.ensures.1 in
     rw (p.1, p.2)
@@ -21,7 +21,7 @@ returns c =
     let model = c.args.model.now in
     let set = c.args.members.now.members in
     let proof = c.args.proof.now in
-    let agree = is_active_use model in
+    let agree = is_use_of c.args.among.now.members in
     let both = c.in_ok-end.ensures in
     let passes = sym (ap (λ l. first_stop (paired_trials agree (c.args.line + 2) set l)) c.in-Ok.ensures.used) ∙ both.0 in
     let place : c.in_ok-end.end + 1 ≡ c.args.line + (3 + length set) = omega (arith, both.1) in

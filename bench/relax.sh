@@ -1,0 +1,190 @@
+#!/bin/sh
+# Asks `relax` of models that nothing satisfies: plans of so many periods (`bench/models.sh`), with all members soft and with their
+# bounds rigid, and random systems whose rows ask for more than others allow. Prints for each how many soft members it has, the size
+# of the elastic system's table, the pivots, the least budget with which the answer is not that they are spent; the processor
+# seconds and the peak of memory of a run from start to end; and the least total. Beside them stand the seconds of `glpsol --exact`
+# and of `esolver` (QSopt_ex) on the elastic system written as an LP, where these are installed, and whether their totals are the
+# same: esolver's exactly, glpsol's in the digits that it prints. The program is the one that the variable IISAN names, or else the
+# one that ./iisan builds. With words, only the models whose names have one of them are gone through. It wants GNU time (Debian's
+# package `time`). A benchmark, no test.
+set -eu
+
+top=$(CDPATH='' cd -- "$(dirname -- "$0")/.." && pwd)
+work=$(mktemp -d)
+trap 'rm -rf "$work"' EXIT
+# shellcheck source=bench/models.sh
+. "$top/bench/models.sh"
+# shellcheck source=bench/timing.sh
+. "$top/bench/timing.sh"
+program=${IISAN:-}
+if [ -z "$program" ]; then
+    "$top/iisan" >/dev/null 2>&1 </dev/null || true
+    program=$top/.build/iisan
+fi
+program=$(realpath "$program")
+cd "$work"
+limit=120 limit_of_others=60
+
+# A plan as lines of entries: `row NAME LO UP`, `term ROW COLUMN FACTOR` and `bound COLUMN LO UP`, a dash where there is none.
+plan_entries() {
+    awk -v n="$1" 'BEGIN {
+        for (t = 1; t <= n; t++) {
+            demand = (t % 2 == 1 ? 9 : 11) + (t == n ? 2 : 0)
+            print "row b" t, demand, demand
+            if (t > 1) print "term b" t, "s" t - 1, 1
+            print "term b" t, "p" t, 1
+            print "term b" t, "s" t, -1
+            print "bound p" t, 0, 10
+            print "bound s" t, 0, "-"
+        }
+    }'
+}
+
+# The same of a random system of so many rows and columns, three entries a row; two rows in three ask for more than the others allow.
+tight_entries() {
+    awk -v rows="$1" -v columns="$2" 'BEGIN {
+        srand(rows * 7 + columns)
+        for (i = 0; i < rows; i++) {
+            if (i % 3) print "row r" i, 20 + int(rand() * 20), "-"
+            else print "row r" i, "-", 5 + int(rand() * 10)
+            for (k = 0; k < 3; k++) {
+                j = int(rand() * columns)
+                if (!((i, j) in factor)) { factor[i, j] = 1 + int(rand() * 5); print "term r" i, "x" j, factor[i, j] }
+            }
+        }
+        for (j = 0; j < columns; j++) print "bound x" j, 0, 4 + int(rand() * 6)
+    }'
+}
+
+# The model of such entries in the LP format, or with `elastic` its elastic system, where with `rigid` the bounds stay as they are.
+model_of() {
+    awk -v elastic="$1" -v rigid="$2" '
+        $1 == "row" { names[++count] = $2; lo[$2] = $3; up[$2] = $4 }
+        $1 == "term" { form[$2] = form[$2] ($4 < 0 ? " - " (0 - $4) : " + " $4) " " $3 }
+        $1 == "bound" { columns[++width] = $2; least[$2] = $3; most[$2] = $4 }
+        function side(name, text, number, upper) {
+            soft++
+            rows = rows " " name (upper ? "u" : "l") ":" text (upper ? " - e" : " + e") soft (upper ? " <= " : " >= ") number "\n"
+            cost = cost (soft % 10 == 1 ? "\n  + e" : " + e") soft
+        }
+        END {
+            print "Minimize"
+            if (!elastic) print " cost: 0 " columns[1]
+            for (i = 1; i <= count; i++) {
+                name = names[i]
+                if (elastic && lo[name] != "-") side(name, form[name], lo[name], 0)
+                if (elastic && up[name] != "-") side(name, form[name], up[name], 1)
+                if (!elastic && lo[name] == up[name]) rows = rows " " name ":" form[name] " = " lo[name] "\n"
+                else if (!elastic) rows = rows " " name ":" form[name] (up[name] == "-" ? " >= " lo[name] : " <= " up[name]) "\n"
+            }
+            for (j = 1; j <= width; j++) {
+                name = columns[j]
+                if (elastic && !rigid) {
+                    bounds = bounds " " name " free\n"
+                    if (least[name] != "-") side("L" name, " + " name, least[name], 0)
+                    if (most[name] != "-") side("U" name, " + " name, most[name], 1)
+                } else bounds = bounds " " least[name] " <= " name (most[name] == "-" ? "" : " <= " most[name]) "\n"
+            }
+            if (elastic) print " cost:" cost
+            printf "Subject To\n%sBounds\n%sEnd\n", rows, bounds
+        }' entries
+}
+
+# The script: with `rigid` the bounds are made so first.
+script_of() {
+    [ -z "$2" ] || awk '$1 == "bound" { if ($3 != "-") print "weight lower", $2, "rigid"; if ($4 != "-") print "weight upper", $2, "rigid" }' entries
+    echo "budget pivots $1"
+    echo relax
+}
+
+# Asks with a budget of pivots: what is said goes to the file `said`.
+ask() {
+    script_of "$1" "$2" >script
+    timeout "$limit" "$program" analyse model.lp script >said 2>&1 </dev/null || true
+}
+
+# The least budget with which the answer is not that the pivots are spent.
+least_budget() {
+    spent=-1 enough=1
+    ask "$enough" "$1"
+    while grep -qx 'pivots spent' said; do
+        spent=$enough enough=$((enough * 2))
+        ask "$enough" "$1"
+    done
+    while [ $((enough - spent)) -gt 1 ]; do
+        middle=$(((enough + spent) / 2))
+        ask "$middle" "$1"
+        if grep -qx 'pivots spent' said; then spent=$middle; else enough=$middle; fi
+    done
+    echo "$enough"
+}
+
+# What is told of another solver, which has run: its seconds, and whether its total is the same, as text or in nine digits.
+told() {
+    awk -v seconds="$(cat seconds)" -v value="$1" -v found="$2" -v exact="$3" '
+        function number(text, part, n) { n = split(text, part, "/"); return part[1] / (n > 1 ? part[2] : 1) }
+        function size(x) { return x < 0 ? -x : x }
+        BEGIN {
+            if (value == "" || found == "") { print seconds; exit }
+            gap = size(number(value) - number(found))
+            same = exact ? value "" == found "" : gap <= 1e-9 * (1 + size(number(value)))
+            print seconds ", " (same ? "same" : "another total: " found)
+        }'
+}
+
+# The same of each that is installed, or a dash.
+glpsol_told() {
+    command -v glpsol >/dev/null 2>&1 || { echo - && return; }
+    : >solution
+    timed "$limit_of_others" glpsol --exact --lp elastic.lp -w solution
+    told "$1" "$(awk '$1 == "s" && $5 == "f" { print $NF }' solution)" ""
+}
+
+esolver_told() {
+    command -v esolver >/dev/null 2>&1 || { echo - && return; }
+    : >solution
+    timed "$limit_of_others" esolver -O solution elastic.lp
+    told "$1" "$(awk '$1 == "Value" { print $3 }' solution)" exact
+}
+
+# One line of the table: the kind, its numbers, and whether the bounds are rigid.
+measure() {
+    kind=$1 first=$2 second=$3 rigid=$4
+    "${kind}_entries" "$first" "$second" >entries
+    model_of "" "" >model.lp
+    model_of elastic "$rigid" >elastic.lp
+    rows=$(grep -c '^row' entries) columns=$(grep -c '^bound' entries)
+    soft=$(grep -o '[-+] e[0-9]*' elastic.lp | sort -u | sed 's/.* //' | sort -u | wc -l)
+    pivots=$(least_budget "$rigid")
+    script_of 1000000 "$rigid" >script
+    timed "$limit" "$program" analyse model.lp script
+    total=$(awk '$1 == "total" { print $2 }' said)
+    end=${total:-$(grep -v 'done\|command\|report' said | head -n 1)}
+    whole=$(cat seconds) most=$(cat megabytes)
+    size=$(((soft + 1) * (columns + soft)))
+    line="$kind $first${second:+ x $second}${rigid:+, bounds rigid} | $rows | $columns | $soft | $size | $pivots | $whole | $most | $end"
+    echo "| $line | $(glpsol_told "$total") | $(esolver_told "$total") |"
+}
+
+echo "| model | rows | columns | soft members | size | pivots | seconds | peak megabytes | least total | \`glpsol --exact\` | \`esolver\` |"
+echo "|---|---|---|---|---|---|---|---|---|---|---|"
+while read -r kind first second rigid; do
+    second=${second#-}
+    has_word "$kind $first x $second $rigid " "$@" || continue
+    measure "$kind" "$first" "$second" "$rigid"
+done <<'END'
+plan 5 -
+plan 10 -
+plan 20 -
+plan 40 -
+plan 5 - rigid
+plan 10 - rigid
+plan 20 - rigid
+plan 40 - rigid
+plan 80 - rigid
+tight 6 6
+tight 10 10
+tight 20 20
+tight 30 30
+tight 40 40
+END

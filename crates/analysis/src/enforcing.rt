@@ -1,0 +1,80 @@
+//! What the elastic filter leaves of the active members.
+ghost use Rattle.std.specs.Prelude.{◌≡◌, ◌<◌, ◌^◌, IfOk, None};
+ghost use Rattle.lp_model.specs.Members.{active_members};
+ghost use Rattle.lp_model.specs.MemberSets.{active_set};
+ghost use Rattle.certs.specs.Tales.{no_tale};
+ghost use Rattle.report_text.specs.declared.report.Method.TheVariants.{Elastic};
+ghost use Rattle.report_printer.specs.Printing.{IsKnownAnswer};
+ghost use Rattle.analysis.specs.Answers.{budgets_of, fresh_oracle};
+ghost use Rattle.analysis.specs.Linear.{first_mark};
+ghost use Rattle.analysis.specs.Right.{IsEnforcedTold, IsFound};
+
+use crate::answering::Budgets;
+use crate::asking::Reference;
+use crate::linear::not_begun;
+use crate::searching::{concluded, stopped};
+use certs::MemberSet;
+use elastic_filter::{Enforced, enforce};
+use lp_model::Model;
+use quick_oracle::QuickOracle;
+use relaxation::ElasticStretcher;
+use report_text::Answer;
+use std::alloc::{AllocError, Global};
+
+/// What the deletion filter leaves of the active members that the rounds of the elastic filter enforce, with the number of
+/// rounds; or a point; or the column of the first active mark; or the size of the elastic system of all active members, where it
+/// passes the most (Chinneck and Dravnieks 1991). The deletion filter asks the oracle, which was asked nothing yet.
+pub(crate) fn enforced_search(
+    alloc: Global,
+    model: &Model,
+    budgets: Budgets,
+    oracle: &mut QuickOracle<'_, Reference<'_>>,
+    set: &MemberSet,
+) -> Result<Answer, AllocError>
+    requires few { budgets.pivots < 2 ^ 63 }
+    requires whole { set.now ≡ active_set model.now }
+    requires inner { oracle.old.inner ≡ fresh_oracle model.now (budgets_of budgets) }
+    requires tale { oracle.old.tale ≡ no_tale }
+    ensures right { IfOk result (IsFound Elastic model.now (budgets_of budgets)) }
+    ensures known { IfOk result (IsKnownAnswer model.now) }
+{
+    let none = set.emptied(alloc)?;
+    if let Some(answer) = not_begun(alloc, model, set, &none)? {
+        return Ok(answer);
+    }
+    enforced(alloc, model, budgets, oracle, set)
+}
+
+// The same where there is no mark.
+fn enforced(
+    alloc: Global,
+    model: &Model,
+    budgets: Budgets,
+    oracle: &mut QuickOracle<'_, Reference<'_>>,
+    set: &MemberSet,
+) -> Result<Answer, AllocError>
+    requires few { budgets.pivots < 2 ^ 63 }
+    requires whole { set.now ≡ active_set model.now }
+    requires linear { first_mark (active_members model.now) ≡ None }
+    requires inner { oracle.old.inner ≡ fresh_oracle model.now (budgets_of budgets) }
+    requires tale { oracle.old.tale ≡ no_tale }
+    ensures right { IfOk result (IsEnforcedTold model.now (budgets_of budgets)) }
+    ensures known { IfOk result (IsKnownAnswer model.now) }
+{
+    set.stands_in_order();
+    let mut stretcher = ElasticStretcher::new(alloc, model, budgets.pivots);
+    match enforce(alloc, &mut stretcher, set) {
+        Ok(
+            Enforced::Set {
+                members,
+                rounds,
+                ..
+            },
+        ) => {
+            let given = deletion_filter::isolate(alloc, oracle, &members);
+            concluded(Some(rounds), given)
+        }
+        Ok(Enforced::Feasible(point)) => Ok(Answer::Feasible(point)),
+        Err(stop) => stopped(stop),
+    }
+}

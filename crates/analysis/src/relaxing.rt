@@ -1,0 +1,82 @@
+//! How little of the active members must give way.
+ghost use Rattle.std.specs.Prelude.{◌≡◌, ◌<◌, ◌^◌, None, IfOk};
+ghost use Rattle.lp_model.specs.Members.{active_members};
+ghost use Rattle.lp_model.specs.MemberSets.{active_set};
+ghost use Rattle.certs.specs.Sites.{Budgets as OneBudgets};
+ghost use Rattle.certs.specs.Violation.{rigid_members};
+ghost use Rattle.elastic_systems.specs.Laws.{RefutesEnforced};
+ghost use Rattle.report_printer.specs.Printing.{IsKnownAnswer};
+ghost use Rattle.analysis.specs.Answers.{budgets_of};
+ghost use Rattle.analysis.specs.Least.{IsLeastTold, IsRelaxation};
+ghost use Rattle.analysis.specs.Linear.{first_mark};
+
+use crate::answering::Budgets;
+use crate::linear::not_begun;
+use crate::searching::stopped;
+use certs::{Combo, MemberSet, members_used};
+use least_checks::rigid_set;
+use linear_oracle::leaf_proof;
+use lp_model::Model;
+use relaxation::{Relaxed, relax};
+use report_text::Answer;
+use std::alloc::{AllocError, Global};
+
+/// How little of the active members must give way: a point of least weighted violation among those that satisfy the rigid
+/// ones, with the dual that shows so; or a combination of the rigid ones; or the column of the first active mark; or the size
+/// of the elastic system, where it passes the most (Chinneck 2008).
+pub(crate) fn relaxation(
+    alloc: Global,
+    model: &Model,
+    budgets: Budgets,
+) -> Result<Answer, AllocError>
+    requires few { budgets.pivots < 2 ^ 63 }
+    ensures right { IfOk result (IsRelaxation model.now (budgets_of budgets)) }
+    ensures known { IfOk result (IsKnownAnswer model.now) }
+{
+    let set = model.members(alloc)?;
+    let rigid = rigid_set(alloc, model, &set)?;
+    if let Some(answer) = not_begun(alloc, model, &set, &rigid)? {
+        return Ok(answer);
+    }
+    relaxed(alloc, model, budgets, &set)
+}
+
+// What is told of it, where there is no mark.
+fn relaxed(
+    alloc: Global,
+    model: &Model,
+    budgets: Budgets,
+    set: &MemberSet,
+) -> Result<Answer, AllocError>
+    requires few { budgets.pivots < 2 ^ 63 }
+    requires whole { set.now ≡ active_set model.now }
+    requires linear { first_mark (active_members model.now) ≡ None }
+    ensures right { IfOk result (IsLeastTold model.now (budgets_of budgets)) }
+    ensures known { IfOk result (IsKnownAnswer model.now) }
+{
+    set.stands_in_order();
+    match relax(alloc, model, set, budgets.pivots) {
+        Ok(Relaxed::Least { point, dual }) => Ok(Answer::Least(point, dual)),
+        Ok(Relaxed::RigidInfeasible(combo)) => rigid_refuted(alloc, model, set, combo),
+        Err(stop) => stopped(stop),
+    }
+}
+
+// The rigid members that a combination uses, with a proof of one leaf.
+fn rigid_refuted(
+    alloc: Global,
+    model: &Model,
+    set: &MemberSet,
+    combo: Combo,
+) -> Result<Answer, AllocError>
+    requires whole { set.now ≡ active_set model.now }
+    requires refutes { let rigid = rigid_members model.now (active_members model.now) in
+        RefutesEnforced model.now rigid combo.shares }
+    ensures right { (budgets : OneBudgets) → IfOk result (IsLeastTold model.now budgets) }
+    ensures known { IfOk result (IsKnownAnswer model.now) }
+{
+    set.stands_in_order();
+    let proof = leaf_proof(alloc, combo)?;
+    let used = members_used(alloc, set, &proof)?;
+    Ok(Answer::RigidInfeasible(used, proof))
+}
