@@ -1,0 +1,3 @@
+pub mod PlanText
+pub mod PlanProgram
+pub mod Making
