@@ -40,7 +40,8 @@ plan_entries() {
     }'
 }
 
-# The same of a random system of so many rows and columns, three entries a row; two rows in three ask for more than the others allow.
+# The same of a random system of so many rows and columns, three entries a row, without the columns that none names; two rows in three
+# ask for more than the others allow.
 tight_entries() {
     awk -v rows="$1" -v columns="$2" 'BEGIN {
         srand(rows * 7 + columns)
@@ -49,10 +50,10 @@ tight_entries() {
             else print "row r" i, "-", 5 + int(rand() * 10)
             for (k = 0; k < 3; k++) {
                 j = int(rand() * columns)
-                if (!((i, j) in factor)) { factor[i, j] = 1 + int(rand() * 5); print "term r" i, "x" j, factor[i, j] }
+                if (!((i, j) in factor)) { factor[i, j] = 1 + int(rand() * 5); used[j] = 1; print "term r" i, "x" j, factor[i, j] }
             }
         }
-        for (j = 0; j < columns; j++) print "bound x" j, 0, 4 + int(rand() * 6)
+        for (j = 0; j < columns; j++) if (j in used) print "bound x" j, 0, 4 + int(rand() * 6)
     }'
 }
 
@@ -177,14 +178,20 @@ plan 5 -
 plan 10 -
 plan 20 -
 plan 40 -
+plan 80 -
+plan 160 -
 plan 5 - rigid
 plan 10 - rigid
 plan 20 - rigid
 plan 40 - rigid
 plan 80 - rigid
+plan 160 - rigid
+plan 320 - rigid
 tight 6 6
 tight 10 10
 tight 20 20
 tight 30 30
 tight 40 40
+tight 60 60
+tight 80 80
 END
