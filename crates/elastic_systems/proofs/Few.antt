@@ -78,7 +78,7 @@ place_below rows columns (Lower j) h = omega (arith, h)
 place_below rows columns (Upper j) h = omega (arith, h)
 place_below rows columns (Whole j) h = omega (arith, h)
 
-set_few : (rows columns : ℕ) (set : List Member) → All (IsMemberFor rows columns) set → IsInOrder set → length set ≤ place_count rows columns
+pub set_few : (rows columns : ℕ) (set : List Member) → All (IsMemberFor rows columns) set → IsInOrder set → length set ≤ place_count rows columns
 set_few rows columns set known ordered =
     let few = ascending_few (place_in rows columns) 0 (place_count rows columns) set (omega arith)
     (λ k d l. (omega arith, place_below rows columns (get_or set k d) (known k d l)))

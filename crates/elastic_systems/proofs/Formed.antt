@@ -54,7 +54,7 @@ weight_positive : (w : Weight) → IsPositiveWeight w → zero_ℚ <ℚ cost_of 
 weight_positive (Weighs w) h = h
 weight_positive Rigid h = one_positive
 
-member_positive : (model : Program) (m : Member) → IsWellFormed model → IsMemberFor (length model.rows) (length model.columns) m → zero_ℚ <ℚ cost_of (weight model m)
+pub member_positive : (model : Program) (m : Member) → IsWellFormed model → IsMemberFor (length model.rows) (length model.columns) m → zero_ℚ <ℚ cost_of (weight model m)
 member_positive model (RowLo i) formed l = weight_positive (weight model (RowLo i)) (All-get_or (IsWellFormedRow (length model.columns)) model.rows i empty_row l formed.rows).lower_weight
 member_positive model (RowUp i) formed l = weight_positive (weight model (RowUp i)) (All-get_or (IsWellFormedRow (length model.columns)) model.rows i empty_row l formed.rows).upper_weight
 member_positive model (Lower j) formed l = weight_positive (weight model (Lower j)) (All-get_or IsWellFormedColumn model.columns j empty_column l formed.columns).lower_weight

@@ -1,9 +1,9 @@
-mod Lists
+pub mod Lists
 mod Soft
 mod Rows
 mod Listed
-mod Few
-mod Formed
+pub mod Few
+pub mod Formed
 mod Distinct
 mod Inserted
 mod Standing

@@ -8,4 +8,5 @@ mod systems;
 
 pub use laws::{elastic_systems_are_few, elastic_systems_are_formed};
 pub use naming::named_shares;
-pub use systems::{Costs, elastic_system};
+pub use origins::member_number;
+pub use systems::{Costs, elastic_system, member_cost};

@@ -148,7 +148,7 @@ fn is_row_side(member: Member) -> bool
 }
 
 /// The number that a member asks for, where it is there; a mark asks for none.
-pub(crate) fn member_number(model: &Model, member: Member) -> Option<Frac>
+pub fn member_number(model: &Model, member: Member) -> Option<Frac>
     requires { IsMemberIn model.now member }
     ensures { result ≡ number model.now member }
 {

@@ -234,8 +234,8 @@ fn cost_term(model: &Model, variable: u32, member: Member, costs: Costs) -> Term
     }
 }
 
-// What it costs to miss a member by one.
-fn member_cost(model: &Model, member: Member, costs: Costs) -> Frac
+/// What it costs to miss a member by one: 1, or its weight, a rigid one counted as 1.
+pub fn member_cost(model: &Model, member: Member, costs: Costs) -> Frac
     requires { IsMemberIn model.now member }
     ensures { result ≡ cost_by model.now costs member }
 {

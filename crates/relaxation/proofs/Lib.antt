@@ -1,4 +1,4 @@
-mod Solved
+pub mod Solved
 mod Lists
 mod Missing
 mod Plain
@@ -11,4 +11,4 @@ mod Shares
 mod BestEnds
 mod Reaching
 mod Parts
-mod Found
+pub mod Found

@@ -10,4 +10,5 @@ mod stretching;
 
 pub use bound_checks::{Combo, Dual};
 pub use relaxing::{Relaxed, relax};
+pub use running::{Reached, run};
 pub use stretching::ElasticStretcher;

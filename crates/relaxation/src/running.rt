@@ -14,7 +14,7 @@ use simplex::{RunStop, Settled, settle};
 
 /// Where the runs end: nothing helps this variable, which is outside its limits; or nothing raises the objective.
 #[derive(Clone, Copy, Debug)]
-pub(crate) enum Reached {
+pub enum Reached {
     Blocked(u32),
     Best,
 }
@@ -24,7 +24,7 @@ pub(crate) enum Reached {
 /// # Errors
 ///
 /// The stop of the settle run, or that of the improve run.
-pub(crate) fn run(
+pub fn run(
     system: &System,
     dictionary: &mut Dictionary<Frac>,
     pivots: u64,

@@ -1,0 +1,4 @@
+mod Ending
+mod Shares
+mod Prices
+mod Least

@@ -1,0 +1,39 @@
+//! Stops of the run of a system of the alternative.
+ghost use Rattle.std.specs.Prelude.{ℕ, IfOk};
+ghost use Rattle.lp_model.specs.Program.{Program};
+ghost use Rattle.certs.specs.Checks.{IsSetOf};
+ghost use Rattle.certs.specs.System.{alternative_system};
+ghost use Rattle.unbounded.specs.Runs.{StopsSo};
+ghost use Rattle.alt_polyhedron.specs.Pricing.{IsAlternativeSite, IsPricingStop};
+
+use certs::{MemberSet, Path, Site, SiteKind, Stop};
+use simplex::RunStop;
+use std::alloc::{AllocError, Global};
+
+/// The stop of a run, with its site.
+pub(crate) fn stop_of(alloc: Global, set: &MemberSet, stop: RunStop) -> Stop
+    ensures { (model : Program) (pivots : ℕ) → IsSetOf model set.now
+        → StopsSo (alternative_system model set.now.members) pivots stop
+        → IsPricingStop model set.now.members pivots result }
+{
+    let Ok(site) = site_of(alloc, set) else {
+        return Stop::Memory;
+    };
+    match stop {
+        RunStop::Wide(turn, operation) => Stop::Wide(site, turn, operation),
+        RunStop::Pivots => Stop::Pivots(site),
+    }
+}
+
+// The site of the run, on no path and with no enforced part.
+fn site_of(alloc: Global, set: &MemberSet) -> Result<Site, AllocError>
+    ensures { (model : Program) → IsSetOf model set.now
+        → IfOk result (IsAlternativeSite model set.now.members) }
+{
+    Ok(Site {
+        kind: SiteKind::Alternative,
+        set: set.copy(alloc)?,
+        enforced: set.emptied(alloc)?,
+        path: Path::new(Vec::new(alloc)),
+    })
+}
