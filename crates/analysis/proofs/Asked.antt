@@ -89,7 +89,7 @@ abbrev pub QuickAnswers : Program → Budgets → List Member → Result Verdict
 QuickAnswers model budgets set result = IsQuickAnswer InnerAnswers model budgets set result
 
 -- a verdict holds
-verdict_holds : (model : Program) (budgets : Budgets) (set : List Member) (verdict : Verdict) → QuickAnswers model budgets set (Ok verdict) → IsVerdict model set verdict
+pub verdict_holds : (model : Program) (budgets : Budgets) (set : List Member) (verdict : Verdict) → QuickAnswers model budgets set (Ok verdict) → IsVerdict model set verdict
 verdict_holds model budgets set verdict h = quick_holds InnerAnswers model budgets set verdict (λ k. reference_holds model budgets set verdict (inner_reference model budgets set (Ok verdict) k)) h
 
 -- the shares of its proofs stand in order

@@ -29,13 +29,13 @@ use Rattle.presolve_oracle.specs.Value.{PresolveValue}
 use Rattle.branch_oracle.specs.Value.{BranchValue}
 use Rattle.quick_oracle.specs.Value.{state_with}
 use Rattle.report_text.specs.declared.report.Answer.{Answer}
-use Rattle.report_text.specs.Form.{IsRunSite, is_run_kind}
+use Rattle.report_text.specs.Form.{IsRunSite}
 use Rattle.report_printer.specs.Printing.{IsKnownAnswer}
-use Rattle.analysis.specs.Answers.{IsAnswerOf, IsPossibleSite, IsToldStop, fresh_oracle}
+use Rattle.analysis.specs.Answers.{IsAnswerOf, IsPossibleSite, IsToldStop, fresh_oracle, oracle_state}
 use Rattle.analysis.specs.Right.{IsEnforcedTold, IsIsolated, IsLateOfRounds, IsRoundAnswer, IsRoundsTest}
 use Rattle.analysis.proofs.Asked.{QuickAnswers}
 use Rattle.analysis.proofs.Found.{late_is_part, late_test_is_part, within}
-use Rattle.analysis.proofs.Searched.{branch_state, filter_answer}
+use Rattle.analysis.proofs.Searched.{filter_answer}
 use Rattle.analysis.proofs.Stopping.{active_site}
 
 -- ---- parts of a set
@@ -63,7 +63,7 @@ left_of IsTold model budgets (Err error) h = h
 
 pub enforced_answer : (model : Program) (budgets : Budgets) (inner : BranchValue PresolveValue) (tale : TaleValue) (members : SetValue) (combo : Combo) (rounds : ℕ) (after : OracleState)
     (given : Result Irreducible Stop) {E : Type 0} (result : Result Answer E) → inner ≡ fresh_oracle model budgets → IsEnforcedBy model (active_members model) members combo rounds
-    → IfOk given (IsIsolation Late QuickAnswers (state_with (branch_state inner) tale) members.members) → IfErr given (IsStoppedAt IsLateTest QuickAnswers members.members (state_with (branch_state inner) tale) after)
+    → IfOk given (IsIsolation Late QuickAnswers (state_with (oracle_state inner) tale) members.members) → IfErr given (IsStoppedAt IsLateTest QuickAnswers members.members (state_with (oracle_state inner) tale) after)
     → IfOk result (IsAnswerOf (Some rounds) given) → IfOk result (IsEnforcedTold model budgets) × IfOk result (IsKnownAnswer model)
 enforced_answer model budgets inner tale members combo rounds after given {E} result fresh e found stopped is =
     let all = active_members model in
@@ -71,13 +71,13 @@ enforced_answer model budgets inner tale members combo rounds after given {E} re
     let part = chain_within model all rounds set e.rounds_are.chain in
     left_of (IsKnownAnswer model) model budgets {E = E} result
     (filter_answer Late IsLateTest (IsLateOfRounds model) (IsRoundsTest model) model set (Some rounds) budgets tale after given {E = E} result
-    (λ core told k. record { count = rounds; told = told; enforced = set; rounds = e.rounds_are; late = k; few = e.few })
+    (λ core told unpriced k. record { count = rounds; told = told; price = unpriced; enforced = set; rounds = e.rounds_are; late = k; few = e.few })
     (λ k l. within k set all (late_is_part model set k l) part)
     (λ p h. absurd (e.rounds_are.unsatisfiable (satisfiable_by model set p h)))
     (λ t l. (rounds, (set, (e.rounds_are, l))))
     (λ t l. within t set all (late_test_is_part model set t l) part)
-    (subst (λ (o : BranchValue PresolveValue). IfOk given (IsIsolation Late QuickAnswers (state_with (branch_state o) tale) set)) fresh found)
-    (subst (λ (o : BranchValue PresolveValue). IfErr given (IsStoppedAt IsLateTest QuickAnswers set (state_with (branch_state o) tale) after)) fresh stopped)
+    (subst (λ (o : BranchValue PresolveValue). IfOk given (IsIsolation Late QuickAnswers (state_with (oracle_state o) tale) set)) fresh found)
+    (subst (λ (o : BranchValue PresolveValue). IfErr given (IsStoppedAt IsLateTest QuickAnswers set (state_with (oracle_state o) tale) after)) fresh stopped)
     is)
 
 -- ---- stops of rounds
@@ -94,7 +94,6 @@ module _ (model : Program) (budgets : Budgets) where
 
   round_site : (count : ℕ) (enforced : List Member) (site : Site) → Enforces model set count enforced → IsStretchSite model set enforced site → IsPossibleSite site → IsRunSite model site
   round_site count enforced site chain h possible = record {
-    kind = ap is_run_kind h.kind;
     of_model = h.set_of;
     active = active_site model site.set h.set_of possible (subst (λ l. IsPart l set) (sym h.set_is) (All-contains_itself set));
     enforced_of = h.enforced_of;

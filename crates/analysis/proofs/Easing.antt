@@ -32,7 +32,7 @@ use Rattle.least_checks.specs.Least.{IsLeastBy}
 use Rattle.relaxation.specs.Relaxed.{IsRelaxSite, IsRelaxStop}
 use Rattle.report_text.specs.declared.report.Answer.{Answer}
 use Rattle.report_text.specs.declared.report.Answer.TheVariants.{RigidInfeasible}
-use Rattle.report_text.specs.Form.{IsRunSite, is_one_leaf, is_run_kind}
+use Rattle.report_text.specs.Form.{IsRunSite, is_one_leaf}
 use Rattle.report_printer.specs.Printing.{IsKnownLeast}
 use Rattle.analysis.specs.Answers.{IsPossibleSite, IsToldStop}
 use Rattle.analysis.specs.Least.{IsLeastTold}
@@ -116,7 +116,6 @@ module _ (model : Program) (budgets : Budgets) where
 
   relax_run_site : (site : Site) → IsRelaxSite model set site → IsPossibleSite site → IsRunSite model site
   relax_run_site site h possible = record {
-    kind = ap is_run_kind h.kind;
     of_model = h.set_of;
     active = active_site model site.set h.set_of possible (subst (λ l. IsPart l set) (sym h.set_is) (All-contains_itself set));
     enforced_of = h.enforced_of;

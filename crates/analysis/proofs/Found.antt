@@ -1,7 +1,8 @@
 -- What filters give as answers.
 use Rattle.std.proofs.Common.{◌≡◌, refl, sym, subst, ℕ, Option, List, append_assoc, append-nil, length, Ok, Err}
-use Rattle.std.specs.Prelude.{All, Contains, IfErr, IfOk, None, Result}
+use Rattle.std.specs.Prelude.{All, Contains, IfErr, IfOk, IfSome, None, Some, Result}
 use Rattle.std.proofs.lemmas.List.Elements.{All-contains, All-contains_itself, All-filter, All-weaker}
+use Rattle.rational.specs.Rational.{ℚ}
 use Rattle.lp_model.specs.declared.members.Member.{Member}
 use Rattle.lp_model.specs.Program.{Program}
 use Rattle.lp_model.specs.Members.{active_members, is_active, possible_members}
@@ -24,7 +25,7 @@ use Rattle.filter_steps.specs.Isolated.{IsIsolation}
 use Rattle.filter_steps.proofs.Reached.{early_part, late_part, part_of_part}
 use Rattle.report_text.specs.declared.report.Answer.{Answer}
 use Rattle.report_text.specs.declared.report.Core.{Core}
-use Rattle.report_printer.specs.Printing.{IsKnownAnswer, IsKnownCore, IsKnownNode}
+use Rattle.report_printer.specs.Printing.{IsKnownAnswer, IsKnownCore, IsKnownNode, IsKnownPrice}
 use Rattle.analysis.specs.Answers.{IsAnswerOf, IsFoundInOrder, IsStopAnswer, answer_of}
 use Rattle.analysis.specs.Right.{IsIsolated, IsRightCore}
 use Rattle.analysis.proofs.Refuting.{known_nodes}
@@ -55,7 +56,7 @@ early_test_is_part model set test t =
 pub found_is_right : (answers : Program → Budgets → List Member → Result Verdict Stop → Type 0) (IsLeft : Program → List Member → List Member → Type 0) (IsKept : Core → Type 0) (IsTest : List Member → Type 0) (state : OracleState) (set : List Member) (rounds : Option ℕ) (budgets : Budgets) (found : Irreducible)
     → ((asked : List Member) (proof : Proof) → answers state.model state.budgets asked (Ok (Infeasible proof)) → AreLeavesInOrder proof.nodes)
     → ((asked : List Member) (proof : Proof) → answers state.model state.budgets asked (Ok (Infeasible proof)) → All IsFittingNode proof.nodes)
-    → ((core : Core) → core.rounds ≡ rounds → IsLeft state.model set core.members.members → IsKept core) → ((k : List Member) → IsLeft state.model set k → IsPart k (active_members state.model))
+    → ((core : Core) → core.rounds ≡ rounds → core.price ≡ None → IsLeft state.model set core.members.members → IsKept core) → ((k : List Member) → IsLeft state.model set k → IsPart k (active_members state.model))
     → ((p : Point) → IsPointOf state.model set p → IsPointOf state.model (active_members state.model) p)
     → IsFoundInOrder found → IsIsolation IsLeft answers state set found → IsIsolated IsKept IsTest state.model budgets (answer_of rounds found)
 found_is_right answers IsLeft IsKept IsTest state set rounds budgets (Set members witnesses proof) ordered fits kept part at order h = (
@@ -68,9 +69,9 @@ found_is_right answers IsLeft IsKept IsTest state set rounds budgets (Set member
     fits = subst (All IsFittingNode) (sym h.told.nodes_are) (fits h.told.asked h.told.proof h.told.answered);
     witnesses = h.witnesses;
     irreducible = h.irreducible;
-    price = refl;
+    price = tt;
   },
-  kept (record { members = members; witnesses = witnesses.items; proof = proof; rounds = rounds; price = None }) refl h.kept,
+  kept (record { members = members; witnesses = witnesses.items; proof = proof; rounds = rounds; price = None }) refl refl h.kept,
 )
 found_is_right answers IsLeft IsKept IsTest state set rounds budgets (AtPoint point) ordered fits kept part at order h = at point h
 
@@ -87,11 +88,16 @@ part_possible model part h =
 pub known_proof : (model : Program) (part : List Member) (proof : Proof) → IsPart part (active_members model) → IsProof model part proof.nodes → All (IsKnownNode model) proof.nodes
 known_proof model part proof h p = known_nodes model part (part_possible model part h) proof.nodes p
 
+known_price : (model : Program) (price : Option (ℚ × Point)) → IfSome price (λ p. length p.1.values ≡ length model.columns) → IsKnownPrice model price
+known_price model None h = tt
+known_price model (Some p) h = h
+
 pub known_core : (model : Program) (core : Core) → IsRightCore model core → IsKnownCore model core
 known_core model core h = record {
   members = h.of_model;
   points = λ k d l. (h.witnesses.each k d l).each_column;
   proof = known_proof model core.members.members core.proof h.active h.proves;
+  price = known_price model core.price h.price;
 }
 
 pub found_is_known : (IsKept : Core → Type 0) (IsTest : List Member → Type 0) (model : Program) (rounds : Option ℕ) (budgets : Budgets) (found : Irreducible) → IsIsolated IsKept IsTest model budgets (answer_of rounds found) → IsKnownAnswer model (answer_of rounds found)
@@ -103,7 +109,7 @@ found_is_known IsKept IsTest model rounds budgets (AtPoint point) h = h.each_col
 found_answer : (answers : Program → Budgets → List Member → Result Verdict Stop → Type 0) (IsLeft : Program → List Member → List Member → Type 0) (IsKept : Core → Type 0) (IsTest : List Member → Type 0) (state : OracleState) (set : List Member) (rounds : Option ℕ) (budgets : Budgets) (found : Irreducible) (answer : Answer)
     → ((asked : List Member) (proof : Proof) → answers state.model state.budgets asked (Ok (Infeasible proof)) → AreLeavesInOrder proof.nodes)
     → ((asked : List Member) (proof : Proof) → answers state.model state.budgets asked (Ok (Infeasible proof)) → All IsFittingNode proof.nodes)
-    → ((core : Core) → core.rounds ≡ rounds → IsLeft state.model set core.members.members → IsKept core) → ((k : List Member) → IsLeft state.model set k → IsPart k (active_members state.model))
+    → ((core : Core) → core.rounds ≡ rounds → core.price ≡ None → IsLeft state.model set core.members.members → IsKept core) → ((k : List Member) → IsLeft state.model set k → IsPart k (active_members state.model))
     → ((p : Point) → IsPointOf state.model set p → IsPointOf state.model (active_members state.model) p)
     → (answer ≡ answer_of rounds found) × IsFoundInOrder found → IsIsolation IsLeft answers state set found → IsIsolated IsKept IsTest state.model budgets answer × IsKnownAnswer state.model answer
 found_answer answers IsLeft IsKept IsTest state set rounds budgets found answer ordered fits kept part at is h =
@@ -117,7 +123,7 @@ pub given_answer : (answers : Program → Budgets → List Member → Result Ver
     (given : Result Irreducible Stop) {E : Type 0} (result : Result Answer E)
     → ((asked : List Member) (proof : Proof) → answers state.model state.budgets asked (Ok (Infeasible proof)) → AreLeavesInOrder proof.nodes)
     → ((asked : List Member) (proof : Proof) → answers state.model state.budgets asked (Ok (Infeasible proof)) → All IsFittingNode proof.nodes)
-    → ((core : Core) → core.rounds ≡ rounds → IsLeft state.model set core.members.members → IsKept core) → ((k : List Member) → IsLeft state.model set k → IsPart k (active_members state.model))
+    → ((core : Core) → core.rounds ≡ rounds → core.price ≡ None → IsLeft state.model set core.members.members → IsKept core) → ((k : List Member) → IsLeft state.model set k → IsPart k (active_members state.model))
     → ((p : Point) → IsPointOf state.model set p → IsPointOf state.model (active_members state.model) p)
     → IfOk given (IsIsolation IsLeft answers state set) → IfErr given (IsRunOf IsTest state.model budgets)
     → IfOk result (IsAnswerOf rounds given) → IfOk result (IsIsolated IsKept IsTest state.model budgets) × IfOk result (IsKnownAnswer state.model)

@@ -1,6 +1,6 @@
 -- Right answers stand in the grammar of reports, where all names are words.
 use Rattle.std.proofs.Common.{◌≡◌, ◌≢◌, ◌<◌, ◌≤◌, ◌+◌, refl, sym, ap, subst, ℕ, Bool, true, false, cond, not, Option, Some, None, List, [], ◌∷◌, ◌++◌, length, get_or, zip, inl, inr, arith}
-use Rattle.std.specs.Prelude.{All, Contains, IsTrue}
+use Rattle.std.specs.Prelude.{All, Contains, IfSome, IsTrue, ◌&&◌}
 use Rattle.std.specs.List.{list_any}
 use Rattle.std.proofs.lemmas.Bool.{cases_lt}
 use Rattle.rational.specs.Rational.{ℚ}
@@ -38,7 +38,7 @@ use Rattle.bound_checks.specs.declared.bounds.Dual.{Dual}
 use Rattle.least_checks.specs.Least.{IsLeastBy}
 use Rattle.filter_steps.specs.Isolated.{without}
 use Rattle.report_text.specs.declared.report.Method.{Method}
-use Rattle.report_text.specs.declared.report.Method.TheVariants.{Deletion, Additive, Sensitivity, Elastic}
+use Rattle.report_text.specs.declared.report.Method.TheVariants.{Deletion, Additive, Sensitivity, Elastic, Alternative}
 use Rattle.report_text.specs.declared.report.Core.{Core}
 use Rattle.report_text.specs.declared.report.Bounded.{Bounded}
 use Rattle.report_text.specs.declared.report.Command.{Command}
@@ -55,18 +55,18 @@ use Rattle.report_text.specs.Turns.{after, edits_after, AllEntries, entry_comman
 use Rattle.model_session.proofs.Standing.{after_well_formed}
 use Rattle.model_session.proofs.Unchanged.{same_names, rows_same, columns_same, row_name_same, column_name_same}
 use Rattle.report_text.specs.Grammar.{column_name}
-use Rattle.report_text.specs.Form.{is_one_leaf, is_word, AreUses, IsBoundedFor, IsRayFor, IsWithinLimit, IsNamedColumn, IsNamedMember, IsNamedRow, IsListed, IsPointFor, IsNamedSource, IsNodeFor, IsProofFor, IsRunSite, IsSiteFor, IsStopFor, IsStepFor, IsCoreFor, IsAnswerFor, IsCommand, IsEntryFor, IsReportFor, AreEntriesFor, AreNumbered, IsLeastFor, can_answer, has_rounds}
+use Rattle.report_text.specs.Form.{IsPricedFor, has_price, is_one_leaf, is_word, AreUses, IsBoundedFor, IsRayFor, IsWithinLimit, IsNamedColumn, IsNamedMember, IsNamedRow, IsListed, IsPointFor, IsNamedSource, IsNodeFor, IsProofFor, IsRunSite, IsSiteFor, IsStopFor, IsStepFor, IsCoreFor, IsAnswerFor, IsCommand, IsEntryFor, IsReportFor, AreEntriesFor, AreNumbered, IsLeastFor, can_answer, has_rounds}
 use Rattle.evidence_printer.specs.Numbers.{IsStepWithin}
 use Rattle.reductions.specs.declared.steps.ReduceStep.{ReduceStep}
 use Rattle.reductions.specs.declared.steps.ReduceStep.TheVariants.{Empty, Singleton, Fixed, Redundant, Forcing, Doubleton}
 use Rattle.report_printer.specs.Printing.{IsKnownSource, IsKnownStep}
-use Rattle.report_printer.specs.Numbers.{HasNumbersWithin, HasValuesWithin, IsBoundedWithin, IsLeastWithin, IsRayWithin, HasWeightsWithin, HasWitnessesWithin, IsCoreWithin, IsProofWithin, IsStopWithin}
+use Rattle.report_printer.specs.Numbers.{HasNumbersWithin, HasPriceWithin, HasValuesWithin, IsBoundedWithin, IsLeastWithin, IsRayWithin, HasWeightsWithin, HasWitnessesWithin, IsCoreWithin, IsProofWithin, IsStopWithin}
 use Rattle.analysis.specs.NamesAreWords.{HasWords}
 use Rattle.unbounded.specs.Diagnosed.{IsBoundedBy, IsUnboundedBy}
 use Rattle.analysis.specs.Objectives.{IsDiagnosed, IsImproveStop, IsTold, diagnosis_size, most_entries}
 use Rattle.analysis.specs.Least.{IsEasedStop, IsLeastTold}
-use Rattle.analysis.specs.Linear.{IsLinearly, IsLinearlyBy, elastic_size, first_mark}
-use Rattle.analysis.specs.Right.{AreRight, IsChecked, IsEnforcedTold, IsIsolated, IsLateOfRounds, IsReduction, IsRefutation, IsRightAfter, IsRightCore, IsRightStop, IsRoundAnswer, IsRoundStop, IsRoundsTest, IsWhole, Right, RightAfter, budgets_in_force}
+use Rattle.analysis.specs.Linear.{IsLinearly, IsLinearlyBy, alternative_size, elastic_size, first_mark}
+use Rattle.analysis.specs.Right.{AreRight, IsChecked, IsCheapestCore, IsEnforcedTold, IsIsolated, IsLateOfRounds, IsReduction, IsRefutation, IsRightAfter, IsRightCore, IsRightStop, IsRoundAnswer, IsRoundStop, IsRoundsTest, IsSupportTest, IsWeighedTold, IsWeighingAnswer, IsWeighingStop, IsWhole, Right, RightAfter, budgets_in_force}
 use Rattle.analysis.specs.Pieces.{Answers}
 use Rattle.analysis.proofs.Leaving.{known_steps}
 use Rattle.analysis.specs.Written.{report_of}
@@ -165,6 +165,10 @@ module _ (model : Program) (words : HasWords model) where
   )
 
   -- ---- irreducible sets
+  price_form : (price : Option (ℚ × Point)) → IfSome price (λ p. length p.1.values ≡ length model.columns) → HasPriceWithin price → IsPricedFor model price
+  price_form None h within = tt
+  price_form (Some p) h within = (within.0, values_form p.1 h within.1)
+
   core_form : (core : Core) → IsRightCore model core → IsCoreWithin core → IsCoreFor model core
   core_form core h within = record {
     members = record { of_model = h.of_model; named = part_named core.members.members h.active; in_order = h.in_order };
@@ -174,7 +178,7 @@ module _ (model : Program) (words : HasWords model) where
         (each_within core.members.members core.witnesses h.witnesses.as_many within.witnesses k d l);
     proof = proof_form core.members.members h.active core.proof h.proves h.ordered h.fits within.proof;
     rounds = within.rounds;
-    price = h.price;
+    price = price_form core.price h.price within.price;
   }
 
   -- ---- stops
@@ -217,7 +221,7 @@ module _ (model : Program) (words : HasWords model) where
 
   -- rounds are told just where the method has them
   isolated_form : (IsKept : Core → Type 0) (IsTest : List Member → Type 0) (method : Method) (budgets : Budgets) (answer : Answer)
-      → ((core : Core) → IsKept core → has_rounds method core.rounds ≡ true) → IsIsolated IsKept IsTest model budgets answer → HasNumbersWithin answer → IsAnswerTo (Iis method) answer
+      → ((core : Core) → IsKept core → can_answer (Iis method) (Irreducible core) ≡ true) → IsIsolated IsKept IsTest model budgets answer → HasNumbersWithin answer → IsAnswerTo (Iis method) answer
   isolated_form IsKept IsTest method budgets (Feasible p) told h within = (refl, point_form (active_members model) p h within)
   isolated_form IsKept IsTest method budgets (Infeasible printed proof) told h within = absurd h
   isolated_form IsKept IsTest method budgets (Irreducible core) told h within = (told core h.1, core_form core h.0 within)
@@ -272,8 +276,36 @@ module _ (model : Program) (words : HasWords model) where
 
   enforced_form : (budgets : Budgets) (answer : Answer) → IsEnforcedTold model budgets answer → HasNumbersWithin answer → IsAnswerTo (Iis Elastic) answer
   enforced_form budgets answer (inl h) within =
-      isolated_form (IsLateOfRounds model) (IsRoundsTest model) Elastic budgets answer (λ core k. subst (λ (rounds : Option ℕ). has_rounds Elastic rounds ≡ true) (sym k.told) refl) h within
+      isolated_form (IsLateOfRounds model) (IsRoundsTest model) Elastic budgets answer (λ core k. subst (λ (rounds : Option ℕ). (has_rounds Elastic rounds && has_price Elastic core.price) ≡ true) (sym k.told) (subst (λ (price : Option (ℚ × Point)). has_price Elastic price ≡ true) (sym k.price) refl)) h within
   enforced_form budgets answer (inr h) within = round_answer_form budgets answer h within
+
+  -- ---- the cheapest weighting
+  weighing_form : (budgets : Budgets) (stop : Stop) → IsWeighingStop model budgets stop → IsStopWithin stop → IsStopFor model stop
+  weighing_form budgets (TooWide site k o) h within = (site_form site h.0, within)
+  weighing_form budgets (Spent site) h within = site_form site h.0
+  weighing_form budgets (Nodes site) h within = absurd h
+  weighing_form budgets (Large size) h within = absurd h
+  weighing_form budgets Memory h within = absurd h
+
+  weighing_answer_form : (budgets : Budgets) (answer : Answer) → IsWeighingAnswer model budgets answer → HasNumbersWithin answer → IsAnswerTo (Iis Alternative) answer
+  weighing_answer_form budgets (Feasible p) h within = absurd h
+  weighing_answer_form budgets (Infeasible printed proof) h within = absurd h
+  weighing_answer_form budgets (Irreducible core) h within = absurd h
+  weighing_answer_form budgets (RunsAway p ray) h within = absurd h
+  weighing_answer_form budgets (BoundedBy b) h within = absurd h
+  weighing_answer_form budgets (LeastBy p dual) h within = absurd h
+  weighing_answer_form budgets (RigidRefuted printed proof) h within = absurd h
+  weighing_answer_form budgets (Reduced r) h within = absurd h
+  weighing_answer_form budgets Done h within = absurd h
+  weighing_answer_form budgets (Refused r) h within = absurd h
+  weighing_answer_form budgets (NotLinear j) h within = absurd h
+  weighing_answer_form budgets (Stopped stop) h within = (refl, weighing_form budgets stop h within)
+
+  weighed_form : (budgets : Budgets) (answer : Answer) → IsWeighedTold model budgets answer → HasNumbersWithin answer → IsAnswerTo (Iis Alternative) answer
+  weighed_form budgets answer (inl h) within =
+      isolated_form (IsCheapestCore model) (IsSupportTest model) Alternative budgets answer
+      (λ core k. subst (λ (rounds : Option ℕ). (has_rounds Alternative rounds && has_price Alternative core.price) ≡ true) (sym k.rounds) (subst (λ (price : Option (ℚ × Point)). has_price Alternative price ≡ true) (sym k.told) refl)) h within
+  weighed_form budgets answer (inr h) within = weighing_answer_form budgets answer h within
 
   -- ---- the objective
   ray_form : (p : Point) (ray : Ray) → IsUnboundedBy model (active_members model) p ray → IsRayWithin ray → IsRayFor model ray
@@ -391,10 +423,11 @@ module _ (model : Program) (words : HasWords model) where
   answer_form formed budgets Check answer h within = checked_form budgets answer h within
   answer_form formed budgets Relax answer h within =
       linearly_form Relax (elastic_size model (active_members model) (rigid_members model (active_members model))) (IsLeastTold model budgets) answer (λ j. refl) (λ n. refl) (relaxed_form budgets) h within
-  answer_form formed budgets (Iis Deletion) answer h within = isolated_form _ _ Deletion budgets answer (λ core k. subst (λ (rounds : Option ℕ). has_rounds Deletion rounds ≡ true) (sym k.0) refl) h within
-  answer_form formed budgets (Iis Additive) answer h within = isolated_form _ _ Additive budgets answer (λ core k. subst (λ (rounds : Option ℕ). has_rounds Additive rounds ≡ true) (sym k.0) refl) h within
+  answer_form formed budgets (Iis Deletion) answer h within = isolated_form _ _ Deletion budgets answer (λ core k. subst (λ (rounds : Option ℕ). (has_rounds Deletion rounds && has_price Deletion core.price) ≡ true) (sym k.0) (subst (λ (price : Option (ℚ × Point)). has_price Deletion price ≡ true) (sym k.1.0) refl)) h within
+  answer_form formed budgets (Iis Additive) answer h within = isolated_form _ _ Additive budgets answer (λ core k. subst (λ (rounds : Option ℕ). (has_rounds Additive rounds && has_price Additive core.price) ≡ true) (sym k.0) (subst (λ (price : Option (ℚ × Point)). has_price Additive price ≡ true) (sym k.1.0) refl)) h within
   answer_form formed budgets (Iis Elastic) answer h within = linearly_form (Iis Elastic) (elastic_size model (active_members model) []) (IsEnforcedTold model budgets) answer (λ j. refl) (λ n. refl) (enforced_form budgets) h within
-  answer_form formed budgets (Iis Sensitivity) answer h within = isolated_form _ _ Sensitivity budgets answer (λ core k. subst (λ (rounds : Option ℕ). has_rounds Sensitivity rounds ≡ true) (sym k.0) refl) h within
+  answer_form formed budgets (Iis Alternative) answer h within = linearly_form (Iis Alternative) (alternative_size model (active_members model)) (IsWeighedTold model budgets) answer (λ j. refl) (λ n. refl) (weighed_form budgets) h within
+  answer_form formed budgets (Iis Sensitivity) answer h within = isolated_form _ _ Sensitivity budgets answer (λ core k. subst (λ (rounds : Option ℕ). (has_rounds Sensitivity rounds && has_price Sensitivity core.price) ≡ true) (sym k.0) (subst (λ (price : Option (ℚ × Point)). has_price Sensitivity price ≡ true) (sym k.1.0) refl)) h within
   answer_form formed budgets (Edit e) answer h within = absurd h
   answer_form formed budgets Undo answer h within = absurd h
   answer_form formed budgets (Pivots n) answer h within = subst (IsAnswerTo (Pivots n)) (sym h) (refl, tt)

@@ -16,3 +16,5 @@ pub mod Marks
 pub mod Sizes
 pub mod Easing
 pub mod Chained
+pub mod Weighed
+pub mod Witnessing

@@ -1,5 +1,5 @@
 -- What a diagnosis gives, as an answer.
-use Rattle.std.proofs.Common.{◌≡◌, ◌⊎◌, ◌<◌, ◌≤◌, refl, sym, ap, subst, Bool, false, not, List, [], filter, length, Result, Ok, Err, inl, inr, arith}
+use Rattle.std.proofs.Common.{◌≡◌, ◌⊎◌, ◌<◌, ◌≤◌, refl, sym, subst, Bool, false, not, List, [], filter, length, Result, Ok, Err, inl, inr, arith}
 use Rattle.std.specs.Prelude.{All, Contains, IfOk, IfErr}
 use Rattle.std.proofs.lemmas.List.Filters.{length-filter_both}
 use Rattle.certs.specs.Ended.{numbers_from}
@@ -30,17 +30,16 @@ use Rattle.unbounded.specs.declared.diagnosing.Diagnosis.TheVariants.{Infeasible
 use Rattle.unbounded.specs.Diagnosed.{AsksOnce, HasLastPoint, IsDiagnosis, IsImproveSite, IsOwnStop, PassesOn}
 use Rattle.report_text.specs.declared.report.Answer.{Answer}
 use Rattle.report_text.specs.declared.report.Answer.TheVariants.{Feasible, Infeasible, Irreducible, Unbounded as RunsAway, Bounded as BoundedBy, Least as LeastBy, RigidInfeasible as RigidRefuted, Reduced, Done, Refused, NotLinear, Stopped}
-use Rattle.report_text.specs.Form.{IsRunSite, is_run_kind}
+use Rattle.report_text.specs.Form.{IsRunSite}
 use Rattle.report_printer.specs.Printing.{IsKnownAnswer, IsKnownSource}
 use Rattle.branch_oracle.specs.Value.{BranchValue}
 use Rattle.presolve_oracle.specs.Value.{PresolveValue}
-use Rattle.analysis.specs.Answers.{fresh_oracle, IsPossibleSite, IsRefutedBy, IsStopAnswer, IsToldStop}
+use Rattle.analysis.specs.Answers.{IsPossibleSite, IsRefutedBy, IsStopAnswer, IsToldStop, fresh_oracle, oracle_state}
 use Rattle.analysis.specs.Objectives.{IsFoundBy, IsTold}
 use Rattle.analysis.specs.Right.{IsWhole}
 use Rattle.analysis.proofs.Asked.{QuickAnswers, proof_fits, proof_ordered, stop_reference}
 use Rattle.analysis.proofs.Found.{part_possible}
 use Rattle.analysis.proofs.Refuting.{known_source}
-use Rattle.analysis.proofs.Searched.{branch_state}
 use Rattle.analysis.proofs.Stopping.{IsRunOf, active_site, known_stopped, none_part, run_answer}
 
 -- ---- the sources of a dual
@@ -69,7 +68,6 @@ module _ (model : Program) (budgets : Budgets) where
   -- the site of the improve run
   improve_run_site : (site : Site) → IsImproveSite model set site → IsPossibleSite site → IsRunSite model site
   improve_run_site site h possible = record {
-    kind = ap is_run_kind h.kind;
     of_model = h.set_of;
     active = active_site model site.set h.set_of possible (subst (λ l. IsPart l set) (sym h.set_is) (All-contains_itself set));
     enforced_of = h.enforced_of;
@@ -140,13 +138,13 @@ module _ (model : Program) (budgets : Budgets) where
 
   -- and so it is by the oracle that was asked nothing yet
   pub found_at : (inner : BranchValue PresolveValue) (old new : OracleState) (found : Result Diagnosis Stop) → inner ≡ fresh_oracle model budgets → IfOk found (IsDiagnosis model set)
-      → IfErr found (λ stop. QuickAnswers (branch_state inner).model (branch_state inner).budgets set (Err stop) ⊎ IsOwnStop model set budgets.pivots stop)
-      → (has_mark set ≡ false → IfOk found (HasLastPoint model set budgets.pivots)) → AsksOnce (QuickAnswers (branch_state inner).model (branch_state inner).budgets set) old new set found → IsFoundBy model budgets found
+      → IfErr found (λ stop. QuickAnswers (oracle_state inner).model (oracle_state inner).budgets set (Err stop) ⊎ IsOwnStop model set budgets.pivots stop)
+      → (has_mark set ≡ false → IfOk found (HasLastPoint model set budgets.pivots)) → AsksOnce (QuickAnswers (oracle_state inner).model (oracle_state inner).budgets set) old new set found → IsFoundBy model budgets found
   found_at inner old new found fresh is stop last asked =
       found_by old new found is
-      (subst (λ (o : BranchValue PresolveValue). IfErr found (λ stop. QuickAnswers (branch_state o).model (branch_state o).budgets set (Err stop) ⊎ IsOwnStop model set budgets.pivots stop)) fresh stop)
+      (subst (λ (o : BranchValue PresolveValue). IfErr found (λ stop. QuickAnswers (oracle_state o).model (oracle_state o).budgets set (Err stop) ⊎ IsOwnStop model set budgets.pivots stop)) fresh stop)
       last
-      (subst (λ (o : BranchValue PresolveValue). AsksOnce (QuickAnswers (branch_state o).model (branch_state o).budgets set) old new set found) fresh asked)
+      (subst (λ (o : BranchValue PresolveValue). AsksOnce (QuickAnswers (oracle_state o).model (oracle_state o).budgets set) old new set found) fresh asked)
 
   -- each of the two by itself
   pub first_of : {E : Type 0} (result : Result Answer E) → IfOk result (λ a. IsTold model budgets a × IsKnownAnswer model a) → IfOk result (IsTold model budgets)

@@ -20,8 +20,8 @@ use Rattle.certs.specs.Sites.{Budgets}
 use Rattle.certs.specs.Tales.{FirstCore, IsPointOf, OracleState, TaleValue}
 use Rattle.certs.specs.Trees.{has_mark}
 use Rattle.filter_steps.specs.Isolated.{IsIsolation, IsStoppedAt}
-use Rattle.presolve_oracle.specs.Value.{PresolveValue, presolve_state}
-use Rattle.branch_oracle.specs.Value.{BranchValue, state_with as with_trees}
+use Rattle.presolve_oracle.specs.Value.{PresolveValue}
+use Rattle.branch_oracle.specs.Value.{BranchValue}
 use Rattle.quick_oracle.specs.Alone.{stands_alone}
 use Rattle.quick_oracle.specs.Answers.{IsAsked}
 use Rattle.quick_oracle.specs.Value.{state_with}
@@ -30,34 +30,30 @@ use Rattle.sensitivity_filter.specs.Pairs.{IsStoppedWith, at_core, at_whole, eit
 use Rattle.report_text.specs.declared.report.Answer.{Answer}
 use Rattle.report_text.specs.declared.report.Core.{Core}
 use Rattle.report_printer.specs.Printing.{IsKnownAnswer}
-use Rattle.analysis.specs.Answers.{IsAnswerOf, fresh_oracle}
-use Rattle.analysis.specs.Right.{InNoRounds, IsCoreTest, IsIsolated, IsLateOfCore}
+use Rattle.analysis.specs.Answers.{IsAnswerOf, fresh_oracle, oracle_state}
+use Rattle.analysis.specs.Right.{IsBare, IsCoreTest, IsIsolated, IsLateOfCore}
 use Rattle.analysis.proofs.Asked.{InnerAnswers, QuickAnswers, by_tree, inner_fits, inner_ordered, inner_stop, marked_alone, proof_fits, proof_ordered, reference_core, stop_reference}
 use Rattle.analysis.proofs.Found.{given_answer, late_is_part, late_test_is_part, within}
 use Rattle.analysis.proofs.Stopping.{IsRunOf}
 
--- what callers see of the oracle by trees
-abbrev pub branch_state : BranchValue PresolveValue → OracleState
-branch_state oracle = with_trees (presolve_state oracle.inner) oracle.nodes oracle.tale
-
 -- the quick oracle over one that was asked nothing yet
 abbrev quick_state : Program → Budgets → TaleValue → OracleState
-quick_state model budgets tale = state_with (branch_state (fresh_oracle model budgets)) tale
+quick_state model budgets tale = state_with (oracle_state (fresh_oracle model budgets)) tale
 
 -- ---- an ask for all active members
 module _ (model : Program) (budgets : Budgets) (inner : BranchValue PresolveValue) (fresh : inner ≡ fresh_oracle model budgets) (set : SetValue) where
   -- its answer is one within the budgets
-  pub fresh_answer : (result : Result Verdict Stop) → QuickAnswers (branch_state inner).model (branch_state inner).budgets set.members result → QuickAnswers model budgets set.members result
-  fresh_answer result h = subst (λ (o : BranchValue PresolveValue). QuickAnswers (branch_state o).model (branch_state o).budgets set.members result) fresh h
+  pub fresh_answer : (result : Result Verdict Stop) → QuickAnswers (oracle_state inner).model (oracle_state inner).budgets set.members result → QuickAnswers model budgets set.members result
+  fresh_answer result h = subst (λ (o : BranchValue PresolveValue). QuickAnswers (oracle_state o).model (oracle_state o).budgets set.members result) fresh h
 
   -- and where there is a mark the tree's
   pub fresh_tree : (nodes : ℕ) (verdict : Verdict) (after : OracleState) → nodes ≡ 0 → set ≡ active_set model → has_mark (active_members model) ≡ true
-      → (stands_alone (branch_state inner).model set.members nodes ≡ true → IsAsked InnerAnswers (branch_state inner) after set.members (Ok verdict)) → IsTreeAnswer model budgets (active_members model) (Ok verdict)
+      → (stands_alone (oracle_state inner).model set.members nodes ≡ true → IsAsked InnerAnswers (oracle_state inner) after set.members (Ok verdict)) → IsTreeAnswer model budgets (active_members model) (Ok verdict)
   fresh_tree nodes verdict after none whole marked alone =
       let here : has_mark set.members ≡ true = subst (λ (s : SetValue). has_mark s.members ≡ true) (sym whole) marked in
       subst (λ (s : SetValue). IsTreeAnswer model budgets s.members (Ok verdict)) whole
-      (by_tree model budgets set.members verdict (branch_state inner) after (ap (λ (o : BranchValue PresolveValue). (branch_state o).model) fresh) (ap (λ (o : BranchValue PresolveValue). (branch_state o).budgets) fresh) here
-      (alone (marked_alone (branch_state inner).model set.members nodes none here)))
+      (by_tree model budgets set.members verdict (oracle_state inner) after (ap (λ (o : BranchValue PresolveValue). (oracle_state o).model) fresh) (ap (λ (o : BranchValue PresolveValue). (oracle_state o).budgets) fresh) here
+      (alone (marked_alone (oracle_state inner).model set.members nodes none here)))
 
 -- ---- one oracle
 filter_stop : (IsTest : Program → List Member → List Member → Type 0) (IsRight : List Member → Type 0) (model : Program) (set : List Member) (budgets : Budgets) (tale : TaleValue) (after : OracleState)
@@ -74,7 +70,7 @@ filter_stop IsTest IsRight model set budgets tale after part right (Err stop) h 
 -- what a filter gives of a set of active members is right
 module _ (IsLeft IsTest : Program → List Member → List Member → Type 0) (IsKept : Core → Type 0) (IsRight : List Member → Type 0) (model : Program) (set : List Member) (rounds : Option ℕ) (budgets : Budgets) (tale : TaleValue) where
   pub filter_answer : (after : OracleState) (given : Result Irreducible Stop) {E : Type 0} (result : Result Answer E)
-      → ((core : Core) → core.rounds ≡ rounds → IsLeft model set core.members.members → IsKept core) → ((k : List Member) → IsLeft model set k → IsPart k (active_members model))
+      → ((core : Core) → core.rounds ≡ rounds → core.price ≡ None → IsLeft model set core.members.members → IsKept core) → ((k : List Member) → IsLeft model set k → IsPart k (active_members model))
       → ((p : Point) → IsPointOf model set p → IsPointOf model (active_members model) p)
       → ((t : List Member) → IsTest model set t → IsRight t) → ((t : List Member) → IsTest model set t → IsPart t (active_members model))
       → IfOk given (IsIsolation IsLeft QuickAnswers (quick_state model budgets tale) set) → IfErr given (IsStoppedAt IsTest QuickAnswers set (quick_state model budgets tale) after)
@@ -88,19 +84,19 @@ pub search_answer : (IsLeft IsTest : Program → List Member → List Member →
     (given : Result Irreducible Stop) {E : Type 0} (result : Result Answer E) → inner ≡ fresh_oracle model budgets → set ≡ active_set model
     → ((k : List Member) → IsLeft model (active_members model) k → IsKept k) → ((k : List Member) → IsLeft model (active_members model) k → IsPart k (active_members model))
     → ((t : List Member) → IsTest model (active_members model) t → IsRight t) → ((t : List Member) → IsTest model (active_members model) t → IsPart t (active_members model))
-    → IfOk given (IsIsolation IsLeft QuickAnswers (state_with (branch_state inner) tale) set.members) → IfErr given (IsStoppedAt IsTest QuickAnswers set.members (state_with (branch_state inner) tale) after)
-    → IfOk result (IsAnswerOf None given) → IfOk result (IsIsolated (InNoRounds IsKept) IsRight model budgets) × IfOk result (IsKnownAnswer model)
+    → IfOk given (IsIsolation IsLeft QuickAnswers (state_with (oracle_state inner) tale) set.members) → IfErr given (IsStoppedAt IsTest QuickAnswers set.members (state_with (oracle_state inner) tale) after)
+    → IfOk result (IsAnswerOf None given) → IfOk result (IsIsolated (IsBare IsKept) IsRight model budgets) × IfOk result (IsKnownAnswer model)
 search_answer IsLeft IsTest IsKept IsRight model set budgets inner tale after given result fresh whole kept part right tested found stopped is =
-    filter_answer IsLeft IsTest (InNoRounds IsKept) IsRight model (active_members model) None budgets tale after given result (λ core none k. (none, kept core.members.members k)) part (λ p h. h) right tested
+    filter_answer IsLeft IsTest (IsBare IsKept) IsRight model (active_members model) None budgets tale after given result (λ core none unpriced k. (none, (unpriced, kept core.members.members k))) part (λ p h. h) right tested
     (subst (λ (s : SetValue). IfOk given (IsIsolation IsLeft QuickAnswers (quick_state model budgets tale) s.members)) whole
-    (subst (λ (o : BranchValue PresolveValue). IfOk given (IsIsolation IsLeft QuickAnswers (state_with (branch_state o) tale) set.members)) fresh found))
+    (subst (λ (o : BranchValue PresolveValue). IfOk given (IsIsolation IsLeft QuickAnswers (state_with (oracle_state o) tale) set.members)) fresh found))
     (subst (λ (s : SetValue). IfErr given (IsStoppedAt IsTest QuickAnswers s.members (quick_state model budgets tale) after)) whole
-    (subst (λ (o : BranchValue PresolveValue). IfErr given (IsStoppedAt IsTest QuickAnswers set.members (state_with (branch_state o) tale) after)) fresh stopped))
+    (subst (λ (o : BranchValue PresolveValue). IfErr given (IsStoppedAt IsTest QuickAnswers set.members (state_with (oracle_state o) tale) after)) fresh stopped))
     is
 
 -- ---- two oracles: the reference for all active members, and the quick oracle inside the first core
 core_stop : (model : Program) (budgets : Budgets) (tale : TaleValue) (first_new later_new : OracleState) (given : Result Irreducible Stop)
-    → IfErr given (IsStoppedWith InnerAnswers QuickAnswers (active_members model) (branch_state (fresh_oracle model budgets)) first_new (quick_state model budgets tale) later_new) → IfErr given (IsRunOf (IsCoreTest model budgets) model budgets)
+    → IfErr given (IsStoppedWith InnerAnswers QuickAnswers (active_members model) (oracle_state (fresh_oracle model budgets)) first_new (quick_state model budgets tale) later_new) → IfErr given (IsRunOf (IsCoreTest model budgets) model budgets)
 core_stop model budgets tale first_new later_new (Ok found) h = tt
 core_stop model budgets tale first_new later_new (Err stop) (at_whole h same) = record {
   asked = h.asked;
@@ -126,19 +122,19 @@ either_fits model budgets asked proof (inr h) = proof_fits model budgets asked p
 -- what the filter gives is right
 pub core_answer : (model : Program) (set : SetValue) (budgets : Budgets) (first inner : BranchValue PresolveValue) (tale : TaleValue) (first_new later_new : OracleState) (given : Result Irreducible Stop) {E : Type 0} (result : Result Answer E)
     → first ≡ fresh_oracle model budgets → inner ≡ fresh_oracle model budgets → set ≡ active_set model
-    → IfOk given (IsIsolation (IsLateOfTold (AnswersAt InnerAnswers (branch_state first)) first_new.tale.first_core) (either InnerAnswers QuickAnswers (state_with (branch_state inner) tale).budgets) (branch_state first) set.members)
-    → IfErr given (IsStoppedWith InnerAnswers QuickAnswers set.members (branch_state first) first_new (state_with (branch_state inner) tale) later_new)
-    → IfOk result (IsAnswerOf None given) → IfOk result (IsIsolated (InNoRounds (IsLateOfCore model budgets)) (IsCoreTest model budgets) model budgets) × IfOk result (IsKnownAnswer model)
+    → IfOk given (IsIsolation (IsLateOfTold (AnswersAt InnerAnswers (oracle_state first)) first_new.tale.first_core) (either InnerAnswers QuickAnswers (state_with (oracle_state inner) tale).budgets) (oracle_state first) set.members)
+    → IfErr given (IsStoppedWith InnerAnswers QuickAnswers set.members (oracle_state first) first_new (state_with (oracle_state inner) tale) later_new)
+    → IfOk result (IsAnswerOf None given) → IfOk result (IsIsolated (IsBare (IsLateOfCore model budgets)) (IsCoreTest model budgets) model budgets) × IfOk result (IsKnownAnswer model)
 core_answer model set budgets first inner tale first_new later_new given result first_fresh inner_fresh whole found stopped is =
-    let state : OracleState = branch_state (fresh_oracle model budgets) in
+    let state : OracleState = oracle_state (fresh_oracle model budgets) in
     let told : Option FirstCore = first_new.tale.first_core in
-    given_answer (either InnerAnswers QuickAnswers budgets) (IsLateOfTold (AnswersAt InnerAnswers state) told) (InNoRounds (IsLateOfCore model budgets)) (IsCoreTest model budgets) state (active_members model) None budgets given result (either_ordered model budgets) (either_fits model budgets)
-    (λ core none k. (none, (k.core, (reference_core model budgets k.core k.is_core.answered, k.late)))) (λ kept k. within kept k.core (active_members model) (late_is_part model k.core kept k.late) k.is_core.part) (λ p h. h)
+    given_answer (either InnerAnswers QuickAnswers budgets) (IsLateOfTold (AnswersAt InnerAnswers state) told) (IsBare (IsLateOfCore model budgets)) (IsCoreTest model budgets) state (active_members model) None budgets given result (either_ordered model budgets) (either_fits model budgets)
+    (λ core none unpriced k. (none, (unpriced, (k.core, (reference_core model budgets k.core k.is_core.answered, k.late))))) (λ kept k. within kept k.core (active_members model) (late_is_part model k.core kept k.late) k.is_core.part) (λ p h. h)
     (subst (λ (s : SetValue). IfOk given (IsIsolation (IsLateOfTold (AnswersAt InnerAnswers state) told) (either InnerAnswers QuickAnswers budgets) state s.members)) whole
-    (subst (λ (o : BranchValue PresolveValue). IfOk given (IsIsolation (IsLateOfTold (AnswersAt InnerAnswers state) told) (either InnerAnswers QuickAnswers (state_with (branch_state o) tale).budgets) state set.members)) inner_fresh
-    (subst (λ (o : BranchValue PresolveValue). IfOk given (IsIsolation (IsLateOfTold (AnswersAt InnerAnswers (branch_state o)) told) (either InnerAnswers QuickAnswers (state_with (branch_state inner) tale).budgets) (branch_state o) set.members)) first_fresh found)))
+    (subst (λ (o : BranchValue PresolveValue). IfOk given (IsIsolation (IsLateOfTold (AnswersAt InnerAnswers state) told) (either InnerAnswers QuickAnswers (state_with (oracle_state o) tale).budgets) state set.members)) inner_fresh
+    (subst (λ (o : BranchValue PresolveValue). IfOk given (IsIsolation (IsLateOfTold (AnswersAt InnerAnswers (oracle_state o)) told) (either InnerAnswers QuickAnswers (state_with (oracle_state inner) tale).budgets) (oracle_state o) set.members)) first_fresh found)))
     (core_stop model budgets tale first_new later_new given
     (subst (λ (s : SetValue). IfErr given (IsStoppedWith InnerAnswers QuickAnswers s.members state first_new (quick_state model budgets tale) later_new)) whole
-    (subst (λ (o : BranchValue PresolveValue). IfErr given (IsStoppedWith InnerAnswers QuickAnswers set.members state first_new (state_with (branch_state o) tale) later_new)) inner_fresh
-    (subst (λ (o : BranchValue PresolveValue). IfErr given (IsStoppedWith InnerAnswers QuickAnswers set.members (branch_state o) first_new (state_with (branch_state inner) tale) later_new)) first_fresh stopped))))
+    (subst (λ (o : BranchValue PresolveValue). IfErr given (IsStoppedWith InnerAnswers QuickAnswers set.members state first_new (state_with (oracle_state o) tale) later_new)) inner_fresh
+    (subst (λ (o : BranchValue PresolveValue). IfErr given (IsStoppedWith InnerAnswers QuickAnswers set.members (oracle_state o) first_new (state_with (oracle_state inner) tale) later_new)) first_fresh stopped))))
     is

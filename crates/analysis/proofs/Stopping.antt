@@ -27,7 +27,6 @@ use Rattle.presolve_laws.specs.Eased.{IsEased}
 use Rattle.report_text.specs.declared.report.Answer.{Answer}
 use Rattle.report_text.specs.declared.report.Core.{Core}
 use Rattle.report_text.specs.declared.report.Answer.TheVariants.{Feasible, Infeasible, Irreducible, Unbounded as RunsAway, Bounded as BoundedBy, Least as LeastBy, RigidInfeasible as RigidRefuted, Reduced, Done, Refused, NotLinear, Stopped}
-use Rattle.report_text.specs.Form.{is_run_kind}
 use Rattle.report_printer.specs.Printing.{IsKnownAnswer, IsKnownSite, IsKnownStop}
 use Rattle.analysis.specs.Answers.{IsPossibleSite, IsStopAnswer, IsToldStop}
 use Rattle.analysis.specs.Right.{IsChecked, IsIsolated, IsRightStop, IsSiteOf, IsWhole}
@@ -72,7 +71,6 @@ IsUneasedSet model budgets set = has_mark set ≡ false → IsEased (set_system 
 site_of : (model : Program) (budgets : Budgets) (asked : List Member) (site : Site) → IsTreeSite model asked site → IsUneasedSet model budgets asked → IsPossibleSite site → IsPart asked (active_members model) → IsSiteOf (λ s. s ≡ asked) model budgets site
 site_of model budgets asked site h uneased possible part = record {
   run = record {
-    kind = ap is_run_kind h.node.kind;
     of_model = h.node.set_of;
     active = active_site model site.set h.node.set_of possible (subst (λ l. IsPart l (active_members model)) (sym h.node.set_is) part);
     enforced_of = h.node.enforced_of;

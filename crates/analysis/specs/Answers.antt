@@ -1,9 +1,11 @@
 -- The budgets in code, the oracle that makes runs and trees, and answers from what filters and oracles tell.
-use Rattle.std.specs.Prelude.{◌≡◌, ⊤, List, [], ◌∷◌, ◌++◌, ℕ, Option, None, filter, Result, Ok, Err}
+use Rattle.std.specs.Prelude.{◌≡◌, ◌⊎◌, ⊤, List, [], ◌∷◌, ◌++◌, ℕ, Option, None, Some, filter, Result, Ok, Err}
 use Rattle.lp_model.specs.declared.members.Member.{Member}
 use Rattle.lp_model.specs.Program.{Program}
 use Rattle.lp_model.specs.Members.{has, IsInOrder}
 use Rattle.lp_model.specs.MemberSets.{SetValue, possible_in}
+use Rattle.rational.specs.Rational.{ℚ}
+use Rattle.certs.specs.declared.evidence.Point.{Point}
 use Rattle.certs.specs.declared.evidence.Proof.{Proof}
 use Rattle.certs.specs.declared.solving.Irreducible.{Irreducible}
 use Rattle.certs.specs.declared.solving.Irreducible.TheVariants.{Set, Feasible as AtPoint}
@@ -11,16 +13,17 @@ use Rattle.certs.specs.declared.solving.Site.{Site}
 use Rattle.certs.specs.declared.solving.Stop.{Stop}
 use Rattle.certs.specs.declared.solving.Stop.TheVariants.{Wide, Pivots as Spent, Nodes, Large, Memory}
 use Rattle.certs.specs.Sites.{Budgets}
-use Rattle.certs.specs.Tales.{no_tale}
-use Rattle.presolve_oracle.specs.Value.{PresolveValue, fresh_value}
-use Rattle.branch_oracle.specs.Value.{BranchValue}
+use Rattle.certs.specs.Tales.{no_tale, OracleState}
+use Rattle.presolve_laws.specs.Answers.{IsPresolvedReference}
+use Rattle.presolve_oracle.specs.Value.{PresolveValue, fresh_value, presolve_state}
+use Rattle.branch_oracle.specs.Value.{BranchValue, state_with as with_trees}
 use Rattle.report_text.specs.declared.report.Answer.{Answer}
 use Rattle.report_text.specs.declared.report.Answer.TheVariants.{Feasible, Infeasible, Irreducible as Isolated, Stopped}
 use Rattle.analysis.specs.declared.answering.Budgets.{Budgets as Code}
 use Rattle.model_history.specs.History.{HistoryValue}
 use Rattle.report_text.specs.declared.report.Command.{Command}
 use Rattle.model_session.specs.Session.{session_at}
-use Rattle.analysis.specs.Right.{IsRefutation, IsRightStop, RightAfter, budgets_in_force}
+use Rattle.analysis.specs.Right.{IsRefutation, IsRightStop, IsWithoutOne, RightAfter, budgets_in_force}
 
 -- as contracts have them
 abbrev pub budgets_of : Code → Budgets
@@ -29,6 +32,10 @@ budgets_of b = record { pivots = b.pivots; nodes = b.nodes }
 -- an oracle that presolves, and makes the runs and trees of a program within the budgets, and was asked nothing yet
 abbrev pub fresh_oracle : Program → Budgets → BranchValue PresolveValue
 fresh_oracle model budgets = record { inner = fresh_value model budgets.pivots; nodes = budgets.nodes; taken = 0; tale = no_tale }
+
+-- what callers see of such an oracle
+abbrev pub oracle_state : BranchValue PresolveValue → OracleState
+oracle_state oracle = with_trees (presolve_state oracle.inner) oracle.nodes oracle.tale
 
 -- a command is answered right, and done to the session's program where it edits it
 pub record IsNext (old new : HistoryValue) (budgets : Budgets) (command : Command) (answer : Answer) : Type 0 where
@@ -44,6 +51,10 @@ abbrev pub answer_of : Option ℕ → Irreducible → Answer
 answer_of rounds (Set members witnesses proof) = Isolated (record { members = members; witnesses = witnesses.items; proof = proof; rounds = rounds; price = None })
 answer_of rounds (AtPoint point) = Feasible point
 
+-- members with their witnesses, a proof, and a total with its price
+abbrev pub weighed_answer : SetValue → List Point → Proof → ℚ × Point → Answer
+weighed_answer members witnesses proof priced = Isolated (record { members = members; witnesses = witnesses; proof = proof; rounds = None; price = Some priced })
+
 -- a stop that a run or a tree may have: there is no size
 abbrev pub IsRunStop : Stop → Type 0
 IsRunStop (Wide site k o) = ⊤
@@ -55,6 +66,15 @@ IsRunStop Memory = ⊤
 -- the members of the site's set are possible ones
 abbrev pub IsPossibleSite : Site → Type 0
 IsPossibleSite site = site.set.members ≡ filter (has site.set.members) (possible_in site.set)
+
+-- the oracle makes the runs and trees of the program within the budgets, whatever it was asked before
+pub record IsOracleOf (program : Program) (allowed : Budgets) (oracle : BranchValue PresolveValue) : Type 0 where
+  pub model : (oracle_state oracle).model ≡ program
+  pub budgets : (oracle_state oracle).budgets ≡ allowed
+
+-- want of memory; or the stop of the reference for the set without one of its members
+abbrev pub IsWitnessStop : Program → Budgets → List Member → Stop → Type 0
+IsWitnessStop model budgets set stop = (stop ≡ Memory) ⊎ ((asked : List Member) × (IsWithoutOne set asked × IsPresolvedReference model budgets asked (Err stop)))
 
 -- the answer is just that stop, at such a site
 abbrev pub IsToldStop : Stop → Answer → Type 0

@@ -7,6 +7,7 @@ use Rattle.lp_model.specs.Members.{active_members}
 use Rattle.certs.specs.declared.solving.Stop.TheVariants.{Large}
 use Rattle.certs.specs.Elastic.{soft_members}
 use Rattle.certs.specs.Plain.{rows_in}
+use Rattle.certs.specs.System.{bounding}
 use Rattle.report_text.specs.declared.report.Answer.{Answer}
 use Rattle.report_text.specs.declared.report.Answer.TheVariants.{NotLinear, Stopped}
 use Rattle.analysis.specs.Objectives.{most_entries}
@@ -20,6 +21,10 @@ first_mark (m ∷ list) = first_mark list
 -- How many entries the dictionary of a set's elastic system has, the enforced members hard: a row for each row with an enforced side, one for each soft member, and one for the objective; and a column for each of the program's and for each soft member.
 abbrev pub elastic_size : Program → List Member → List Member → ℕ
 elastic_size model set enforced = (length (rows_in model enforced) + length (soft_members set enforced) + 1) * (length model.columns + length (soft_members set enforced))
+
+-- How many entries the dictionary of a set's system of the alternative has: a row for each column of the program, one for the numbers, and one for the objective; and a column for each member that asks for a number.
+abbrev pub alternative_size : Program → List Member → ℕ
+alternative_size model set = (length model.columns + 2) * length (bounding model set)
 
 -- Where there is a first mark, its column is told; else the size, just where it passes the most; and else what is told.
 abbrev pub IsLinearlyBy : Option ℕ → ℕ → (Answer → Type 0) → Answer → Type 0

@@ -1,10 +1,13 @@
 -- What it is for an answer to be right: of the program, within the budgets in force, to its command.
-use Rattle.std.specs.Prelude.{◌≡◌, ◌≢◌, ◌⊎◌, ℕ, suc, ◌*◌, ◌≤◌, true, List, [], ◌++◌, length, fold, Option, Some, None, All}
+use Rattle.std.specs.Prelude.{◌≡◌, ◌≢◌, ◌⊎◌, ℕ, suc, ◌*◌, ◌≤◌, true, List, [], ◌∷◌, ◌++◌, length, fold, Option, Some, None, IfSome, All}
 use Rattle.lp_model.specs.Program.{Program}
 use Rattle.lp_model.specs.declared.members.Member.{Member}
 use Rattle.lp_model.specs.Members.{active_members, IsInOrder}
+use Rattle.rational.specs.Rational.{ℚ}
 use Rattle.lp_model.specs.MemberSets.{SetValue}
 use Rattle.lp_model.specs.Satisfaction.{IsPart, IsIrreducible, IsUnsatisfiable}
+use Rattle.certs.specs.declared.evidence.Combo.{Combo}
+use Rattle.certs.specs.declared.evidence.Node.TheVariants.{Leaf}
 use Rattle.certs.specs.declared.evidence.Point.{Point}
 use Rattle.certs.specs.declared.evidence.Proof.{Proof}
 use Rattle.certs.specs.Answers.{IsCoreBy}
@@ -24,7 +27,7 @@ use Rattle.presolve_laws.specs.Answers.{IsLeafOf, IsPresolvedReference, set_syst
 use Rattle.presolve_laws.specs.Eased.{DecidesBy}
 use Rattle.tree_laws.specs.Boxes.{Box, IsBoxOf, volume}
 use Rattle.report_text.specs.declared.report.Method.{Method}
-use Rattle.report_text.specs.declared.report.Method.TheVariants.{Deletion, Additive, Sensitivity, Elastic}
+use Rattle.report_text.specs.declared.report.Method.TheVariants.{Deletion, Additive, Sensitivity, Elastic, Alternative}
 use Rattle.report_text.specs.declared.report.Core.{Core}
 use Rattle.report_text.specs.declared.report.Command.{Command}
 use Rattle.report_text.specs.declared.report.Command.TheVariants.{Check, Iis, Unbounded, Relax, Reduce, Edit, Undo, Pivots, Nodes as MostNodes}
@@ -36,7 +39,8 @@ use Rattle.report_text.specs.Turns.{after, answer_after, entry_commands, AllEntr
 use Rattle.report_printer.specs.Numbers.{HasNumbersWithin}
 use Rattle.analysis.specs.Reduced.{IsReducedTo}
 use Rattle.analysis.specs.Least.{IsRelaxation}
-use Rattle.analysis.specs.Linear.{IsLinearly, elastic_size}
+use Rattle.analysis.specs.Linear.{IsLinearly, alternative_size, elastic_size}
+use Rattle.alt_polyhedron.specs.Pricing.{IsCheapestSet, IsPricingStop}
 use Rattle.analysis.specs.Objectives.{IsDiagnosed}
 pub use Rattle.analysis.specs.Stops.{IsRefutation, IsSiteOf, IsRightStop, IsWhole}
 
@@ -62,7 +66,7 @@ HasNodesInBox model budgets answer =
     (box : Box) → IsBoxOf model (active_members model) box → 2 * volume model (active_members model) box ≤ budgets.nodes → (site : Site) → answer ≢ Stopped (Nodes site)
 
 -- ---- irreducible sets
--- Active members in order that are irreducible: the proof is one of them, with the shares of each leaf in order and numbers of splits that fit, and for each of them its own witness satisfies all the others. No price is given as yet.
+-- Active members in order that are irreducible: the proof is one of them, with the shares of each leaf in order and numbers of splits that fit, and for each of them its own witness satisfies all the others. A price that is told has a value for each column.
 pub record IsRightCore (model : Program) (core : Core) : Type 0 where
   pub of_model : IsSetOf model core.members
   pub active : IsPart core.members.members (active_members model)
@@ -72,7 +76,7 @@ pub record IsRightCore (model : Program) (core : Core) : Type 0 where
   pub fits : All IsFittingNode core.proof.nodes
   pub witnesses : AreWitnesses model core.members.members core.witnesses
   pub irreducible : IsIrreducible model core.members.members
-  pub price : core.price ≡ None
+  pub price : IfSome core.price (λ p. length p.1.values ≡ length model.columns)
 
 -- what is right to a search that leaves such members, and asks for such sets
 abbrev pub IsIsolated : (Core → Type 0) → (List Member → Type 0) → Program → Budgets → Answer → Type 0
@@ -81,9 +85,9 @@ IsIsolated IsKept IsTest model budgets (Irreducible core) = IsRightCore model co
 IsIsolated IsKept IsTest model budgets (Stopped stop) = IsRightStop IsTest model budgets stop
 IsIsolated IsKept IsTest model budgets _ = ⊥
 
--- such members, and no rounds
-abbrev pub InNoRounds : (List Member → Type 0) → Core → Type 0
-InNoRounds IsKept core = (core.rounds ≡ None) × IsKept core.members.members
+-- such members, and neither rounds nor a price
+abbrev pub IsBare : (List Member → Type 0) → Core → Type 0
+IsBare IsKept core = (core.rounds ≡ None) × ((core.price ≡ None) × IsKept core.members.members)
 
 -- The core of the active members within the budgets: those that their proof uses, which comes back from the reduction of their plain system where that is eased, and else is by its own run; or is by their tree where some of them is a mark.
 abbrev pub IsCore : Program → Budgets → List Member → Type 0
@@ -101,6 +105,7 @@ IsCoreTest model budgets set = IsWhole model set ⊎ ((core : List Member) × (I
 pub record IsLateOfRounds (model : Program) (core : Core) : Type 0 where
   pub count : ℕ
   pub told : core.rounds ≡ Some count
+  pub price : core.price ≡ None
   pub enforced : List Member
   pub rounds : Rounds model (active_members model) count enforced
   pub late : Late model enforced core.members.members
@@ -131,12 +136,52 @@ IsRoundAnswer model budgets _ = ⊥
 abbrev pub IsEnforcedTold : Program → Budgets → Answer → Type 0
 IsEnforcedTold model budgets answer = IsIsolated (IsLateOfRounds model) (IsRoundsTest model) model budgets answer ⊎ IsRoundAnswer model budgets answer
 
+-- The members are the support of a cheapest weighting of the active members, of which the proof is the one leaf; its cost is the total that is told with a price for it.
+pub record IsCheapestCore (model : Program) (core : Core) : Type 0 where
+  pub combo : Combo
+  pub total : ℚ
+  pub price : Point
+  pub rounds : core.rounds ≡ None
+  pub leaf : core.proof.nodes ≡ Leaf combo ∷ []
+  pub told : core.price ≡ Some (total, price)
+  pub cheapest : IsCheapestSet model (active_members model) core.members combo total price
+
+-- the members of the set but one
+pub record IsWithoutOne (set others : List Member) : Type 0 where
+  pub front : List Member
+  pub member : Member
+  pub back : List Member
+  pub set_is : set ≡ front ++ member ∷ back
+  pub others_are : others ≡ front ++ back
+
+-- all active members, or such members without one of them
+abbrev pub IsSupportTest : Program → List Member → Type 0
+IsSupportTest model set = IsWhole model set ⊎ ((core : Core) × (IsCheapestCore model core × IsWithoutOne core.members.members set))
+
+-- the run of the active members' system of the alternative stops so within the pivots
+abbrev pub IsWeighingStop : Program → Budgets → Stop → Type 0
+IsWeighingStop model budgets (Wide site k o) = IsRunSite model site × IsPricingStop model (active_members model) budgets.pivots (Wide site k o)
+IsWeighingStop model budgets (Spent site) = IsRunSite model site × IsPricingStop model (active_members model) budgets.pivots (Spent site)
+IsWeighingStop model budgets (Nodes site) = ⊥
+IsWeighingStop model budgets (Large size) = ⊥
+IsWeighingStop model budgets Memory = ⊥
+
+-- such a stop
+abbrev pub IsWeighingAnswer : Program → Budgets → Answer → Type 0
+IsWeighingAnswer model budgets (Stopped stop) = IsWeighingStop model budgets stop
+IsWeighingAnswer model budgets _ = ⊥
+
+-- what is right to a search for a cheapest weighting, or a stop of its run before it
+abbrev pub IsWeighedTold : Program → Budgets → Answer → Type 0
+IsWeighedTold model budgets answer = IsIsolated (IsCheapestCore model) (IsSupportTest model) model budgets answer ⊎ IsWeighingAnswer model budgets answer
+
 -- what is right to a search by each method
 abbrev pub IsFound : Method → Program → Budgets → Answer → Type 0
-IsFound Deletion model budgets answer = IsIsolated (InNoRounds (Late model (active_members model))) (IsLateTest model (active_members model)) model budgets answer
-IsFound Additive model budgets answer = IsIsolated (InNoRounds (Early model (active_members model))) (IsEarlyTest model (active_members model)) model budgets answer
+IsFound Deletion model budgets answer = IsIsolated (IsBare (Late model (active_members model))) (IsLateTest model (active_members model)) model budgets answer
+IsFound Additive model budgets answer = IsIsolated (IsBare (Early model (active_members model))) (IsEarlyTest model (active_members model)) model budgets answer
 IsFound Elastic model budgets answer = IsLinearly model (elastic_size model (active_members model) []) (IsEnforcedTold model budgets) answer
-IsFound Sensitivity model budgets answer = IsIsolated (InNoRounds (IsLateOfCore model budgets)) (IsCoreTest model budgets) model budgets answer
+IsFound Alternative model budgets answer = IsLinearly model (alternative_size model (active_members model)) (IsWeighedTold model budgets) answer
+IsFound Sensitivity model budgets answer = IsIsolated (IsBare (IsLateOfCore model budgets)) (IsCoreTest model budgets) model budgets answer
 
 -- ---- reductions
 -- The printed members are those that a leaf uses whose shares come back from what decides the reduction of the active members' plain system.

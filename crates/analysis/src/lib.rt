@@ -6,9 +6,13 @@ mod asking;
 mod diagnosing;
 mod enforcing;
 mod linear;
+mod once;
 mod pieces;
 mod reducing;
 mod relaxing;
 mod searching;
+mod weighing;
+mod witnesses;
 
+pub use once::search_once;
 pub use pieces::analyse;

@@ -1,14 +1,16 @@
 //! What only a program without active marks is asked.
 ghost use Rattle.std.specs.Prelude.{◌≡◌, ◌+◌, ◌<◌, ◌^◌, IfOk, IfSome, length};
+ghost use Rattle.lp_model.specs.Program.{Program};
 ghost use Rattle.lp_model.specs.MemberSets.{active_set};
 ghost use Rattle.certs.specs.Checks.{IsSetOf};
 ghost use Rattle.certs.specs.Elastic.{soft_members};
 ghost use Rattle.certs.specs.Named.{IsOfSize};
 ghost use Rattle.report_printer.specs.Printing.{IsKnownAnswer};
-ghost use Rattle.analysis.specs.Linear.{IsBegun, elastic_size, first_mark as first_mark_of};
+ghost use Rattle.analysis.specs.Linear.{IsBegun, alternative_size, elastic_size, first_mark as first_mark_of};
 
 use crate::diagnosing::MOST_ENTRIES;
 use crate::reducing::set_rows;
+use alternative_systems::bounding_members;
 use certs::{Member, MemberSet, Stop};
 use lp_model::Model;
 use report_text::Answer;
@@ -28,14 +30,39 @@ pub(crate) fn not_begun(
         IfOk result (IsBegun model.now size) }
     ensures known { IfOk result (λ given. IfSome given (IsKnownAnswer model.now)) }
 {
-    if let Some(column) = first_mark(set) {
-        return Ok(Some(Answer::NotLinear(column)));
-    }
     let size = size_of(alloc, model, set, enforced)?;
-    if size > MOST_ENTRIES {
-        return Ok(Some(Answer::Stopped(Stop::Large(size))));
+    Ok(hindrance(set, size))
+}
+
+/// The same of the system of the alternative of the active members.
+pub(crate) fn not_weighed(
+    alloc: Global,
+    model: &Model,
+    set: &MemberSet,
+) -> Result<Option<Answer>, AllocError>
+    requires whole { set.now ≡ active_set model.now }
+    ensures begun { let size = alternative_size model.now set.now.members in
+        IfOk result (IsBegun model.now size) }
+    ensures known { IfOk result (λ given. IfSome given (IsKnownAnswer model.now)) }
+{
+    let members = bounding_members(alloc, model, set)?;
+    let size = (model.column_count() as u64 + 2) * members.as_slice().len() as u64;
+    Ok(hindrance(set, size))
+}
+
+// The column of the first mark of the active members, or else the size of a dictionary, where it passes the most.
+fn hindrance(set: &MemberSet, size: u64) -> Option<Answer>
+    ensures begun { (model : Program) → set.now ≡ active_set model → IsBegun model size result }
+    ensures known { (model : Program) → set.now ≡ active_set model
+        → IfSome result (IsKnownAnswer model) }
+{
+    if let Some(column) = first_mark(set) {
+        return Some(Answer::NotLinear(column));
     }
-    Ok(None)
+    if size > MOST_ENTRIES {
+        return Some(Answer::Stopped(Stop::Large(size)));
+    }
+    None
 }
 
 // The column of the first mark of a set.

@@ -9,6 +9,7 @@ ghost use Rattle.analysis.specs.Right.{IsFound};
 use crate::answering::Budgets;
 use crate::asking::{Reference, quick_oracle, reference_oracle};
 use crate::enforcing::enforced_search;
+use crate::weighing::weighed_search;
 use certs::{Irreducible, MemberSet, Stop};
 use lp_model::Model;
 use quick_oracle::{Kept, QuickOracle};
@@ -56,6 +57,7 @@ fn search_by(
         Method::Deletion => concluded(None, deletion_filter::isolate(alloc, oracle, set)),
         Method::Additive => concluded(None, additive_filter::isolate(alloc, oracle, set)),
         Method::Elastic => enforced_search(alloc, model, budgets, oracle, set),
+        Method::Alternative => weighed_search(alloc, model, budgets, oracle, set),
         Method::Sensitivity => {
             let mut first = reference_oracle(alloc, model, budgets);
             let given = sensitivity_filter::isolate_with(alloc, &mut first, oracle, set);

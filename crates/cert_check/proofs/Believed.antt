@@ -24,6 +24,7 @@ use Rattle.certs.specs.declared.evidence.Node.{Node}
 use Rattle.certs.specs.declared.evidence.Proof.{Proof}
 use Rattle.least_checks.specs.Least.{ReachedLaw}
 use Rattle.least_checks.specs.Parts.{PartsLaw, ViolationLaw}
+use Rattle.price_checks.specs.Costs.{CostLaw, PricedLaw}
 use Rattle.branch_proof.specs.declared.checks.Judged.{Judged}
 use Rattle.branch_proof.specs.Walk.{judgement}
 use Rattle.branch_proof.proofs.Judgements.{told}
@@ -36,12 +37,13 @@ use Rattle.report_text.specs.declared.report.Refusal.{Refusal}
 use Rattle.report_text.specs.Turns.{after, answer_after}
 use Rattle.report_text.specs.Form.{IsAnswerFor, IsCommand, AreEntriesFor}
 use Rattle.model_session.proofs.Standing.{after_well_formed}
-use Rattle.report_text.specs.Grammar.{proof_phrases, witness_phrases}
-use Rattle.cert_check.specs.Trials.{said, paired_trials, same_note, is_use_of, judged_trials, proof_members, proof_trials, refuted_trials, rigid_active, others, witness_trials, witnesses_of, rounds_trials, answer_trials, linear_trials, claim_trials, same_reply, reply_trials, entry_trials, entries_trials, Trial, trials, unless_failed, outcome_of, IsAccepted}
+use Rattle.report_text.specs.Grammar.{proof_phrases, rounds_phrases, witness_phrases}
+use Rattle.cert_check.specs.Trials.{said, paired_trials, same_note, is_use_of, judged_trials, proof_members, proof_trials, refuted_trials, rigid_active, others, witness_trials, witnesses_of, rounds_trials, price_trials, answer_trials, linear_trials, claim_trials, same_reply, reply_trials, entry_trials, entries_trials, Trial, trials, unless_failed, outcome_of, IsAccepted}
 use Rattle.cert_check.specs.Stops.{first_stop, stop_or}
 use Rattle.cert_check.specs.Truth.{IsRefuted, IsTrueAnswer, AreTrue, AcceptedLaw}
 use Rattle.cert_check.proofs.Bounding.{unbounded_at, bounded_at}
 use Rattle.cert_check.proofs.Reaching.{least_by}
+use Rattle.cert_check.proofs.Pricing.{priced_by}
 use Rattle.cert_check.proofs.Firsts.{found_yes, parts_pass}
 
 said_yes : (b : Bool) → said b ≡ Yes → b ≡ true
@@ -129,13 +131,15 @@ refuted_by model among n set proof f e =
     let both = parts_pass (paired_trials (is_use_of among) (n + 2) set.members (proof_members model proof)) (proof_trials model set.members line proof) e in
     record { part = pairs_on among (n + 2) set.members (proof_members model proof) both.0; unsatisfiable = believed_proof model set.members line proof f both.1 }
 
--- ---- answers, by the laws of rays, bounds and least violations
+-- ---- answers, by the laws of rays, bounds, least violations and prices
 pub record Laws : Type 0 where
   pub rays : RayLaw
   pub bounds : ValidBoundLaw
   pub parts : PartsLaw
   pub violations : ViolationLaw
   pub reached : ReachedLaw
+  pub costs : CostLaw
+  pub prices : PricedLaw
 
 true_answer : (laws : Laws) (model : Program) (n : ℕ) (a : Answer) → IsWellFormed model → IsAnswerFor model a → first_stop (answer_trials model n a) ≡ None → IsTrueAnswer model a
 true_answer laws model n (Feasible p) f h e =
@@ -144,16 +148,25 @@ true_answer laws model n (Infeasible set proof) f h e = refuted_by model (active
 true_answer laws model n (Irreducible core) f h e =
     let set = core.members.members in
     let next = n + (2 + length (flat_map witness_phrases (witnesses_of core))) in
+    let behind = next + length (proof_phrases core.proof) in
     let tree = proof_trials model set (next + 1) core.proof in
-    let rounds = rounds_trials (length set) (next + length (proof_phrases core.proof)) core.rounds in
-    let both = parts_pass (witness_trials model set (n + 2) (witnesses_of core)) (tree ++ rounds) e in
+    let rounds = rounds_trials (length set) behind core.rounds in
+    let price = price_trials model (behind + length (rounds_phrases core.rounds)) core.proof core.price in
+    let both = parts_pass (witness_trials model set (n + 2) (witnesses_of core)) (tree ++ (rounds ++ price)) e in
     let each = tried model set (n + 2) (witnesses_of core) both.0 in
-    let cannot = believed_proof model set (next + 1) core.proof f (parts_pass tree rounds both.1).0 in
+    let rest = parts_pass tree (rounds ++ price) both.1 in
+    let judged = judged_yes (next + 1) core.proof.nodes (judgement model set core.proof.nodes) rest.0 in
+    let cannot = believed_proof model set (next + 1) core.proof f rest.0 in
+    let active =
+    part_of_active model set (all_zip (λ m. is_active model m ≡ true) set core.witnesses h.each (All-weaker (Tried model set) (λ w. is_active model w.0 ≡ true) (λ w t. t.0) (witnesses_of core) each)) in
     record {
-      active = part_of_active model set (all_zip (λ m. is_active model m ≡ true) set core.witnesses h.each (All-weaker (Tried model set) (λ w. is_active model w.0 ≡ true) (λ w t. t.0) (witnesses_of core) each));
-      unsatisfiable = cannot;
-      witnessed = All-weaker (Tried model set) (λ w. Satisfies model (others set w.0) (values_at w.1.values)) (λ w t. point_check_law limit model (others set w.0) (values_at w.1.values) t.1) (witnesses_of core) each;
-      irreducible = record { cannot = cannot; minimal = irreducible_by model set core.witnesses h.members.in_order h.each each };
+      set = record {
+        active = active;
+        unsatisfiable = cannot;
+        witnessed = All-weaker (Tried model set) (λ w. Satisfies model (others set w.0) (values_at w.1.values)) (λ w t. point_check_law limit model (others set w.0) (values_at w.1.values) t.1) (witnesses_of core) each;
+        irreducible = record { cannot = cannot; minimal = irreducible_by model set core.witnesses h.members.in_order h.each each };
+      };
+      price = priced_by model f set laws.costs laws.prices active (behind + length (rounds_phrases core.rounds)) core.proof core.price judged (parts_pass rounds price rest.1).1;
     }
 true_answer laws model n (RunsAway p ray) f h e = unbounded_at model laws.rays laws.bounds n p ray e
 true_answer laws model n (BoundedBy b) f h e = bounded_at model laws.rays laws.bounds n b f e

@@ -20,7 +20,7 @@ use Rattle.certs.specs.declared.evidence.Point.{Point}
 use Rattle.certs.specs.declared.evidence.Node.TheVariants.{Leaf}
 use Rattle.certs.specs.declared.evidence.Proof.{Proof}
 use Rattle.reductions.specs.declared.steps.ReduceStep.TheVariants.{Empty}
-use Rattle.report_text.specs.declared.report.Method.TheVariants.{Deletion, Elastic}
+use Rattle.report_text.specs.declared.report.Method.TheVariants.{Deletion, Elastic, Alternative}
 use Rattle.certs.specs.declared.solving.SiteKind.TheVariants.{Improve}
 use Rattle.certs.specs.declared.solving.Stop.TheVariants.{Pivots as Spent}
 use Rattle.report_text.specs.declared.report.Command.{Command}
@@ -301,7 +301,41 @@ one_round_too_many : check noted (rounds 4 ∷ []) ≡ Rejected 14
 unfolding frac ◌+ℚ◌ ◌*ℚ◌ neg_ℚ gcd gcd_within le_q lt_q eq_ℚ first_wide is_wide product_steps
 one_round_too_many = refl
 
--- ---- where x is to be whole, the elastic method and `relax` have no answer but that, and stops
+-- ---- a total with its price: the total on the line behind the proof, and the price on the next. At 3 the least cost of both rows once is 2
+abbrev priced_by : Proof → ℤ → ℤ → Entry
+priced_by proof t z = record { command = Iis Alternative; answer = Irreducible (record { members = record { rows = 3; columns = 1; members = pair }; witnesses = at (pos 2) ∷ at (pos 0) ∷ []; proof = proof; rounds = None; price = Some (whole t, at z) }); line = 3 }
+
+abbrev priced : ℤ → ℤ → Entry
+priced t z = priced_by (leaf (pos 1) (RowLo 1) (pos 1)) t z
+
+cheapest_pair : check noted (priced (pos 2) (pos 3) ∷ []) ≡ Accepted 1 0
+unfolding frac ◌+ℚ◌ ◌*ℚ◌ neg_ℚ gcd gcd_within le_q lt_q eq_ℚ first_wide is_wide product_steps
+cheapest_pair = refl
+
+-- another total
+other_total : check noted (priced (pos 3) (pos 3) ∷ []) ≡ Rejected 14
+unfolding frac ◌+ℚ◌ ◌*ℚ◌ neg_ℚ gcd gcd_within le_q lt_q eq_ℚ first_wide is_wide product_steps
+other_total = refl
+
+-- another price
+other_price : check noted (priced (pos 2) (pos 4) ∷ []) ≡ Rejected 15
+unfolding frac ◌+ℚ◌ ◌*ℚ◌ neg_ℚ gcd gcd_within le_q lt_q eq_ℚ first_wide is_wide product_steps
+other_price = refl
+
+-- both rows twice show the contradiction as well, but leave -2
+other_right_side_of_leaf : check noted (priced_by (leaf (pos 2) (RowLo 1) (pos 2)) (pos 4) (pos 3) ∷ []) ≡ Rejected 14
+unfolding frac ◌+ℚ◌ ◌*ℚ◌ neg_ℚ gcd gcd_within le_q lt_q eq_ℚ first_wide is_wide product_steps
+other_right_side_of_leaf = refl
+
+-- where x ≥ 4 is active too, it has less cost, and the price of the printed members alone is none
+abbrev cheaper : Program
+cheaper = record program { rows = row None (Some one_ℚ) true ∷ row (Some (whole (pos 2))) None true ∷ row (Some (whole (pos 4))) None true ∷ [] }
+
+not_cheapest : check_of cheaper (priced (pos 2) (pos 3)) ≡ Rejected 15
+unfolding frac ◌+ℚ◌ ◌*ℚ◌ neg_ℚ gcd gcd_within le_q lt_q eq_ℚ first_wide is_wide product_steps
+not_cheapest = refl
+
+-- ---- where x is to be whole, the elastic method, that of the alternative and `relax` have no answer but that, and stops
 abbrev marked : Program
 marked = record program { columns = record { name = []; lower = None; upper = None; whole = true; lower_active = true; upper_active = true; whole_active = true; lower_weight = Soft one_ℚ; upper_weight = Soft one_ℚ } ∷ [] }
 
@@ -312,6 +346,10 @@ marked_least = refl
 marked_rounds : check_of marked (rounds 3) ≡ Rejected 4
 unfolding frac ◌+ℚ◌ ◌*ℚ◌ neg_ℚ gcd gcd_within le_q lt_q eq_ℚ first_wide is_wide product_steps
 marked_rounds = refl
+
+marked_price : check_of marked (priced (pos 2) (pos 3)) ≡ Rejected 4
+unfolding frac ◌+ℚ◌ ◌*ℚ◌ neg_ℚ gcd gcd_within le_q lt_q eq_ℚ first_wide is_wide product_steps
+marked_price = refl
 
 marked_pair : check_of marked (irreducible (pos 2) (pos 0) (leaf (pos 1) (RowLo 1) (pos 1))) ≡ Accepted 1 0
 unfolding frac ◌+ℚ◌ ◌*ℚ◌ neg_ℚ gcd gcd_within le_q lt_q eq_ℚ first_wide is_wide product_steps

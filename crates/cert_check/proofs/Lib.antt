@@ -8,5 +8,6 @@ pub mod Ended
 pub mod Counted
 pub mod Bounding
 pub mod Reaching
+pub mod Pricing
 pub mod Believed
 mod Examples

@@ -11,7 +11,7 @@ use Rattle.report_text.specs.Turns.{after}
 use Rattle.report_text.specs.declared.report.Report.{Report}
 use Rattle.report_text.specs.declared.report.Answer.TheVariants.{Infeasible, Irreducible, RigidInfeasible}
 use Rattle.report_text.specs.declared.phrases.Phrase.{Phrase}
-use Rattle.report_text.specs.Grammar.{Line, text_of, phrase_line, node_phrases, witness_phrases, proof_phrases, rounds_phrases, answer_phrases, entry_phrases, entries_phrases, report_phrases, report_lines}
+use Rattle.report_text.specs.Grammar.{Line, text_of, phrase_line, node_phrases, witness_phrases, price_phrases, proof_phrases, rounds_phrases, answer_phrases, entry_phrases, entries_phrases, report_phrases, report_lines}
 use Rattle.report_text.specs.Form.{AreNumbered}
 use Rattle.cert_check.specs.Trials.{witnesses_of}
 use Rattle.cert_check.specs.Uses.{AreShort}
@@ -56,10 +56,11 @@ rigid_fit model set proof = members_fit model set proof
 pub witnesses_fit : (model : Program) (core : Core) → length (flat_map witness_phrases (witnesses_of core)) + length (flat_map node_phrases core.proof.nodes) ≤ length (answer_phrases model (Irreducible core))
 witnesses_fit model core =
     let witnesses = flat_map witness_phrases (witnesses_of core) in
-    let rest = proof_phrases core.proof ++ rounds_phrases core.rounds in
+    let behind = rounds_phrases core.rounds ++ price_phrases core.price in
+    let rest = proof_phrases core.proof ++ behind in
     let front = witnesses ++ rest in
     let a : length front ≡ length witnesses + length rest = length-append witnesses rest in
-    let b : length rest ≡ length (proof_phrases core.proof) + length (rounds_phrases core.rounds) = length-append (proof_phrases core.proof) (rounds_phrases core.rounds) in
+    let b : length rest ≡ length (proof_phrases core.proof) + length behind = length-append (proof_phrases core.proof) behind in
     let c : length (answer_phrases model (Irreducible core)) ≡ suc (length (front ++ Phrase.End ∷ [])) = refl in
     let d : length (front ++ Phrase.End ∷ []) ≡ length front + 1 = length-append front (Phrase.End ∷ []) in
     let e : length (proof_phrases core.proof) ≡ suc (length (flat_map node_phrases core.proof.nodes)) = refl in

@@ -13,17 +13,20 @@ use Rattle.frac128.specs.Calculation.{first_wide}
 use Rattle.frac128.specs.Limit.{limit}
 use Rattle.certs.specs.declared.evidence.Point.{Point}
 use Rattle.certs.specs.declared.evidence.Node.{Node}
+use Rattle.certs.specs.declared.evidence.Node.TheVariants.{Leaf}
+use Rattle.certs.specs.declared.evidence.Share.{Share}
 use Rattle.certs.specs.declared.evidence.Proof.{Proof}
 use Rattle.certs.specs.declared.evidence.Ray.{Ray}
 use Rattle.certs.specs.declared.evidence.Checked.{Checked}
 use Rattle.certs.specs.declared.evidence.Checked.TheVariants.{Yes, No, Wide}
-use Rattle.certs.specs.Checks.{outcome, point_steps, ray_steps}
+use Rattle.certs.specs.Checks.{outcome, point_steps, price_steps, ray_steps}
 use Rattle.certs.specs.Named.{used_members}
 use Rattle.certs.specs.Trees.{has_mark}
 use Rattle.certs.specs.Violation.{rigid_members}
 use Rattle.bound_checks.specs.declared.bounds.Dual.{Dual}
 use Rattle.bound_checks.specs.Parts.{value_steps, right_steps, factor_steps}
 use Rattle.least_checks.specs.Parts.{total_steps, violation_steps, weight_steps}
+use Rattle.price_checks.specs.Costs.{cost_steps}
 use Rattle.branch_proof.specs.declared.checks.Judged.{Judged}
 use Rattle.branch_proof.specs.Walk.{judgement}
 use Rattle.report_text.specs.declared.report.Core.{Core}
@@ -35,10 +38,10 @@ use Rattle.report_text.specs.declared.report.Entry.{Entry}
 use Rattle.report_text.specs.declared.report.Report.{Report}
 use Rattle.report_text.specs.declared.report.Command.{Command}
 use Rattle.report_text.specs.declared.report.Command.TheVariants.{Iis, Relax}
-use Rattle.report_text.specs.declared.report.Method.TheVariants.{Elastic}
-use Rattle.report_text.specs.declared.layout.TheConstants.{HEAD_LINES, OPENING_LINES, MEMBER_LINES, PROOF_LINES, BOUND_LINES, LEAST_LINES}
+use Rattle.report_text.specs.declared.report.Method.TheVariants.{Elastic, Alternative}
+use Rattle.report_text.specs.declared.layout.TheConstants.{HEAD_LINES, OPENING_LINES, MEMBER_LINES, PROOF_LINES, BOUND_LINES, LEAST_LINES, TOTAL_LINES}
 use Rattle.report_text.specs.Turns.{after, answer_after, gathered}
-use Rattle.report_text.specs.Grammar.{point_phrases, objective_phrases, node_phrases, proof_phrases, witness_phrases}
+use Rattle.report_text.specs.Grammar.{point_phrases, objective_phrases, node_phrases, proof_phrases, rounds_phrases, witness_phrases}
 use Rattle.cert_check.specs.declared.outcome.Outcome.{Outcome}
 use Rattle.cert_check.specs.declared.outcome.Outcome.TheVariants.{Accepted, Rejected, Wide as TooWide, Memory}
 
@@ -131,12 +134,29 @@ abbrev pub rounds_trials : ℕ → ℕ → Option ℕ → List Trial
 rounds_trials members n None = []
 rounds_trials members n (Some rounds) = on_line n (said (nat_lt 0 rounds && nat_le rounds (members + 1))) ∷ []
 
--- the members with their witnesses, the proof, and the rounds behind it
+-- the shares of a proof of one leaf
+abbrev pub leaf_shares : List Node → List Share
+leaf_shares (Leaf combo ∷ []) = combo.shares
+leaf_shares _ = []
+
+-- a total with its price, where they are told: on the line of the total that the proof's right side is -1, and that its shares cost the total; on that of the price, that the active members are priced
+abbrev pub price_trials : Program → ℕ → Proof → Option (ℚ × Point) → List Trial
+price_trials model n proof None = []
+price_trials model n proof (Some p) =
+    on_line n (outcome (cost_steps model (leaf_shares proof.nodes) p.0))
+    ∷ on_line (n + TOTAL_LINES) (outcome (price_steps model (active_members model) p.0 (values_at p.1.values))) ∷ []
+
+-- what stands behind the proof, the first on line n: the rounds, and the total with its price
+abbrev pub tail_trials : Program → ℕ → Core → List Trial
+tail_trials model n core =
+    rounds_trials (length core.members.members) n core.rounds ++ price_trials model (n + length (rounds_phrases core.rounds)) core.proof core.price
+
+-- the members with their witnesses, the proof, and what stands behind it
 abbrev pub irreducible_trials : Program → ℕ → Core → List Trial
 irreducible_trials model n core =
     let next = n + (OPENING_LINES + length (flat_map witness_phrases (witnesses_of core))) in
     witness_trials model core.members.members (n + OPENING_LINES) (witnesses_of core)
-    ++ (proof_trials model core.members.members (next + PROOF_LINES) core.proof ++ rounds_trials (length core.members.members) (next + length (proof_phrases core.proof)) core.rounds)
+    ++ (proof_trials model core.members.members (next + PROOF_LINES) core.proof ++ tail_trials model (next + length (proof_phrases core.proof)) core)
 
 -- ---- what the objective does
 -- the ray against the active members, on the line of its `ray`; marks have no part in it
@@ -229,9 +249,10 @@ settles (NotLinear j) = false
 settles (Stopped stop) = false
 settles _ = true
 
--- whether a command is for linear constraints alone: the elastic method, and `relax`
+-- whether a command is for linear constraints alone: the elastic method, that of the alternative, and `relax`
 abbrev pub needs_linear : Command → Bool
 needs_linear (Iis Elastic) = true
+needs_linear (Iis Alternative) = true
 needs_linear Relax = true
 needs_linear _ = false
 

@@ -1,13 +1,13 @@
 //! Whether the entries of a report hold.
-ghost use Rattle.std.specs.Prelude.{◌≡◌, ◌+◌, ◌<◌, [], length, flat_map};
+ghost use Rattle.std.specs.Prelude.{◌≡◌, ◌+◌, ◌<◌, [], MatchResult, None, length, flat_map};
 ghost use Rattle.lp_model.specs.Members.{active_members};
 ghost use Rattle.certs.specs.Checks.{IsSetOf};
 ghost use Rattle.model_history.specs.History.{history_of};
 ghost use Rattle.report_text.specs.declared.report.Answer.TheVariants.{Refused as RefusedBy};
 ghost use Rattle.report_text.specs.Form.{IsProofFor, IsPointFor, IsListed, IsCoreFor, IsAnswerFor, IsEntryFor, AreEntriesFor};
-ghost use Rattle.report_text.specs.Grammar.{answer_phrases, node_phrases, witness_phrases};
-ghost use Rattle.cert_check.specs.Trials.{witnesses_of, feasible_trials, refuted_trials, rigid_active, rounds_trials, irreducible_trials, answer_trials, claim_trials, linear_trials, needs_linear as needs_linear_constraints, settles as settles_command, reply_trials, same_reply, entries_trials};
-ghost use Rattle.cert_check.specs.Stops.{first_stop, Says};
+ghost use Rattle.report_text.specs.Grammar.{answer_phrases, node_phrases, rounds_phrases, witness_phrases};
+ghost use Rattle.cert_check.specs.Trials.{witnesses_of, feasible_trials, refuted_trials, rigid_active, rounds_trials, irreducible_trials, answer_trials, claim_trials, linear_trials, needs_linear as needs_linear_constraints, settles as settles_command, reply_trials, same_reply, tail_trials, entries_trials};
+ghost use Rattle.cert_check.specs.Stops.{first_stop, IsStop, Says};
 ghost use Rattle.cert_check.specs.Uses.{IsShort, AreShort};
 ghost use Rattle.cert_check.specs.Replay.{Replays};
 
@@ -15,6 +15,7 @@ use crate::leasts::check_least;
 use crate::members::{check_members, used_members};
 use crate::objectives::{check_bounded, check_unbounded};
 use crate::outcome::{Stop, settle};
+use crate::prices::check_priced;
 use crate::trees::{check_tree, line_behind};
 use crate::witnesses::check_witnesses;
 use bound_checks::has_mark;
@@ -121,7 +122,10 @@ fn check_linear(alloc: Global, model: &Model, entry: &Entry) -> Result<(), Stop>
 fn needs_linear(command: &Command) -> bool
     ensures { result ≡ needs_linear_constraints command.now }
 {
-    matches!(command, Command::Iis(Method::Elastic) | Command::Relax)
+    matches!(
+        command,
+        Command::Iis(Method::Elastic | Method::Alternative) | Command::Relax
+    )
 }
 
 /// Whether an answer settles its command.
@@ -241,7 +245,7 @@ fn check_refuted(
     check_tree(alloc, model, members, proof, end + PROOF_LINES)
 }
 
-// Checks an irreducible set: its members with their witnesses, its proof, and its rounds.
+// Checks an irreducible set: its members with their witnesses, its proof, and what stands behind that.
 fn check_core(alloc: Global, model: &Model, core: &Core, line: u32) -> Result<(), Stop>
     requires form { IsCoreFor model.now core.now }
     requires short { let witnesses = flat_map witness_phrases (witnesses_of core.now) in
@@ -256,22 +260,35 @@ fn check_core(alloc: Global, model: &Model, core: &Core, line: u32) -> Result<()
     let start = line + OPENING_LINES;
     let end = check_witnesses(model, &core.members, &mut others, witnesses, start)?;
     check_tree(alloc, model, &core.members, &core.proof, end + PROOF_LINES)?;
-    check_rounds(core, end + PROOF_LINES)
+    let behind = line_behind(&core.proof, end + PROOF_LINES);
+    check_tail(alloc, model, core, behind)
 }
 
-// Checks the rounds of an irreducible set, where they are told, behind its proof, of which the first node stands on the given
-// line.
-fn check_rounds(core: &Core, first: u32) -> Result<(), Stop>
-    requires { first + length (flat_map node_phrases core.now.proof.nodes) < 4294967296 }
+// Checks what stands behind the proof of an irreducible set, from the given line on: the rounds, and the total with its price,
+// where they are told.
+fn check_tail(alloc: Global, model: &Model, core: &Core, line: u32) -> Result<(), Stop>
+    requires form { IsCoreFor model.now core.now }
+    requires short { line + 2 < 4294967296 }
+    ensures { Says (first_stop (tail_trials model.now line core.now)) result }
+{
+    let next = check_rounds(core, line)?;
+    check_priced(alloc, model, core, next)
+}
+
+// Checks the rounds of an irreducible set on the given line, where they are told. It gives the number of the line behind them.
+fn check_rounds(core: &Core, line: u32) -> Result<u32, Stop>
+    requires { line + 1 < 4294967296 }
     ensures { let members = length core.now.members.members in
-        let line = first + length (flat_map node_phrases core.now.proof.nodes) in
-        Says (first_stop (rounds_trials members line core.now.rounds)) result }
+        let stop = first_stop (rounds_trials members line core.now.rounds) in
+        MatchResult result
+        (λ next. (stop ≡ None) × (next ≡ line + length (rounds_phrases core.now.rounds)))
+        (IsStop stop) }
 {
     let Some(rounds) = core.rounds else {
-        return Ok(());
+        return Ok(line);
     };
     if rounds >= 1 && rounds - 1 <= core.members.count() {
-        return Ok(());
+        return Ok(line + 1);
     }
-    Err(Stop::Rejected(line_behind(&core.proof, first)))
+    Err(Stop::Rejected(line))
 }

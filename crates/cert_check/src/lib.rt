@@ -7,6 +7,7 @@ mod members;
 mod notes;
 mod objectives;
 mod outcome;
+mod prices;
 mod reports;
 mod trees;
 mod witnesses;

@@ -14,6 +14,7 @@ use evidence_laws::{bound_is_valid, ray_is_unbounded};
 use least_checks::{checked_violation, parts_show_least, reached_is_least};
 use lp_model::Model;
 use model_session::Session;
+use price_checks::{checked_cost, price_shows_cheapest};
 use report_text::{Entry, Report};
 use std::alloc::Global;
 
@@ -35,7 +36,12 @@ use std::alloc::Global;
 /// negated, or where the total is not the weighted violation at the point; the `point` line where the point does not satisfy
 /// the rigid active members; and the `dual` line where the columns do not cancel or a soft member is given more than its
 /// weight. In `rigid infeasible` a member fails as in `infeasible`, and also where it is not rigid. The first line of an
-/// answer that settles `iis elastic` or `relax` fails where an active member is a mark.
+/// answer that settles `iis elastic`, `iis alternative` or `relax` fails where an active member is a mark.
+///
+/// Behind the proof of an irreducible set the `total` line fails where the proof is not one leaf whose numbers add up to -1,
+/// or where its shares do not cost the total; and the `price` line where, for an active member that asks for a number, its form
+/// at the price less the total times its number is above its weight. So a set with a price that is accepted is the one of a
+/// weighting of the active members than which none is cheaper (Gleeson and Ryan 1990).
 ///
 /// The answer to an edit or an undo fails on its line where it is not the right one: that it is done, or the reason for which
 /// it is refused.
@@ -73,6 +79,8 @@ pub fn accepted_reports_are_true()
     parts_show_least();
     checked_violation();
     reached_is_least();
+    checked_cost();
+    price_shows_cheapest();
 }
 
 // Checks the notes, and then the entries.

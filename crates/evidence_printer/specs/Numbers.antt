@@ -1,5 +1,6 @@
 -- Evidence whose numbers are those of the code: fractions within the limit, and counts of 64 bits.
-use Rattle.std.specs.Prelude.{List, zip, All}
+use Rattle.std.specs.Prelude.{List, zip, Option, Some, None, All}
+use Rattle.rational.specs.Rational.{ℚ}
 use Rattle.lp_model.specs.declared.members.Member.{Member}
 use Rattle.certs.specs.declared.evidence.Point.{Point}
 use Rattle.certs.specs.declared.evidence.Node.{Node}
@@ -59,6 +60,11 @@ pub record IsBoundedWithin (b : Bounded) : Type 0 where
 pub record IsLeastWithin (p : Point) (dual : Dual) : Type 0 where
   pub point : HasValuesWithin p
   pub weights : IsDualWithin dual
+
+-- the total, and the values of the price, where they are told
+abbrev pub HasPriceWithin : Option (ℚ × Point) → Type 0
+HasPriceWithin None = Unit {0}
+HasPriceWithin (Some p) = IsWithinLimit p.0 × HasValuesWithin p.1
 
 -- the value of a fixed column
 abbrev pub IsStepWithin : ReduceStep → Type 0

@@ -1,5 +1,6 @@
 -- What evidence can be printed: what names rows and columns that there are.
-use Rattle.std.specs.Prelude.{◌≡◌, ℕ, ◌<◌, ◌&&◌, not, List, [], ◌∷◌, ◌++◌, length, map, filter, All}
+use Rattle.std.specs.Prelude.{◌≡◌, ℕ, ◌<◌, ◌&&◌, not, List, [], ◌∷◌, ◌++◌, length, map, filter, Option, Some, None, All}
+use Rattle.rational.specs.Rational.{ℚ}
 use Rattle.lp_model.specs.Program.{Program}
 use Rattle.lp_model.specs.declared.members.Member.{Member}
 use Rattle.lp_model.specs.Members.{is_active, has}
@@ -71,6 +72,11 @@ pub record IsKnownBounded (model : Program) (b : Bounded) : Type 0 where
 pub record IsKnownLeast (model : Program) (p : Point) (dual : Dual) : Type 0 where
   pub point : IsKnownPoint model p
   pub sources : All (λ s. IsKnownSource model s.source) dual.combo.shares
+
+-- a price with a value for each column, where it is told
+abbrev pub IsKnownPrice : Program → Option (ℚ × Point) → Type 0
+IsKnownPrice model None = Unit {0}
+IsKnownPrice model (Some p) = IsKnownPoint model p.1
 
 -- sets of members of the program, and branches on columns that there are
 pub record IsKnownSite (model : Program) (site : Site) : Type 0 where

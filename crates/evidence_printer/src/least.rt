@@ -18,8 +18,8 @@ use lp_model::Model;
 use report_text::Phrase;
 use std::alloc::AllocError;
 
-// Appends the line of a total.
-fn print_total(total: Frac, into: &mut Vec<u8>) -> Result<(), AllocError>
+/// Appends the line of a total.
+pub(crate) fn print_total(total: Frac, into: &mut Vec<u8>) -> Result<(), AllocError>
     ensures text { (model : Program) → OnOk result (into.new.items ≡ into.old.items ++ ended (phrase_line model (Phrase.Total total))) }
     ensures front { Keeps into.old.items into.new.items }
     ensures within { IsWithinLimit total }

@@ -1,4 +1,4 @@
-//! The printed lines of evidence: members, points, rays, proofs, duals, rounds, stops, and the steps of reductions.
+//! The printed lines of evidence: members, points, rays, proofs, duals, rounds, prices, stops, and the steps of reductions.
 #![tactic(auto)]
 
 mod least;
@@ -6,6 +6,7 @@ mod members;
 mod nodes;
 mod objectives;
 mod points;
+mod prices;
 mod sites;
 mod steps;
 mod stops;
@@ -16,6 +17,7 @@ pub use members::{print_column, print_members};
 pub use nodes::print_proof;
 pub use objectives::{print_bounded, print_unbounded};
 pub use points::{print_point, print_witnesses};
+pub use prices::print_price;
 pub use steps::print_reduced;
 pub use stops::print_stop;
 pub use words::{push_decimal, push_line, push_word};

@@ -7,10 +7,11 @@ use Rattle.report_text.specs.declared.report.Command.{Command}
 use Rattle.analysis.specs.Written.{IsAnalysis, IsWhole, IsCut, IsWant, head_text, entries_text}
 use Rattle.analysis.specs.Puts.{PutWhole, PutsNothing}
 use Rattle.iis_run.specs.declared.plans.Plan.{Plan}
-use Rattle.iis_run.specs.declared.plans.Plan.TheVariants.{Say, Answer}
+use Rattle.iis_run.specs.declared.plans.Plan.TheVariants.{Say, Answer, Make}
 use Rattle.iis_run.specs.Said.{IsSaid, EndsInWant, Ends, status_of, status_after_fault}
 use Rattle.iis_run.specs.Steps.{Follows, IsQuietEnd, IsQuietPlan}
 use Rattle.iis_edge.specs.Causes.{KeepsCounts}
+use Rattle.iis_run.proofs.Summaries.{made_kept}
 
 stays : (a b : ℕ) → b ≡ a → a ≤ b
 stays a b e = omega arith
@@ -57,6 +58,7 @@ module _ {K : Type 0} (faults : K → ℕ) (taken : K → Option (List ℕ)) (ol
   pub plan_kept : (plan : Plan) (status : ℕ) → Follows faults taken old new plan status → faults old ≤ faults new
   plan_kept (Say ending) status h = put_kept ending status h
   plan_kept (Answer program commands) status h = answers_kept program commands status h
+  plan_kept (Make n) status h = made_kept faults taken old new n status h
 
   -- ---- the shelf's counts
   module _ (before now : List ℕ → ℕ) where
@@ -77,6 +79,7 @@ module _ {K : Type 0} (faults : K → ℕ) (taken : K → Option (List ℕ)) (ol
     pub plan_quiet : (plan : Plan) (status : ℕ) → Follows faults taken old new plan status → IsQuietPlan before now plan → Quiet status
     plan_quiet (Say ending) status h k = end_quiet ending status h k
     plan_quiet (Answer program commands) status h k = inr (inr k)
+    plan_quiet (Make n) status h k = inr (inr k)
 
 -- counts that stay twice
 both_kept : (before mid now : List ℕ → ℕ) → KeepsCounts before mid → KeepsCounts mid now → KeepsCounts before now
@@ -103,3 +106,4 @@ quiet_later before mid now (Checked outcome) h k = both_kept before mid now h k
 pub plan_later : (before mid now : List ℕ → ℕ) (plan : Plan) → KeepsCounts before mid → IsQuietPlan mid now plan → IsQuietPlan before now plan
 plan_later before mid now (Say ending) h k = quiet_later before mid now ending h k
 plan_later before mid now (Answer program commands) h k = both_kept before mid now h k
+plan_later before mid now (Make n) h k = both_kept before mid now h k

@@ -29,7 +29,7 @@ use Rattle.iis_edge.specs.Causes.{Rose}
 use Rattle.iis_run.specs.declared.words.Verb.{Verb}
 use Rattle.iis_run.specs.declared.words.Verb.TheVariants.{Verify, Analyse}
 use Rattle.iis_run.specs.declared.plans.Plan.{Plan}
-use Rattle.iis_run.specs.declared.plans.Plan.TheVariants.{Say, Answer}
+use Rattle.iis_run.specs.declared.plans.Plan.TheVariants.{Say, Answer, Make}
 use Rattle.iis_run.specs.Asked.{request_for}
 use Rattle.iis_run.specs.Fetches.{IsFetchStop}
 use Rattle.iis_run.specs.Causes.{IsModel, IsNoModel, IsModelOf, AreReported, IsReportEnding, IsDecided, IsChecked, ComesTo, checked_ending, refused_ending}
@@ -180,7 +180,9 @@ module _ (file : List ℕ → Option (List ℕ)) (before mid now : List ℕ → 
   pub second_planned : (verb : Verb) (plan : Plan) → IfSome (file model) (λ b. IsModelOf model b p) → before second ≤ mid second → IsSecondPlan verb p (file second) (mid second) (now second) plan → IsPlanned file before now (Some (request_for verb model second)) plan
   second_planned Verify (Say e) m later h = check_caused e m later h
   second_planned Verify (Answer q commands) m later h = absurd h
+  second_planned Verify (Make n) m later h = absurd h
   second_planned Analyse (Say e) m later h = script_caused e m later h
+  second_planned Analyse (Make n) m later h = absurd h
   second_planned Analyse (Answer q commands) m later h = record { declares = subst (λ (r : Program). IfSome (file model) (λ b. IsModelOf model b r)) (sym h.0) m; says = h.1 }
 
 -- there is no model

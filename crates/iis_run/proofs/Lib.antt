@@ -1,4 +1,6 @@
+pub mod Numbers
 pub mod Said
+pub mod Summaries
 pub mod Unambiguous
 pub mod Statuses
 pub mod Decided
@@ -7,3 +9,4 @@ pub mod ShownBytes
 pub mod LpNames
 pub mod MpsNames
 pub mod Named
+pub mod Completed

@@ -1,5 +1,5 @@
 -- What each status tells of a run.
-use Rattle.std.proofs.Common.{◌≡◌, ◌≢◌, ◌≤◌, refl, sym, ap, ◌∙◌, subst, ℕ, ◌==◌, Bool, true, false, cond, List, Option, Some, None, arith, inl, inr}
+use Rattle.std.proofs.Common.{◌≡◌, ◌≢◌, ◌≤◌, refl, sym, ap, ◌∙◌, subst, ℕ, ◌==◌, Bool, true, false, cond, List, length, Option, Some, None, arith, inl, inr}
 use Rattle.std.specs.Prelude.{◌⊎◌, ◌↔◌, IfSome}
 use Rattle.std.specs.List.{list_any}
 use Rattle.iis_edge.specs.Causes.{Rose, KeepsCounts}
@@ -11,11 +11,13 @@ use Rattle.cert_check.specs.declared.outcome.Outcome.TheVariants.{Accepted, Reje
 use Rattle.lp_model.specs.Program.{Program}
 use Rattle.text_fields.specs.declared.faults.ReadStop.{ReadStop}
 use Rattle.model_files.specs.Formats.{Declares}
+use Rattle.report_text.specs.declared.report.Entry.{Entry}
 use Rattle.report_text.specs.declared.report.Report.{Report as Entries}
 use Rattle.report_reader.specs.Reading.{Reads}
 use Rattle.report_text.specs.Form.{IsReportFor}
 use Rattle.cert_check.specs.Trials.{trials, outcome_of, IsAccepted as IsPassed}
 use Rattle.cert_check.specs.Truth.{AcceptedLaw}
+use Rattle.again_laws.specs.Again.{AcceptedAgainLaw, IsAcceptedOrWide}
 use Rattle.model_files.proofs.Meaning.{meaning}
 use Rattle.iis_run.specs.declared.endings.Which.{Which}
 use Rattle.iis_run.specs.declared.endings.Which.TheVariants.{Model, Report, Script}
@@ -25,13 +27,17 @@ use Rattle.report_text.specs.declared.report.Command.{Command}
 use Rattle.analysis.specs.Puts.{PutWhole}
 use Rattle.analysis.specs.NamesAreWords.{HasWords}
 use Rattle.analysis.specs.Written.{IsAnalysis, IsWhole, IsCut, IsWant, is_unmet, report_of, whole_text}
-use Rattle.iis_run.specs.Causes.{IsModelOf, AreReported, IsTrueReport}
+use Rattle.iis_run.specs.Causes.{IsModelOf, AreReported, CallsFor, IsDecided, IsTrueReport}
+use Rattle.iis_run.specs.Limits.{limit_of}
 use Rattle.iis_run.specs.Scripts.{IsCommands, CallsForScript}
 use Rattle.iis_run.specs.Said.{IsSaid, EndsInWant, Ends, line_of, status_of, status_after_fault}
-use Rattle.iis_run.specs.Run.{name_of, HasFailed, IsTooLong, AreTold, Calls, AskedFor, IsAskedSession, IsCaused, IsEnded, IsAnalysed, IsRun, HasFetchStop, IsModelRefused, IsTextRefused, IsAnswered, IsDone, IsAccepted, IsUnsettled, IsRefuted, IsBorneOut, IsWrittenReport, IsReadBack, IsCalm, IsToldAs, IsToldSession, Settles}
+use Rattle.iis_run.specs.Run.{name_of, HasFailed, IsTooLong, AreTold, Calls, AskedFor, IsAskedSession, IsCaused, IsEnded, IsAnalysed, IsMaking, IsRun, HasFetchStop, IsModelRefused, IsTextRefused, IsAnswered, IsDone, IsAccepted, IsUnsettled, IsRefuted, IsBorneOut, IsWrittenReport, IsReadBack, IsCalm, IsToldAs, IsToldSession, Settles}
 use Rattle.iis_run.specs.declared.plans.Plan.{Plan}
-use Rattle.iis_run.specs.declared.plans.Plan.TheVariants.{Say, Answer}
+use Rattle.iis_run.specs.declared.plans.Plan.TheVariants.{Say, Answer, Make}
+use Rattle.iis_run.specs.Plans.{IsPlanTold}
 use Rattle.iis_run.specs.Steps.{IsPlanned, IsReady, Follows}
+use Rattle.iis_run.proofs.Completed.{complete}
+use Rattle.iis_run.proofs.Summaries.{no_made, made_summarised, made_stopped, made_cut, made_within, made_told}
 use Rattle.iis_run.proofs.Unambiguous.{one_ending, none_called, none_called_as_told, one_session, the_report}
 
 -- ---- the ending by its status
@@ -235,6 +241,7 @@ too_long file (Request.Verify model report) Script h = absurd h
 too_long file (Request.Analyse model script) Model h = h
 too_long file (Request.Analyse model script) Report h = absurd h
 too_long file (Request.Analyse model script) Script h = h.1
+too_long file (Request.Make n) which h = absurd h
 
 fetch_stopped : (file : List ℕ → Option (List ℕ)) (before now : List ℕ → ℕ) (request : Option Request) (e : Ending) (which : Which) → (e ≡ ReadFault which) ⊎ (e ≡ TooLong which) → IsCaused file before now request e → HasFetchStop file before now request
 fetch_stopped file before now None e which (inl same) cause = let wrong : ReadFault which ≡ Usage = sym same ∙ cause in absurd (cc)
@@ -264,6 +271,7 @@ calm_written faults taken old new e status calm (inr want) = inr want
 one_call : (file : List ℕ → Option (List ℕ)) (q : Request) (e f : Ending) → AreTold file q f → Calls file q f → Calls file q e → e ≡ f
 one_call file (Request.Verify model report) e f told calls cause = sym (one_ending.checked model (file model) (file report) f e told calls cause)
 one_call file (Request.Analyse model script) e f told calls cause = sym (one_ending.analysed model (file model) (file script) f e told calls cause)
+one_call file (Request.Make n) e f told calls cause = absurd calls
 
 -- where no fetch failed, an ending comes for want of memory, or told files call for it
 called_or_memory : (file : List ℕ → Option (List ℕ)) (before now : List ℕ → ℕ) (q : Request) (e : Ending) → ((which : Which) → ¬ (HasFailed before now q which)) → IsCaused file before now (Some q) e → (e ≡ Memory) ⊎ Calls file q e
@@ -283,10 +291,12 @@ called_or_memory file before now q (Checked v) calm cause = inr cause
 -- files of an analysis call for no ending
 session_uncalled : (file : List ℕ → Option (List ℕ)) (q : Request) (p : Program) (commands : List Command) (e : Ending) → IsAskedSession file (Some q) p commands → AreTold file q e → Calls file q e → ⊥
 session_uncalled file (Request.Verify model report) p commands e session told calls = absurd session
+session_uncalled file (Request.Make n) p commands e session told calls = absurd session
 session_uncalled file (Request.Analyse model script) p commands e session told calls = none_called_as_told model (file model) (file script) p commands e session.declares session.says told calls
 
 told_uncalled : (file : List ℕ → Option (List ℕ)) (q : Request) (p : Program) (commands : List Command) (e : Ending) → IsToldSession file q p commands → Calls file q e → ⊥
 told_uncalled file (Request.Verify model report) p commands e session calls = absurd session
+told_uncalled file (Request.Make n) p commands e session calls = absurd session
 told_uncalled file (Request.Analyse model script) p commands e session calls = by (file model) (file script) session calls
   where
     by : (m s : Option (List ℕ)) → IsToldAs (λ b. IsModelOf model b p) m × IsToldAs (λ b. IsCommands b commands) s → CallsForScript model m s e → ⊥
@@ -296,6 +306,7 @@ told_uncalled file (Request.Analyse model script) p commands e session calls = b
 
 told_same : (file : List ℕ → Option (List ℕ)) (q : Request) (p r : Program) (a b : List Command) → IsAskedSession file (Some q) p a → IsToldSession file q r b → (p ≡ r) × (a ≡ b)
 told_same file (Request.Verify model report) p r a b session told = absurd session
+told_same file (Request.Make n) p r a b session told = absurd session
 told_same file (Request.Analyse model script) p r a b session told = by (file model) (file script) session.declares session.says told
   where
     by : (m s : Option (List ℕ)) → IfSome m (λ x. IsModelOf model x p) → IfSome s (λ x. IsCommands x a) → IsToldAs (λ x. IsModelOf model x r) m × IsToldAs (λ x. IsCommands x b) s → (p ≡ r) × (a ≡ b)
@@ -313,7 +324,7 @@ module _ {K : Type 0} (faults : K → ℕ) (taken : K → Option (List ℕ)) (ol
   answer_status p commands status words a = by a.written
     where
       by : IsWhole faults taken old new p commands a.entries status ⊎ (IsCut faults taken old new p commands a.entries status ⊎ IsWant faults taken old new p a.entries status) → AnswerStatus p commands status
-      by (inl whole) = inl (list_any (λ e. is_unmet e.answer) a.entries, (whole.status_is, record { entries = a.entries; right = a.right; form = a.form words; all = whole.all; stops = refl; put = whole.put }))
+      by (inl whole) = inl (list_any (λ e. is_unmet e.answer) a.entries, (whole.status_is, record { entries = a.entries; right = a.right; form = a.form words; all = whole.all; stops = refl; complete = complete p commands a.entries a.right; put = whole.put }))
       by (inr (inl cut)) = inr (inl (cut.status_is, cut.put.rose))
       by (inr (inr want)) = inr (inr want.status_is)
 
@@ -348,6 +359,9 @@ module _ {S K : Type 0} (file : S → List ℕ → Option (List ℕ)) (fetch_fau
   abbrev Analysed : Option Request → ℕ → Type 0
   Analysed request status = IsAnalysed (file shelf_old) put_faults taken out_old out_new request status
 
+  abbrev Making : Option Request → ℕ → Type 0
+  Making request status = IsMaking put_faults taken out_old out_new request status
+
   abbrev Run : Option Request → ℕ → Type 0
   Run request status = IsRun file fetch_faults put_faults taken shelf_old shelf_new out_old out_new request status
 
@@ -365,6 +379,14 @@ module _ {S K : Type 0} (file : S → List ℕ → Option (List ℕ)) (fetch_fau
   unanswered : (request : Option Request) (status n : ℕ) → Analysed request status → n ≢ 0 → n ≢ 1 → n ≢ 4 → n ≢ 7 → status ≡ n → ⊥
   unanswered request status n run zero one four seven h = no_other put_faults taken out_old out_new run.program run.commands status n zero one four seven h (its_answers request status run)
 
+  -- a status that no production plan has
+  unmade : (request : Option Request) (status n : ℕ) → Making request status → n ≢ 0 → n ≢ 1 → n ≢ 4 → n ≢ 7 → status ≡ n → ⊥
+  unmade request status n run zero one four seven h = no_made put_faults taken out_old out_new run.periods status n zero one four seven h run.written
+
+  -- what holds of the request for a production plan holds of a request that asks for one
+  asked_plan : (P : Option Request → Type 0) (request : Option Request) (status : ℕ) → (run : Making request status) → P (Some (Request.Make run.periods)) → P request
+  asked_plan P request status run h = subst P (sym run.asked) h
+
   -- an analysis is asked for by words
   some_words : (request : Option Request) (status : ℕ) → Analysed request status → request ≡ None → ⊥
   some_words request status run none = subst (λ (r : Option Request). IsAskedSession (file shelf_old) r run.program run.commands) none run.asked
@@ -375,16 +397,21 @@ module _ {S K : Type 0} (file : S → List ℕ → Option (List ℕ)) (fetch_fau
     λ none. usage_status put_faults taken out_old out_new status
         (subst (λ (e : Ending). Ends put_faults taken out_old out_new e status) (no_request (file shelf_old) (fetch_faults shelf_old) (fetch_faults shelf_new) request run.ending none run.cause) run.written),
   )
-  usage_clause request status (inr run) = (
+  usage_clause request status (inr (inl run)) = (
     λ h. absurd (unanswered request status 2 run (λ e. omega arith) (λ e. omega arith) (λ e. omega arith) (λ e. omega arith) h),
     λ none. absurd (some_words request status run none),
+  )
+  usage_clause request status (inr (inr run)) = (
+    λ h. absurd (unmade request status 2 run (λ e. omega arith) (λ e. omega arith) (λ e. omega arith) (λ e. omega arith) h),
+    λ none. let asked = run.asked in absurd (cc),
   )
 
   pub fetch_stop_clause : (request : Option Request) (status : ℕ) → Run request status → status ≡ 3 → HasFetchStop (file shelf_old) (fetch_faults shelf_old) (fetch_faults shelf_new) request
   fetch_stop_clause request status (inl run) h =
       let s = stopped_only run.ending (its_own request status 3 run (λ e. omega arith) (λ e. omega arith) h) in
       fetch_stopped (file shelf_old) (fetch_faults shelf_old) (fetch_faults shelf_new) request run.ending s.0 s.1 run.cause
-  fetch_stop_clause request status (inr run) h = absurd (unanswered request status 3 run (λ e. omega arith) (λ e. omega arith) (λ e. omega arith) (λ e. omega arith) h)
+  fetch_stop_clause request status (inr (inl run)) h = absurd (unanswered request status 3 run (λ e. omega arith) (λ e. omega arith) (λ e. omega arith) (λ e. omega arith) h)
+  fetch_stop_clause request status (inr (inr run)) h = absurd (unmade request status 3 run (λ e. omega arith) (λ e. omega arith) (λ e. omega arith) (λ e. omega arith) h)
 
   pub write_fault_clause : (request : Option Request) (status : ℕ) → Run request status → status ≡ 4 → Rose (put_faults out_old) (put_faults out_new)
   write_fault_clause request status (inl run) h = by (its request status run)
@@ -393,7 +420,8 @@ module _ {S K : Type 0} (file : S → List ℕ → Option (List ℕ)) (fetch_fau
       by (inl same) = absurd ((status_bounds run.ending).1 (sym same ∙ h))
       by (inr (inl fault)) = fault.1
       by (inr (inr want)) = absurd (omega arith)
-  write_fault_clause request status (inr run) h = by (its_answers request status run)
+  write_fault_clause request status (inr (inr run)) h = made_cut put_faults taken out_old out_new run.periods status h run.written
+  write_fault_clause request status (inr (inl run)) h = by (its_answers request status run)
     where
       by : AnswerStatus put_faults taken out_old out_new run.program run.commands status → Rose (put_faults out_old) (put_faults out_new)
       by (inl (true, answered)) = let e : status ≡ 1 = answered.0 in absurd (omega arith)
@@ -409,7 +437,8 @@ module _ {S K : Type 0} (file : S → List ℕ → Option (List ℕ)) (fetch_fau
   model_clause request status (inl run) h =
       let r = model_refused_only run.ending (its_own request status 5 run (λ e. omega arith) (λ e. omega arith) h) in
       (r.0, called request status (ModelRefused r.0) run r.1 (λ q c. c.0) (λ e. absurd (cc)))
-  model_clause request status (inr run) h = absurd (unanswered request status 5 run (λ e. omega arith) (λ e. omega arith) (λ e. omega arith) (λ e. omega arith) h)
+  model_clause request status (inr (inl run)) h = absurd (unanswered request status 5 run (λ e. omega arith) (λ e. omega arith) (λ e. omega arith) (λ e. omega arith) h)
+  model_clause request status (inr (inr run)) h = absurd (unmade request status 5 run (λ e. omega arith) (λ e. omega arith) (λ e. omega arith) (λ e. omega arith) h)
 
   alone : (request : Option Request) (stop : ReadStop) → IsCaused (file shelf_old) (fetch_faults shelf_old) (fetch_faults shelf_new) request (ModelRefused stop) → KeepsCounts (fetch_faults shelf_old) (fetch_faults shelf_new)
   alone None stop cause = absurd (cc)
@@ -419,7 +448,8 @@ module _ {S K : Type 0} (file : S → List ℕ → Option (List ℕ)) (fetch_fau
   alone_clause request status (inl run) h =
       let r = model_refused_only run.ending (its_own request status 5 run (λ e. omega arith) (λ e. omega arith) h) in
       alone request r.0 (subst (IsCaused (file shelf_old) (fetch_faults shelf_old) (fetch_faults shelf_new) request) r.1 run.cause)
-  alone_clause request status (inr run) h = absurd (unanswered request status 5 run (λ e. omega arith) (λ e. omega arith) (λ e. omega arith) (λ e. omega arith) h)
+  alone_clause request status (inr (inl run)) h = absurd (unanswered request status 5 run (λ e. omega arith) (λ e. omega arith) (λ e. omega arith) (λ e. omega arith) h)
+  alone_clause request status (inr (inr run)) h = absurd (unmade request status 5 run (λ e. omega arith) (λ e. omega arith) (λ e. omega arith) (λ e. omega arith) h)
 
   pub text_clause : (request : Option Request) (status : ℕ) → Run request status → status ≡ 6 → IsTextRefused (file shelf_old) request
   text_clause request status (inl run) h = by (text_refused_only run.ending (its_own request status 6 run (λ e. omega arith) (λ e. omega arith) h))
@@ -428,13 +458,15 @@ module _ {S K : Type 0} (file : S → List ℕ → Option (List ℕ)) (fetch_fau
       by (inl cut) = record { ending = CutReport; refused = inl refl; asked = called request status CutReport run cut (λ q c. c) (λ e. absurd (cc)) }
       by (inr (inl (n, bad))) = record { ending = BadReport n; refused = inr (inl (n, refl)); asked = called request status (BadReport n) run bad (λ q c. c) (λ e. absurd (cc)) }
       by (inr (inr (n, bad))) = record { ending = BadScript n; refused = inr (inr (n, refl)); asked = called request status (BadScript n) run bad (λ q c. c) (λ e. absurd (cc)) }
-  text_clause request status (inr run) h = absurd (unanswered request status 6 run (λ e. omega arith) (λ e. omega arith) (λ e. omega arith) (λ e. omega arith) h)
+  text_clause request status (inr (inl run)) h = absurd (unanswered request status 6 run (λ e. omega arith) (λ e. omega arith) (λ e. omega arith) (λ e. omega arith) h)
+  text_clause request status (inr (inr run)) h = absurd (unmade request status 6 run (λ e. omega arith) (λ e. omega arith) (λ e. omega arith) (λ e. omega arith) h)
 
   pub refuted_clause : (request : Option Request) (status : ℕ) → Run request status → status ≡ 8 → IsRefuted (file shelf_old) request
   refuted_clause request status (inl run) h =
       let r = refuted_only run.ending (its_own request status 8 run (λ e. omega arith) (λ e. omega arith) h) in
       record { line = r.0; outcome = r.1.0; refused = r.1.1.0; asked = called request status (Checked r.1.0) run r.1.1.1 (λ q c. c) (λ e. absurd (cc)) }
-  refuted_clause request status (inr run) h = absurd (unanswered request status 8 run (λ e. omega arith) (λ e. omega arith) (λ e. omega arith) (λ e. omega arith) h)
+  refuted_clause request status (inr (inl run)) h = absurd (unanswered request status 8 run (λ e. omega arith) (λ e. omega arith) (λ e. omega arith) (λ e. omega arith) h)
+  refuted_clause request status (inr (inr run)) h = absurd (unmade request status 8 run (λ e. omega arith) (λ e. omega arith) (λ e. omega arith) (λ e. omega arith) h)
 
   -- all commands are answered
   done : (request : Option Request) (status : ℕ) (stopped : Bool) (P : Option Request → Type 0) → (run : Analysed request status) → status ≡ cond stopped 1 0
@@ -447,6 +479,7 @@ module _ {S K : Type 0} (file : S → List ℕ → Option (List ℕ)) (fetch_fau
       by : (r : Option Request) → IsAskedSession (file shelf_old) r run.program run.commands → P r
       by None session = absurd session
       by (Some (Request.Verify model report)) session = absurd session
+      by (Some (Request.Make n)) session = absurd session
       by (Some (Request.Analyse model script)) session = make model script (record { program = run.program; commands = run.commands; session = session; answered = answered })
 
   -- the check of a report accepts it
@@ -467,7 +500,10 @@ module _ {S K : Type 0} (file : S → List ℕ → Option (List ℕ)) (fetch_fau
       by None a = absurd a.1
       by (Some (Request.Verify model report)) a = a
       by (Some (Request.Analyse model script)) a = absurd a.1
-  accepted_clause request status (inr run) h = done request status false (IsAccepted (file shelf_old) put_faults taken out_old out_new) run h (λ model script d. d)
+      by (Some (Request.Make n)) a = absurd a.1
+  accepted_clause request status (inr (inl run)) h = done request status false (IsAccepted (file shelf_old) put_faults taken out_old out_new) run h (λ model script d. d)
+  accepted_clause request status (inr (inr run)) h =
+      asked_plan (IsAccepted (file shelf_old) put_faults taken out_old out_new) request status run (made_summarised put_faults taken out_old out_new run.periods status h run.written)
 
   pub unsettled_clause : (request : Option Request) (status : ℕ) → Run request status → status ≡ 1 → IsUnsettled (file shelf_old) put_faults taken out_old out_new request
   unsettled_clause request status (inl run) h = by request (leaves request status run h)
@@ -476,7 +512,10 @@ module _ {S K : Type 0} (file : S → List ℕ → Option (List ℕ)) (fetch_fau
       by None a = absurd a.1.1.1
       by (Some (Request.Verify model report)) a = a
       by (Some (Request.Analyse model script)) a = absurd a.1.1.1
-  unsettled_clause request status (inr run) h = done request status true (IsUnsettled (file shelf_old) put_faults taken out_old out_new) run h (λ model script d. d)
+      by (Some (Request.Make n)) a = absurd a.1.1.1
+  unsettled_clause request status (inr (inl run)) h = done request status true (IsUnsettled (file shelf_old) put_faults taken out_old out_new) run h (λ model script d. d)
+  unsettled_clause request status (inr (inr run)) h =
+      asked_plan (IsUnsettled (file shelf_old) put_faults taken out_old out_new) request status run (made_stopped put_faults taken out_old out_new run.periods status h run.written)
 
   -- what a check accepts is so
   is_true : AcceptedLaw → (bytes name : List ℕ) (program : Program) (report : Entries) → Declares name bytes program → IsReportFor program report → IsPassed (outcome_of report.entries (trials program report)) → IsTrueReport program report
@@ -500,34 +539,65 @@ module _ {S K : Type 0} (file : S → List ℕ → Option (List ℕ)) (fetch_fau
       by None a = absurd a
       by (Some (Request.Verify model report)) a = so model (file shelf_old model) (file shelf_old report) a.1
       by (Some (Request.Analyse model script)) a = absurd a
+      by (Some (Request.Make n)) a = absurd a
 
   pub borne_out_clause : AcceptedLaw → (request : Option Request) (status : ℕ) → Run request status → (status ≡ 0) ⊎ (status ≡ 1) → IsBorneOut (file shelf_old) request
   borne_out_clause law request status (inl run) (inl h) = let a = accepts request status run h in accepted_so law request a.0 0 a.1
   borne_out_clause law request status (inl run) (inr h) = let a = leaves request status run h in accepted_so law request a.0 a.1.0 a.1.1.1
-  borne_out_clause law request status (inr run) (inl h) = done request status false (IsBorneOut (file shelf_old)) run h (λ model script d. tt)
-  borne_out_clause law request status (inr run) (inr h) = done request status true (IsBorneOut (file shelf_old)) run h (λ model script d. tt)
+  borne_out_clause law request status (inr (inl run)) (inl h) = done request status false (IsBorneOut (file shelf_old)) run h (λ model script d. tt)
+  borne_out_clause law request status (inr (inl run)) (inr h) = done request status true (IsBorneOut (file shelf_old)) run h (λ model script d. tt)
+  borne_out_clause law request status (inr (inr run)) h = asked_plan (IsBorneOut (file shelf_old)) request status run tt
 
   -- what an analysis writes whole is read
-  done_read : (model script : List ℕ) (stopped : Bool) → IsDone (file shelf_old) put_faults taken out_old out_new model script stopped → IsReadBack (file shelf_old) taken out_old out_new (Some (Request.Analyse model script))
-  done_read model script stopped d = by (file shelf_old model) d.session.declares
-    where
-      read : IsWrittenReport taken out_old out_new d.program
-      read = record { text = whole_text d.program d.answered.entries; written = d.answered.put.bytes; report = report_of d.program d.answered.entries; reads = record { form = d.answered.form; text = refl } }
+  -- the check of right answers is no rejection
+  decided : (entries : List Entry) (outcome : Outcome) → IsAcceptedOrWide entries outcome → IsDecided outcome
+  decided entries (Accepted settled unsettled) h = tt
+  decided entries (Rejected n) h = absurd h
+  decided entries (Wide n o) h = tt
+  decided entries Want h = absurd h
 
-      by : (m : Option (List ℕ)) → IfSome m (λ b. IsModelOf model b d.program) → IfSome m (λ b. (program : Program) → Declares model b program → IsWrittenReport taken out_old out_new program)
+  done_read : AcceptedAgainLaw → (model script : List ℕ) (stopped : Bool) → IsDone (file shelf_old) put_faults taken out_old out_new model script stopped → IsReadBack (file shelf_old) taken out_old out_new (Some (Request.Analyse model script))
+  done_read law model script stopped d = by (file shelf_old model) d.session.declares
+    where
+      report : Entries
+      report = report_of d.program d.answered.entries
+
+      text : List ℕ
+      text = whole_text d.program d.answered.entries
+
+      outcome : Outcome
+      outcome = outcome_of report.entries (trials d.program report)
+
+      again : IsAcceptedOrWide report.entries outcome
+      again = law d.program d.commands d.answered.entries d.answered.right
+
+      reads : Reads d.program text report
+      reads = record { form = d.answered.form; text = refl }
+
+      calls : (b : List ℕ) → IsModelOf model b d.program → length text ≤ limit_of Report → CallsFor model (Some b) (Some text) (Checked outcome)
+      calls b h short =
+          let sure : IsDecided outcome = decided report.entries outcome again in
+          (sure, (record { short = h.short; program = d.program; declares = h.declares }, record { short = short; program = d.program; declares = h.declares; comes = (sure, record { report = report; reads = reads; found = refl }) }))
+
+      read : (b : List ℕ) → IsModelOf model b d.program → IsWrittenReport taken out_old out_new model b d.program
+      read b h = record { text = text; written = d.answered.put.bytes; report = report; reads = reads; outcome = outcome; again = again; calls = calls b h }
+
+      by : (m : Option (List ℕ)) → IfSome m (λ b. IsModelOf model b d.program) → IfSome m (λ b. (program : Program) → Declares model b program → IsWrittenReport taken out_old out_new model b program)
       by None h = tt
-      by (Some b) h = λ program declares. subst (IsWrittenReport taken out_old out_new) (meaning.one model b d.program program h.declares declares) read
+      by (Some b) h = λ program declares. subst (IsWrittenReport taken out_old out_new model b) (meaning.one model b d.program program h.declares declares) (read b h)
 
   unread : (request : Option Request) (e : Ending) → ((model script : List ℕ) → Calls (file shelf_old) (Request.Analyse model script) e → ⊥) → AskedFor (file shelf_old) request e → IsReadBack (file shelf_old) taken out_old out_new request
   unread None e none asked = asked
   unread (Some (Request.Verify model report)) e none asked = tt
+  unread (Some (Request.Make n)) e none asked = tt
   unread (Some (Request.Analyse model script)) e none asked = absurd (none model script asked)
 
-  pub read_back_clause : (request : Option Request) (status : ℕ) → Run request status → (status ≡ 0) ⊎ (status ≡ 1) → IsReadBack (file shelf_old) taken out_old out_new request
-  read_back_clause request status (inl run) (inl h) = let a = accepts request status run h in unread request (Checked (Accepted a.0 0)) (λ model script c. c) a.1
-  read_back_clause request status (inl run) (inr h) = let a = leaves request status run h in unread request (Checked (Accepted a.0 a.1.0)) (λ model script c. c) a.1.1.1
-  read_back_clause request status (inr run) (inl h) = done request status false (IsReadBack (file shelf_old) taken out_old out_new) run h (λ model script d. done_read model script false d)
-  read_back_clause request status (inr run) (inr h) = done request status true (IsReadBack (file shelf_old) taken out_old out_new) run h (λ model script d. done_read model script true d)
+  pub read_back_clause : AcceptedAgainLaw → (request : Option Request) (status : ℕ) → Run request status → (status ≡ 0) ⊎ (status ≡ 1) → IsReadBack (file shelf_old) taken out_old out_new request
+  read_back_clause law request status (inl run) (inl h) = let a = accepts request status run h in unread request (Checked (Accepted a.0 0)) (λ model script c. c) a.1
+  read_back_clause law request status (inl run) (inr h) = let a = leaves request status run h in unread request (Checked (Accepted a.0 a.1.0)) (λ model script c. c) a.1.1.1
+  read_back_clause law request status (inr (inl run)) (inl h) = done request status false (IsReadBack (file shelf_old) taken out_old out_new) run h (λ model script d. done_read law model script false d)
+  read_back_clause law request status (inr (inl run)) (inr h) = done request status true (IsReadBack (file shelf_old) taken out_old out_new) run h (λ model script d. done_read law model script true d)
+  read_back_clause law request status (inr (inr run)) h = asked_plan (IsReadBack (file shelf_old) taken out_old out_new) request status run tt
 
   pub bounds_clause : (request : Option Request) (status : ℕ) → Run request status → status ≤ 8
   bounds_clause request status (inl run) = by (its request status run)
@@ -536,7 +606,15 @@ module _ {S K : Type 0} (file : S → List ℕ → Option (List ℕ)) (fetch_fau
       by (inl same) = rw same (status_bounds run.ending).0
       by (inr (inl fault)) = let h = fault.0 in omega arith
       by (inr (inr want)) = omega arith
-  bounds_clause request status (inr run) = within_eight put_faults taken out_old out_new run.program run.commands status (its_answers request status run)
+  bounds_clause request status (inr (inr run)) = made_within put_faults taken out_old out_new run.periods status run.written
+  bounds_clause request status (inr (inl run)) = within_eight put_faults taken out_old out_new run.program run.commands status (its_answers request status run)
+
+  -- a production plan asks for no file
+  plan_of : (q : Request) (status : ℕ) → (run : Making (Some q) status) → q ≡ Request.Make run.periods
+  plan_of q status run = let asked = run.asked in cc
+
+  uncalled : (q : Request) (status : ℕ) → Making (Some q) status → (e : Ending) → Calls (file shelf_old) q e → ⊥
+  uncalled q status run e calls = subst (λ (r : Request). Calls (file shelf_old) r e) (plan_of q status run) calls
 
   -- what told files call for is done, or there is want of memory
   ends : (q : Request) (status : ℕ) (run : Run (Some q) status) (f : Ending) → IsCalm fetch_faults put_faults shelf_old shelf_new out_old out_new q → AreTold (file shelf_old) q f → Calls (file shelf_old) q f
@@ -549,7 +627,8 @@ module _ {S K : Type 0} (file : S → List ℕ → Option (List ℕ)) (fetch_fau
           let same = one_call (file shelf_old) q run.ending f told calls cause in
           calm_written put_faults taken out_old out_new f status calm.puts
           (said_or_want put_faults taken out_old out_new f status (subst (λ (e : Ending). Ends put_faults taken out_old out_new e status) same run.written))
-  ends q status (inr run) f calm told calls = absurd (session_uncalled (file shelf_old) q run.program run.commands f run.asked told calls)
+  ends q status (inr (inr run)) f calm told calls = absurd (uncalled q status run f calls)
+  ends q status (inr (inl run)) f calm told calls = absurd (session_uncalled (file shelf_old) q run.program run.commands f run.asked told calls)
 
   -- the commands of told files are answered, or there is want of memory
   answers : (q : Request) (status : ℕ) (run : Run (Some q) status) (p : Program) (commands : List Command) → IsCalm fetch_faults put_faults shelf_old shelf_new out_old out_new q → IsToldSession (file shelf_old) q p commands
@@ -562,7 +641,8 @@ module _ {S K : Type 0} (file : S → List ℕ → Option (List ℕ)) (fetch_fau
       by : (run.ending ≡ Memory) ⊎ Calls (file shelf_old) q run.ending → ((stopped : Bool) × ((status ≡ cond stopped 1 0) × IsAnswered put_faults taken out_old out_new p commands stopped)) ⊎ (status ≡ 7)
       by (inl memory) = inr (of_want (subst (λ (e : Ending). Ends put_faults taken out_old out_new e status) memory run.written))
       by (inr cause) = absurd (told_uncalled (file shelf_old) q p commands run.ending told cause)
-  answers q status (inr run) p commands calm told = by (answer_status put_faults taken out_old out_new p commands status (subst HasWords same.0 run.words) its_own_answers)
+  answers q status (inr (inr run)) p commands calm told = absurd (subst (λ (r : Request). IsToldSession (file shelf_old) r p commands) (plan_of q status run) told)
+  answers q status (inr (inl run)) p commands calm told = by (answer_status put_faults taken out_old out_new p commands status (subst HasWords same.0 run.words) its_own_answers)
     where
       same : (run.program ≡ p) × (run.commands ≡ commands)
       same = told_same (file shelf_old) q run.program p run.commands commands run.asked told
@@ -577,11 +657,24 @@ module _ {S K : Type 0} (file : S → List ℕ → Option (List ℕ)) (fetch_fau
       by (inr (inl fault)) = absurd (calm.puts fault.1)
       by (inr (inr want)) = inr want
 
+  -- a production plan is summarised, or what stops it is written, or there is want of memory
+  makes : (q : Request) (status : ℕ) (run : Run (Some q) status) (n : ℕ) → IsCalm fetch_faults put_faults shelf_old shelf_new out_old out_new q → q ≡ Request.Make n → IsPlanTold put_faults taken out_old out_new n status
+  makes q status (inl run) n calm same = by (called_or_memory (file shelf_old) (fetch_faults shelf_old) (fetch_faults shelf_new) q run.ending calm.fetches run.cause)
+    where
+      by : (run.ending ≡ Memory) ⊎ Calls (file shelf_old) q run.ending → IsPlanTold put_faults taken out_old out_new n status
+      by (inl memory) = inr (inr (subst (λ (e : Ending). Ends put_faults taken out_old out_new e status) memory run.written))
+      by (inr calls) = absurd (subst (λ (r : Request). Calls (file shelf_old) r run.ending) same calls)
+  makes q status (inr (inl run)) n calm same = absurd (subst (λ (r : Request). IsAskedSession (file shelf_old) (Some r) run.program run.commands) same run.asked)
+  makes q status (inr (inr run)) n calm same =
+      let periods : run.periods ≡ n = let asked = run.asked in cc in
+      subst (λ (k : ℕ). IsPlanTold put_faults taken out_old out_new k status) periods (made_told put_faults taken out_old out_new run.periods status calm.puts run.written)
+
   pub settles_clause : (request : Option Request) (status : ℕ) → Run request status → Settles file fetch_faults put_faults taken shelf_old shelf_new out_old out_new request status
   settles_clause None status run = tt
-  settles_clause (Some q) status run = record { ends = λ f. ends q status run f; answers = λ p commands. answers q status run p commands }
+  settles_clause (Some q) status run = record { ends = λ f. ends q status run f; answers = λ p commands. answers q status run p commands; makes = λ n. makes q status run n }
 
   -- what follows a plan is a run
   pub planned_run : (request : Option Request) (status : ℕ) (plan : Plan) → IsReady plan → IsPlanned (file shelf_old) (fetch_faults shelf_old) (fetch_faults shelf_new) request plan → Follows put_faults taken out_old out_new plan status → Run request status
   planned_run request status (Say ending) ready cause written = inl (record { ending = ending; cause = cause; written = written })
-  planned_run request status (Answer program commands) ready session written = inr (record { program = program; commands = commands; asked = session; words = ready.0; written = written })
+  planned_run request status (Answer program commands) ready session written = inr (inl (record { program = program; commands = commands; asked = session; words = ready.0; written = written }))
+  planned_run request status (Make n) ready asked written = inr (inr (record { periods = n; asked = asked; written = written }))

@@ -1,7 +1,9 @@
 -- What the steps of a run come to.
-use Rattle.std.specs.Prelude.{◌≡◌, ◌<◌, ◌≤◌, ⊤, ℕ, List, length, Option, IfSome, All}
+use Rattle.std.specs.Prelude.{◌≡◌, ◌<◌, ◌≤◌, ⊤, ℕ, List, length, Option, Some, IfSome, All}
 use Rattle.iis_edge.specs.Causes.{Rose, KeepsCounts}
 use Rattle.lp_model.specs.Program.{Program}
+use Rattle.model_maker.specs.PlanText.{IsPlanSize}
+use Rattle.report_text.specs.declared.report.Answer.{Answer}
 use Rattle.report_text.specs.Form.{IsCommand}
 use Rattle.analysis.specs.NamesAreWords.{HasWords}
 use Rattle.analysis.specs.Written.{IsAnalysis}
@@ -12,6 +14,7 @@ use Rattle.iis_run.specs.Limits.{limit_of}
 use Rattle.iis_run.specs.Causes.{IsNoModel, IsDecided, IsReportEnding}
 use Rattle.iis_run.specs.Scripts.{IsCommands, IsBadScript}
 use Rattle.iis_run.specs.Said.{Ends}
+use Rattle.iis_run.specs.Plans.{told_text, told_status, IsPlanFound, IsMade}
 use Rattle.iis_run.specs.Run.{IsCaused, IsAskedSession}
 use Rattle.iis_run.specs.declared.endings.Which.TheVariants.{Model, Report, Script}
 use Rattle.iis_run.specs.declared.endings.Ending.{Ending}
@@ -19,7 +22,7 @@ use Rattle.iis_run.specs.declared.endings.Ending.TheVariants.{ReadFault, TooLong
 use Rattle.iis_run.specs.declared.words.Verb.{Verb}
 use Rattle.iis_run.specs.declared.words.Verb.TheVariants.{Verify, Analyse}
 use Rattle.iis_run.specs.declared.plans.Plan.{Plan}
-use Rattle.iis_run.specs.declared.plans.Plan.TheVariants.{Say, Answer}
+use Rattle.iis_run.specs.declared.plans.Plan.TheVariants.{Say, Answer as Answers, Make}
 
 -- why there is no model: the count of faults of its name has risen; or the file calls for it, where it is told; or there is want of memory
 abbrev pub IsModelStop : List ℕ → Option (List ℕ) → ℕ → ℕ → Ending → Type 0
@@ -62,37 +65,50 @@ IsScriptEnd file before now _ = ⊥
 -- what a script comes to for a program that was read
 abbrev pub IsScriptPlan : Program → Option (List ℕ) → ℕ → ℕ → Plan → Type 0
 IsScriptPlan program file before now (Say ending) = IsScriptEnd file before now ending
-IsScriptPlan program file before now (Answer p commands) = (p ≡ program) × IfSome file (λ s. IsCommands s commands)
+IsScriptPlan program file before now (Answers p commands) = (p ≡ program) × IfSome file (λ s. IsCommands s commands)
+IsScriptPlan program file before now (Make n) = ⊥
 
 -- what a report comes to: an ending
 abbrev pub IsReportPlan : Program → Option (List ℕ) → ℕ → ℕ → Plan → Type 0
 IsReportPlan program file before now (Say ending) = IsCheckEnd program file before now ending
-IsReportPlan program file before now (Answer p commands) = ⊥
+IsReportPlan program file before now (Answers p commands) = ⊥
+IsReportPlan program file before now (Make n) = ⊥
 
 -- what the second file comes to, by the verb
 abbrev pub IsSecondPlan : Verb → Program → Option (List ℕ) → ℕ → ℕ → Plan → Type 0
 IsSecondPlan Verify program file before now plan = IsReportPlan program file before now plan
 IsSecondPlan Analyse program file before now plan = IsScriptPlan program file before now plan
 
--- a plan has its cause: the ending that is to be said, or the program and the commands that the files are
+-- a plan has its cause: the ending that is to be said, the program and the commands that the files are, or the production plan that is asked for
 abbrev pub IsPlanned : (List ℕ → Option (List ℕ)) → (List ℕ → ℕ) → (List ℕ → ℕ) → Option Request → Plan → Type 0
 IsPlanned file before now request (Say ending) = IsCaused file before now request ending
-IsPlanned file before now request (Answer program commands) = IsAskedSession file request program commands
+IsPlanned file before now request (Answers program commands) = IsAskedSession file request program commands
+IsPlanned file before now request (Make n) = request ≡ Some (Request.Make n)
 
 -- the same of a plan
 abbrev pub IsQuietPlan : (List ℕ → ℕ) → (List ℕ → ℕ) → Plan → Type 0
 IsQuietPlan before now (Say ending) = IsQuietEnd before now ending
-IsQuietPlan before now (Answer program commands) = KeepsCounts before now
+IsQuietPlan before now (Answers program commands) = KeepsCounts before now
+IsQuietPlan before now (Make n) = KeepsCounts before now
 
--- what is to be answered can be, and printed: the names are words, and a script may have each command
+-- what is to be answered can be, and printed: the names are words, and a script may have each command; and a production plan may have so many periods
 abbrev pub IsReady : Plan → Type 0
 IsReady (Say ending) = ⊤
-IsReady (Answer program commands) = HasWords program × All IsCommand commands
+IsReady (Answers program commands) = HasWords program × All IsCommand commands
+IsReady (Make n) = IsPlanSize n
 
 -- what a plan writes, and its status
 abbrev pub Follows : {K : Type 0} → (K → ℕ) → (K → Option (List ℕ)) → K → K → Plan → ℕ → Type 0
 Follows faults taken old new (Say ending) status = Ends faults taken old new ending status
-Follows faults taken old new (Answer program commands) status = IsAnalysis faults taken old new program commands status
+Follows faults taken old new (Answers program commands) status = IsAnalysis faults taken old new program commands status
+Follows faults taken old new (Make n) status = IsMade faults taken old new n status
+
+-- what is to be written of a production plan, and the status that it gives
+pub record IsTold (n : ℕ) (text : List ℕ) (status : ℕ) : Type 0 where
+  pub answer : Answer
+  pub found : IsPlanFound n answer
+  pub text_is : text ≡ told_text n answer
+  pub status_is : status ≡ told_status answer
 
 -- a model that was not read
 abbrev pub model_ending : ModelFault → Ending

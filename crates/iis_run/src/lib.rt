@@ -1,9 +1,10 @@
-//! The top call: words, files, a check and its line, or the answers to a script.
+//! The top call: words, files, a check and its line, the answers to a script, or the summary of a production plan.
 #![tactic(auto)]
 
 mod endings;
 mod fetching;
 mod laws;
+mod making;
 mod plans;
 mod printing;
 mod reading;

@@ -1,6 +1,7 @@
 //! The lines that are printed.
-ghost use Rattle.std.specs.Prelude.{◌≡◌, ◌++◌, IfOk, OnOk, decimal};
+ghost use Rattle.std.specs.Prelude.{◌≡◌, ◌++◌, [], ◌∷◌, IfOk, OnOk, decimal};
 ghost use Rattle.iis_run.specs.Lines.{read_fault_line, too_long_line, bad_report_line, bad_script_line, kind_word, model_refused_line, text_word, accepted_line, rejected_line, wide_line};
+ghost use Rattle.iis_run.specs.Plans.{count_line};
 ghost use Rattle.report_text.specs.Grammar.{op_word};
 
 use crate::endings::Which;
@@ -49,6 +50,17 @@ fn print_part(words: &[u8], number: u64, into: &mut Vec<u8>) -> Result<(), Alloc
     let mut buffer = Buffer::new();
     into.extend_from_slice(words)?;
     into.extend_from_slice(buffer.format(number).as_bytes())
+}
+
+/// Appends a line of a word and a number.
+pub(crate) fn print_count(word: &[u8], number: u64, into: &mut Vec<u8>) -> Result<(), AllocError>
+    ensures { OnOk result (into.new.items
+        ≡ into.old.items ++ (count_line word.now number ++ 10 ∷ [])) }
+{
+    into.extend_from_slice(word)?;
+    print_part(b" ", number, into)?;
+    into.push(b'\n')?;
+    Ok(())
 }
 
 // The word of a fault of a text.

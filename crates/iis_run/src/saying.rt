@@ -15,8 +15,8 @@ use iis_edge::{PutFault, Sink};
 use std::alloc::Global;
 use text_fields::ReadStop;
 
-// Puts a line.
-fn put_line<W: Sink>(out: &mut W, line: &[u8]) -> Result<(), PutFault>
+/// Puts a line, or lines.
+pub(crate) fn put_line<W: Sink>(out: &mut W, line: &[u8]) -> Result<(), PutFault>
     ensures { MatchResult result (λ _. PutWhole W.faults W.taken out.old out.new line.now) (λ _. PutFailed W.faults W.taken out.old out.new line.now) }
 {
     out.put(line)

@@ -1,5 +1,5 @@
-//! Analyses a model by a script, or checks a report against a model: `run` over the words, the files and the standard
-//! output of the host.
+//! Analyses a model by a script, checks a report against a model, or summarises a production plan: `run` over the words, the
+//! files and the standard output of the host.
 #![tactic(auto)]
 
 use iis_edge::{HostShelf, HostSink, list_words};

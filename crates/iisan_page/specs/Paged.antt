@@ -98,3 +98,4 @@ PutsNoPage file before now faults taken old new None status = (status ≡ 2) × 
 PutsNoPage file before now faults taken old new (Some (Request.Verify model report)) status =
     ((status ≡ 4) × FailsToPut file faults taken old new model report) ⊎ SaysRefusal file before now faults taken old new model report status
 PutsNoPage file before now faults taken old new (Some (Request.Analyse model script)) status = ⊥
+PutsNoPage file before now faults taken old new (Some (Request.Make n)) status = ⊥

@@ -204,6 +204,7 @@ module _ (first model : Program) (same : SameNames first model) where
   details_same Phrase.Dual = refl
   details_same (Phrase.Total v) = refl
   details_same (Phrase.Rounds n) = refl
+  details_same Phrase.Price = refl
   details_same (Phrase.Member m) = simp (name_of_same m)
   details_same Phrase.Proof = refl
   details_same (Phrase.Split j k) = simp (column_name_same j)

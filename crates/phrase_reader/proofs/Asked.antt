@@ -10,7 +10,7 @@ use Rattle.lp_model.specs.declared.members.Side.{Side}
 use Rattle.lp_model.specs.declared.members.Side.TheVariants.{Lo, Up}
 use Rattle.report_text.specs.declared.report.Command.{Command}
 use Rattle.report_text.specs.declared.report.Command.TheVariants.{Check, Iis, Unbounded, Relax, Reduce, Edit, Undo, Pivots, Nodes}
-use Rattle.report_text.specs.declared.report.Method.TheVariants.{Deletion, Additive, Sensitivity, Elastic}
+use Rattle.report_text.specs.declared.report.Method.TheVariants.{Deletion, Additive, Sensitivity, Elastic, Alternative}
 use Rattle.report_text.specs.declared.report.TargetKind.{TargetKind}
 use Rattle.report_text.specs.declared.report.TargetKind.TheVariants.{Row, RowLo, RowUp, Lower, Upper, Whole}
 use Rattle.report_text.specs.declared.report.EditKind.{EditKind}
@@ -173,7 +173,7 @@ search_said a b c e =
     let t = told_if (bytes_eq a (codes "iis")) (option_map Iis (method_of b)) c e in
     let m = told Iis (method_of b) c t.1 in
     subst (AreSaid (a ∷ b ∷ [])) m.1.1
-    (ap (λ w. w ∷ b ∷ []) ((bytes_eq-Decides a (codes "iis")).0 t.0) ∙ ap (λ w. codes "iis" ∷ w ∷ []) (found_spelled method_word (Deletion ∷ Additive ∷ Sensitivity ∷ Elastic ∷ []) b m.0 m.1.0))
+    (ap (λ w. w ∷ b ∷ []) ((bytes_eq-Decides a (codes "iis")).0 t.0) ∙ ap (λ w. codes "iis" ∷ w ∷ []) (found_spelled method_word (Deletion ∷ Additive ∷ Sensitivity ∷ Elastic ∷ Alternative ∷ []) b m.0 m.1.0))
 
 -- what stands behind `budget`
 behind_said : (b number : List ℕ) (c : Command) → budget_behind b number ≡ Some c → AreSaid (codes "budget" ∷ b ∷ number ∷ []) c
@@ -289,6 +289,7 @@ own_words (Iis Deletion) h = refl
 own_words (Iis Additive) h = refl
 own_words (Iis Sensitivity) h = refl
 own_words (Iis Elastic) h = refl
+own_words (Iis Alternative) h = refl
 own_words (Edit e) h = own_edit e.name e.kind h.word h.kind
 own_words Unbounded h = refl
 own_words Relax h = refl

@@ -109,6 +109,7 @@ lone_is model Phrase.Done e = refl
 lone_is model Phrase.Point e = refl
 lone_is model Phrase.Ray e = refl
 lone_is model Phrase.Dual e = refl
+lone_is model Phrase.Price e = refl
 lone_is model Phrase.Proof e = refl
 lone_is model Phrase.Leaf e = refl
 lone_is model Phrase.End e = refl
@@ -133,21 +134,22 @@ IsLone model p = IsPhraseFor model p × (details model p ≡ [])
 
 lone_each : (model : Program) → All (IsLone model) lone_phrases
 lone_each model =
-    more Phrase.Feasible (Phrase.Infeasible ∷ Phrase.Irreducible ∷ Phrase.Unbounded ∷ Phrase.Bounded ∷ Phrase.Least ∷ Phrase.Reduced ∷ Phrase.Done ∷ Phrase.Point ∷ Phrase.Ray ∷ Phrase.Dual ∷ Phrase.Proof ∷ Phrase.Leaf ∷ Phrase.End ∷ []) (tt, refl)
-    (more Phrase.Infeasible (Phrase.Irreducible ∷ Phrase.Unbounded ∷ Phrase.Bounded ∷ Phrase.Least ∷ Phrase.Reduced ∷ Phrase.Done ∷ Phrase.Point ∷ Phrase.Ray ∷ Phrase.Dual ∷ Phrase.Proof ∷ Phrase.Leaf ∷ Phrase.End ∷ []) (tt, refl)
-    (more Phrase.Irreducible (Phrase.Unbounded ∷ Phrase.Bounded ∷ Phrase.Least ∷ Phrase.Reduced ∷ Phrase.Done ∷ Phrase.Point ∷ Phrase.Ray ∷ Phrase.Dual ∷ Phrase.Proof ∷ Phrase.Leaf ∷ Phrase.End ∷ []) (tt, refl)
-    (more Phrase.Unbounded (Phrase.Bounded ∷ Phrase.Least ∷ Phrase.Reduced ∷ Phrase.Done ∷ Phrase.Point ∷ Phrase.Ray ∷ Phrase.Dual ∷ Phrase.Proof ∷ Phrase.Leaf ∷ Phrase.End ∷ []) (tt, refl)
-    (more Phrase.Bounded (Phrase.Least ∷ Phrase.Reduced ∷ Phrase.Done ∷ Phrase.Point ∷ Phrase.Ray ∷ Phrase.Dual ∷ Phrase.Proof ∷ Phrase.Leaf ∷ Phrase.End ∷ []) (tt, refl)
-    (more Phrase.Least (Phrase.Reduced ∷ Phrase.Done ∷ Phrase.Point ∷ Phrase.Ray ∷ Phrase.Dual ∷ Phrase.Proof ∷ Phrase.Leaf ∷ Phrase.End ∷ []) (tt, refl)
-    (more Phrase.Reduced (Phrase.Done ∷ Phrase.Point ∷ Phrase.Ray ∷ Phrase.Dual ∷ Phrase.Proof ∷ Phrase.Leaf ∷ Phrase.End ∷ []) (tt, refl)
-    (more Phrase.Done (Phrase.Point ∷ Phrase.Ray ∷ Phrase.Dual ∷ Phrase.Proof ∷ Phrase.Leaf ∷ Phrase.End ∷ []) (tt, refl)
-    (more Phrase.Point (Phrase.Ray ∷ Phrase.Dual ∷ Phrase.Proof ∷ Phrase.Leaf ∷ Phrase.End ∷ []) (tt, refl)
-    (more Phrase.Ray (Phrase.Dual ∷ Phrase.Proof ∷ Phrase.Leaf ∷ Phrase.End ∷ []) (tt, refl)
-    (more Phrase.Dual (Phrase.Proof ∷ Phrase.Leaf ∷ Phrase.End ∷ []) (tt, refl)
+    more Phrase.Feasible (Phrase.Infeasible ∷ Phrase.Irreducible ∷ Phrase.Unbounded ∷ Phrase.Bounded ∷ Phrase.Least ∷ Phrase.Reduced ∷ Phrase.Done ∷ Phrase.Point ∷ Phrase.Ray ∷ Phrase.Dual ∷ Phrase.Price ∷ Phrase.Proof ∷ Phrase.Leaf ∷ Phrase.End ∷ []) (tt, refl)
+    (more Phrase.Infeasible (Phrase.Irreducible ∷ Phrase.Unbounded ∷ Phrase.Bounded ∷ Phrase.Least ∷ Phrase.Reduced ∷ Phrase.Done ∷ Phrase.Point ∷ Phrase.Ray ∷ Phrase.Dual ∷ Phrase.Price ∷ Phrase.Proof ∷ Phrase.Leaf ∷ Phrase.End ∷ []) (tt, refl)
+    (more Phrase.Irreducible (Phrase.Unbounded ∷ Phrase.Bounded ∷ Phrase.Least ∷ Phrase.Reduced ∷ Phrase.Done ∷ Phrase.Point ∷ Phrase.Ray ∷ Phrase.Dual ∷ Phrase.Price ∷ Phrase.Proof ∷ Phrase.Leaf ∷ Phrase.End ∷ []) (tt, refl)
+    (more Phrase.Unbounded (Phrase.Bounded ∷ Phrase.Least ∷ Phrase.Reduced ∷ Phrase.Done ∷ Phrase.Point ∷ Phrase.Ray ∷ Phrase.Dual ∷ Phrase.Price ∷ Phrase.Proof ∷ Phrase.Leaf ∷ Phrase.End ∷ []) (tt, refl)
+    (more Phrase.Bounded (Phrase.Least ∷ Phrase.Reduced ∷ Phrase.Done ∷ Phrase.Point ∷ Phrase.Ray ∷ Phrase.Dual ∷ Phrase.Price ∷ Phrase.Proof ∷ Phrase.Leaf ∷ Phrase.End ∷ []) (tt, refl)
+    (more Phrase.Least (Phrase.Reduced ∷ Phrase.Done ∷ Phrase.Point ∷ Phrase.Ray ∷ Phrase.Dual ∷ Phrase.Price ∷ Phrase.Proof ∷ Phrase.Leaf ∷ Phrase.End ∷ []) (tt, refl)
+    (more Phrase.Reduced (Phrase.Done ∷ Phrase.Point ∷ Phrase.Ray ∷ Phrase.Dual ∷ Phrase.Price ∷ Phrase.Proof ∷ Phrase.Leaf ∷ Phrase.End ∷ []) (tt, refl)
+    (more Phrase.Done (Phrase.Point ∷ Phrase.Ray ∷ Phrase.Dual ∷ Phrase.Price ∷ Phrase.Proof ∷ Phrase.Leaf ∷ Phrase.End ∷ []) (tt, refl)
+    (more Phrase.Point (Phrase.Ray ∷ Phrase.Dual ∷ Phrase.Price ∷ Phrase.Proof ∷ Phrase.Leaf ∷ Phrase.End ∷ []) (tt, refl)
+    (more Phrase.Ray (Phrase.Dual ∷ Phrase.Price ∷ Phrase.Proof ∷ Phrase.Leaf ∷ Phrase.End ∷ []) (tt, refl)
+    (more Phrase.Dual (Phrase.Price ∷ Phrase.Proof ∷ Phrase.Leaf ∷ Phrase.End ∷ []) (tt, refl)
+    (more Phrase.Price (Phrase.Proof ∷ Phrase.Leaf ∷ Phrase.End ∷ []) (tt, refl)
     (more Phrase.Proof (Phrase.Leaf ∷ Phrase.End ∷ []) (tt, refl)
     (more Phrase.Leaf (Phrase.End ∷ []) (tt, refl)
     (more Phrase.End [] (tt, refl)
-    (All-nil (IsLone model)))))))))))))))
+    (All-nil (IsLone model))))))))))))))))
   where
     more : (p : Phrase) (ps : List Phrase) → IsPhraseFor model p × (details model p ≡ []) → All (IsLone model) ps → All (IsLone model) (p ∷ ps)
     more p ps h rest = All-cons (IsLone model) p ps h rest

@@ -269,6 +269,7 @@ module _ (model : Program) (f : IsWellFormed model) where
   behind_one Phrase.Point Phrase.Point h k e d = refl
   behind_one Phrase.Ray Phrase.Ray h k e d = refl
   behind_one Phrase.Dual Phrase.Dual h k e d = refl
+  behind_one Phrase.Price Phrase.Price h k e d = refl
   behind_one Phrase.Proof Phrase.Proof h k e d = refl
   behind_one Phrase.Leaf Phrase.Leaf h k e d = refl
   behind_one Phrase.End Phrase.End h k e d = refl

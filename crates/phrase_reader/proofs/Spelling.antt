@@ -37,7 +37,7 @@ use Rattle.lp_model.specs.declared.parts.Weight.TheVariants.{Soft, Rigid}
 use Rattle.report_text.specs.declared.report.Command.{Command}
 use Rattle.report_text.specs.declared.report.Command.TheVariants.{Check, Iis, Unbounded, Relax, Reduce, Edit, Undo, Pivots, Nodes}
 use Rattle.report_text.specs.declared.report.Method.{Method}
-use Rattle.report_text.specs.declared.report.Method.TheVariants.{Deletion, Additive, Sensitivity, Elastic}
+use Rattle.report_text.specs.declared.report.Method.TheVariants.{Deletion, Additive, Sensitivity, Elastic, Alternative}
 use Rattle.report_text.specs.declared.report.TargetKind.{TargetKind}
 use Rattle.report_text.specs.declared.report.EditKind.{EditKind}
 use Rattle.report_text.specs.declared.report.Refusal.{Refusal}
@@ -124,6 +124,7 @@ method_is Deletion = refl
 method_is Additive = refl
 method_is Sensitivity = refl
 method_is Elastic = refl
+method_is Alternative = refl
 
 target_is : (t : TargetKind) → is_word (target_word t) ≡ true
 target_is TargetKind.Row = refl

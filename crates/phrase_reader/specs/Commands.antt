@@ -14,7 +14,7 @@ use Rattle.text_fields.specs.Fields.{fields_of, field_fault}
 use Rattle.report_text.specs.declared.report.Command.{Command}
 use Rattle.report_text.specs.declared.report.Command.TheVariants.{Check, Iis, Unbounded, Relax, Reduce, Edit, Undo, Pivots, Nodes}
 use Rattle.report_text.specs.declared.report.Method.{Method}
-use Rattle.report_text.specs.declared.report.Method.TheVariants.{Deletion, Additive, Sensitivity, Elastic}
+use Rattle.report_text.specs.declared.report.Method.TheVariants.{Deletion, Additive, Sensitivity, Elastic, Alternative}
 use Rattle.report_text.specs.declared.report.TargetKind.{TargetKind}
 use Rattle.report_text.specs.declared.report.TargetKind.TheVariants.{Row, RowLo, RowUp, Lower, Upper, Whole}
 use Rattle.report_text.specs.declared.report.EditKind.{EditKind}
@@ -30,7 +30,7 @@ use Rattle.phrase_reader.specs.Numerals.{budget_of, limit_in, weight_in}
 -- ---- what single words name
 -- the method that a word names
 abbrev pub method_of : List ℕ → Option Method
-method_of word = find (λ m. bytes_eq word (method_word m)) (Deletion ∷ Additive ∷ Sensitivity ∷ Elastic ∷ [])
+method_of word = find (λ m. bytes_eq word (method_word m)) (Deletion ∷ Additive ∷ Sensitivity ∷ Elastic ∷ Alternative ∷ [])
 
 -- what has a weight: all but a mark
 abbrev pub weighed_target : List ℕ → Option TargetKind

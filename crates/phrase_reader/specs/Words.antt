@@ -21,7 +21,7 @@ use Rattle.phrase_reader.specs.Phrases.{IsPhraseFor}
 
 -- the phrases of one word
 abbrev pub lone_phrases : List Phrase
-lone_phrases = Phrase.Feasible ∷ Phrase.Infeasible ∷ Phrase.Irreducible ∷ Phrase.Unbounded ∷ Phrase.Bounded ∷ Phrase.Least ∷ Phrase.Reduced ∷ Phrase.Done ∷ Phrase.Point ∷ Phrase.Ray ∷ Phrase.Dual ∷ Phrase.Proof ∷ Phrase.Leaf ∷ Phrase.End ∷ []
+lone_phrases = Phrase.Feasible ∷ Phrase.Infeasible ∷ Phrase.Irreducible ∷ Phrase.Unbounded ∷ Phrase.Bounded ∷ Phrase.Least ∷ Phrase.Reduced ∷ Phrase.Done ∷ Phrase.Point ∷ Phrase.Ray ∷ Phrase.Dual ∷ Phrase.Price ∷ Phrase.Proof ∷ Phrase.Leaf ∷ Phrase.End ∷ []
 
 -- the phrase of one word that a word says
 abbrev pub lone_said : List ℕ → Option Phrase

@@ -60,6 +60,7 @@ fn read_method(word: &[u8]) -> Option<Method>
         _ if word == b"additive".as_slice() => Some(Method::Additive),
         _ if word == b"sensitivity".as_slice() => Some(Method::Sensitivity),
         _ if word == b"elastic".as_slice() => Some(Method::Elastic),
+        _ if word == b"alternative".as_slice() => Some(Method::Alternative),
         _ => None,
     }
 }
@@ -182,7 +183,7 @@ fn read_fields(alloc: Global, text: &[u8], spans: &[Span]) -> Result<Option<Comm
 /// Its fields, which blanks (32, 9 and 13) part, are one of these, in lower case:
 ///
 /// - `check`, `unbounded`, `relax`, `reduce` or `undo`;
-/// - `iis` and `deletion`, `additive`, `sensitivity` or `elastic`;
+/// - `iis` and `deletion`, `additive`, `sensitivity`, `elastic` or `alternative`;
 /// - `budget`, `pivots` or `nodes`, and a number of at most 1,000,000 in one digit or more;
 /// - `drop` or `keep`; `row`, `rowlo`, `rowup`, `lower`, `upper` or `whole`; and a name;
 /// - `weight`; one of these but `whole`; a name; and `rigid` or a value above 0;

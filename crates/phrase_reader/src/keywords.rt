@@ -20,6 +20,7 @@ pub(crate) fn lone_phrase(word: &[u8]) -> Option<Phrase>
         _ if word == b"point".as_slice() => Some(Phrase::Point),
         _ if word == b"ray".as_slice() => Some(Phrase::Ray),
         _ if word == b"dual".as_slice() => Some(Phrase::Dual),
+        _ if word == b"price".as_slice() => Some(Phrase::Price),
         _ if word == b"proof".as_slice() => Some(Phrase::Proof),
         _ if word == b"leaf".as_slice() => Some(Phrase::Leaf),
         _ if word == b"end".as_slice() => Some(Phrase::End),

@@ -10,6 +10,7 @@ pub mod Steps
 pub mod Points
 pub mod Objectives
 pub mod Leasts
+pub mod Prices
 pub mod Stops
 pub mod Edits
 pub mod Page

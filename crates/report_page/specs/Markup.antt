@@ -8,6 +8,7 @@ use Rattle.report_page.specs.declared.markup.Change.{Change}
 use Rattle.report_page.specs.declared.markup.Removal.{Removal}
 use Rattle.report_page.specs.declared.markup.Reach.{Reach}
 use Rattle.report_page.specs.declared.markup.Giving.{Giving}
+use Rattle.report_page.specs.declared.markup.Pricing.{Pricing}
 
 -- markup
 unfoldable pub tag_text : Tag → List ℕ
@@ -80,6 +81,7 @@ words_text Words.DeletionAsked = codes "Which requirements contradict one anothe
 words_text Words.AdditiveAsked = codes "Which requirements contradict one another? (additive)"
 words_text Words.SensitivityAsked = codes "Which requirements contradict one another? (sensitivity)"
 words_text Words.ElasticAsked = codes "Which requirements contradict one another? (elastic)"
+words_text Words.AlternativeAsked = codes "Which requirements contradict one another at the least cost? (alternative)"
 words_text Words.PivotBudget = codes "From here on, how many pivots a calculation may take: "
 words_text Words.NodeBudget = codes "From here on, how many cases a calculation may tell apart: "
 words_text Words.Feasible = codes "All requirements can be met at once."
@@ -126,6 +128,7 @@ account_text Account.Asking = codes " It was asking whether "
 account_text Account.AskingReach = codes " It was asking how far the objective can go while "
 account_text Account.AskingStretch = codes " It was asking for the least violation, with all weights 1, of "
 account_text Account.AskingRelax = codes " It was asking for the least weighted violation of "
+account_text Account.AskingCheapest = codes " It was asking for the cheapest way to show a contradiction among "
 account_text Account.CanBeMet = codes " requirements can be met together"
 account_text Account.Hold = codes " requirements are met"
 account_text Account.OfThese = codes " requirements"
@@ -199,3 +202,10 @@ giving_text Giving.OneRigid = codes "This requirement is rigid, and it cannot be
 giving_text Giving.RigidCannot = codes " requirements are rigid, and they cannot all be met, whatever else gives way."
 giving_text Giving.OnlyLinear = codes "This is asked only where no quantity has to be whole. The first that has to be is "
 giving_text Giving.NotLooked = codes ". The check does not look into this."
+
+-- what is said of what a contradiction costs
+unfoldable pub pricing_text : Pricing → List ℕ
+pricing_text Pricing.NoneCheaper = codes "Of all ways to add requirements up to 0 &gt;= 1 none costs less than this one. What a way costs is how often it takes each requirement, times the weight of that requirement (1 where it is rigid), added up. Here it is "
+pricing_text Pricing.Shown = codes "The values below show this. If each requirement asked for "
+pricing_text Pricing.Within = codes " times its number, these values would miss none by more than its weight (1 where it is rigid). So, added up, each way costs at least "
+pricing_text Pricing.ValuesFold = codes "Values that show that none costs less (any other is 0): "

@@ -9,7 +9,7 @@ use Rattle.certs.specs.declared.evidence.Node.{Node}
 use Rattle.certs.specs.declared.solving.Stop.{Stop}
 use Rattle.model_history.specs.History.{HistoryValue}
 use Rattle.report_text.specs.declared.report.Method.{Method}
-use Rattle.report_text.specs.declared.report.Method.TheVariants.{Deletion, Additive, Sensitivity, Elastic}
+use Rattle.report_text.specs.declared.report.Method.TheVariants.{Deletion, Additive, Sensitivity, Elastic, Alternative}
 use Rattle.report_text.specs.declared.report.Command.{Command}
 use Rattle.report_text.specs.declared.report.Command.TheVariants.{Check, Iis, Unbounded, Relax, Reduce, Edit, Undo, Pivots, Nodes}
 use Rattle.report_text.specs.declared.report.Core.{Core}
@@ -37,6 +37,7 @@ use Rattle.report_page.specs.Steps.{reduced_pieces}
 use Rattle.report_page.specs.Points.{feasible_pieces}
 use Rattle.report_page.specs.Objectives.{unbounded_pieces, bounded_pieces}
 use Rattle.report_page.specs.Leasts.{least_pieces, not_linear_pieces}
+use Rattle.report_page.specs.Prices.{price_pieces}
 use Rattle.report_page.specs.Stops.{stop_pieces, enforced_at}
 use Rattle.report_page.specs.Edits.{edit_pieces, refused_pieces}
 
@@ -47,6 +48,7 @@ method_words Deletion = Words.DeletionAsked
 method_words Additive = Words.AdditiveAsked
 method_words Sensitivity = Words.SensitivityAsked
 method_words Elastic = Words.ElasticAsked
+method_words Alternative = Words.AlternativeAsked
 
 -- what a command asks, edits, or sets
 abbrev pub command_pieces : Command → List Piece
@@ -70,9 +72,9 @@ abbrev pub rounds_pieces : Option ℕ → List Piece
 rounds_pieces None = []
 rounds_pieces (Some n) = Piece.Tag Tag.Paragraph ∷ Piece.Words Words.Rounds ∷ Piece.Count n ∷ Piece.Sign Sign.FullStop ∷ Piece.Tag Tag.ParagraphEnd ∷ []
 
--- an irreducible set
+-- an irreducible set, with the rounds, or the total and its price, where they are told
 abbrev pub irreducible_pieces : Program → Core → List Piece
-irreducible_pieces model core = conflict_pieces model Among.Any core.members.members core.witnesses core.proof.nodes ++ rounds_pieces core.rounds
+irreducible_pieces model core = conflict_pieces model Among.Any core.members.members core.witnesses core.proof.nodes ++ (rounds_pieces core.rounds ++ price_pieces model core.price)
 
 -- a calculation that stopped, and what was enforced
 abbrev pub stopped_pieces : Program → Stop → List Piece

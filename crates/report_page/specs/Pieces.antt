@@ -11,11 +11,12 @@ use Rattle.report_page.specs.declared.markup.Change.{Change as OneChange}
 use Rattle.report_page.specs.declared.markup.Removal.{Removal as OneRemoval}
 use Rattle.report_page.specs.declared.markup.Reach.{Reach as OneReach}
 use Rattle.report_page.specs.declared.markup.Giving.{Giving as OneGiving}
+use Rattle.report_page.specs.declared.markup.Pricing.{Pricing as OnePricing}
 use Rattle.report_page.specs.declared.pieces.Piece.{Piece as Written}
 use Rattle.report_page.specs.Escaping.{escaped}
-use Rattle.report_page.specs.Markup.{tag_text, sign_text, words_text, account_text, change_text, removal_text, reach_text, giving_text}
+use Rattle.report_page.specs.Markup.{tag_text, sign_text, words_text, account_text, change_text, removal_text, reach_text, giving_text, pricing_text}
 
--- Fixed markup, fixed words of seven kinds, a text, a number, a whole number, or a count. Of these only a text can have bytes that are not fixed or a number's.
+-- Fixed markup, fixed words of eight kinds, a text, a number, a whole number, or a count. Of these only a text can have bytes that are not fixed or a number's.
 pub data Piece : Type 0 where
   Tag : OneTag → Piece
   Sign : OneSign → Piece
@@ -25,6 +26,7 @@ pub data Piece : Type 0 where
   Removal : OneRemoval → Piece
   Reach : OneReach → Piece
   Giving : OneGiving → Piece
+  Pricing : OnePricing → Piece
   Text : List ℕ → Piece
   Number : ℚ → Piece
   Whole : ℤ → Piece
@@ -40,6 +42,7 @@ piece_bytes (Piece.Change change) = change_text change
 piece_bytes (Piece.Removal removal) = removal_text removal
 piece_bytes (Piece.Reach reach) = reach_text reach
 piece_bytes (Piece.Giving giving) = giving_text giving
+piece_bytes (Piece.Pricing pricing) = pricing_text pricing
 piece_bytes (Piece.Text text) = escaped text
 piece_bytes (Piece.Number q) = printed q
 piece_bytes (Piece.Whole z) = signed_decimal z
@@ -68,6 +71,7 @@ piece_shown (Written.Change change) = Piece.Change change
 piece_shown (Written.Removal removal) = Piece.Removal removal
 piece_shown (Written.Reach reach) = Piece.Reach reach
 piece_shown (Written.Giving giving) = Piece.Giving giving
+piece_shown (Written.Pricing pricing) = Piece.Pricing pricing
 piece_shown (Written.Text text) = Piece.Text text.now
 piece_shown (Written.Number q) = Piece.Number q
 piece_shown (Written.Whole z) = Piece.Whole z

@@ -8,6 +8,7 @@ use Rattle.report_page.specs.declared.markup.Tag.{Tag}
 use Rattle.report_page.specs.declared.markup.Words.{Words}
 use Rattle.report_page.specs.declared.markup.Reach.{Reach}
 use Rattle.report_page.specs.declared.markup.Giving.{Giving}
+use Rattle.report_page.specs.declared.markup.Pricing.{Pricing}
 use Rattle.report_page.specs.declared.points.Told.{Told}
 use Rattle.report_page.specs.Pieces.{Piece}
 use Rattle.report_page.specs.Demands.{magnitude, value_pieces}
@@ -21,10 +22,11 @@ way v = cond (lt_q v zero_ℚ) Reach.Falls Reach.Rises
 abbrev pub change_pieces : Program → ℕ → ℚ → List Piece
 change_pieces model j v = Piece.Text (column_name model j) ∷ Piece.Reach (way v) ∷ Piece.Number (magnitude v) ∷ []
 
--- what its number tells: its value, also where it is of a point of least violation, or how it changes
+-- what its number tells: its value, also where it is of a point of least violation or of a price, or how it changes
 abbrev pub told_pieces : Program → Told → ℕ → ℚ → List Piece
 told_pieces model Told.Value j v = value_pieces model j v
 told_pieces model Told.LeastValue j v = value_pieces model j v
+told_pieces model Told.Price j v = value_pieces model j v
 told_pieces model Told.Change j v = change_pieces model j v
 
 -- an item with that
@@ -49,6 +51,7 @@ shown_count numbers = length (filter (λ v. not (eq_ℚ v zero_ℚ)) numbers)
 abbrev pub fold_words : Told → Piece
 fold_words Told.Value = Piece.Words Words.ValuesFold
 fold_words Told.LeastValue = Piece.Giving Giving.ValuesFold
+fold_words Told.Price = Piece.Pricing Pricing.ValuesFold
 fold_words Told.Change = Piece.Reach Reach.ChangesFold
 
 -- the items, in a fold with their count

@@ -7,7 +7,7 @@ use Rattle.lp_model.specs.Program.{Program}
 use Rattle.lp_model.specs.declared.members.Member.{Member}
 use Rattle.certs.specs.declared.evidence.Branch.{Branch}
 use Rattle.certs.specs.declared.solving.SiteKind.{SiteKind}
-use Rattle.certs.specs.declared.solving.SiteKind.TheVariants.{Improve, Stretch, Relax}
+use Rattle.certs.specs.declared.solving.SiteKind.TheVariants.{Improve, Stretch, Relax, Alternative}
 use Rattle.certs.specs.declared.solving.Site.{Site}
 use Rattle.certs.specs.declared.solving.Stop.{Stop}
 use Rattle.certs.specs.declared.solving.Stop.TheVariants.{Wide as TooWide, Pivots as Spent, Nodes as NodesSpent, Large, Memory}
@@ -40,17 +40,19 @@ next_branch model b = Piece.Sign Sign.Comma ∷ branch_pieces model b
 abbrev pub path_pieces : Program → List Branch → List Piece
 path_pieces model path = first_then (first_branch model) (next_branch model) path
 
--- what a run asks, and what of its members: how far the objective can go while they are met, the least violation of them with weights 1 or their own, or whether they can be met
+-- what a run asks, and what of its members: how far the objective can go while they are met, the least violation of them with weights 1 or their own, the cheapest way to show that they contradict one another, or whether they can be met
 abbrev pub asking_words : SiteKind → Account
 asking_words Improve = Account.AskingReach
 asking_words Stretch = Account.AskingStretch
 asking_words Relax = Account.AskingRelax
+asking_words Alternative = Account.AskingCheapest
 asking_words _ = Account.Asking
 
 abbrev pub members_words : SiteKind → Account
 members_words Improve = Account.Hold
 members_words Stretch = Account.OfThese
 members_words Relax = Account.OfThese
+members_words Alternative = Account.OfThese
 members_words _ = Account.CanBeMet
 
 -- the site: what was asked, of how many members, and on which path

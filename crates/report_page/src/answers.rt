@@ -13,6 +13,7 @@ use crate::members::{Among, write_list};
 use crate::objectives::{write_bounded, write_unbounded};
 use crate::pieces::{Piece, write};
 use crate::points::write_feasible;
+use crate::prices::write_price;
 use crate::reasons::{leaf_shares, write_reason};
 use crate::steps::write_reduced;
 use crate::stops::{write_enforced_at, write_stop};
@@ -30,6 +31,7 @@ fn method_asked(method: Method) -> Words
         Method::Additive => Words::AdditiveAsked,
         Method::Sensitivity => Words::SensitivityAsked,
         Method::Elastic => Words::ElasticAsked,
+        Method::Alternative => Words::AlternativeAsked,
     }
 }
 
@@ -107,7 +109,8 @@ fn write_irreducible(model: &Model, core: &Core, into: &mut Vec<u8>) -> Result<(
         core.proof.nodes.as_slice(),
         into,
     )?;
-    write_rounds(core.rounds, into)
+    write_rounds(core.rounds, into)?;
+    write_price(model, &core.price, into)
 }
 
 // Writes that a calculation stopped.

@@ -14,11 +14,12 @@ mod pages;
 mod parts;
 mod pieces;
 mod points;
+mod prices;
 mod reasons;
 mod steps;
 mod stops;
 mod totals;
 
-pub use markup::{Account, Change, Giving, Reach, Removal, Sign, Tag, Words};
+pub use markup::{Account, Change, Giving, Pricing, Reach, Removal, Sign, Tag, Words};
 pub use pages::page;
 pub use pieces::{Piece, escape, escaping_law, write};

@@ -1,6 +1,6 @@
 //! The fixed parts of a page.
 ghost use Rattle.std.specs.Prelude.{◌≡◌};
-ghost use Rattle.report_page.specs.Markup.{tag_text, sign_text, words_text, account_text, change_text, removal_text, reach_text, giving_text};
+ghost use Rattle.report_page.specs.Markup.{tag_text, sign_text, words_text, account_text, change_text, removal_text, reach_text, giving_text, pricing_text};
 
 /// What marks up a page.
 #[derive(Clone, Copy, PartialEq, Eq, Debug)]
@@ -172,6 +172,7 @@ pub enum Words {
     AdditiveAsked,
     SensitivityAsked,
     ElasticAsked,
+    AlternativeAsked,
     PivotBudget,
     NodeBudget,
     Feasible,
@@ -219,6 +220,8 @@ impl Words {
             Words::AdditiveAsked => "Which requirements contradict one another? (additive)",
             Words::SensitivityAsked => "Which requirements contradict one another? (sensitivity)",
             Words::ElasticAsked => "Which requirements contradict one another? (elastic)",
+            Words::AlternativeAsked =>
+                "Which requirements contradict one another at the least cost? (alternative)",
             Words::PivotBudget => "From here on, how many pivots a calculation may take: ",
             Words::NodeBudget => "From here on, how many cases a calculation may tell apart: ",
             Words::Feasible => "All requirements can be met at once.",
@@ -271,6 +274,7 @@ pub enum Account {
     AskingReach,
     AskingStretch,
     AskingRelax,
+    AskingCheapest,
     CanBeMet,
     Hold,
     OfThese,
@@ -311,6 +315,8 @@ impl Account {
             Account::AskingStretch =>
                 " It was asking for the least violation, with all weights 1, of ",
             Account::AskingRelax => " It was asking for the least weighted violation of ",
+            Account::AskingCheapest =>
+                " It was asking for the cheapest way to show a contradiction among ",
             Account::CanBeMet => " requirements can be met together",
             Account::Hold => " requirements are met",
             Account::OfThese => " requirements",
@@ -507,6 +513,32 @@ impl Giving {
             Giving::OnlyLinear =>
                 "This is asked only where no quantity has to be whole. The first that has to be is ",
             Giving::NotLooked => ". The check does not look into this.",
+        }
+    }
+}
+
+/// What a page says of what a contradiction costs.
+#[derive(Clone, Copy, PartialEq, Eq, Debug)]
+pub enum Pricing {
+    NoneCheaper,
+    Shown,
+    Within,
+    ValuesFold,
+}
+
+impl Pricing {
+    /// How it is written.
+    #[tactic(auto, unfolding(crate::specs::Markup::pricing_text))]
+    pub fn text(self) -> &'static str
+        ensures { result.now ≡ pricing_text self }
+    {
+        match self {
+            Pricing::NoneCheaper =>
+                "Of all ways to add requirements up to 0 &gt;= 1 none costs less than this one. What a way costs is how often it takes each requirement, times the weight of that requirement (1 where it is rigid), added up. Here it is ",
+            Pricing::Shown => "The values below show this. If each requirement asked for ",
+            Pricing::Within =>
+                " times its number, these values would miss none by more than its weight (1 where it is rigid). So, added up, each way costs at least ",
+            Pricing::ValuesFold => "Values that show that none costs less (any other is 0): ",
         }
     }
 }

@@ -169,7 +169,8 @@ fn write_page(session: &mut Session, report: &Report, into: &mut Vec<u8>) -> Res
 /// that a check accepted. It has, in the words of the model and in the order of the report, each note, and each command
 /// with its answer: the values of a point; the members that cannot all be met, each once, in order, with what it asks for,
 /// how often it is taken, and what its witness gives the columns of its form; and why they cannot, as a sum or as cases, and
-/// in how many rounds members were enforced; or the point and the ray along which the objective gets better without end, or how
+/// in how many rounds members were enforced, or what it costs to show it, with the price that shows that nothing costs less; or
+/// the point and the ray along which the objective gets better without end, or how
 /// far it can go, with what holds it there; or the least weighted violation, with a point that has it and what shows that none
 /// is less; or that a question is not asked where a column is to be whole; or how far the program is reduced, step by step; or
 /// why an edit is refused; or why a calculation stopped, where, and what was enforced there. Each answer is written of the

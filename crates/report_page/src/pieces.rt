@@ -4,7 +4,7 @@ ghost use Rattle.std.specs.Fmt.{signed_decimal};
 ghost use Rattle.report_page.specs.Escaping.{escaped_byte, escaped, EscapingLaw};
 ghost use Rattle.report_page.specs.Pieces.{piece_shown, piece_bytes, Writes};
 
-use crate::markup::{Account, Change, Giving, Reach, Removal, Sign, Tag, Words};
+use crate::markup::{Account, Change, Giving, Pricing, Reach, Removal, Sign, Tag, Words};
 use frac128::Frac;
 use itoa::Buffer;
 use std::alloc::AllocError;
@@ -20,6 +20,7 @@ pub enum Piece<'a> {
     Removal(Removal),
     Reach(Reach),
     Giving(Giving),
+    Pricing(Pricing),
     Text(&'a [u8]),
     Number(Frac),
     Whole(i128),
@@ -82,6 +83,7 @@ fn write_piece(piece: &Piece<'_>, into: &mut Vec<u8>) -> Result<(), AllocError>
         Piece::Removal(removal) => into.extend_from_slice(removal.text().as_bytes()),
         Piece::Reach(reach) => into.extend_from_slice(reach.text().as_bytes()),
         Piece::Giving(giving) => into.extend_from_slice(giving.text().as_bytes()),
+        Piece::Pricing(pricing) => into.extend_from_slice(pricing.text().as_bytes()),
         Piece::Text(text) => escape(text, into),
         Piece::Number(number) => {
             number.print(into)?;

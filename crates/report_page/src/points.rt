@@ -6,7 +6,7 @@ ghost use Rattle.report_page.specs.Pieces.{piece_shown, Writes};
 ghost use Rattle.report_page.specs.Points.{way as way_of, change_pieces, told_pieces, item_pieces, some_pieces, numbers_pieces, shown_count, fold_words, numbers_fold, feasible_pieces};
 
 use crate::demands::{is_negative, magnitude, value_at, write_value};
-use crate::markup::{Giving, Reach, Tag, Words};
+use crate::markup::{Giving, Pricing, Reach, Tag, Words};
 use crate::members::fold_tag;
 use crate::parts::column_name;
 use crate::pieces::{Piece, write};
@@ -15,11 +15,12 @@ use frac128::Frac;
 use lp_model::Model;
 use std::alloc::AllocError;
 
-/// What the number of a column tells: its value, also at a point of least violation, or how it changes.
+/// What the number of a column tells: its value, also at a point of least violation or in a price, or how it changes.
 #[derive(Clone, Copy, PartialEq, Eq, Debug)]
 pub enum Told {
     Value,
     LeastValue,
+    Price,
     Change,
 }
 
@@ -64,7 +65,7 @@ fn write_told(
     ensures { OnOk result (Writes into.old.items into.new.items (told_pieces model.now told column number)) }
 {
     match told {
-        Told::Value | Told::LeastValue => write_value(model, column, number, into),
+        Told::Value | Told::LeastValue | Told::Price => write_value(model, column, number, into),
         Told::Change => write_change(model, column, number, into),
     }
 }
@@ -137,6 +138,7 @@ fn fold_title(told: Told) -> Piece<'static>
     match told {
         Told::Value => Piece::Words(Words::ValuesFold),
         Told::LeastValue => Piece::Giving(Giving::ValuesFold),
+        Told::Price => Piece::Pricing(Pricing::ValuesFold),
         Told::Change => Piece::Reach(Reach::ChangesFold),
     }
 }

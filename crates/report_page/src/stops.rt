@@ -97,6 +97,7 @@ fn asking(kind: SiteKind) -> Account
         SiteKind::Improve => Account::AskingReach,
         SiteKind::Stretch => Account::AskingStretch,
         SiteKind::Relax => Account::AskingRelax,
+        SiteKind::Alternative => Account::AskingCheapest,
         _ => Account::Asking,
     }
 }
@@ -107,7 +108,7 @@ fn asking_members(kind: SiteKind) -> Account
 {
     match kind {
         SiteKind::Improve => Account::Hold,
-        SiteKind::Stretch | SiteKind::Relax => Account::OfThese,
+        SiteKind::Stretch | SiteKind::Relax | SiteKind::Alternative => Account::OfThese,
         _ => Account::CanBeMet,
     }
 }

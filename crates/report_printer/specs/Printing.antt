@@ -5,7 +5,7 @@ use Rattle.lp_model.specs.Program.{Program}
 use Rattle.rational.specs.Rational.{ℚ}
 use Rattle.lp_model.specs.declared.members.Side.{Side}
 use Rattle.certs.specs.Checks.{IsSetOf}
-pub use Rattle.evidence_printer.specs.Printing.{ended, Keeps, IsKnownMember, IsKnownSource, IsKnownNode, IsKnownProof, IsKnownPoint, IsKnownRay, IsKnownBounded, IsKnownLeast, IsKnownSite, IsKnownStop, IsKnownStep}
+pub use Rattle.evidence_printer.specs.Printing.{ended, Keeps, IsKnownMember, IsKnownSource, IsKnownNode, IsKnownProof, IsKnownPoint, IsKnownRay, IsKnownBounded, IsKnownLeast, IsKnownPrice, IsKnownSite, IsKnownStop, IsKnownStep}
 use Rattle.report_text.specs.declared.report.Core.{Core}
 use Rattle.report_text.specs.declared.report.Answer.{Answer}
 use Rattle.report_text.specs.declared.report.Answer.TheVariants.{Feasible, Infeasible, Irreducible, Unbounded as RunsAway, Bounded as BoundedBy, Least as LeastBy, RigidInfeasible as RigidRefuted, Reduced as ReducedTo, Done, Refused, NotLinear, Stopped}
@@ -24,11 +24,12 @@ abbrev pub set_words : List ℕ → Side → Option ℚ → List ℕ → List (L
 set_words place side limit name = codes "set" ∷ place ∷ name ∷ side_word side ∷ limit_word limit ∷ []
 
 -- ---- what can be printed
--- members of the program, points and a proof
+-- members of the program, points, a proof, and a price where it is told
 pub record IsKnownCore (model : Program) (core : Core) : Type 0 where
   pub members : IsSetOf model core.members
   pub points : All (IsKnownPoint model) core.witnesses
   pub proof : IsKnownProof model core.proof
+  pub price : IsKnownPrice model core.price
 
 -- an answer of such parts
 abbrev pub IsKnownAnswer : Program → Answer → Type 0

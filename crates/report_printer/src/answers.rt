@@ -13,7 +13,7 @@ ghost use Rattle.report_printer.specs.Printing.{CanPrintLaw, IsKnownCore, IsKnow
 use crate::back::take_back;
 use certs::{Point, Proof};
 use evidence_printer::{
-    print_bounded, print_column, print_least, print_members, print_point, print_proof,
+    print_bounded, print_column, print_least, print_members, print_point, print_price, print_proof,
     print_reduced, print_rounds, print_stop, print_unbounded, print_witnesses, push_line,
 };
 use lp_model::{MemberSet, Model};
@@ -61,6 +61,7 @@ fn print_irreducible(model: &Model, core: &Core, into: &mut Vec<u8>) -> Result<(
     print_witnesses(model, &core.members, core.witnesses.as_slice(), into)?;
     print_proof(model, &core.proof, into)?;
     print_rounds(model, core.rounds, into)?;
+    print_price(model, &core.price, into)?;
     Ok(())
 }
 

@@ -21,6 +21,7 @@ fn method_name(method: Method) -> &'static str
         Method::Additive => "additive",
         Method::Sensitivity => "sensitivity",
         Method::Elastic => "elastic",
+        Method::Alternative => "alternative",
     }
 }
 

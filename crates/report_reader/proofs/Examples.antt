@@ -23,7 +23,7 @@ use Rattle.certs.specs.declared.evidence.Share.{Share}
 use Rattle.certs.specs.declared.evidence.Point.{Point}
 use Rattle.certs.specs.declared.evidence.Node.TheVariants.{Split, Leaf}
 use Rattle.certs.specs.declared.evidence.Proof.{Proof}
-use Rattle.report_text.specs.declared.report.Method.TheVariants.{Deletion, Elastic}
+use Rattle.report_text.specs.declared.report.Method.TheVariants.{Deletion, Elastic, Alternative as ByAlternative}
 use Rattle.lp_model.specs.declared.members.Side.TheVariants.{Lo, Up}
 use Rattle.lp_model.specs.declared.parts.Weight.TheVariants.{Soft}
 use Rattle.report_text.specs.declared.report.TargetKind.{TargetKind}
@@ -40,7 +40,7 @@ use Rattle.report_text.specs.Grammar.{Line, report_lines, text_of}
 use Rattle.report_reader.proofs.Endings.{pair_in_order, nothing_is_front, foot, NotFoot, body, body_is, needs_foot, needs_head, whole_ends}
 use Rattle.certs.specs.Order.{source_before}
 use Rattle.certs.specs.Proof.{Tip, at_most, at_least}
-use Rattle.certs.specs.declared.solving.SiteKind.TheVariants.{Settle, Stretch}
+use Rattle.certs.specs.declared.solving.SiteKind.TheVariants.{Settle, Stretch, Alternative}
 use Rattle.certs.specs.declared.solving.Site.{Site}
 use Rattle.certs.specs.declared.solving.Stop.TheVariants.{Pivots as Spent, Nodes as NodesSpent, Large}
 use Rattle.report_text.specs.Form.{IsNamedColumn, IsNamedMember, IsListed, IsUse, AreUses, IsNodeFor, IsReportFor, can_answer}
@@ -240,6 +240,46 @@ no_rounds_of_deletion = refl
 
 deletion_of_whole : can_answer (Iis Deletion) (NotLinear 0) ≡ false
 deletion_of_whole = refl
+
+-- ---- the method of the alternative tells a total and a price, and stops at a run of its own kind
+abbrev priced : Option ℕ → Option (ℚ × Point) → Answer
+priced rounds price = Irreducible (record { members = rows_set; witnesses = point (zero_ℚ ∷ frac (pos 1) 2 ∷ []) ∷ point (zero_ℚ ∷ zero_ℚ ∷ []) ∷ []; proof = proof; rounds = rounds; price = price })
+
+abbrev alternative : Answer
+alternative = priced None (Some (frac (pos 5) 2, point (zero_ℚ ∷ frac (pos 1) 2 ∷ [])))
+
+abbrev alternative_site : Site
+alternative_site = record { kind = Alternative; set = rows_set; enforced = record { rows = 2; columns = 2; members = [] }; path = [] }
+
+abbrev alternative_report : Report
+alternative_report = record {
+  notes = [];
+  entries = record { command = Iis ByAlternative; answer = alternative; line = 2 } ∷ record { command = Iis ByAlternative; answer = NotLinear 0; line = 17 }
+      ∷ record { command = Iis ByAlternative; answer = Stopped (Spent alternative_site); line = 19 } ∷ [];
+}
+
+alternative_has_lines : report_lines two_rows alternative_report
+    ≡ codes "iisan report 2" ∷ codes "command iis alternative" ∷ codes "irreducible"
+    ∷ codes "member rowup c1" ∷ codes "point" ∷ codes "value y 1/2" ∷ codes "member rowlo c2" ∷ codes "point"
+    ∷ codes "proof" ∷ codes "leaf" ∷ codes "use rowup c1 1" ∷ codes "use rowlo c2 3/2" ∷ codes "total 5/2" ∷ codes "price" ∷ codes "value y 1/2" ∷ codes "end"
+    ∷ codes "command iis alternative" ∷ codes "not linear x"
+    ∷ codes "command iis alternative" ∷ codes "pivots spent" ∷ codes "site alternative" ∷ codes "without lower x" ∷ codes "without lower y" ∷ codes "end"
+    ∷ codes "report end" ∷ []
+unfolding frac gcd gcd_within digits eq_ℚ
+alternative_has_lines = refl
+
+-- a price is told under this method alone, and it tells no rounds
+no_price_of_alternative : can_answer (Iis ByAlternative) irreducible ≡ false
+no_price_of_alternative = refl
+
+rounds_of_alternative : can_answer (Iis ByAlternative) elastic ≡ false
+rounds_of_alternative = refl
+
+price_of_deletion : can_answer (Iis Deletion) alternative ≡ false
+price_of_deletion = refl
+
+price_of_elastic : can_answer (Iis Elastic) (priced (Some 2) (Some (frac (pos 5) 2, point (zero_ℚ ∷ frac (pos 1) 2 ∷ [])))) ≡ false
+price_of_elastic = refl
 
 -- ---- edits, some of which are refused
 abbrev asked : List ℕ → EditKind → Command

@@ -43,6 +43,7 @@ use Rattle.report_reader.specs.declared.drafts.StopPart.{StopPart}
 use Rattle.report_reader.specs.declared.drafts.Claim.{Claim}
 use Rattle.report_reader.specs.declared.drafts.BoundPart.{BoundPart}
 use Rattle.report_reader.specs.declared.drafts.LeastPart.{LeastPart}
+use Rattle.report_reader.specs.declared.drafts.PricePart.{PricePart}
 use Rattle.report_reader.specs.declared.drafts.Part.{Part}
 use Rattle.report_reader.specs.declared.drafts.Next.{Next}
 use Rattle.report_reader.specs.declared.drafts.Stage.{Stage}
@@ -51,12 +52,12 @@ use Rattle.report_text.specs.Turns.{after, entry_commands}
 use Rattle.report_text.specs.Grammar.{column_name, entries_phrases, value_phrases, point_phrases, objective_phrases, node_phrases, proof_phrases, witness_phrases, without_phrase, enforced_phrase, branch_phrase, site_phrases, answer_front, answer_end, entry_phrases, body_phrases}
 use Rattle.report_text.proofs.InTurn.{gathered-push, AllEntries-push, numbered-push}
 use Rattle.certs.specs.Order.{source_before}
-use Rattle.report_text.specs.Form.{is_word, IsNamedColumn, IsNamedMember, IsWithinLimit, IsUse, AreUses, IsListed, IsPointFor, IsRayFor, is_run_kind, IsStepFor, IsAnswerFor, IsEntryFor, can_answer}
+use Rattle.report_text.specs.Form.{is_word, IsNamedColumn, IsNamedMember, IsWithinLimit, IsUse, AreUses, IsListed, IsPointFor, IsRayFor, IsStepFor, IsAnswerFor, IsEntryFor, can_answer}
 use Rattle.phrase_reader.specs.Phrases.{IsNamedBranch, IsStopPhrase, IsPhraseFor}
-use Rattle.report_reader.specs.Drafts.{filled, point_of, ray_of, leaf_of, set_of, answer_of, only_if, is_within, may_split, counts_rounds, proof_with, witnessed_with, site_of, run_of, stop_begun, stop_with, claim_with, bound_with, least_with, not_linear_said, reply_said, extended, placed, between, advanced, AreValues, AreMembers, AreWitnesses, IsFound, IsOneMore, AreLeftOut, AreEnforced, IsTold, IsStopPart, AreNodes, Asks, Seeks, Bounds, IsBoundPart, Relaxes, IsLeastPart, Reduces, IsPartFor, IsDraftFor}
+use Rattle.report_reader.specs.Drafts.{filled, point_of, ray_of, leaf_of, set_of, answer_of, only_if, is_within, may_split, counts_rounds, gives_price, has_tail, proof_with, price_with, witnessed_with, site_of, run_of, stop_begun, stop_with, claim_with, bound_with, least_with, not_linear_said, reply_said, extended, placed, between, advanced, AreValues, AreMembers, AreWitnesses, IsFound, IsOneMore, AreLeftOut, AreEnforced, IsTold, IsStopPart, AreNodes, Asks, Seeks, Bounds, IsBoundPart, Relaxes, IsLeastPart, Reduces, IsPartFor, IsDraftFor}
 use Rattle.phrase_reader.proofs.Named.{told}
 use Rattle.report_reader.proofs.DueTrees.{whole_due, split_due, leaf_due, none_due, one_leaf_due}
-use Rattle.report_reader.proofs.Rounds.{rounds_told, no_rounds_told}
+use Rattle.report_reader.proofs.Rounds.{rounds_told, price_told, nothing_told}
 use Rattle.report_reader.proofs.LeftOut.{no_members, none_told, none_enforced, left_twice, site_in_form}
 
 -- ---- what is read, as phrases
@@ -101,6 +102,11 @@ least_part_phrases (LeastPart.Total t) = Phrase.Least ∷ Phrase.Total t ∷ []
 least_part_phrases (LeastPart.Point t values) = Phrase.Least ∷ Phrase.Total t ∷ Phrase.Point ∷ value_phrases 0 values
 least_part_phrases (LeastPart.Dual t p shares) = Phrase.Least ∷ Phrase.Total t ∷ (point_phrases p ++ Phrase.Dual ∷ map Phrase.Use shares)
 
+-- a total, and the values of a price
+abbrev pub price_part_phrases : PricePart → List Phrase
+price_part_phrases (PricePart.Total t) = Phrase.Total t ∷ []
+price_part_phrases (PricePart.Price t values) = Phrase.Total t ∷ Phrase.Price ∷ value_phrases 0 values
+
 -- a set, and the nodes of its proof
 abbrev pub nodes_phrases : Found → List Node → List Phrase
 nodes_phrases found nodes = found_phrases found ++ Phrase.Proof ∷ flat_map node_phrases nodes
@@ -118,6 +124,7 @@ part_phrases (Part.Witness members witnesses m values) = found_phrases (Found.Wi
 part_phrases (Part.Proof found nodes due) = nodes_phrases found nodes
 part_phrases (Part.Leaf found nodes due shares) = nodes_phrases found nodes ++ Phrase.Leaf ∷ map Phrase.Use shares
 part_phrases (Part.Counted found nodes n) = nodes_phrases found nodes ++ Phrase.Rounds n ∷ []
+part_phrases (Part.Priced found nodes part) = nodes_phrases found nodes ++ price_part_phrases part
 part_phrases (Part.Reduced steps) = Phrase.Reduced ∷ map Phrase.Reduction steps
 part_phrases (Part.Left steps rows columns) = Phrase.Reduced ∷ (map Phrase.Reduction steps ++ Phrase.Left rows columns ∷ [])
 part_phrases (Part.Stop part) = stop_part_phrases part
@@ -385,7 +392,7 @@ module _ (model : Program) where
       let with_left : List Member → SitePart = λ ms. record { kind = kind; left = ms; enforced = []; path = [] } in
       list_taken c (Part.Stop (StopPart.Site cause (with_left left))) (without_phrase m) (λ members. Part.Stop (StopPart.Site cause (with_left members))) (is_active model m && list_all (λ n. comes_before n m) left) (left ++ m ∷ []) next
       (λ t. (
-        (asks, record { run = h.run; left = left_taken left m h.left k t; enforced = none_enforced model (left ++ m ∷ []); path = h.path }),
+        (asks, record { left = left_taken left m h.left k t; enforced = none_enforced model (left ++ m ∷ []); path = h.path }),
         ap (λ l. Phrase.Stop (opening cause) ∷ Phrase.Stop (StopPhrase.Site kind) ∷ l)
             (append-nil (map without_phrase (left ++ m ∷ [])) ∙ map_push without_phrase left m ∙ ap (λ l. l ++ without_phrase m ∷ []) (sym (append-nil (map without_phrase left)))),
       )) e
@@ -408,7 +415,7 @@ module _ (model : Program) where
       list_taken c (Part.Stop (StopPart.Site cause (with_enforced enforced))) (enforced_phrase m) (λ members. Part.Stop (StopPart.Site cause (with_enforced members)))
       (is_within model left m && list_all (λ n. comes_before n m) enforced) (enforced ++ m ∷ []) next
       (λ t. (
-        (asks, record { run = h.run; left = h.left; enforced = one_more_enforced left enforced m h.enforced k t; path = h.path }),
+        (asks, record { left = h.left; enforced = one_more_enforced left enforced m h.enforced k t; path = h.path }),
         ap (λ l. front (map without_phrase left ++ l))
             (append-nil (map enforced_phrase (enforced ++ m ∷ [])) ∙ map_push enforced_phrase enforced m ∙ ap (λ l. l ++ enforced_phrase m ∷ []) (sym (append-nil (map enforced_phrase enforced))))
             ∙ ap front (sym (append_assoc (map without_phrase left) (map enforced_phrase enforced ++ []) (enforced_phrase m ∷ []))),
@@ -427,15 +434,13 @@ module _ (model : Program) where
   stop_taken : (c : Command) (part : StopPart) (p : Phrase) (next : Part) → Asks c × IsStopPart model part → IsPhraseFor model p → stop_with model part p ≡ Some (Next.More next) → Took c (Part.Stop part) p next
   unfolding Took
   stop_taken c (StopPart.Begun cause) (Phrase.Stop (StopPhrase.Site kind)) next h k e =
-      let more = Part.Stop (StopPart.Site cause (run_of kind)) in
-      let t = only_told (is_run_kind kind) (Next.More more) (Next.More next) e in
-      subst (Took c (Part.Stop (StopPart.Begun cause)) (Phrase.Stop (StopPhrase.Site kind))) (same_more more next t.1) ((h.0, none_told model kind t.0), refl)
+      subst (Took c (Part.Stop (StopPart.Begun cause)) (Phrase.Stop (StopPhrase.Site kind))) (more_is (Part.Stop (StopPart.Site cause (run_of kind))) next e) ((h.0, none_told model kind), refl)
   stop_taken c (StopPart.Large size) Phrase.End next h k e = absurd (cc)
   stop_taken c (StopPart.Site cause site) (Phrase.Stop (StopPhrase.Without m)) next h k e = without_taken c cause site.kind site.left site.enforced site.path m next h.0 h.1 k e
   stop_taken c (StopPart.Site cause site) (Phrase.Stop (StopPhrase.Enforced m)) next h k e = enforced_taken c cause site.kind site.left site.enforced site.path m next h.0 h.1 k e
   stop_taken c (StopPart.Site cause site) (Phrase.Stop (StopPhrase.Branch b)) next h k e =
       subst (Took c (Part.Stop (StopPart.Site cause site)) (branch_phrase b)) (more_is (Part.Stop (StopPart.Site cause (record site { path = site.path ++ b ∷ [] }))) next e) (
-        (h.0, record { run = h.1.run; left = h.1.left; enforced = h.1.enforced; path = All-push (IsNamedBranch model) site.path b h.1.path k }),
+        (h.0, record { left = h.1.left; enforced = h.1.enforced; path = All-push (IsNamedBranch model) site.path b h.1.path k }),
         ap (λ l. Phrase.Stop (opening cause) ∷ Phrase.Stop (StopPhrase.Site site.kind) ∷ (map without_phrase site.left ++ (map enforced_phrase site.enforced ++ l))) (map-append branch_phrase site.path (b ∷ []))
             ∙ ap (λ l. Phrase.Stop (opening cause) ∷ Phrase.Stop (StopPhrase.Site site.kind) ∷ l) (moved_out (map without_phrase site.left) (map enforced_phrase site.enforced) (map branch_phrase site.path) (branch_phrase b ∷ [])),
       )
@@ -507,8 +512,8 @@ module _ (model : Program) where
   least_taken c part p next h k e = absurd (cc)
 
   -- the nodes of a proof, and a phrase
-  no_more : (found : Found) (nodes : List Node) (b : Bool) (next : Part) → only_if b (Next.Whole (answer_of model found nodes None)) ≡ Some (Next.More next) → ⊥
-  no_more found nodes b next e = let t = only_told b (Next.Whole (answer_of model found nodes None)) (Next.More next) e in let s : Next.Whole (answer_of model found nodes None) ≡ Next.More next = t.1 in cc
+  no_more : (found : Found) (nodes : List Node) (b : Bool) (next : Part) → only_if b (Next.Whole (answer_of model found nodes None None)) ≡ Some (Next.More next) → ⊥
+  no_more found nodes b next e = let t = only_told b (Next.Whole (answer_of model found nodes None None)) (Next.More next) e in let s : Next.Whole (answer_of model found nodes None None) ≡ Next.More next = t.1 in cc
 
   nodes_taken : (c : Command) (found : Found) (nodes : List Node) (due : ℕ) (p : Phrase) (next : Part) → IsFound model c found → AreNodes model c nodes due → IsPhraseFor model p
       → proof_with model c found nodes due p ≡ Some (Next.More next) → IsPartFor model c next × (part_phrases next ≡ nodes_phrases found nodes ++ p ∷ [])
@@ -533,8 +538,31 @@ module _ (model : Program) where
       let both = and_parts (counts_rounds c) (due == 0) t.0 in
       subst (λ q. IsPartFor model c q × (part_phrases q ≡ nodes_phrases found nodes ++ Phrase.Rounds n ∷ [])) (same_more more next t.1)
       ((f, (subst (AreNodes model c nodes) (eqb-true due 0 both.1) h, (named, both.0))), refl)
-  nodes_taken c found nodes due Phrase.End next f h named e = absurd (no_more found nodes (not (counts_rounds c) && (due == 0)) next e)
+  nodes_taken c found nodes due (Phrase.Total t) next f h named e =
+      let more = Part.Priced found nodes (PricePart.Total t) in
+      let s = only_told (gives_price c && (due == 0)) (Next.More more) (Next.More next) e in
+      let both = and_parts (gives_price c) (due == 0) s.0 in
+      subst (λ q. IsPartFor model c q × (part_phrases q ≡ nodes_phrases found nodes ++ Phrase.Total t ∷ [])) (same_more more next s.1)
+      ((f, (subst (AreNodes model c nodes) (eqb-true due 0 both.1) h, (named, both.0))), refl)
+  nodes_taken c found nodes due Phrase.End next f h named e = absurd (no_more found nodes (not (has_tail c) && (due == 0)) next e)
   nodes_taken c found nodes due _ next f h named e = absurd (cc)
+
+  -- a total and a price, and a phrase
+  price_taken : (c : Command) (found : Found) (nodes : List Node) (part : PricePart) (p : Phrase) (next : Part) → IsPartFor model c (Part.Priced found nodes part) → IsPhraseFor model p
+      → price_with model found nodes part p ≡ Some (Next.More next) → Took c (Part.Priced found nodes part) p next
+  unfolding Took
+  price_taken c found nodes (PricePart.Total t) Phrase.Price next h k e =
+      subst (Took c (Part.Priced found nodes (PricePart.Total t)) Phrase.Price) (more_is (Part.Priced found nodes (PricePart.Price t [])) next e)
+      ((h.0, (h.1.0, ((h.1.1.0, no_values), h.1.1.1))), sym (append_assoc (nodes_phrases found nodes) (Phrase.Total t ∷ []) (Phrase.Price ∷ [])))
+  price_taken c found nodes (PricePart.Price t values) (Phrase.Value j v) next h k e =
+      let front = nodes_phrases found nodes in
+      list_taken c (Part.Priced found nodes (PricePart.Price t values)) (Phrase.Value j v) (λ vs. Part.Priced found nodes (PricePart.Price t vs)) (nat_le (length values) j) (filled j values ++ v ∷ []) next
+      (λ s. (let le : length values ≤ j = leb-true (length values) j s in (
+        (h.0, (h.1.0, ((h.1.1.0.0, value_taken values j v h.1.1.0.1 k le), h.1.1.1))),
+        ap (λ l. front ++ Phrase.Total t ∷ Phrase.Price ∷ l) (value_said values j v le k.1.1) ∙ sym (append_assoc front (Phrase.Total t ∷ Phrase.Price ∷ value_phrases 0 values) (Phrase.Value j v ∷ [])),
+      ))) e
+  price_taken c found nodes (PricePart.Price t values) Phrase.End next h k e = absurd (cc)
+  price_taken c found nodes part p next h k e = absurd (cc)
 
   -- a leaf behind the nodes
   leaf_said : (found : Found) (nodes : List Node) (shares : List Share) → nodes_phrases found (nodes ++ leaf_of shares ∷ []) ≡ nodes_phrases found nodes ++ Phrase.Leaf ∷ map Phrase.Use shares
@@ -628,6 +656,7 @@ module _ (model : Program) where
       let t = nodes_taken c found (nodes ++ leaf_of shares ∷ []) due p next h.0 (leaf_due model c nodes due shares h.1.0 h.1.1) k e in
       (t.0, t.1 ∙ ap (λ l. l ++ p ∷ []) (leaf_said found nodes shares))
   more_taken c (Part.Counted found nodes n) Phrase.End next h k e = absurd (cc)
+  more_taken c (Part.Priced found nodes part) p next h k e = price_taken c found nodes part p next h k e
   more_taken c part p next h k e = absurd (cc)
 
   -- ---- answers
@@ -644,37 +673,61 @@ module _ (model : Program) where
   listed_taken : (members : List Member) → AreMembers model members → IsListed model (set_of model members)
   listed_taken members h = record { of_model = record { rows = refl; columns = refl }; named = h.named; in_order = h.in_order }
 
-  -- an answer without rounds
+  -- an answer that ends with its proof
   abbrev Proved : Command → Found → List Node → Type 0
   Proved c found nodes =
-      let a : Answer = answer_of model found nodes None in
+      let a : Answer = answer_of model found nodes None None in
       (can_answer c a ≡ true) × (IsAnswerFor model a × ((answer_front model a ≡ nodes_phrases found nodes) × (answer_end a ≡ Phrase.End)))
 
-  proof_ends : (c : Command) (found : Found) (nodes : List Node) → not (counts_rounds c) ≡ true → IsFound model c found → AreNodes model c nodes 0 → Proved c found nodes
+  proof_ends : (c : Command) (found : Found) (nodes : List Node) → not (has_tail c) ≡ true → IsFound model c found → AreNodes model c nodes 0 → Proved c found nodes
   proof_ends Check (Found.Members members) nodes none h k = (refl, ((listed_taken members h, none_due model Check nodes k), (refl, refl)))
   proof_ends Unbounded (Found.Members members) nodes none h k = (refl, ((listed_taken members h, none_due model Unbounded nodes k), (refl, refl)))
   proof_ends Reduce (Found.Members members) nodes none h k = (one_leaf_due model Reduce nodes refl k, ((listed_taken members h, none_due model Reduce nodes k), (refl, refl)))
   proof_ends Relax (Found.Rigid members) nodes none h k = (one_leaf_due model Relax nodes refl k, ((listed_taken members h, none_due model Relax nodes k), (refl, refl)))
   proof_ends (Iis method) (Found.Witnessed members witnesses) nodes none h k = (
-    no_rounds_told method ∙ none,
+    nothing_told method ∙ none,
     (
-      record { members = listed_taken members h.0; each = h.1.each; points = h.1.points; proof = none_due model (Iis method) nodes k; rounds = tt; price = refl },
+      record { members = listed_taken members h.0; each = h.1.each; points = h.1.points; proof = none_due model (Iis method) nodes k; rounds = tt; price = tt },
       (ap (λ l. Phrase.Irreducible ∷ (flat_map witness_phrases (zip members witnesses) ++ l)) (append-nil (proof_phrases (record { nodes = nodes }))), refl),
     ),
   )
   proof_ends c found nodes none h k = absurd h
 
   -- an irreducible set with its rounds
-  counted_ends : (c : Command) (found : Found) (nodes : List Node) (n : ℕ) → IsPartFor model c (Part.Counted found nodes n) → Ends c (Part.Counted found nodes n) Phrase.End (answer_of model found nodes (Some n))
+  counted_ends : (c : Command) (found : Found) (nodes : List Node) (n : ℕ) → IsPartFor model c (Part.Counted found nodes n) → Ends c (Part.Counted found nodes n) Phrase.End (answer_of model found nodes (Some n) None)
   counted_ends (Iis method) (Found.Witnessed members witnesses) nodes n h = record {
     ended = refl;
     kind = rounds_told method n ∙ h.1.1.1;
-    form = record { members = listed_taken members h.0.0; each = h.0.1.each; points = h.0.1.points; proof = none_due model (Iis method) nodes h.1.0; rounds = h.1.1.0; price = refl };
+    form = record { members = listed_taken members h.0.0; each = h.0.1.each; points = h.0.1.points; proof = none_due model (Iis method) nodes h.1.0; rounds = h.1.1.0; price = tt };
     said = sym (append_assoc (Phrase.Irreducible ∷ flat_map witness_phrases (zip members witnesses)) (proof_phrases (record { nodes = nodes })) (Phrase.Rounds n ∷ []));
   }
   counted_ends (Iis method) (Found.Members members) nodes n h = absurd h.0
   counted_ends (Iis method) (Found.Rigid members) nodes n h = absurd h.0
   counted_ends c found nodes n h = absurd (true≢false (sym h.1.1.1))
+
+  -- an irreducible set with its total and its price
+  priced_ends : (c : Command) (found : Found) (nodes : List Node) (t : ℚ) (values : List ℚ) → IsPartFor model c (Part.Priced found nodes (PricePart.Price t values))
+      → Ends c (Part.Priced found nodes (PricePart.Price t values)) Phrase.End (answer_of model found nodes None (Some (t, point_of model values)))
+  priced_ends (Iis method) (Found.Witnessed members witnesses) nodes t values h =
+      let listed : List Phrase = Phrase.Irreducible ∷ flat_map witness_phrases (zip members witnesses) in
+      let proved : List Phrase = proof_phrases (record { nodes = nodes }) in
+      record {
+        ended = refl;
+        kind = price_told method (t, point_of model values) ∙ h.1.1.1;
+        form = record {
+          members = listed_taken members h.0.0;
+          each = h.0.1.each;
+          points = h.0.1.points;
+          proof = none_due model (Iis method) nodes h.1.0;
+          rounds = tt;
+          price = (h.1.1.0.0, point_taken values h.1.1.0.1);
+        };
+        said = ap (λ l. listed ++ (proved ++ Phrase.Total t ∷ Phrase.Price ∷ l)) (filled_says (length model.columns) values)
+            ∙ sym (append_assoc listed proved (Phrase.Total t ∷ Phrase.Price ∷ value_phrases 0 values));
+      }
+  priced_ends (Iis method) (Found.Members members) nodes t values h = absurd h.0
+  priced_ends (Iis method) (Found.Rigid members) nodes t values h = absurd h.0
+  priced_ends c found nodes t values h = absurd (true≢false (sym h.1.1.1))
 
   -- a point alone answers what seeks one
   can_seek : (c : Command) (p : Point) → Seeks c → can_answer c (Answer.Feasible p) ≡ true
@@ -753,6 +806,15 @@ module _ (model : Program) where
   not_whole : {X : Type 0} (make : X → Next) (b : Bool) (x : X) (a : Answer) → ((y : X) → Next.Whole a ≢ make y) → option_map make (only_if b x) ≡ Some (Next.Whole a) → ⊥
   not_whole make b x a differ e = let t = mapped_told make b x (Next.Whole a) e in differ x (sym t.1)
 
+  price_ends : (c : Command) (found : Found) (nodes : List Node) (part : PricePart) (p : Phrase) (a : Answer) → IsPartFor model c (Part.Priced found nodes part)
+      → price_with model found nodes part p ≡ Some (Next.Whole a) → Ends c (Part.Priced found nodes part) p a
+  price_ends c found nodes (PricePart.Price t values) Phrase.End a h e =
+      subst (Ends c (Part.Priced found nodes (PricePart.Price t values)) Phrase.End) (whole_is (answer_of model found nodes None (Some (t, point_of model values))) a e) (priced_ends c found nodes t values h)
+  price_ends c found nodes (PricePart.Price t values) (Phrase.Value j v) a h e =
+      absurd (not_whole (λ vs. Next.More (Part.Priced found nodes (PricePart.Price t vs))) (nat_le (length values) j) (filled j values ++ v ∷ []) a (λ y s. cc) e)
+  price_ends c found nodes (PricePart.Total t) Phrase.Price a h e = absurd (cc)
+  price_ends c found nodes part p a h e = absurd (cc)
+
   -- a stop answers what asks for more than one line
   can_stop : (c : Command) (stop : Stop) → Asks c → can_answer c (Answer.Stopped stop) ≡ true
   can_stop Check stop h = refl
@@ -812,8 +874,7 @@ module _ (model : Program) where
       absurd (not_whole (λ members. Next.More (Part.Stop (StopPart.Site cause (record site { enforced = members })))) (((length site.path == 0) && is_within model site.left m) && list_all (λ n. comes_before n m) site.enforced) (site.enforced ++ m ∷ []) a (λ y s. cc) e)
   stop_ends c (StopPart.Site cause site) (Phrase.Stop (StopPhrase.Branch b)) a h e = absurd (cc)
   stop_ends c (StopPart.Site StopCause.Wide site) (Phrase.Stop (StopPhrase.Step n)) a h e = absurd (cc)
-  stop_ends c (StopPart.Begun cause) (Phrase.Stop (StopPhrase.Site kind)) a h e =
-      absurd (let t = only_told (is_run_kind kind) (Next.More (Part.Stop (StopPart.Site cause (run_of kind)))) (Next.Whole a) e in let s : Next.More (Part.Stop (StopPart.Site cause (run_of kind))) ≡ Next.Whole a = t.1 in cc)
+  stop_ends c (StopPart.Begun cause) (Phrase.Stop (StopPhrase.Site kind)) a h e = absurd (cc)
   stop_ends c (StopPart.Step site n) (Phrase.Stop (StopPhrase.Operation o)) a h e = absurd (cc)
   stop_ends c part p a h e = absurd (cc)
 
@@ -827,13 +888,15 @@ module _ (model : Program) where
   nodes_end : (c : Command) (found : Found) (nodes : List Node) (due : ℕ) (part : Part) (p : Phrase) (a : Answer) → part_phrases part ≡ nodes_phrases found nodes → IsFound model c found → AreNodes model c nodes due
       → proof_with model c found nodes due p ≡ Some (Next.Whole a) → Ends c part p a
   nodes_end c found nodes due part Phrase.End a same h k e =
-      let t = only_told (not (counts_rounds c) && (due == 0)) (Next.Whole (answer_of model found nodes None)) (Next.Whole a) e in
-      let both = and_parts (not (counts_rounds c)) (due == 0) t.0 in
+      let t = only_told (not (has_tail c) && (due == 0)) (Next.Whole (answer_of model found nodes None None)) (Next.Whole a) e in
+      let both = and_parts (not (has_tail c)) (due == 0) t.0 in
       let none : due ≡ 0 = eqb-true due 0 both.1 in
       let r = proof_ends c found nodes both.0 h (subst (AreNodes model c nodes) none k) in
-      subst (Ends c part Phrase.End) (whole_is (answer_of model found nodes None) a (ap Some t.1)) (record { ended = sym r.1.1.1; kind = r.0; form = r.1.0; said = r.1.1.0 ∙ sym same })
+      subst (Ends c part Phrase.End) (whole_is (answer_of model found nodes None None) a (ap Some t.1)) (record { ended = sym r.1.1.1; kind = r.0; form = r.1.0; said = r.1.1.0 ∙ sym same })
   nodes_end c found nodes due part (Phrase.Rounds n) a same h k e =
       absurd (let t = only_told (counts_rounds c && (due == 0)) (Next.More (Part.Counted found nodes n)) (Next.Whole a) e in let s : Next.More (Part.Counted found nodes n) ≡ Next.Whole a = t.1 in cc)
+  nodes_end c found nodes due part (Phrase.Total v) a same h k e =
+      absurd (let t = only_told (gives_price c && (due == 0)) (Next.More (Part.Priced found nodes (PricePart.Total v))) (Next.Whole a) e in let s : Next.More (Part.Priced found nodes (PricePart.Total v)) ≡ Next.Whole a = t.1 in cc)
   nodes_end c found nodes due part (Phrase.Split j n) a same h k e =
       absurd (let t = only_told (may_split c && nat_lt 0 due) (Next.More (Part.Proof found (nodes ++ Split j n ∷ []) (due + 1))) (Next.Whole a) e in let s : Next.More (Part.Proof found (nodes ++ Split j n ∷ []) (due + 1)) ≡ Next.Whole a = t.1 in cc)
   nodes_end c found nodes due part Phrase.Leaf a same h k e =
@@ -857,7 +920,8 @@ module _ (model : Program) where
   whole_taken c (Part.Ray point values) (Phrase.Value j v) a h k e = absurd (not_whole (λ vs. Next.More (Part.Ray point vs)) (nat_le (length values) j) (filled j values ++ v ∷ []) a (λ y s. cc) e)
   whole_taken c (Part.Bounded part) p a h k e = bound_ends c part p a h e
   whole_taken c (Part.Least part) p a h k e = least_ends c part p a h e
-  whole_taken c (Part.Counted found nodes n) Phrase.End a h k e = subst (Ends c (Part.Counted found nodes n) Phrase.End) (whole_is (answer_of model found nodes (Some n)) a e) (counted_ends c found nodes n h)
+  whole_taken c (Part.Counted found nodes n) Phrase.End a h k e = subst (Ends c (Part.Counted found nodes n) Phrase.End) (whole_is (answer_of model found nodes (Some n) None) a e) (counted_ends c found nodes n h)
+  whole_taken c (Part.Priced found nodes part) p a h k e = price_ends c found nodes part p a h e
   whole_taken c (Part.Proof found nodes due) p a h k e = nodes_end c found nodes due (Part.Proof found nodes due) p a refl h.0 h.1 e
   whole_taken c (Part.Leaf found nodes due shares) (Phrase.Use s) a h k e =
       absurd (not_whole (λ ss. Next.More (Part.Leaf found nodes due ss)) (list_all (λ u. source_before u.source s.source) shares) (shares ++ s ∷ []) a (λ y s. cc) e)

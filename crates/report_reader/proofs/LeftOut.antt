@@ -14,7 +14,7 @@ use Rattle.lp_model.proofs.Sets.{same_members, contains_of_has, has_of_contains,
 use Rattle.lp_model.proofs.Marked.{is_what_it_has}
 use Rattle.certs.specs.declared.solving.SiteKind.{SiteKind}
 use Rattle.report_text.specs.Grammar.{left_out}
-use Rattle.report_text.specs.Form.{IsNamedColumn, IsNamedMember, is_run_kind, IsSiteFor}
+use Rattle.report_text.specs.Form.{IsNamedColumn, IsNamedMember, IsSiteFor}
 use Rattle.phrase_reader.specs.Phrases.{IsNamedBranch}
 use Rattle.report_reader.specs.declared.drafts.SitePart.{SitePart}
 use Rattle.report_reader.specs.Drafts.{set_of, site_of, run_of, is_within, AreMembers, AreLeftOut, AreEnforced, IsTold}
@@ -158,7 +158,6 @@ module _ (model : Program) where
   pub site_in_form : (site : SitePart) → IsTold model site → IsSiteFor model (site_of model site)
   site_in_form site h = record {
     run = record {
-      kind = h.run;
       of_model = record { rows = refl; columns = refl };
       active = is_what_it_has (λ m. not (has site.left m)) (active_members model);
       enforced_of = record { rows = refl; columns = refl };
@@ -181,5 +180,5 @@ module _ (model : Program) where
   pub none_enforced : (left : List Member) → AreEnforced model left []
   none_enforced left = record { members = no_members; within = All-nil (λ m. IsTrue (is_within model left m)) }
 
-  pub none_told : (kind : SiteKind) → is_run_kind kind ≡ true → IsTold model (run_of kind)
-  none_told kind run = record { run = run; left = none_left; enforced = none_enforced []; path = All-nil (IsNamedBranch model) }
+  pub none_told : (kind : SiteKind) → IsTold model (run_of kind)
+  none_told kind = record { left = none_left; enforced = none_enforced []; path = All-nil (IsNamedBranch model) }

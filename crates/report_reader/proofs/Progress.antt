@@ -1,5 +1,5 @@
 -- What the lines so far have led to, and what one line more, or the end, makes of it.
-use Rattle.std.proofs.Common.{◌≡◌, ◌≢◌, ◌<◌, ◌≤◌, refl, sym, ap, subst, ◌∙◌, ℕ, zero, suc, ◌+◌, ◌==◌, Bool, true, false, not, ◌&&◌, List, [], ◌∷◌, ◌++◌, length, append_assoc, append-nil, Option, Some, None, arith, inl, inr}
+use Rattle.std.proofs.Common.{◌≡◌, ◌≢◌, ◌<◌, ◌≤◌, refl, sym, ap, subst, ◌∙◌, ℕ, zero, suc, ◌+◌, ◌==◌, Bool, true, false, not, ◌&&◌, ◌||◌, List, [], ◌∷◌, ◌++◌, length, append_assoc, append-nil, Option, Some, None, arith, inl, inr}
 use Rattle.std.specs.Prelude.{map, All, option_and_then, option_map, Result, Ok, Err}
 use Rattle.std.proofs.lemmas.List.{length-append, length-map, map-append, append_cancel_left, append_cancel_right}
 use Rattle.std.proofs.lemmas.List.Elements.{All-nil, All-cons, All-head, All-tail}
@@ -33,6 +33,7 @@ use Rattle.report_reader.specs.declared.drafts.StopPart.{StopPart}
 use Rattle.report_reader.specs.declared.drafts.Claim.{Claim}
 use Rattle.report_reader.specs.declared.drafts.BoundPart.{BoundPart}
 use Rattle.report_reader.specs.declared.drafts.LeastPart.{LeastPart}
+use Rattle.report_reader.specs.declared.drafts.PricePart.{PricePart}
 use Rattle.report_reader.specs.declared.drafts.Part.{Part}
 use Rattle.report_reader.specs.declared.drafts.Next.{Next}
 use Rattle.report_reader.specs.declared.drafts.Stage.{Stage}
@@ -42,7 +43,7 @@ use Rattle.report_text.specs.Grammar.{Line, text_of, report_lines, phrase_line, 
 use Rattle.report_text.specs.Form.{IsReportFor, IsOperation}
 use Rattle.report_reader.specs.Reading.{Reads, IsFront, IsWhole, IsBadLine, IsTruncated, IsReportStop}
 use Rattle.phrase_reader.specs.Phrases.{IsPhraseFor, Says}
-use Rattle.report_reader.specs.Drafts.{point_of, ray_of, leaf_of, answer_of, site_of, run_of, counts_rounds, proof_with, extended, placed, program_now, advanced, nothing_read, Takes, IsLineStop, ended, IsDraftFor}
+use Rattle.report_reader.specs.Drafts.{point_of, ray_of, leaf_of, answer_of, site_of, run_of, counts_rounds, gives_price, has_tail, proof_with, extended, placed, program_now, advanced, nothing_read, Takes, IsLineStop, ended, IsDraftFor}
 use Rattle.report_reader.proofs.Said.{report_for, parts_of_read}
 use Rattle.report_reader.proofs.Alike.{same_line, says_after}
 use Rattle.phrase_reader.proofs.Spelling.{some_parts, text_of_parts}
@@ -158,30 +159,44 @@ module _ (model : Program) where
     front_least (LeastPart.Dual t point shares) = front_least_dual t point shares
 
     front_counted : (found : Found) (nodes : List Node) (n : ℕ) → Within (Part.Counted found nodes n)
-    front_counted found nodes n = end_back (Part.Counted found nodes n) (answer_of now found nodes (Some n)) refl
+    front_counted found nodes n = end_back (Part.Counted found nodes n) (answer_of now found nodes (Some n) None) refl
 
-    -- where no subtree is due the proof ends, or no round may have been made
+    front_price : (found : Found) (nodes : List Node) (t : ℚ) (values : List ℚ) → Within (Part.Priced found nodes (PricePart.Price t values))
+    front_price found nodes t values = end_back (Part.Priced found nodes (PricePart.Price t values)) (answer_of now found nodes None (Some (t, point_of now values))) refl
+
+    -- a price of 0 may stand behind a total
+    front_priced : (found : Found) (nodes : List Node) (part : PricePart) → Within (Part.Priced found nodes part)
+    front_priced found nodes (PricePart.Total t) = more_back (Part.Priced found nodes (PricePart.Total t)) (Part.Priced found nodes (PricePart.Price t [])) Phrase.Price tt refl (front_price found nodes t [])
+    front_priced found nodes (PricePart.Price t values) = front_price found nodes t values
+
+    -- where no subtree is due the proof ends, or no round may have been made, or the total may be 0
     front_whole : (part : Part) (found : Found) (nodes : List Node) → extended now question.command part Phrase.End ≡ proof_with now question.command found nodes 0 Phrase.End
-        → extended now question.command part (Phrase.Rounds 0) ≡ proof_with now question.command found nodes 0 (Phrase.Rounds 0) → Within part
-    front_whole part found nodes ends counts = by (counts_rounds question.command) refl
+        → extended now question.command part (Phrase.Rounds 0) ≡ proof_with now question.command found nodes 0 (Phrase.Rounds 0)
+        → extended now question.command part (Phrase.Total zero_ℚ) ≡ proof_with now question.command found nodes 0 (Phrase.Total zero_ℚ) → Within part
+    front_whole part found nodes ends counts prices = by (counts_rounds question.command) (gives_price question.command) refl refl
       where
-        by : (b : Bool) → counts_rounds question.command ≡ b → Within part
-        by true e =
+        by : (b d : Bool) → counts_rounds question.command ≡ b → gives_price question.command ≡ d → Within part
+        by true d e f =
             more_back part (Part.Counted found nodes 0) (Phrase.Rounds 0) (omega arith)
             (counts ∙ only_true (counts_rounds question.command && (0 == 0)) (Next.More (Part.Counted found nodes 0)) (and_from (counts_rounds question.command) (0 == 0) e refl)) (front_counted found nodes 0)
-        by false e =
-            end_back part (answer_of now found nodes None)
-            (ends ∙ only_true (not (counts_rounds question.command) && (0 == 0)) (Next.Whole (answer_of now found nodes None)) (and_from (not (counts_rounds question.command)) (0 == 0) (ap not e) refl))
+        by false true e f =
+            more_back part (Part.Priced found nodes (PricePart.Total zero_ℚ)) (Phrase.Total zero_ℚ) zeros_fit.left
+            (prices ∙ only_true (gives_price question.command && (0 == 0)) (Next.More (Part.Priced found nodes (PricePart.Total zero_ℚ))) (and_from (gives_price question.command) (0 == 0) f refl))
+            (front_priced found nodes (PricePart.Total zero_ℚ))
+        by false false e f =
+            let none : not (has_tail question.command) ≡ true = ap (λ b. not (b || gives_price question.command)) e ∙ ap not f in
+            end_back part (answer_of now found nodes None None)
+            (ends ∙ only_true (not (has_tail question.command) && (0 == 0)) (Next.Whole (answer_of now found nodes None None)) (and_from (not (has_tail question.command)) (0 == 0) none refl))
 
     -- where subtrees are due, a leaf may stand for each
     front_leaf : (found : Found) (nodes : List Node) (due : ℕ) (shares : List Share) → Within (Part.Leaf found nodes due shares)
-    front_leaf found nodes zero shares = front_whole (Part.Leaf found nodes 0 shares) found (nodes ++ leaf_of shares ∷ []) refl refl
+    front_leaf found nodes zero shares = front_whole (Part.Leaf found nodes 0 shares) found (nodes ++ leaf_of shares ∷ []) refl refl refl
     front_leaf found nodes (suc due) shares =
         more_back (Part.Leaf found nodes (suc due) shares) (Part.Leaf found (nodes ++ leaf_of shares ∷ []) due []) Phrase.Leaf tt
         (leaf_opens now question.command found (nodes ++ leaf_of shares ∷ []) (suc due) due (omega arith)) (front_leaf found (nodes ++ leaf_of shares ∷ []) due [])
 
     front_nodes : (found : Found) (nodes : List Node) (due : ℕ) → Within (Part.Proof found nodes due)
-    front_nodes found nodes zero = front_whole (Part.Proof found nodes 0) found nodes refl refl
+    front_nodes found nodes zero = front_whole (Part.Proof found nodes 0) found nodes refl refl refl
     front_nodes found nodes (suc due) = more_back (Part.Proof found nodes (suc due)) (Part.Leaf found nodes due []) Phrase.Leaf tt (leaf_opens now question.command found nodes (suc due) due (omega arith)) (front_leaf found nodes due [])
 
     front_proof : (found : Found) → Within (Part.Proof found [] 1)
@@ -243,6 +258,7 @@ module _ (model : Program) where
     front_part (Part.Bounded part) = front_bounded part
     front_part (Part.Least part) = front_least part
     front_part (Part.Counted found nodes n) = front_counted found nodes n
+    front_part (Part.Priced found nodes part) = front_priced found nodes part
     front_part (Part.Listed (Found.Members members)) = more_back (Part.Listed (Found.Members members)) (Part.Proof (Found.Members members) [] 1) Phrase.Proof tt refl (front_proof (Found.Members members))
     front_part (Part.Listed (Found.Witnessed members witnesses)) = more_back (Part.Listed (Found.Witnessed members witnesses)) (Part.Proof (Found.Witnessed members witnesses) [] 1) Phrase.Proof tt refl (front_proof (Found.Witnessed members witnesses))
     front_part (Part.Listed (Found.Rigid members)) = more_back (Part.Listed (Found.Rigid members)) (Part.Proof (Found.Rigid members) [] 1) Phrase.Proof tt refl (front_proof (Found.Rigid members))

@@ -47,18 +47,19 @@ use Rattle.report_reader.specs.declared.drafts.StopPart.{StopPart}
 use Rattle.report_reader.specs.declared.drafts.Claim.{Claim}
 use Rattle.report_reader.specs.declared.drafts.BoundPart.{BoundPart}
 use Rattle.report_reader.specs.declared.drafts.LeastPart.{LeastPart}
+use Rattle.report_reader.specs.declared.drafts.PricePart.{PricePart}
 use Rattle.report_reader.specs.declared.drafts.Part.{Part}
 use Rattle.report_reader.specs.declared.drafts.Next.{Next}
 use Rattle.report_reader.specs.declared.drafts.Stage.{Stage}
 use Rattle.report_reader.specs.declared.drafts.Draft.{Draft}
 use Rattle.lp_model.specs.MemberSets.{SetValue}
-use Rattle.report_text.specs.Grammar.{left_out, value_phrases, point_phrases, objective_phrases, dual_phrases, node_phrases, proof_phrases, rounds_phrases, witness_phrases, without_phrase, enforced_phrase, branch_phrase, site_phrases, answer_front, answer_end, entry_phrases, entries_phrases, report_phrases}
+use Rattle.report_text.specs.Grammar.{left_out, value_phrases, point_phrases, objective_phrases, dual_phrases, node_phrases, proof_phrases, price_phrases, rounds_phrases, witness_phrases, without_phrase, enforced_phrase, branch_phrase, site_phrases, answer_front, answer_end, entry_phrases, entries_phrases, report_phrases}
 use Rattle.report_text.specs.Turns.{after, entry_commands}
 use Rattle.report_text.proofs.InTurn.{commands_push}
 use Rattle.certs.specs.Order.{source_before}
-use Rattle.report_text.specs.Form.{AreUses, IsListed, IsNodeFor, IsProofFor, IsPointFor, IsRayFor, IsBoundedFor, IsLeastFor, IsCoreFor, is_run_kind, IsRunSite, IsStopFor, IsAnswerFor, IsEntryFor, AreEntriesFor, AreNumbered, IsReportFor, is_one_leaf, has_rounds, can_answer}
-use Rattle.report_reader.specs.Drafts.{filled, point_of, ray_of, leaf_of, set_of, answer_of, only_if, with_value, with_member, with_next, is_within, may_split, counts_rounds, may_stand, proof_begun, proof_with, witnessed_with, site_of, run_of, stop_begun, extended, placed, program_now, advanced, nothing_read}
-use Rattle.report_reader.proofs.Rounds.{rounds_told, no_rounds_told}
+use Rattle.report_text.specs.Form.{AreUses, IsListed, IsNodeFor, IsProofFor, IsPointFor, IsRayFor, IsBoundedFor, IsLeastFor, IsCoreFor, IsPricedFor, IsRunSite, IsStopFor, IsAnswerFor, IsEntryFor, AreEntriesFor, AreNumbered, IsReportFor, is_one_leaf, can_answer}
+use Rattle.report_reader.specs.Drafts.{filled, point_of, ray_of, leaf_of, set_of, answer_of, only_if, with_value, with_member, with_next, is_within, may_split, counts_rounds, gives_price, has_tail, may_stand, proof_begun, proof_with, witnessed_with, site_of, run_of, stop_begun, extended, placed, program_now, advanced, nothing_read}
+use Rattle.report_reader.proofs.Rounds.{tells, rounds_told, price_told, nothing_told, never_both}
 use Rattle.report_reader.proofs.LeftOut.{left_in_order, left_active, set_twice, part_in_order, part_within}
 
 -- ---- runs
@@ -266,6 +267,7 @@ record TakesNodes (model : Program) (c : Command) (part : Part) (found : Found) 
   split : (j : ℕ) (k : ℤ) → extended model c part (Phrase.Split j k) ≡ proof_with model c found nodes due (Phrase.Split j k)
   leaf : extended model c part Phrase.Leaf ≡ proof_with model c found nodes due Phrase.Leaf
   rounds : (n : ℕ) → extended model c part (Phrase.Rounds n) ≡ proof_with model c found nodes due (Phrase.Rounds n)
+  total : (t : ℚ) → extended model c part (Phrase.Total t) ≡ proof_with model c found nodes due (Phrase.Total t)
   end : extended model c part Phrase.End ≡ proof_with model c found nodes due Phrase.End
 
 -- a node where a subtree is due
@@ -281,7 +283,7 @@ leaf_opens model c found nodes due behind e =
 module _ (model : Program) (c : Command) (found : Found) where
   -- the part of these nodes
   own_part : (nodes : List Node) (due : ℕ) → TakesNodes model c (Part.Proof found nodes due) found nodes due
-  own_part nodes due = record { split = λ j k. refl; leaf = refl; rounds = λ n. refl; end = refl }
+  own_part nodes due = record { split = λ j k. refl; leaf = refl; rounds = λ n. refl; total = λ t. refl; end = refl }
 
   -- a leaf, where a subtree is due
   leaf_read : (part : Part) (nodes : List Node) (due : ℕ) (shares : List Share) → TakesNodes model c part found nodes (due + 1) → AreUses model shares
@@ -301,7 +303,7 @@ module _ (model : Program) (c : Command) (found : Found) where
 
   tree_read : (tree : Tree) (part : Part) (nodes : List Node) (due : ℕ) → TakesNodes model c part found nodes (due + 1) → All (IsNodeFor model) (preorder tree) → All MayStand (preorder tree) → TreeRead part nodes due (preorder tree)
   tree_read (Tip shares) part nodes due takes h may =
-      (Part.Leaf found nodes due shares, (leaf_read part nodes due shares takes (All-head (IsNodeFor model) (leaf_of shares) [] h), record { split = λ j k. refl; leaf = refl; rounds = λ n. refl; end = refl }))
+      (Part.Leaf found nodes due shares, (leaf_read part nodes due shares takes (All-head (IsNodeFor model) (leaf_of shares) [] h), record { split = λ j k. refl; leaf = refl; rounds = λ n. refl; total = λ t. refl; end = refl }))
   tree_read (Fork j k lower upper) part nodes due takes h may =
       let more : List Node = nodes ++ Split j k ∷ [] in
       let start = Part.Proof found more ((due + 1) + 1) in
@@ -330,12 +332,15 @@ module _ (model : Program) (c : Command) (found : Found) where
       let r = subst (TreeRead start [] 0) h.one.listed (tree_read h.one.tree start [] 0 (own_part [] 1) (subst (All (IsNodeFor model)) (sym h.one.listed) h.each) (subst (All MayStand) (sym h.one.listed) may)) in
       (r.0, (grown_step model c part start Phrase.Proof (flat_map node_phrases proof.nodes) e ∙ r.1.0, r.1.1))
 
-  -- which the end makes the answer, or so many rounds, where they are told
-  proof_ended : (end : Part) (nodes : List Node) → TakesNodes model c end found nodes 0 → not (counts_rounds c) ≡ true → extended model c end Phrase.End ≡ Some (Next.Whole (answer_of model found nodes None))
-  proof_ended end nodes takes e = takes.end ∙ only_true (not (counts_rounds c) && (0 == 0)) (Next.Whole (answer_of model found nodes None)) (and_from (not (counts_rounds c)) (0 == 0) e refl)
+  -- which the end makes the answer, or so many rounds, or a total, where they are told
+  proof_ended : (end : Part) (nodes : List Node) → TakesNodes model c end found nodes 0 → not (has_tail c) ≡ true → extended model c end Phrase.End ≡ Some (Next.Whole (answer_of model found nodes None None))
+  proof_ended end nodes takes e = takes.end ∙ only_true (not (has_tail c) && (0 == 0)) (Next.Whole (answer_of model found nodes None None)) (and_from (not (has_tail c)) (0 == 0) e refl)
 
   proof_counted : (end : Part) (nodes : List Node) (n : ℕ) → TakesNodes model c end found nodes 0 → counts_rounds c ≡ true → extended model c end (Phrase.Rounds n) ≡ Some (Next.More (Part.Counted found nodes n))
   proof_counted end nodes n takes e = takes.rounds n ∙ only_true (counts_rounds c && (0 == 0)) (Next.More (Part.Counted found nodes n)) (and_from (counts_rounds c) (0 == 0) e refl)
+
+  proof_priced : (end : Part) (nodes : List Node) (t : ℚ) → TakesNodes model c end found nodes 0 → gives_price c ≡ true → extended model c end (Phrase.Total t) ≡ Some (Next.More (Part.Priced found nodes (PricePart.Total t)))
+  proof_priced end nodes t takes e = takes.total t ∙ only_true (gives_price c && (0 == 0)) (Next.More (Part.Priced found nodes (PricePart.Total t))) (and_from (gives_price c) (0 == 0) e refl)
 
 -- any node may stand in a proof that may have splits
 any_stands : (c : Command) → may_split c ≡ true → (nodes : List Node) → All (λ node. may_stand node c ≡ true) nodes
@@ -405,7 +410,7 @@ site_read model c cause site h =
     let behind = map enforced_phrase enforced ++ map branch_phrase site.path in
     let with_left : List Member → SitePart = λ ms. record { kind = site.kind; left = ms; enforced = []; path = [] } in
     let with_enforced : List Member → SitePart = λ ms. record { kind = site.kind; left = left; enforced = ms; path = [] } in
-    grown_step model c (Part.Stop (StopPart.Begun cause)) begun (Phrase.Stop (StopPhrase.Site site.kind)) (map without_phrase left ++ behind) (only_true (is_run_kind site.kind) (Next.More begun) h.kind)
+    grown_step model c (Part.Stop (StopPart.Begun cause)) begun (Phrase.Stop (StopPhrase.Site site.kind)) (map without_phrase left ++ behind) refl
     ∙ grown_append model c begun (Part.Stop (StopPart.Site cause (with_left left))) (map without_phrase left) behind
     (list_read model c (is_active model) comes_before (λ ms. Part.Stop (StopPart.Site cause (with_left ms))) without_phrase (λ ms m. refl) [] left (left_in_order model site.set.members) (left_active model site.set.members))
     ∙ grown_append model c (Part.Stop (StopPart.Site cause (with_left left))) (Part.Stop (StopPart.Site cause (with_enforced enforced))) (map enforced_phrase enforced) (map branch_phrase site.path)
@@ -511,11 +516,11 @@ bounded_read model b h =
         ∙ grown_step model Unbounded (Part.Bounded (BoundPart.Objective b.point v)) (Part.Bounded (BoundPart.Bound b.point (Some v) b.dual.bound)) (Phrase.Bound b.dual.bound) (Phrase.Dual ∷ map Phrase.Use b.dual.combo.shares) refl
 
 -- members, and a proof: a list that takes members and the start of its proof
-listed_read : (model : Program) (c : Command) (make : List Member → Found) (say : Phrase) (set : SetValue) (proof : Proof) → IsListed model set → IsProofFor model proof → All (λ node. may_stand node c ≡ true) proof.nodes → not (counts_rounds c) ≡ true
+listed_read : (model : Program) (c : Command) (make : List Member → Found) (say : Phrase) (set : SetValue) (proof : Proof) → IsListed model set → IsProofFor model proof → All (λ node. may_stand node c ≡ true) proof.nodes → not (has_tail c) ≡ true
     → extended model c Part.Nothing say ≡ Some (Next.More (Part.Listed (make [])))
     → ((members : List Member) (m : Member) → extended model c (Part.Listed (make members)) (Phrase.Member m) ≡ option_map (λ ms. Next.More (Part.Listed (make ms))) (with_member members m))
     → ((members : List Member) → extended model c (Part.Listed (make members)) Phrase.Proof ≡ Some (proof_begun (make members)))
-    → (end : Part) × ((grown model c Part.Nothing (say ∷ (map Phrase.Member set.members ++ proof_phrases proof)) ≡ Some end) × (extended model c end Phrase.End ≡ Some (Next.Whole (answer_of model (make set.members) proof.nodes None))))
+    → (end : Part) × ((grown model c Part.Nothing (say ∷ (map Phrase.Member set.members ++ proof_phrases proof)) ≡ Some end) × (extended model c end Phrase.End ≡ Some (Next.Whole (answer_of model (make set.members) proof.nodes None None))))
 listed_read model c make say set proof listed form may none e takes begins =
     let members = set.members in
     let found = make members in
@@ -531,7 +536,7 @@ listed_read model c make say set proof listed form may none e takes begins =
       ),
     )
 
-infeasible_read : (model : Program) (c : Command) (set : SetValue) (proof : Proof) → IsListed model set → IsProofFor model proof → All (λ node. may_stand node c ≡ true) proof.nodes → not (counts_rounds c) ≡ true
+infeasible_read : (model : Program) (c : Command) (set : SetValue) (proof : Proof) → IsListed model set → IsProofFor model proof → All (λ node. may_stand node c ≡ true) proof.nodes → not (has_tail c) ≡ true
     → extended model c Part.Nothing Phrase.Infeasible ≡ Some (Next.More (Part.Listed (Found.Members []))) → AnswerRead model c (Infeasible set proof)
 unfolding AnswerRead
 infeasible_read model c set proof listed form may none e =
@@ -569,27 +574,35 @@ least_read model p dual h =
       ),
     )
 
--- members with witnesses, a proof, and the rounds just where the method has them
+-- members with witnesses, a proof, and the rounds, or a total and a price, just where the method has them
 module _ (model : Program) (method : Method) (core : Core) (h : IsCoreFor model core) where
   abbrev listed : List Phrase
   listed = flat_map witness_phrases (zip core.members.members core.witnesses)
 
-  -- the lines, with such rounds
-  abbrev Grows : Option ℕ → Part → Type 0
-  Grows rounds end = grown model (Iis method) Part.Nothing (Phrase.Irreducible ∷ (listed ++ (proof_phrases core.proof ++ rounds_phrases rounds))) ≡ Some end
+  -- the lines, with such rounds and such a price
+  abbrev Grows : Option ℕ → Option (ℚ × Point) → Part → Type 0
+  Grows rounds price end = grown model (Iis method) Part.Nothing (Phrase.Irreducible ∷ (listed ++ (proof_phrases core.proof ++ (rounds_phrases rounds ++ price_phrases price)))) ≡ Some end
 
   found : Found
   found = Found.Witnessed core.members.members core.witnesses
 
-  -- the answer that these rounds make
-  same_core : (rounds : Option ℕ) → core.rounds ≡ rounds → answer_of model found core.proof.nodes rounds ≡ Irreducible core
+  -- the answer that these rounds and this price make
+  same_core : (rounds : Option ℕ) (price : Option (ℚ × Point)) → core.rounds ≡ rounds → core.price ≡ price → answer_of model found core.proof.nodes rounds price ≡ Irreducible core
   unfolding found
-  same_core rounds e =
-      ap (λ s. Irreducible (record { members = s; witnesses = core.witnesses; proof = core.proof; rounds = rounds; price = None })) (same_set model core.members h.members)
-      ∙ ap (λ r. Irreducible (record { members = core.members; witnesses = core.witnesses; proof = core.proof; rounds = r; price = None })) (sym e)
-      ∙ ap (λ p. Irreducible (record { members = core.members; witnesses = core.witnesses; proof = core.proof; rounds = core.rounds; price = p })) (sym h.price)
+  same_core rounds price e d =
+      ap (λ s. Irreducible (record { members = s; witnesses = core.witnesses; proof = core.proof; rounds = rounds; price = price })) (same_set model core.members h.members)
+      ∙ ap (λ r. Irreducible (record { members = core.members; witnesses = core.witnesses; proof = core.proof; rounds = r; price = price })) (sym e)
+      ∙ ap (λ p. Irreducible (record { members = core.members; witnesses = core.witnesses; proof = core.proof; rounds = core.rounds; price = p })) (sym d)
 
-  -- what stands before the rounds
+  -- what lines behind the proof lead to
+  tail_read : (part end : Part) (tail : List Phrase) → grown model (Iis method) Part.Nothing (Phrase.Irreducible ∷ (listed ++ proof_phrases core.proof)) ≡ Some part → grown model (Iis method) part tail ≡ Some end
+      → grown model (Iis method) Part.Nothing (Phrase.Irreducible ∷ (listed ++ (proof_phrases core.proof ++ tail))) ≡ Some end
+  tail_read part end tail r t =
+      ap (λ l. grown model (Iis method) Part.Nothing (Phrase.Irreducible ∷ l)) (sym (append_assoc listed (proof_phrases core.proof) tail))
+      ∙ grown_append model (Iis method) Part.Nothing part (Phrase.Irreducible ∷ (listed ++ proof_phrases core.proof)) tail r
+      ∙ t
+
+  -- what stands before the rounds, or before the total
   core_read : (end : Part) × ((grown model (Iis method) Part.Nothing (Phrase.Irreducible ∷ (listed ++ proof_phrases core.proof)) ≡ Some end) × TakesNodes model (Iis method) end found core.proof.nodes 0)
   unfolding found
   core_read =
@@ -606,32 +619,60 @@ module _ (model : Program) (method : Method) (core : Core) (h : IsCoreFor model 
         ),
       )
 
-  irreducible_read : has_rounds method core.rounds ≡ true → AnswerRead model (Iis method) (Irreducible core)
+  -- the lines of a price, behind a total
+  prices_read : (t : ℚ) (p : Point) → IsPointFor model p
+      → (end : List ℚ) × ((grown model (Iis method) (Part.Priced found core.proof.nodes (PricePart.Total t)) (Phrase.Price ∷ value_phrases 0 p.values) ≡ Some (Part.Priced found core.proof.nodes (PricePart.Price t end))) × (point_of model end ≡ p))
+  prices_read t p k =
+      let values : List ℚ → Part = λ vs. Part.Priced found core.proof.nodes (PricePart.Price t vs) in
+      let r = point_read model (Iis method) values (λ vs j v. refl) p k in
+      (r.0, (grown_step model (Iis method) (Part.Priced found core.proof.nodes (PricePart.Total t)) (values []) Phrase.Price (value_phrases 0 p.values) refl ∙ r.1.0, r.1.1))
+
+  irreducible_read : tells method core.rounds core.price ≡ true → AnswerRead model (Iis method) (Irreducible core)
   unfolding found AnswerRead
-  irreducible_read can = by core.rounds refl
+  irreducible_read can = by core.rounds core.price refl refl
     where
-      by : (rounds : Option ℕ) → core.rounds ≡ rounds → AnswerRead model (Iis method) (Irreducible core)
-      by None e =
+      -- so the method tells these
+      told : (rounds : Option ℕ) (price : Option (ℚ × Point)) → core.rounds ≡ rounds → core.price ≡ price → tells method rounds price ≡ true
+      told rounds price e d = ap (λ r. tells method r price) (sym e) ∙ ap (λ p. tells method core.rounds p) (sym d) ∙ can
+
+      -- the lines of these are those of the answer
+      with_both : (rounds : Option ℕ) (price : Option (ℚ × Point)) (end : Part) → core.rounds ≡ rounds → core.price ≡ price → Grows rounds price end → Grows core.rounds core.price end
+      with_both rounds price end e d g = subst (λ r. Grows r core.price end) (sym e) (subst (λ p. Grows rounds p end) (sym d) g)
+
+      by : (rounds : Option ℕ) (price : Option (ℚ × Point)) → core.rounds ≡ rounds → core.price ≡ price → AnswerRead model (Iis method) (Irreducible core)
+      by None None e d =
           let r = core_read in (
             r.0,
             (
-              subst (λ o. Grows o r.0) (sym e) (ap (λ l. grown model (Iis method) Part.Nothing (Phrase.Irreducible ∷ (listed ++ l))) (append-nil (proof_phrases core.proof)) ∙ r.1.0),
-              proof_ended model (Iis method) found r.0 core.proof.nodes r.1.1 (sym (no_rounds_told method) ∙ ap (has_rounds method) (sym e) ∙ can) ∙ ap (λ a. Some (Next.Whole a)) (same_core None e),
+              with_both None None r.0 e d (tail_read r.0 r.0 [] r.1.0 refl),
+              proof_ended model (Iis method) found r.0 core.proof.nodes r.1.1 (sym (nothing_told method) ∙ told None None e d) ∙ ap (λ a. Some (Next.Whole a)) (same_core None None e d),
             ),
           )
-      by (Some n) e =
+      by (Some n) None e d =
           let r = core_read in
-          let rounds = Phrase.Rounds n ∷ [] in
           let counted = Part.Counted found core.proof.nodes n in (
             counted,
             (
-              subst (λ o. Grows o counted) (sym e)
-                  (ap (λ l. grown model (Iis method) Part.Nothing (Phrase.Irreducible ∷ l)) (sym (append_assoc listed (proof_phrases core.proof) rounds))
-                  ∙ grown_append model (Iis method) Part.Nothing r.0 (Phrase.Irreducible ∷ (listed ++ proof_phrases core.proof)) rounds r.1.0
-                  ∙ grown_step model (Iis method) r.0 counted (Phrase.Rounds n) [] (proof_counted model (Iis method) found r.0 core.proof.nodes n r.1.1 (sym (rounds_told method n) ∙ ap (has_rounds method) (sym e) ∙ can))),
-              ap (λ a. Some (Next.Whole a)) (same_core (Some n) e),
+              with_both (Some n) None counted e d (tail_read r.0 counted (Phrase.Rounds n ∷ []) r.1.0
+                  (grown_step model (Iis method) r.0 counted (Phrase.Rounds n) [] (proof_counted model (Iis method) found r.0 core.proof.nodes n r.1.1 (sym (rounds_told method n) ∙ told (Some n) None e d)))),
+              ap (λ a. Some (Next.Whole a)) (same_core (Some n) None e d),
             ),
           )
+      by None (Some p) e d =
+          let r = core_read in
+          let k : IsPricedFor model (Some p) = subst (IsPricedFor model) d h.price in
+          let q = prices_read p.0 p.1 k.1 in
+          let total = Part.Priced found core.proof.nodes (PricePart.Total p.0) in
+          let priced = Part.Priced found core.proof.nodes (PricePart.Price p.0 q.0) in
+          let behind = Phrase.Price ∷ value_phrases 0 p.1.values in (
+            priced,
+            (
+              with_both None (Some p) priced e d (tail_read r.0 priced (Phrase.Total p.0 ∷ behind) r.1.0
+                  (grown_step model (Iis method) r.0 total (Phrase.Total p.0) behind (proof_priced model (Iis method) found r.0 core.proof.nodes p.0 r.1.1 (sym (price_told method p) ∙ told None (Some p) e d)) ∙ q.1.0)),
+              ap (λ v. Some (Next.Whole (answer_of model found core.proof.nodes None (Some (p.0, v))))) q.1.1 ∙ ap (λ a. Some (Next.Whole a)) (same_core None (Some p) e d),
+            ),
+          )
+      by (Some n) (Some p) e d = absurd (true≢false (sym (told (Some n) (Some p) e d) ∙ never_both method n p))
 
 -- steps, and what is left
 steps_read : (model : Program) (c : Command) (steps rest : List ReduceStep) → grown model c (Part.Reduced steps) (map Phrase.Reduction rest) ≡ Some (Part.Reduced (steps ++ rest))

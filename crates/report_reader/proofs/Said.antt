@@ -28,8 +28,8 @@ use Rattle.report_text.specs.declared.report.Report.{Report}
 use Rattle.report_text.specs.declared.phrases.Phrase.{Phrase}
 use Rattle.report_text.specs.declared.phrases.StopPhrase.{StopPhrase}
 use Rattle.lp_model.specs.Satisfaction.{values_at}
-use Rattle.report_text.specs.Form.{is_word, IsWithinLimit, IsNamedColumn, IsNamedMember, IsUse, IsNodeFor, IsProofFor, IsPointFor, IsRayFor, IsBoundedFor, IsLeastFor, IsCoreFor, IsCountWithin, IsValueWithin, IsSiteFor, IsStopFor, IsStepFor, IsAnswerFor, IsEntryFor, AreEntriesFor, IsReportFor}
-use Rattle.report_text.specs.Grammar.{column_name, left_out, value_phrases, point_phrases, unbounded_phrases, objective_phrases, dual_phrases, bounded_phrases, least_phrases, node_phrases, proof_phrases, rounds_phrases, irreducible_phrases, witness_phrases, without_phrase, enforced_phrase, branch_phrase, site_phrases, stop_phrases, answer_front, answer_end, entry_phrases, entries_phrases, body_phrases, report_phrases, report_lines}
+use Rattle.report_text.specs.Form.{is_word, IsWithinLimit, IsNamedColumn, IsNamedMember, IsUse, IsNodeFor, IsProofFor, IsPointFor, IsRayFor, IsBoundedFor, IsLeastFor, IsCoreFor, IsCountWithin, IsPricedFor, IsValueWithin, IsSiteFor, IsStopFor, IsStepFor, IsAnswerFor, IsEntryFor, AreEntriesFor, IsReportFor}
+use Rattle.report_text.specs.Grammar.{column_name, left_out, value_phrases, point_phrases, unbounded_phrases, objective_phrases, dual_phrases, bounded_phrases, least_phrases, node_phrases, proof_phrases, price_phrases, rounds_phrases, irreducible_phrases, witness_phrases, without_phrase, enforced_phrase, branch_phrase, site_phrases, stop_phrases, answer_front, answer_end, entry_phrases, entries_phrases, body_phrases, report_phrases, report_lines}
 use Rattle.report_text.specs.Turns.{after}
 use Rattle.phrase_reader.specs.Phrases.{IsNamedBranch, IsPhraseFor}
 use Rattle.phrase_reader.specs.Parts.{parts}
@@ -150,15 +150,26 @@ module _ (model : Program) where
   rounds_for None h = All-nil For
   rounds_for (Some n) h = All-cons For (Phrase.Rounds n) [] (own (Phrase.Rounds n) h refl) (All-nil For)
 
+  -- a total and a price, where they are told
+  price_for : (price : Option (ℚ × Point)) → IsPricedFor model price → All For (price_phrases price)
+  unfolding For
+  price_for None h = All-nil For
+  price_for (Some p) h =
+      let values = value_phrases 0 p.1.values in
+      All-cons For (Phrase.Total p.0) (Phrase.Price ∷ values) (own (Phrase.Total p.0) h.0 refl)
+      (All-cons For Phrase.Price values (own Phrase.Price tt refl) (each_column p.1.values h.1.len h.1.fits h.1.named))
+
   irreducible_for : (core : Core) → IsCoreFor model core → All For (irreducible_phrases core)
   unfolding For
   irreducible_for core h =
       let listed = flat_map witness_phrases (zip core.members.members core.witnesses) in
-      let behind = proof_phrases core.proof ++ rounds_phrases core.rounds in
+      let tail = rounds_phrases core.rounds ++ price_phrases core.price in
+      let behind = proof_phrases core.proof ++ tail in
       All-cons For Phrase.Irreducible (listed ++ behind) (own Phrase.Irreducible tt refl)
       (All-append For listed behind
       (flat_for (λ w. IsNamedMember model w.0 × IsPointFor model w.1) witness_phrases witness_for (zip core.members.members core.witnesses) (zipped core.members.members core.witnesses h.members.named h.points))
-      (All-append For (proof_phrases core.proof) (rounds_phrases core.rounds) (proof_for core.proof h.proof) (rounds_for core.rounds h.rounds)))
+      (All-append For (proof_phrases core.proof) tail (proof_for core.proof h.proof)
+      (All-append For (rounds_phrases core.rounds) (price_phrases core.price) (rounds_for core.rounds h.rounds) (price_for core.price h.price))))
 
   path_named : (path : List Branch) → All (λ b. IsNamedColumn model b.column) path → All IsFitting path → All (IsNamedBranch model) path
   path_named path h k i d l = record { named = h i d l; fits = k i d l }

@@ -1,5 +1,5 @@
 -- What may follow in a report, line by line: the draft that a phrase makes of a draft.
-use Rattle.std.specs.Prelude.{◌≡◌, ◌≢◌, ⊤, ℕ, ◌+◌, ◌-◌, ◌≤◌, ◌==◌, nat_lt, nat_le, Bool, true, false, not, ◌&&◌, IsTrue, List, [], ◌∷◌, ◌++◌, length, replicate, Option, Some, None, option_map, Result, Ok, Err, flat_map, All}
+use Rattle.std.specs.Prelude.{◌≡◌, ◌≢◌, ⊤, ℕ, ◌+◌, ◌-◌, ◌≤◌, ◌==◌, nat_lt, nat_le, Bool, true, false, not, ◌&&◌, ◌||◌, IsTrue, List, [], ◌∷◌, ◌++◌, length, replicate, Option, Some, None, option_map, Result, Ok, Err, flat_map, All}
 use Rattle.std.specs.List.{list_all}
 use Rattle.rational.specs.Rational.{ℚ, zero_ℚ}
 use Rattle.lp_model.specs.Program.{Program, noted_column}
@@ -22,7 +22,7 @@ use Rattle.certs.specs.declared.solving.Site.{Site}
 use Rattle.certs.specs.declared.solving.Stop.{Stop}
 use Rattle.report_text.specs.declared.report.Command.{Command}
 use Rattle.report_text.specs.declared.report.Command.TheVariants.{Check, Iis, Unbounded, Relax, Reduce, Edit, Undo, Pivots, Nodes}
-use Rattle.report_text.specs.declared.report.Method.TheVariants.{Elastic}
+use Rattle.report_text.specs.declared.report.Method.TheVariants.{Elastic, Alternative}
 use Rattle.report_text.specs.declared.report.Answer.{Answer}
 use Rattle.report_text.specs.declared.report.Entry.{Entry}
 use Rattle.report_text.specs.declared.phrases.Phrase.{Phrase}
@@ -35,6 +35,7 @@ use Rattle.report_reader.specs.declared.drafts.StopPart.{StopPart}
 use Rattle.report_reader.specs.declared.drafts.Claim.{Claim}
 use Rattle.report_reader.specs.declared.drafts.BoundPart.{BoundPart}
 use Rattle.report_reader.specs.declared.drafts.LeastPart.{LeastPart}
+use Rattle.report_reader.specs.declared.drafts.PricePart.{PricePart}
 use Rattle.report_reader.specs.declared.drafts.Part.{Part}
 use Rattle.report_reader.specs.declared.drafts.Next.{Next}
 use Rattle.report_reader.specs.declared.drafts.Stage.{Stage}
@@ -46,7 +47,7 @@ use Rattle.phrase_reader.specs.Phrases.{IsNamedBranch, Says}
 use Rattle.report_text.specs.Turns.{after, entry_commands}
 use Rattle.report_text.specs.Grammar.{Line, column_name, left_out, entries_phrases}
 use Rattle.certs.specs.Order.{source_before, AreSharesInOrder}
-use Rattle.report_text.specs.Form.{is_word, IsNamedColumn, IsNamedMember, IsWithinLimit, IsPointFor, AreEntriesFor, IsCommand, is_run_kind, IsCount, IsOperation, AreUses, IsValueWithin, IsStepFor, IsNodeFor, IsOneTree, AreNumbered, can_answer}
+use Rattle.report_text.specs.Form.{is_word, IsNamedColumn, IsNamedMember, IsWithinLimit, IsPointFor, AreEntriesFor, IsCommand, IsCount, IsOperation, AreUses, IsValueWithin, IsStepFor, IsNodeFor, IsOneTree, AreNumbered, can_answer}
 
 -- values with zeros behind them, up to so many
 abbrev pub filled : ℕ → List ℚ → List ℚ
@@ -74,12 +75,12 @@ members_of (Found.Members members) = members
 members_of (Found.Witnessed members witnesses) = members
 members_of (Found.Rigid members) = members
 
--- the answer that a set with the nodes of its proof is, and with how many rounds were made, where that is told
-abbrev pub answer_of : Program → Found → List Node → Option ℕ → Answer
-answer_of model (Found.Members members) nodes rounds = Answer.Infeasible (set_of model members) (record { nodes = nodes })
-answer_of model (Found.Witnessed members witnesses) nodes rounds =
-    Answer.Irreducible (record { members = set_of model members; witnesses = witnesses; proof = record { nodes = nodes }; rounds = rounds; price = None })
-answer_of model (Found.Rigid members) nodes rounds = Answer.RigidInfeasible (set_of model members) (record { nodes = nodes })
+-- the answer that a set with the nodes of its proof is, and with how many rounds were made, or a total and a price, where that is told
+abbrev pub answer_of : Program → Found → List Node → Option ℕ → Option (ℚ × Point) → Answer
+answer_of model (Found.Members members) nodes rounds price = Answer.Infeasible (set_of model members) (record { nodes = nodes })
+answer_of model (Found.Witnessed members witnesses) nodes rounds price =
+    Answer.Irreducible (record { members = set_of model members; witnesses = witnesses; proof = record { nodes = nodes }; rounds = rounds; price = price })
+answer_of model (Found.Rigid members) nodes rounds price = Answer.RigidInfeasible (set_of model members) (record { nodes = nodes })
 
 -- so far, if it may be
 abbrev pub only_if : {X : Type 0} → Bool → X → Option X
@@ -132,17 +133,34 @@ abbrev pub counts_rounds : Command → Bool
 counts_rounds (Iis Elastic) = true
 counts_rounds command = false
 
+-- whether such an answer tells a total and a price
+abbrev pub gives_price : Command → Bool
+gives_price (Iis Alternative) = true
+gives_price command = false
+
+-- whether something is told behind the proof of such an answer
+abbrev pub has_tail : Command → Bool
+has_tail command = counts_rounds command || gives_price command
+
 -- a proof without nodes: one subtree is due, the whole tree
 abbrev pub proof_begun : Found → Next
 proof_begun found = Next.More (Part.Proof found [] 1)
 
--- What the nodes of a proof, behind which so many subtrees are due, are with one phrase more. Where one is due a node is its root, and a split, where there may be one, puts two in its place, a leaf none. Where none is due the proof ends: the answer does too, or tells how many rounds were made.
+-- What the nodes of a proof, behind which so many subtrees are due, are with one phrase more. Where one is due a node is its root, and a split, where there may be one, puts two in its place, a leaf none. Where none is due the proof ends: the answer does too, or tells how many rounds were made, or a total.
 abbrev pub proof_with : Program → Command → Found → List Node → ℕ → Phrase → Option Next
 proof_with model command found nodes due (Phrase.Split j k) = only_if (may_split command && nat_lt 0 due) (Next.More (Part.Proof found (nodes ++ Split j k ∷ []) (due + 1)))
 proof_with model command found nodes due Phrase.Leaf = only_if (nat_lt 0 due) (Next.More (Part.Leaf found nodes (due - 1) []))
 proof_with model command found nodes due (Phrase.Rounds n) = only_if (counts_rounds command && (due == 0)) (Next.More (Part.Counted found nodes n))
-proof_with model command found nodes due Phrase.End = only_if (not (counts_rounds command) && (due == 0)) (Next.Whole (answer_of model found nodes None))
+proof_with model command found nodes due (Phrase.Total t) = only_if (gives_price command && (due == 0)) (Next.More (Part.Priced found nodes (PricePart.Total t)))
+proof_with model command found nodes due Phrase.End = only_if (not (has_tail command) && (due == 0)) (Next.Whole (answer_of model found nodes None None))
 proof_with model command found nodes due _ = None
+
+-- what a part of a total and a price, behind the nodes of a proof, is with one phrase more: the start of the price, a value of it, or the end
+abbrev pub price_with : Program → Found → List Node → PricePart → Phrase → Option Next
+price_with model found nodes (PricePart.Total t) Phrase.Price = Some (Next.More (Part.Priced found nodes (PricePart.Price t [])))
+price_with model found nodes (PricePart.Price t values) (Phrase.Value j v) = option_map (λ vs. Next.More (Part.Priced found nodes (PricePart.Price t vs))) (with_value values j v)
+price_with model found nodes (PricePart.Price t values) Phrase.End = Some (Next.Whole (answer_of model found nodes None (Some (t, point_of model values))))
+price_with model found nodes _ _ = None
 
 -- what a list with witnesses is with one phrase more: a member, or the start of the proof
 abbrev pub witnessed_with : List Member → List Point → Phrase → Option Next
@@ -166,9 +184,9 @@ stop_begun StopPhrase.Nodes = Some (Next.More (Part.Stop (StopPart.Begun StopCau
 stop_begun (StopPhrase.Large size) = Some (Next.More (Part.Stop (StopPart.Large size)))
 stop_begun _ = None
 
--- what a part of a stop is with one phrase more; a run of an alternative system is not told as yet
+-- what a part of a stop is with one phrase more
 abbrev pub stop_with : Program → StopPart → Phrase → Option Next
-stop_with model (StopPart.Begun cause) (Phrase.Stop (StopPhrase.Site kind)) = only_if (is_run_kind kind) (Next.More (Part.Stop (StopPart.Site cause (run_of kind))))
+stop_with model (StopPart.Begun cause) (Phrase.Stop (StopPhrase.Site kind)) = Some (Next.More (Part.Stop (StopPart.Site cause (run_of kind))))
 stop_with model (StopPart.Large size) Phrase.End = Some (Next.Whole (Answer.Stopped (Stop.Large size)))
 stop_with model (StopPart.Site cause site) (Phrase.Stop (StopPhrase.Without m)) = option_map (λ members. Next.More (Part.Stop (StopPart.Site cause (record site { left = members })))) (with_left_out model site.enforced site.path site.left m)
 stop_with model (StopPart.Site cause site) (Phrase.Stop (StopPhrase.Enforced m)) = option_map (λ members. Next.More (Part.Stop (StopPart.Site cause (record site { enforced = members })))) (with_enforced model site.left site.path site.enforced m)
@@ -257,7 +275,8 @@ extended model command (Part.Witness members witnesses m values) p = witnessed_w
 extended model command (Part.Proof found nodes due) p = proof_with model command found nodes due p
 extended model command (Part.Leaf found nodes due shares) (Phrase.Use s) = option_map (λ ss. Next.More (Part.Leaf found nodes due ss)) (with_share shares s)
 extended model command (Part.Leaf found nodes due shares) p = proof_with model command found (nodes ++ leaf_of shares ∷ []) due p
-extended model command (Part.Counted found nodes n) Phrase.End = Some (Next.Whole (answer_of model found nodes (Some n)))
+extended model command (Part.Counted found nodes n) Phrase.End = Some (Next.Whole (answer_of model found nodes (Some n) None))
+extended model command (Part.Priced found nodes part) p = price_with model found nodes part p
 extended model command (Part.Reduced steps) (Phrase.Reduction s) = Some (Next.More (Part.Reduced (steps ++ s ∷ [])))
 extended model command (Part.Reduced steps) (Phrase.Left rows columns) = Some (Next.More (Part.Left steps rows columns))
 extended model command (Part.Left steps rows columns) Phrase.End = Some (Next.Whole (Answer.Reduced (record { steps = steps; rows = rows; columns = columns })))
@@ -388,9 +407,8 @@ pub record AreEnforced (model : Program) (left enforced : List Member) : Type 0 
   pub members : AreMembers model enforced
   pub within : All (λ m. IsTrue (is_within model left m)) enforced
 
--- a part of a site: a run that may stop, members left out and members enforced, and branches
+-- a part of a site: members left out and members enforced, and branches
 pub record IsTold (model : Program) (site : SitePart) : Type 0 where
-  pub run : is_run_kind site.kind ≡ true
   pub left : AreLeftOut model site.left
   pub enforced : AreEnforced model site.left site.enforced
   pub path : All (IsNamedBranch model) site.path
@@ -464,6 +482,11 @@ IsLeastPart model (LeastPart.Total t) = IsWithinLimit t
 IsLeastPart model (LeastPart.Point t values) = IsWithinLimit t × AreValues model values
 IsLeastPart model (LeastPart.Dual t p shares) = IsWithinLimit t × (IsPointFor model p × AreUses model shares)
 
+-- a total that fits, and values of a price
+abbrev pub IsPricePart : Program → PricePart → Type 0
+IsPricePart model (PricePart.Total t) = IsWithinLimit t
+IsPricePart model (PricePart.Price t values) = IsWithinLimit t × AreValues model values
+
 -- only a reduction is answered by steps
 abbrev pub Reduces : Command → Type 0
 Reduces Reduce = ⊤
@@ -483,6 +506,7 @@ IsPartFor model command (Part.Witness members witnesses m values) = IsOneMore mo
 IsPartFor model command (Part.Proof found nodes due) = IsFound model command found × AreNodes model command nodes due
 IsPartFor model command (Part.Leaf found nodes due shares) = IsFound model command found × (AreNodes model command nodes (due + 1) × AreUses model shares)
 IsPartFor model command (Part.Counted found nodes n) = IsFound model command found × (AreNodes model command nodes 0 × (IsCount n × (counts_rounds command ≡ true)))
+IsPartFor model command (Part.Priced found nodes part) = IsFound model command found × (AreNodes model command nodes 0 × (IsPricePart model part × (gives_price command ≡ true)))
 IsPartFor model command (Part.Reduced steps) = Reduces command × All (IsStepFor model) steps
 IsPartFor model command (Part.Left steps rows columns) = Reduces command × (All (IsStepFor model) steps × (IsCount rows × IsCount columns))
 IsPartFor model command (Part.Stop part) = Asks command × IsStopPart model part

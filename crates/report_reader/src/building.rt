@@ -193,7 +193,8 @@ pub(crate) fn add_leaf(nodes: Nodes, shares: Shares) -> Result<Nodes, AllocError
     Ok(Nodes::new(items))
 }
 
-/// The answer that a set with the nodes of its proof is, and with how many rounds were made, where that is told.
+/// The answer that a set with the nodes of its proof is, and with how many rounds were made, or a total and a price, where
+/// that is told.
 pub(crate) fn make_answer(
     alloc: Global,
     model: &Model,
@@ -201,9 +202,10 @@ pub(crate) fn make_answer(
     found: Found,
     nodes: Nodes,
     rounds: Option<u64>,
+    price: Option<(Frac, Point)>,
 ) -> Result<Answer, AllocError>
     requires { IsFound model.now command.now found }
-    ensures { IfOk result (λ a. a ≡ answer_of model.now found nodes rounds) }
+    ensures { IfOk result (λ a. a ≡ answer_of model.now found nodes rounds price) }
 {
     let proof = Proof { nodes };
     match found {
@@ -218,7 +220,7 @@ pub(crate) fn make_answer(
                 witnesses,
                 proof,
                 rounds,
-                price: None,
+                price,
             }))
         }
         Found::Rigid(members) => {

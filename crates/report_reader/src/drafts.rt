@@ -125,6 +125,15 @@ pub(crate) enum LeastPart {
     Dual(Frac, Point, Shares),
 }
 
+/// How far a total and a price behind a proof are read.
+#[derive(Drop)]
+pub(crate) enum PricePart {
+    /// The total.
+    Total(Frac),
+    /// The same, `price`, and its values, up to the last that is not 0.
+    Price(Frac, Values),
+}
+
 /// How far an answer is read.
 #[derive(Drop)]
 pub(crate) enum Part {
@@ -152,6 +161,8 @@ pub(crate) enum Part {
     Leaf(Found, Nodes, u64, Shares),
     /// A whole proof, and how many rounds were made.
     Counted(Found, Nodes, u64),
+    /// A whole proof, and a part of a total and a price.
+    Priced(Found, Nodes, PricePart),
     /// `reduced`, and its steps so far.
     Reduced(ReduceSteps),
     /// The same, and how many rows and columns are left.

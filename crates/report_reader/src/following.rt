@@ -3,7 +3,7 @@ ghost use Rattle.std.specs.Prelude.{◌≡◌, ℕ, ◌+◌, ◌≤◌, ◌++◌
 ghost use Rattle.certs.specs.Order.{AreSharesInOrder};
 ghost use Rattle.lp_model.specs.Members.{IsInOrder};
 ghost use Rattle.phrase_reader.specs.Phrases.{IsPhraseFor};
-ghost use Rattle.report_reader.specs.Drafts.{members_of, point_of, may_split, counts_rounds, not_linear_said, proof_begun, proof_with, witnessed_with, extended, IsFound, IsPartFor};
+ghost use Rattle.report_reader.specs.Drafts.{members_of, point_of, may_split, counts_rounds, has_tail, not_linear_said, proof_begun, proof_with, witnessed_with, extended, IsFound, IsPartFor};
 ghost use Rattle.lp_model.specs.Program.{Program};
 ghost use Rattle.report_text.specs.declared.report.Method.{Method as OneMethod};
 ghost use Rattle.report_text.specs.declared.report.Command.TheVariants.{Check, Iis, Edit, Undo, Pivots, Nodes};
@@ -16,6 +16,7 @@ use crate::building::{
 use crate::drafts::{Claim, Found, Members, Next, Part};
 use crate::least::{begin_relaxing, follow_least};
 use crate::ordering::member_follows;
+use crate::pricing::{follow_price, open_price, tells_price};
 use crate::reducing::{begin_reduction, follow_left, follow_steps};
 use crate::stopping::{begin_stop, follow_stop};
 use certs::{Nodes, Shares, Values};
@@ -45,7 +46,7 @@ fn refuse_column(method: Method, column: u32) -> Option<Next>
     ensures { result ≡ not_linear_said (Iis method) column }
 {
     match method {
-        Method::Elastic => Some(Next::Whole(Answer::NotLinear(column))),
+        Method::Elastic | Method::Alternative => Some(Next::Whole(Answer::NotLinear(column))),
         Method::Deletion | Method::Additive | Method::Sensitivity => None,
     }
 }
@@ -347,6 +348,13 @@ fn tells_rounds(command: &Command) -> bool
     }
 }
 
+// Whether something is told behind the proof of such an answer.
+fn tells_more(command: &Command) -> bool
+    ensures { result ≡ has_tail command.now }
+{
+    tells_rounds(command) || tells_price(command)
+}
+
 // How many rounds were made, where the command tells them and no subtree is due.
 fn count_rounds(
     command: &Command,
@@ -367,7 +375,7 @@ fn count_rounds(
     Some(Next::More(Part::Counted(found, nodes, rounds)))
 }
 
-// The answer of a proof in which no subtree is due, where no rounds are told.
+// The answer of a proof in which no subtree is due, where nothing is told behind it.
 fn close_proof(
     alloc: Global,
     model: &Model,
@@ -379,13 +387,13 @@ fn close_proof(
     requires { IsFound model.now command.now found }
     ensures { IfOk result (λ n. n ≡ proof_with model.now command.now found nodes due Phrase.End) }
 {
-    if tells_rounds(command) {
+    if tells_more(command) {
         return Ok(None);
     }
     if due != 0 {
         return Ok(None);
     }
-    let answer = make_answer(alloc, model, command, found, nodes, None)?;
+    let answer = make_answer(alloc, model, command, found, nodes, None, None)?;
     Ok(Some(Next::Whole(answer)))
 }
 
@@ -408,6 +416,7 @@ fn follow_nodes(
         Phrase::Split(column, at) => open_split(command, found, nodes, due, column, at),
         Phrase::Leaf => Ok(open_leaf(alloc, found, nodes, due)),
         Phrase::Rounds(rounds) => Ok(count_rounds(command, found, nodes, due, rounds)),
+        Phrase::Total(total) => Ok(open_price(command, found, nodes, due, total)),
         Phrase::End => close_proof(alloc, model, command, found, nodes, due),
         _ => Ok(None),
     }
@@ -454,7 +463,7 @@ fn close_rounds(
 {
     match phrase {
         Phrase::End => {
-            let answer = make_answer(alloc, model, command, found, nodes, Some(rounds))?;
+            let answer = make_answer(alloc, model, command, found, nodes, Some(rounds), None)?;
             Ok(Some(Next::Whole(answer)))
         }
         _ => Ok(None),
@@ -495,6 +504,9 @@ pub(crate) fn follow(
         }
         Part::Counted(found, nodes, rounds) => {
             close_rounds(alloc, model, command, found, nodes, rounds, phrase)
+        }
+        Part::Priced(found, nodes, part) => {
+            follow_price(alloc, model, command, found, nodes, part, phrase)
         }
         Part::Reduced(steps) => follow_steps(steps, phrase),
         Part::Left(steps, rows, columns) => Ok(follow_left(steps, rows, columns, phrase)),

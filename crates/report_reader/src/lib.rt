@@ -9,6 +9,7 @@ mod following;
 mod laws;
 mod least;
 mod ordering;
+mod pricing;
 mod reader;
 mod reducing;
 mod stopping;

@@ -1,7 +1,7 @@
 //! What a phrase makes of a part of a stop.
 ghost use Rattle.std.specs.Prelude.{◌≡◌, IfOk};
 ghost use Rattle.lp_model.specs.Program.{Program};
-ghost use Rattle.report_text.specs.Form.{is_run_kind, IsNamedMember};
+ghost use Rattle.report_text.specs.Form.{IsNamedMember};
 ghost use Rattle.phrase_reader.specs.Phrases.{IsStopPhrase, IsPhraseFor};
 ghost use Rattle.report_reader.specs.Drafts.{stop_begun, stop_with, IsStopPart, IsTold};
 
@@ -26,21 +26,11 @@ pub(crate) fn begin_stop(phrase: StopPhrase) -> Option<Next>
     }
 }
 
-// Whether a run of that kind may be the site of a stop: every one but that of an alternative system.
-fn is_run(kind: SiteKind) -> bool
-    ensures { result ≡ is_run_kind kind }
-{
-    !matches!(kind, SiteKind::Alternative)
-}
-
 // A site of that kind, of which no more is told yet.
 fn begin_site(alloc: Global, cause: StopCause, kind: SiteKind) -> Option<Next>
     ensures { (model : Program) →
         result ≡ stop_with model (StopPart.Begun cause) (Phrase.Stop (StopPhrase.Site kind)) }
 {
-    if !is_run(kind) {
-        return None;
-    }
     let left = Members::new(Vec::new(alloc));
     let enforced = Members::new(Vec::new(alloc));
     let path = Path::new(Vec::new(alloc));

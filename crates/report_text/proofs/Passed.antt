@@ -16,6 +16,13 @@ past_two a b one two three end =
     ap (λ k. drop k (a ∷ b ∷ ((one ++ (two ++ three)) ++ end))) n
     ∙ (ap (λ l. drop (2 + length (one ++ two)) (a ∷ b ∷ (l ++ end))) (sym (append_assoc one two three)) ∙ past_one a b (one ++ two) three end)
 
+-- and four parts
+pub past_three : {A : Type 0} (a b : A) (one two three four end : List A) → drop (((2 + length one) + length two) + length three) (a ∷ b ∷ ((one ++ (two ++ (three ++ four))) ++ end)) ≡ four ++ end
+past_three a b one two three four end =
+    let n : ((2 + length one) + length two) + length three ≡ (2 + length (one ++ two)) + length three = omega (arith, length-append one two) in
+    ap (λ k. drop k (a ∷ b ∷ ((one ++ (two ++ (three ++ four))) ++ end))) n
+    ∙ (ap (λ l. drop ((2 + length (one ++ two)) + length three) (a ∷ b ∷ (l ++ end))) (sym (append_assoc one two (three ++ four))) ∙ past_two a b (one ++ two) three four end)
+
 -- behind three lines
 pub past_third : {A : Type 0} (a b c : A) (one two end : List A) → drop (3 + length one) (a ∷ b ∷ c ∷ ((one ++ two) ++ end)) ≡ two ++ end
 past_third a b c one two end =

@@ -26,8 +26,6 @@ use Rattle.certs.specs.Checks.{IsSetOf}
 use Rattle.certs.specs.Combination.{IsFitting}
 use Rattle.certs.specs.Proof.{Tree, preorder, IsFittingNode}
 use Rattle.certs.specs.Order.{AreSharesInOrder}
-use Rattle.certs.specs.declared.solving.SiteKind.{SiteKind}
-use Rattle.certs.specs.declared.solving.SiteKind.TheVariants.{Settle, Improve, Stretch, Relax}
 use Rattle.certs.specs.declared.solving.Site.{Site}
 use Rattle.certs.specs.declared.solving.Stop.{Stop}
 use Rattle.certs.specs.declared.solving.Stop.TheVariants.{Wide as TooWide, Pivots as Spent, Nodes as NodesSpent, Large, Memory}
@@ -37,7 +35,7 @@ use Rattle.reductions.specs.declared.steps.ReduceStep.TheVariants.{Empty, Single
 use Rattle.report_text.specs.declared.report.Command.{Command}
 use Rattle.report_text.specs.declared.report.Command.TheVariants.{Check, Iis, Unbounded, Relax as RelaxIt, Reduce, Edit, Undo, Pivots, Nodes}
 use Rattle.report_text.specs.declared.report.Method.{Method}
-use Rattle.report_text.specs.declared.report.Method.TheVariants.{Elastic}
+use Rattle.report_text.specs.declared.report.Method.TheVariants.{Elastic, Alternative}
 use Rattle.report_text.specs.declared.report.TargetKind.{TargetKind}
 use Rattle.report_text.specs.declared.report.EditKind.{EditKind}
 use Rattle.report_text.specs.declared.report.NamedEdit.{NamedEdit}
@@ -129,17 +127,8 @@ pub record IsProofFor (model : Program) (proof : Proof) : Type 0 where
   pub each : All (IsNodeFor model) proof.nodes
 
 -- ---- stops
--- a run that is printed as yet: every one but that of an alternative system
-abbrev pub is_run_kind : SiteKind → Bool
-is_run_kind Settle = true
-is_run_kind Improve = true
-is_run_kind Stretch = true
-is_run_kind Relax = true
-is_run_kind _ = false
-
--- such a run of active members in member order, some of which may be enforced, on a path of columns that there are
+-- a run of active members in member order, some of which may be enforced, on a path of columns that there are
 pub record IsRunSite (model : Program) (site : Site) : Type 0 where
-  pub kind : is_run_kind site.kind ≡ true
   pub of_model : IsSetOf model site.set
   pub active : site.set.members ≡ filter (has site.set.members) (active_members model)
   pub enforced_of : IsSetOf model site.enforced
@@ -177,14 +166,19 @@ abbrev pub IsCountWithin : Option ℕ → Type 0
 IsCountWithin None = Unit {0}
 IsCountWithin (Some n) = IsCount n
 
--- an irreducible set: a witness for each member, a proof, and a count of rounds where it is told; no price has a line as yet
+-- a total that fits and a price, a number for each column, where they are told
+abbrev pub IsPricedFor : Program → Option (ℚ × Point) → Type 0
+IsPricedFor model None = Unit {0}
+IsPricedFor model (Some p) = IsWithinLimit p.0 × IsPointFor model p.1
+
+-- an irreducible set: a witness for each member, a proof, and a count of rounds, or a total with its price, where it is told
 pub record IsCoreFor (model : Program) (core : Core) : Type 0 where
   pub members : IsListed model core.members
   pub each : length core.witnesses ≡ length core.members.members
   pub points : All (IsPointFor model) core.witnesses
   pub proof : IsProofFor model core.proof
   pub rounds : IsCountWithin core.rounds
-  pub price : core.price ≡ None
+  pub price : IsPricedFor model core.price
 
 -- a value, where there is one, whose parts are within the limit
 abbrev pub IsValueWithin : Option ℚ → Type 0
@@ -286,14 +280,22 @@ has_rounds Elastic None = false
 has_rounds _ (Some n) = false
 has_rounds _ None = true
 
+-- whether a price is told just where the method has one
+abbrev pub has_price : Method → Option (ℚ × Point) → Bool
+has_price Alternative (Some p) = true
+has_price Alternative None = false
+has_price _ (Some p) = false
+has_price _ None = true
+
 -- whether the answer is of a kind that the command may have
 abbrev pub can_answer : Command → Answer → Bool
 can_answer Check (Feasible p) = true
 can_answer Check (Infeasible set proof) = true
 can_answer Check (Stopped stop) = true
 can_answer (Iis method) (Feasible p) = true
-can_answer (Iis method) (Irreducible core) = has_rounds method core.rounds
+can_answer (Iis method) (Irreducible core) = has_rounds method core.rounds && has_price method core.price
 can_answer (Iis Elastic) (NotLinear j) = true
+can_answer (Iis Alternative) (NotLinear j) = true
 can_answer (Iis method) (Stopped stop) = true
 can_answer Unbounded (Infeasible set proof) = true
 can_answer Unbounded (RunsAway p ray) = true

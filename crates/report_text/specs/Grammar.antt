@@ -35,7 +35,7 @@ use Rattle.bound_checks.specs.declared.bounds.Dual.{Dual}
 use Rattle.reductions.specs.declared.steps.ReduceStep.{ReduceStep}
 use Rattle.reductions.specs.declared.steps.ReduceStep.TheVariants.{Empty, Singleton, Fixed, Redundant, Forcing, Doubleton}
 use Rattle.report_text.specs.declared.report.Method.{Method}
-use Rattle.report_text.specs.declared.report.Method.TheVariants.{Deletion, Additive, Sensitivity, Elastic}
+use Rattle.report_text.specs.declared.report.Method.TheVariants.{Deletion, Additive, Sensitivity, Elastic, Alternative as ByAlternative}
 use Rattle.report_text.specs.declared.report.Command.{Command}
 use Rattle.report_text.specs.declared.report.Command.TheVariants.{Check, Iis, Unbounded, Relax as RelaxIt, Reduce, Edit, Undo, Pivots, Nodes}
 use Rattle.report_text.specs.declared.report.TargetKind.{TargetKind}
@@ -117,6 +117,7 @@ method_word Deletion = codes "deletion"
 method_word Additive = codes "additive"
 method_word Sensitivity = codes "sensitivity"
 method_word Elastic = codes "elastic"
+method_word ByAlternative = codes "alternative"
 
 -- the word for what an edit is of
 abbrev pub target_word : TargetKind → List ℕ
@@ -199,6 +200,7 @@ keyword_text Keyword.Bound = codes "bound"
 keyword_text Keyword.Dual = codes "dual"
 keyword_text Keyword.Total = codes "total"
 keyword_text Keyword.Rounds = codes "rounds"
+keyword_text Keyword.Price = codes "price"
 keyword_text Keyword.Member = codes "member"
 keyword_text Keyword.Proof = codes "proof"
 keyword_text Keyword.Split = codes "split"
@@ -295,6 +297,7 @@ keyword_of (Phrase.Bound v) = Keyword.Bound
 keyword_of Phrase.Dual = Keyword.Dual
 keyword_of (Phrase.Total v) = Keyword.Total
 keyword_of (Phrase.Rounds n) = Keyword.Rounds
+keyword_of Phrase.Price = Keyword.Price
 keyword_of (Phrase.Member m) = Keyword.Member
 keyword_of Phrase.Proof = Keyword.Proof
 keyword_of (Phrase.Split j k) = Keyword.Split
@@ -344,6 +347,7 @@ details model (Phrase.Bound v) = printed v ∷ []
 details model Phrase.Dual = []
 details model (Phrase.Total v) = printed v ∷ []
 details model (Phrase.Rounds n) = decimal n ∷ []
+details model Phrase.Price = []
 details model (Phrase.Member m) = kind_word m ∷ name_of model m ∷ []
 details model Phrase.Proof = []
 details model (Phrase.Split j k) = column_name model j ∷ signed_decimal k ∷ []
@@ -425,9 +429,14 @@ abbrev pub rounds_phrases : Option ℕ → List Phrase
 rounds_phrases None = []
 rounds_phrases (Some n) = Phrase.Rounds n ∷ []
 
--- of an irreducible set: each member with its witness, the proof, and the rounds
+-- of a total and its price, where they are told: the values stand as those of a point do
+abbrev pub price_phrases : Option (ℚ × Point) → List Phrase
+price_phrases None = []
+price_phrases (Some p) = Phrase.Total p.0 ∷ Phrase.Price ∷ value_phrases 0 p.1.values
+
+-- of an irreducible set: each member with its witness, the proof, and then the rounds, or the total and its price
 abbrev pub irreducible_phrases : Core → List Phrase
-irreducible_phrases core = Phrase.Irreducible ∷ (flat_map witness_phrases (zip core.members.members core.witnesses) ++ (proof_phrases core.proof ++ rounds_phrases core.rounds))
+irreducible_phrases core = Phrase.Irreducible ∷ (flat_map witness_phrases (zip core.members.members core.witnesses) ++ (proof_phrases core.proof ++ (rounds_phrases core.rounds ++ price_phrases core.price)))
 
 -- of how far a program is reduced: the steps, and what is left
 abbrev pub reduced_phrases : Reduced → List Phrase

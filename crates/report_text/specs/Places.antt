@@ -14,7 +14,7 @@ use Rattle.report_text.specs.declared.report.Command.{Command}
 use Rattle.report_text.specs.declared.report.Report.{Report}
 use Rattle.report_text.specs.declared.layout.TheConstants.{HEAD_LINES, OPENING_LINES, MEMBER_LINES, PROOF_LINES, BOUND_LINES, LEAST_LINES}
 use Rattle.report_text.specs.declared.phrases.Phrase.{Phrase}
-use Rattle.report_text.specs.Grammar.{point_phrases, value_phrases, objective_phrases, dual_phrases, node_phrases, proof_phrases, rounds_phrases, witness_phrases, entry_phrases, entries_phrases, report_phrases}
+use Rattle.report_text.specs.Grammar.{point_phrases, value_phrases, objective_phrases, dual_phrases, node_phrases, price_phrases, proof_phrases, rounds_phrases, witness_phrases, entry_phrases, entries_phrases, report_phrases}
 
 -- what is left behind so many lines
 pub record PlacesLaw : Type 0 where
@@ -23,7 +23,7 @@ pub record PlacesLaw : Type 0 where
   pub members : (model : Program) (c : Command) (set : SetValue) (proof : Proof) (n : ℕ)
       → drop OPENING_LINES (entry_phrases model (record { command = c; answer = Infeasible set proof; line = n })) ≡ (map Phrase.Member set.members ++ proof_phrases proof) ++ Phrase.End ∷ []
   pub witnesses : (model : Program) (c : Command) (core : Core) (n : ℕ)
-      → drop OPENING_LINES (entry_phrases model (record { command = c; answer = Irreducible core; line = n })) ≡ (flat_map witness_phrases (zip core.members.members core.witnesses) ++ (proof_phrases core.proof ++ rounds_phrases core.rounds)) ++ Phrase.End ∷ []
+      → drop OPENING_LINES (entry_phrases model (record { command = c; answer = Irreducible core; line = n })) ≡ (flat_map witness_phrases (zip core.members.members core.witnesses) ++ (proof_phrases core.proof ++ (rounds_phrases core.rounds ++ price_phrases core.price))) ++ Phrase.End ∷ []
   pub witness : (m : Member) (p : Point) → drop MEMBER_LINES (witness_phrases (m, p)) ≡ point_phrases p
   pub nodes : (proof : Proof) → drop PROOF_LINES (proof_phrases proof) ≡ flat_map node_phrases proof.nodes
   pub ray : (model : Program) (c : Command) (p : Point) (ray : Ray) (n : ℕ)
@@ -43,4 +43,7 @@ pub record PlacesLaw : Type 0 where
       → drop OPENING_LINES (entry_phrases model (record { command = c; answer = RigidInfeasible set proof; line = n })) ≡ (map Phrase.Member set.members ++ proof_phrases proof) ++ Phrase.End ∷ []
   pub rounds : (model : Program) (c : Command) (core : Core) (n : ℕ)
       → drop ((OPENING_LINES + length (flat_map witness_phrases (zip core.members.members core.witnesses))) + length (proof_phrases core.proof)) (entry_phrases model (record { command = c; answer = Irreducible core; line = n }))
-      ≡ rounds_phrases core.rounds ++ Phrase.End ∷ []
+      ≡ (rounds_phrases core.rounds ++ price_phrases core.price) ++ Phrase.End ∷ []
+  pub price : (model : Program) (c : Command) (core : Core) (n : ℕ)
+      → drop (((OPENING_LINES + length (flat_map witness_phrases (zip core.members.members core.witnesses))) + length (proof_phrases core.proof)) + length (rounds_phrases core.rounds)) (entry_phrases model (record { command = c; answer = Irreducible core; line = n }))
+      ≡ price_phrases core.price ++ Phrase.End ∷ []

@@ -25,6 +25,9 @@ pub const PROOF_LINES: u32 = 1;
 /// that of the total.
 pub const LEAST_LINES: u32 = 3;
 
+/// How many lines of a total with its price stand before the line that tells that the price follows: that of the total.
+pub const TOTAL_LINES: u32 = 1;
+
 /// How many lines of a dual stand before the line that tells that its uses follow: that of its bound.
 pub const BOUND_LINES: u32 = 1;
 

@@ -6,8 +6,8 @@ mod phrases;
 mod report;
 
 pub use layout::{
-    BOUND_LINES, HEAD_LINES, LEAST_LINES, MEMBER_LINES, OPENING_LINES, PROOF_LINES, places_law,
-    point_length, witness_length,
+    BOUND_LINES, HEAD_LINES, LEAST_LINES, MEMBER_LINES, OPENING_LINES, PROOF_LINES, TOTAL_LINES,
+    places_law, point_length, witness_length,
 };
 pub use phrases::{Keyword, Phrase, StopPhrase};
 pub use report::{

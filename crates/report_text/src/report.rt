@@ -15,6 +15,7 @@ pub enum Method {
     Additive,
     Sensitivity,
     Elastic,
+    Alternative,
 }
 
 /// What an edit is of: a row with those sides that it has, one side of a row, a bound of a column, or its mark.
@@ -83,8 +84,8 @@ impl Model for Script {
 pub type Witnesses = Items<Point>;
 
 /// An irreducible set: its members, for each of them in member order a point that is to satisfy all the others, and a
-/// proof that no point satisfies them all. How many rounds it took is told by the elastic method alone, and a price with its
-/// point is given by no method as yet.
+/// proof that no point satisfies them all. How many rounds it took is told by the elastic method alone, and by the method of
+/// the alternative the weighted sum of the proof's weights with a price that shows that no weighting costs less.
 #[derive(Drop)]
 pub struct Core {
     pub members: MemberSet,

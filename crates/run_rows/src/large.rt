@@ -1,15 +1,16 @@
-//! A run over a model whose table is too large for `unbounded`.
+//! A run over a model whose tables are too large for `unbounded`, `relax`, `iis elastic` and `iis alternative`.
 use iis_edge::{File, MemShelf, MemSink};
 use iis_run::run;
 use std::alloc::{AllocError, Global};
 
-// Two columns for each of the 2,000 rows, and one more row for the objective: 2,001 times 4,000 entries.
+// Two columns for each of the 2,000 rows. `unbounded` has one more row for the objective: 2,001 times 4,000 entries. There are
+// 6,000 members, each of which may give way: 6,001 times 10,000 entries, or is weighed: 4,002 times 6,000.
 const ROWS: u32 = 2_000;
 
-const SCRIPT: &str = "unbounded\ncheck\n";
+const SCRIPT: &str = "unbounded\ncheck\nrelax\niis elastic\niis alternative\n";
 
 const REPORT: &str =
-    "iisan report 2\ncommand unbounded\ntoo large 8004000\nend\ncommand check\nfeasible\npoint\nend\nreport end\n";
+    "iisan report 2\ncommand unbounded\ntoo large 8004000\nend\ncommand check\nfeasible\npoint\nend\ncommand relax\ntoo large 60010000\nend\ncommand iis elastic\ntoo large 60010000\nend\ncommand iis alternative\ntoo large 24012000\nend\nreport end\n";
 
 // A model with as many rows, each of two columns of its own.
 fn model(alloc: Global) -> Result<Vec<u8>, AllocError> {
@@ -22,7 +23,7 @@ fn model(alloc: Global) -> Result<Vec<u8>, AllocError> {
     Ok(text)
 }
 
-/// Whether `unbounded` tells the size of that table and makes no run, and `check` finds a point.
+/// Whether each of those commands tells the size of its table and makes no run, and `check` finds a point.
 ///
 /// # Errors
 ///
@@ -42,7 +43,7 @@ pub fn is_large_told(alloc: Global) -> Result<bool, AllocError> {
         words.push(String::from_str(alloc, word)?)?;
     }
     let mut shelf = MemShelf::new(alloc, files, Vec::new(alloc));
-    let mut out = MemSink::new(alloc, 200, Vec::new(alloc))?;
+    let mut out = MemSink::new(alloc, 300, Vec::new(alloc))?;
     let status = run(alloc, words.as_slice(), &mut shelf, &mut out);
     Ok(status == 1 && out.bytes() == REPORT.as_bytes())
 }

@@ -2,7 +2,7 @@
 //!
 //! The file that the first word names has the rows (`data/rows.txt`, whose first lines say how one is written). Besides,
 //! a model and a script that are one byte longer than their limit are run, a shelf and a sink that tell nothing, and a model whose
-//! table is too large for `unbounded`.
+//! tables are too large for `unbounded`, `relax`, `iis elastic` and `iis alternative`.
 #![tactic(auto)]
 
 mod large;

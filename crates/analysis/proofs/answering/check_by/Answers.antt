@@ -3,11 +3,11 @@ use Rattle.certs.specs.declared.solving.Verdict.{Verdict}
 use Rattle.certs.specs.declared.solving.Verdict.TheVariants.{Feasible, Infeasible}
 use Rattle.quick_oracle.specs.Alone.{stands_alone}
 use Rattle.quick_oracle.specs.Answers.{IsAsked}
-use Rattle.analysis.specs.Answers.{budgets_of}
+use Rattle.analysis.specs.Answers.{budgets_of, oracle_state}
 use Rattle.analysis.specs.Right.{IsWhole}
 use Rattle.analysis.proofs.Asked.{InnerAnswers, QuickAnswers, all_served, asked_holds, asked_run, proof_fits, proof_ordered}
 use Rattle.analysis.proofs.Refuting.{checked_refuted}
-use Rattle.analysis.proofs.Searched.{branch_state, fresh_answer, fresh_tree}
+use Rattle.analysis.proofs.Searched.{fresh_answer, fresh_tree}
 use Rattle.analysis.proofs.Stopping.{checked_stop, known_stopped, run_answer}
 use Rattle.analysis.proofs.answering.check_by.Goals as goal
 
@@ -20,33 +20,33 @@ refuted-requires-clause-proof c =
     let budgets = budgets_of c.args.budgets in
     let inner = c.args.oracle.now.inner in
     let set = c.args.set.now in
-    let answered = subst (λ (v : Verdict). QuickAnswers (branch_state inner).model (branch_state inner).budgets set.members (Ok v)) c.in-Ok-Infeasible.field-0-is c.in-Ok-Infeasible.ensures.answered in
+    let answered = subst (λ (v : Verdict). QuickAnswers (oracle_state inner).model (oracle_state inner).budgets set.members (Ok v)) c.in-Ok-Infeasible.field-0-is c.in-Ok-Infeasible.ensures.answered in
     asked_holds model budgets set (Infeasible c.in-Ok-Infeasible.proof) c.requires.whole (fresh_answer model budgets inner c.requires.fresh set (Ok (Infeasible c.in-Ok-Infeasible.proof)) answered)
 
 pub refuted-requires-clause-ordered : goal.refuted-requires-clause-ordered
 refuted-requires-clause-ordered c =
     let inner = c.args.oracle.now.inner in
     let set = c.args.set.now in
-    let answered = subst (λ (v : Verdict). QuickAnswers (branch_state inner).model (branch_state inner).budgets set.members (Ok v)) c.in-Ok-Infeasible.field-0-is c.in-Ok-Infeasible.ensures.answered in
-    proof_ordered (branch_state inner).model (branch_state inner).budgets set.members c.in-Ok-Infeasible.proof answered
+    let answered = subst (λ (v : Verdict). QuickAnswers (oracle_state inner).model (oracle_state inner).budgets set.members (Ok v)) c.in-Ok-Infeasible.field-0-is c.in-Ok-Infeasible.ensures.answered in
+    proof_ordered (oracle_state inner).model (oracle_state inner).budgets set.members c.in-Ok-Infeasible.proof answered
 
 pub refuted-requires-clause-fits : goal.refuted-requires-clause-fits
 refuted-requires-clause-fits c =
     let inner = c.args.oracle.now.inner in
     let set = c.args.set.now in
-    let answered = subst (λ (v : Verdict). QuickAnswers (branch_state inner).model (branch_state inner).budgets set.members (Ok v)) c.in-Ok-Infeasible.field-0-is c.in-Ok-Infeasible.ensures.answered in
-    proof_fits (branch_state inner).model (branch_state inner).budgets set.members c.in-Ok-Infeasible.proof answered
+    let answered = subst (λ (v : Verdict). QuickAnswers (oracle_state inner).model (oracle_state inner).budgets set.members (Ok v)) c.in-Ok-Infeasible.field-0-is c.in-Ok-Infeasible.ensures.answered in
+    proof_fits (oracle_state inner).model (oracle_state inner).budgets set.members c.in-Ok-Infeasible.proof answered
 
 pub returns-in-Ok-Feasible-clause-right : goal.returns-in-Ok-Feasible-clause-right
 returns-in-Ok-Feasible-clause-right c =
     let model = c.args.model.now in
     let budgets = budgets_of c.args.budgets in
     let inner = c.args.oracle.now.inner in
-    let after = branch_state c.ask.new.self.inner in
+    let after = oracle_state c.ask.new.self.inner in
     let set = c.args.set.now in
     let verdict = Feasible c.in-Ok-Feasible.point in
-    let answered = subst (λ (v : Verdict). QuickAnswers (branch_state inner).model (branch_state inner).budgets set.members (Ok v)) c.in-Ok-Feasible.field-0-is c.in-Ok-Feasible.ensures.answered in
-    let alone = subst (λ (v : Verdict). stands_alone (branch_state inner).model set.members c.args.oracle.now.nodes ≡ true → IsAsked InnerAnswers (branch_state inner) after set.members (Ok v)) c.in-Ok-Feasible.field-0-is c.in-Ok-Feasible.ensures.alone in (
+    let answered = subst (λ (v : Verdict). QuickAnswers (oracle_state inner).model (oracle_state inner).budgets set.members (Ok v)) c.in-Ok-Feasible.field-0-is c.in-Ok-Feasible.ensures.answered in
+    let alone = subst (λ (v : Verdict). stands_alone (oracle_state inner).model set.members c.args.oracle.now.nodes ≡ true → IsAsked InnerAnswers (oracle_state inner) after set.members (Ok v)) c.in-Ok-Feasible.field-0-is c.in-Ok-Feasible.ensures.alone in (
       asked_holds model budgets set verdict c.requires.whole (fresh_answer model budgets inner c.requires.fresh set (Ok verdict) answered),
       λ marked. (fresh_tree model budgets inner c.requires.fresh set c.args.oracle.now.nodes verdict after c.requires.no_trees c.requires.whole marked alone).ends,
     )
@@ -58,7 +58,7 @@ returns-in-Ok-Feasible-clause-known c =
     let inner = c.args.oracle.now.inner in
     let set = c.args.set.now in
     let verdict = Feasible c.in-Ok-Feasible.point in
-    let answered = subst (λ (v : Verdict). QuickAnswers (branch_state inner).model (branch_state inner).budgets set.members (Ok v)) c.in-Ok-Feasible.field-0-is c.in-Ok-Feasible.ensures.answered in
+    let answered = subst (λ (v : Verdict). QuickAnswers (oracle_state inner).model (oracle_state inner).budgets set.members (Ok v)) c.in-Ok-Feasible.field-0-is c.in-Ok-Feasible.ensures.answered in
     (asked_holds model budgets set verdict c.requires.whole (fresh_answer model budgets inner c.requires.fresh set (Ok verdict) answered)).each_column
 
 pub returns-in-Ok-Infeasible-clause-right : goal.returns-in-Ok-Infeasible-clause-right
@@ -66,10 +66,10 @@ returns-in-Ok-Infeasible-clause-right c =
     let model = c.args.model.now in
     let budgets = budgets_of c.args.budgets in
     let inner = c.args.oracle.now.inner in
-    let after = branch_state c.ask.new.self.inner in
+    let after = oracle_state c.ask.new.self.inner in
     let set = c.args.set.now in
     let verdict = Infeasible c.in-Ok-Infeasible.proof in
-    let alone = subst (λ (v : Verdict). stands_alone (branch_state inner).model set.members c.args.oracle.now.nodes ≡ true → IsAsked InnerAnswers (branch_state inner) after set.members (Ok v)) c.in-Ok-Infeasible.field-0-is c.in-Ok-Infeasible.ensures.alone in
+    let alone = subst (λ (v : Verdict). stands_alone (oracle_state inner).model set.members c.args.oracle.now.nodes ≡ true → IsAsked InnerAnswers (oracle_state inner) after set.members (Ok v)) c.in-Ok-Infeasible.field-0-is c.in-Ok-Infeasible.ensures.alone in
     checked_refuted model budgets c.in-Ok-Infeasible.proof c.refuted.result c.refuted.ensures.refutes (λ marked. (fresh_tree model budgets inner c.requires.fresh set c.args.oracle.now.nodes verdict after c.requires.no_trees c.requires.whole marked alone).ends.0)
 
 pub returns-in-Err-clause-right : goal.returns-in-Err-clause-right

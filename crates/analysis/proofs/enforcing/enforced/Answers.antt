@@ -6,11 +6,10 @@ use Rattle.elastic_filter.specs.declared.enforcing.Enforced.{Enforced}
 use Rattle.elastic_filter.specs.Enforced.{IsEnforced, IsRoundStop}
 use Rattle.relaxation.specs.Stretching.{IsRound, StretcherValue}
 use Rattle.quick_oracle.specs.Value.{state_with}
-use Rattle.analysis.specs.Answers.{budgets_of}
+use Rattle.analysis.specs.Answers.{budgets_of, oracle_state}
 use Rattle.analysis.proofs.Asked.{all_served}
 use Rattle.analysis.proofs.Chained.{enforced_answer, rounds_told}
 use Rattle.analysis.proofs.Marks.{no_mark}
-use Rattle.analysis.proofs.Searched.{branch_state}
 use Rattle.analysis.proofs.enforcing.enforced.Goals as goal
 
 pub enforce-requires-clause-linear : goal.enforce-requires-clause-linear
@@ -31,7 +30,7 @@ returns-in-Ok-Set-clause-right c =
     subst (λ (s : SetValue). IsEnforced model s.members (Enforced.Set members c.in-Ok-Set.field-0-1 c.in-Ok-Set.rounds)) c.requires.whole
     (subst (λ (v : StretcherValue). IsEnforced v.model c.args.set.now.members (Enforced.Set members c.in-Ok-Set.field-0-1 c.in-Ok-Set.rounds)) c.new-stretcher.ensures
     (subst (λ (e : Enforced). IsEnforced c.new-stretcher.result.model c.args.set.now.members e) c.in-Ok-Set.field-0-is c.in-Ok-Set.ensures.found)) in
-    (enforced_answer model budgets old.inner old.tale members c.in-Ok-Set.field-0-1 c.in-Ok-Set.rounds (state_with (branch_state new.inner) new.tale) call.result c.concluded.result c.requires.inner found call.ensures.found call.ensures.stop c.concluded.ensures).0
+    (enforced_answer model budgets old.inner old.tale members c.in-Ok-Set.field-0-1 c.in-Ok-Set.rounds (state_with (oracle_state new.inner) new.tale) call.result c.concluded.result c.requires.inner found call.ensures.found call.ensures.stop c.concluded.ensures).0
 
 pub returns-in-Ok-Set-clause-known : goal.returns-in-Ok-Set-clause-known
 returns-in-Ok-Set-clause-known c =
@@ -45,7 +44,7 @@ returns-in-Ok-Set-clause-known c =
     subst (λ (s : SetValue). IsEnforced model s.members (Enforced.Set members c.in-Ok-Set.field-0-1 c.in-Ok-Set.rounds)) c.requires.whole
     (subst (λ (v : StretcherValue). IsEnforced v.model c.args.set.now.members (Enforced.Set members c.in-Ok-Set.field-0-1 c.in-Ok-Set.rounds)) c.new-stretcher.ensures
     (subst (λ (e : Enforced). IsEnforced c.new-stretcher.result.model c.args.set.now.members e) c.in-Ok-Set.field-0-is c.in-Ok-Set.ensures.found)) in
-    (enforced_answer model budgets old.inner old.tale members c.in-Ok-Set.field-0-1 c.in-Ok-Set.rounds (state_with (branch_state new.inner) new.tale) call.result c.concluded.result c.requires.inner found call.ensures.found call.ensures.stop c.concluded.ensures).1
+    (enforced_answer model budgets old.inner old.tale members c.in-Ok-Set.field-0-1 c.in-Ok-Set.rounds (state_with (oracle_state new.inner) new.tale) call.result c.concluded.result c.requires.inner found call.ensures.found call.ensures.stop c.concluded.ensures).1
 
 pub returns-clause-right : goal.returns-clause-right
 returns-clause-right c =

@@ -2,7 +2,7 @@ use Rattle.std.proofs.Common.{◌≡◌, ◌+◌, sym, ◌∙◌, ap, suc, List,
 use Rattle.std.proofs.lemmas.Result.{err_from_is_err_and}
 use Rattle.certs.specs.declared.evidence.Point.{Point}
 use Rattle.report_text.specs.Grammar.{node_phrases, proof_phrases, witness_phrases}
-use Rattle.cert_check.specs.Trials.{proof_trials, rounds_trials, witness_trials, witnesses_of}
+use Rattle.cert_check.specs.Trials.{proof_trials, tail_trials, witness_trials, witnesses_of}
 use Rattle.cert_check.specs.Stops.{first_stop}
 use Rattle.cert_check.proofs.Firsts.{stop_first, stop_second, stop_of, says_second, says_of}
 use Rattle.cert_check.proofs.entries.check_core.Goals as goal
@@ -39,12 +39,14 @@ returns c =
     let core = c.args.core.now in
     let set = core.members.members in
     let next = c.args.line + (2 + length (flat_map witness_phrases (witnesses_of core))) in
+    let tail = tail_trials model (next + length (proof_phrases core.proof)) core in
     let both = c.in_ok-end.ensures in
     let passes = sym (ap (λ (l : List Point). first_stop (witness_trials model set (c.args.line + 2) (zip set l))) c.as_slice-witnesses.ensures) ∙ both.0 in
     let end = both.1 ∙ ap (λ (l : List Point). c.args.line + 2 + length (flat_map witness_phrases (zip set l))) c.as_slice-witnesses.ensures in
     let place : c.in_ok-end.end + 1 ≡ next + 1 = omega (arith, end) in
-    let behind : c.in_ok-end.end + 1 + length (flat_map node_phrases core.proof.nodes) ≡ next + suc (length (flat_map node_phrases core.proof.nodes)) = omega (arith, end) in
-    says_second (witness_trials model set (c.args.line + 2) (witnesses_of core)) (proof_trials model set (next + 1) core.proof ++ rounds_trials (length set) (next + length (proof_phrases core.proof)) core.rounds) c.check_rounds.result passes
-    (says_second (proof_trials model set (next + 1) core.proof) (rounds_trials (length set) (next + length (proof_phrases core.proof)) core.rounds) c.check_rounds.result
+    let last = c.line_behind-behind.ensures in
+    let behind : c.line_behind-behind.result ≡ next + suc (length (flat_map node_phrases core.proof.nodes)) = omega (arith, end, last) in
+    says_second (witness_trials model set (c.args.line + 2) (witnesses_of core)) (proof_trials model set (next + 1) core.proof ++ tail) c.check_tail.result passes
+    (says_second (proof_trials model set (next + 1) core.proof) tail c.check_tail.result
     (sym (ap (λ k. first_stop (proof_trials model set k core.proof)) place) ∙ c.in_ok-check_tree.ensures)
-    (says_of _ _ c.check_rounds.result (ap (λ k. first_stop (rounds_trials (length set) k core.rounds)) behind) c.check_rounds.ensures))
+    (says_of _ _ c.check_tail.result (ap (λ k. first_stop (tail_trials model k core)) behind) c.check_tail.ensures))

@@ -10,4 +10,6 @@ returns c =
       parts = c.parts_show_least.ensures;
       violations = c.checked_violation.ensures;
       reached = c.reached_is_least.ensures;
+      costs = c.checked_cost.ensures;
+      prices = c.price_shows_cheapest.ensures;
     })

@@ -21,3 +21,6 @@ returns-in-Leaf c = c.open_leaf.ensures c.args.model.now c.args.command.now ∙ 
 
 pub returns-in-Rounds : goal.returns-in-Rounds
 returns-in-Rounds c = c.count_rounds.ensures c.args.model.now ∙ ap (λ (p : Phrase). proof_with c.args.model.now c.args.command.now c.args.found c.args.nodes c.args.due p) (sym c.in-Rounds.is)
+
+pub returns-in-Total : goal.returns-in-Total
+returns-in-Total c = c.open_price.ensures c.args.model.now ∙ ap (λ (p : Phrase). proof_with c.args.model.now c.args.command.now c.args.found c.args.nodes c.args.due p) (sym c.in-Total.is)

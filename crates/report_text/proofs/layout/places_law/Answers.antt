@@ -1,8 +1,8 @@
-use Rattle.std.proofs.Common.{refl, [], ◌∷◌, map, flat_map, zip}
+use Rattle.std.proofs.Common.{refl, [], ◌∷◌, ◌++◌, map, flat_map, zip}
 use Rattle.report_text.specs.declared.phrases.Phrase.{Phrase}
-use Rattle.report_text.specs.Grammar.{point_phrases, value_phrases, objective_phrases, dual_phrases, proof_phrases, rounds_phrases, witness_phrases}
+use Rattle.report_text.specs.Grammar.{point_phrases, value_phrases, objective_phrases, dual_phrases, price_phrases, proof_phrases, rounds_phrases, witness_phrases}
 use Rattle.report_text.specs.Places.{PlacesLaw}
-use Rattle.report_text.proofs.Passed.{past_one, past_two, past_third}
+use Rattle.report_text.proofs.Passed.{past_one, past_two, past_three, past_third}
 use Rattle.report_text.proofs.layout.places_law.Goals as goal
 
 pub returns : goal.returns
@@ -21,5 +21,6 @@ returns c = record {
   least = λ model k p dual n. refl;
   uses = λ model k p dual n. past_third (Phrase.Command k) Phrase.Least (Phrase.Total dual.bound) (point_phrases p) (Phrase.Dual ∷ map Phrase.Use dual.combo.shares) (Phrase.End ∷ []);
   rigid = λ model k set proof n. refl;
-  rounds = λ model k core n. past_two (Phrase.Command k) Phrase.Irreducible (flat_map witness_phrases (zip core.members.members core.witnesses)) (proof_phrases core.proof) (rounds_phrases core.rounds) (Phrase.End ∷ []);
+  rounds = λ model k core n. past_two (Phrase.Command k) Phrase.Irreducible (flat_map witness_phrases (zip core.members.members core.witnesses)) (proof_phrases core.proof) (rounds_phrases core.rounds ++ price_phrases core.price) (Phrase.End ∷ []);
+  price = λ model k core n. past_three (Phrase.Command k) Phrase.Irreducible (flat_map witness_phrases (zip core.members.members core.witnesses)) (proof_phrases core.proof) (rounds_phrases core.rounds) (price_phrases core.price) (Phrase.End ∷ []);
 }

@@ -1,0 +1,12 @@
+mod Passing
+mod Used
+mod Unfailed
+mod Outcome
+mod Shown
+mod Isolated
+mod Diagnosed
+mod Relaxed
+mod Replied
+mod Answered
+mod Entries
+mod Examples

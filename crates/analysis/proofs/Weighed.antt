@@ -1,0 +1,164 @@
+-- What a cheapest weighting gives, as an answer.
+use Rattle.std.proofs.Common.{◌≡◌, ◌<◌, refl, sym, ap, subst, List, [], ◌∷◌, length, Some, None, Result, Ok, Err, inl, inr}
+use Rattle.std.specs.Prelude.{All, Contains, IfOk}
+use Rattle.std.proofs.lemmas.List.Elements.{All-contains_itself, All-cons, All-head, All-nil, All-tail, All-weaker}
+use Rattle.rational.specs.Rational.{ℚ}
+use Rattle.lp_model.specs.declared.members.Member.{Member}
+use Rattle.lp_model.specs.Program.{Program}
+use Rattle.lp_model.specs.Members.{active_members, IsInOrder}
+use Rattle.lp_model.specs.MemberSets.{SetValue, active_set}
+use Rattle.lp_model.specs.Satisfaction.{IsPart}
+use Rattle.certs.specs.declared.evidence.Branch.{Branch}
+use Rattle.certs.specs.declared.evidence.Combo.{Combo}
+use Rattle.certs.specs.declared.evidence.Node.{Node}
+use Rattle.certs.specs.declared.evidence.Node.TheVariants.{Leaf}
+use Rattle.certs.specs.declared.evidence.Point.{Point}
+use Rattle.certs.specs.declared.evidence.Proof.{Proof}
+use Rattle.certs.specs.declared.evidence.Share.{Share}
+use Rattle.certs.specs.declared.evidence.Source.{Source}
+use Rattle.certs.specs.declared.evidence.Source.TheVariants.{Member as Of, Below, Above}
+use Rattle.certs.specs.declared.solving.Site.{Site}
+use Rattle.certs.specs.declared.solving.Stop.{Stop}
+use Rattle.certs.specs.declared.solving.Stop.TheVariants.{Wide, Pivots as Spent, Nodes, Large, Memory}
+use Rattle.certs.specs.Alternative.{members_of, with_source}
+use Rattle.certs.specs.Combination.{IsFitting, IsFrom, IsThere}
+use Rattle.certs.specs.Order.{AreLeavesInOrder, IsNodeInOrder}
+use Rattle.certs.specs.Proof.{IsFittingNode, IsProof, Tip}
+use Rattle.certs.specs.Sites.{Budgets}
+use Rattle.filter_steps.specs.Isolated.{AreWitnesses}
+use Rattle.filter_steps.proofs.Reached.{part_of_part}
+use Rattle.alt_polyhedron.specs.declared.pricing.Priced.{Priced}
+use Rattle.alt_polyhedron.specs.Pricing.{IsAlternativeSite, IsCheapestSet, IsPricing, IsPricingStop}
+use Rattle.presolve_oracle.specs.Value.{PresolveValue}
+use Rattle.branch_oracle.specs.Value.{BranchValue}
+use Rattle.report_text.specs.declared.report.Answer.{Answer}
+use Rattle.report_text.specs.declared.report.Core.{Core}
+use Rattle.report_text.specs.Form.{IsRunSite}
+use Rattle.report_printer.specs.Printing.{IsKnownAnswer}
+use Rattle.analysis.specs.Answers.{IsOracleOf, IsPossibleSite, IsStopAnswer, IsToldStop, IsWitnessStop, fresh_oracle, oracle_state, weighed_answer}
+use Rattle.analysis.specs.Right.{IsCheapestCore, IsIsolated, IsRightCore, IsSupportTest, IsWeighedTold, IsWeighingAnswer, IsWhole, IsWithoutOne}
+use Rattle.analysis.proofs.Found.{known_core, within}
+use Rattle.analysis.proofs.Stopping.{IsRunOf, active_site, isolated_stop, known_stopped, none_part, run_answer}
+
+-- ---- the members of shares
+-- are some of those that the shares are from
+members_within : (set : List Member) (shares : List Share) → All (λ s. IsFrom set s.source) shares → IsPart (members_of shares) set
+members_within set [] h = All-nil (Contains set)
+members_within set (s ∷ shares) h = by s.source (All-head (λ t. IsFrom set t.source) s shares h) (members_within set shares (All-tail (λ t. IsFrom set t.source) s shares h))
+  where
+    by : (source : Source) → IsFrom set source → IsPart (members_of shares) set → IsPart (with_source source (members_of shares)) set
+    by (Of m) c rest = All-cons (Contains set) m (members_of shares) c rest
+    by (Below j) c rest = rest
+    by (Above j) c rest = rest
+
+-- ---- stops of asks
+-- of a set that passes the test, as an answer
+told_by : (model : Program) (budgets : Budgets) {E : Type 0} (result : Result Answer E) → IfOk result (IsIsolated (IsCheapestCore model) (IsSupportTest model) model budgets) → IfOk result (IsWeighedTold model budgets)
+told_by model budgets (Ok answer) h = inl h
+told_by model budgets (Err error) h = tt
+
+stopped_told : (model : Program) (budgets : Budgets) (stop : Stop) {E : Type 0} (result : Result Answer E) → IsRunOf (IsSupportTest model) model budgets stop → IfOk result (IsToldStop stop)
+    → IfOk result (IsWeighedTold model budgets) × IfOk result (IsKnownAnswer model)
+stopped_told model budgets stop {E} result run told =
+    let answer : IfOk result (IsStopAnswer (IsSupportTest model) model budgets) = run_answer (IsSupportTest model) model budgets stop {E = E} result run told in
+    (told_by model budgets {E = E} result (isolated_stop (IsCheapestCore model) (IsSupportTest model) model budgets {E = E} result answer), known_stopped (IsSupportTest model) model budgets {E = E} result answer)
+
+-- of all active members
+pub whole_stopped : (model : Program) (budgets : Budgets) (stop : Stop) {E : Type 0} (result : Result Answer E) → IsRunOf (IsWhole model) model budgets stop → IfOk result (IsToldStop stop)
+    → IfOk result (IsWeighedTold model budgets) × IfOk result (IsKnownAnswer model)
+whole_stopped model budgets stop {E} result run told = stopped_told model budgets stop {E = E} result (record { asked = run.asked; answered = run.answered; part = run.part; test = inl run.test }) told
+
+-- ---- an oracle that was asked nothing yet
+pub fresh_is_of : (model : Program) (budgets : Budgets) (oracle : BranchValue PresolveValue) → oracle ≡ fresh_oracle model budgets → IsOracleOf model budgets oracle
+fresh_is_of model budgets oracle fresh = record { model = ap (λ (o : BranchValue PresolveValue). (oracle_state o).model) fresh; budgets = ap (λ (o : BranchValue PresolveValue). (oracle_state o).budgets) fresh }
+
+-- ---- a cheapest set
+pub priced_set : (model : Program) (set : SetValue) (priced : Priced) (members : SetValue) (combo : Combo) (total : ℚ) (price : Point) → set ≡ active_set model → priced ≡ Priced.Set members combo total price → IsPricing model set.members priced
+    → IsCheapestSet model (active_members model) members combo total price
+priced_set model set priced members combo total price whole is h =
+    subst (λ (s : SetValue). IsCheapestSet model s.members members combo total price) whole (subst (λ (p : Priced). IsPricing model set.members p) is h)
+
+module _ (model : Program) (members : SetValue) (combo : Combo) (total : ℚ) (price : Point) (h : IsCheapestSet model (active_members model) members combo total price) where
+  -- its members are active
+  pub cheapest_part : IsPart members.members (active_members model)
+  cheapest_part =
+      subst (λ l. IsPart l (active_members model)) (sym h.members_are)
+      (members_within (active_members model) combo.shares
+      (All-weaker (IsThere model (active_members model) []) (λ s. IsFrom (active_members model) s.source) (λ s t. t.from) combo.shares h.weighting.there))
+
+  -- and its leaf is a proof of them
+  pub leaf_proves : (nodes : List Node) → nodes ≡ Leaf combo ∷ [] → IsProof model members.members nodes
+  leaf_proves nodes leaf = record { tree = Tip combo.shares; listed = sym leaf; proves = h.own_combination }
+
+  leaf_ordered : (nodes : List Node) → nodes ≡ Leaf combo ∷ [] → AreLeavesInOrder nodes
+  leaf_ordered nodes leaf = subst AreLeavesInOrder (sym leaf) (All-cons IsNodeInOrder (Leaf combo) [] h.ordered (All-nil IsNodeInOrder))
+
+  leaf_fits : (nodes : List Node) → nodes ≡ Leaf combo ∷ [] → All IsFittingNode nodes
+  leaf_fits nodes leaf = subst (All IsFittingNode) (sym leaf) (All-cons IsFittingNode (Leaf combo) [] tt (All-nil IsFittingNode))
+
+  -- with witnesses, the total and the price
+  abbrev core_of : List Point → Proof → Core
+  core_of witnesses proof = record { members = members; witnesses = witnesses; proof = proof; rounds = None; price = Some (total, price) }
+
+  cheapest_core : (witnesses : List Point) (proof : Proof) → proof.nodes ≡ Leaf combo ∷ [] → IsCheapestCore model (core_of witnesses proof)
+  cheapest_core witnesses proof leaf = record { combo = combo; total = total; price = price; rounds = refl; leaf = leaf; told = refl; cheapest = h }
+
+  right_core : (witnesses : List Point) (proof : Proof) → proof.nodes ≡ Leaf combo ∷ [] → IsInOrder members.members → AreWitnesses model members.members witnesses → IsRightCore model (core_of witnesses proof)
+  right_core witnesses proof leaf order w = record {
+    of_model = h.set_of;
+    active = cheapest_part;
+    in_order = order;
+    proves = leaf_proves proof.nodes leaf;
+    ordered = leaf_ordered proof.nodes leaf;
+    fits = leaf_fits proof.nodes leaf;
+    witnesses = w;
+    irreducible = h.irreducible;
+    price = h.each_column;
+  }
+
+  -- with its witnesses as an answer
+  pub weighed_right : (budgets : Budgets) (witnesses : List Point) (proof : Proof) → IsInOrder members.members → proof.nodes ≡ Leaf combo ∷ [] → AreWitnesses model members.members witnesses
+      → IsWeighedTold model budgets (weighed_answer members witnesses proof (total, price)) × IsKnownAnswer model (weighed_answer members witnesses proof (total, price))
+  weighed_right budgets witnesses proof order leaf w =
+      let right : IsRightCore model (core_of witnesses proof) = right_core witnesses proof leaf order w in
+      (inl (right, cheapest_core witnesses proof leaf), known_core model (core_of witnesses proof) right)
+
+  others_within : (others : List Member) → IsWithoutOne members.members others → IsPart others (active_members model)
+  others_within others w =
+      within others members.members (active_members model)
+      (subst (λ l. IsPart l members.members) (sym w.others_are)
+      (part_of_part members.members w.front (w.member ∷ []) w.back (subst (λ l. IsPart l members.members) w.set_is (All-contains_itself members.members))))
+      cheapest_part
+
+  -- and a stop of the asks for its witnesses
+  pub witness_stopped : (budgets : Budgets) (stop : Stop) {E : Type 0} (result : Result Answer E) → IsWitnessStop model budgets members.members stop
+      → IfOk result (IsToldStop stop) → IfOk result (IsWeighedTold model budgets) × IfOk result (IsKnownAnswer model)
+  witness_stopped budgets stop (Err error) at told = (tt, tt)
+  witness_stopped budgets stop (Ok answer) (inl memory) told = absurd (subst (λ (s : Stop). IsToldStop s answer) memory told)
+  witness_stopped budgets stop {E} (Ok answer) (inr (others, (w, answered))) told =
+      let own : Proof = record { nodes = Leaf combo ∷ [] } in
+      let run : IsRunOf (IsSupportTest model) model budgets stop = record { asked = others; answered = inr answered; part = others_within others w; test = inr (core_of [] own, (cheapest_core [] own refl, w)) } in
+      stopped_told model budgets stop {E = E} (Ok answer) run told
+
+-- ---- stops of the run of the system of the alternative
+module _ (model : Program) (budgets : Budgets) where
+  weighing_site : (site : Site) → IsAlternativeSite model (active_members model) site → IsPossibleSite site → IsRunSite model site
+  weighing_site site h possible = record {
+    of_model = h.set_of;
+    active = active_site model site.set h.set_of possible (subst (λ l. IsPart l (active_members model)) (sym h.set_is) (All-contains_itself (active_members model)));
+    enforced_of = h.enforced_of;
+    enforced_part = none_part site h.none_enforced;
+    known = subst (All (λ b. b.column < length model.columns)) (sym h.path_is) (All-nil (λ (b : Branch). b.column < length model.columns));
+    fits = subst (All IsFitting) (sym h.path_is) (All-nil IsFitting);
+  }
+
+  weighing_stop : (stop : Stop) (answer : Answer) → IsPricingStop model (active_members model) budgets.pivots stop → IsToldStop stop answer → IsWeighingAnswer model budgets answer
+  weighing_stop (Wide site k o) answer h told = subst (IsWeighingAnswer model budgets) (sym told.0) (weighing_site site h.0 told.1, h)
+  weighing_stop (Spent site) answer h told = subst (IsWeighingAnswer model budgets) (sym told.0) (weighing_site site h.0 told.1, h)
+  weighing_stop (Nodes site) answer h told = absurd h
+  weighing_stop (Large size) answer h told = absurd h
+  weighing_stop Memory answer h told = absurd told
+
+  pub weighing_stopped : (stop : Stop) {E : Type 0} (result : Result Answer E) → IsPricingStop model (active_members model) budgets.pivots stop → IfOk result (IsToldStop stop) → IfOk result (IsWeighedTold model budgets)
+  weighing_stopped stop (Ok answer) h told = inr (weighing_stop stop answer h told)
+  weighing_stopped stop (Err error) h told = tt

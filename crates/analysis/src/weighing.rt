@@ -1,0 +1,126 @@
+//! The irreducible set that a cheapest weighting of the active members uses.
+ghost use Rattle.std.specs.Prelude.{◌≡◌, ◌<◌, ◌^◌, IfOk, None};
+ghost use Rattle.lp_model.specs.Members.{active_members};
+ghost use Rattle.lp_model.specs.MemberSets.{active_set};
+ghost use Rattle.lp_model.specs.Satisfaction.{IsSatisfiable};
+ghost use Rattle.certs.specs.Tales.{no_tale};
+ghost use Rattle.report_text.specs.declared.report.Method.TheVariants.{Alternative};
+ghost use Rattle.report_printer.specs.Printing.{IsKnownAnswer};
+ghost use Rattle.analysis.specs.Answers.{budgets_of, fresh_oracle, weighed_answer};
+ghost use Rattle.analysis.specs.Linear.{first_mark};
+ghost use Rattle.analysis.specs.Right.{IsFound, IsWeighedTold};
+
+use crate::answering::Budgets;
+use crate::asking::Reference;
+use crate::linear::not_weighed;
+use crate::searching::stopped;
+use crate::witnesses::witnesses;
+use alt_polyhedron::{Priced, cheapest};
+use certs::{MemberSet, Oracle, Point, Proof, Verdict};
+use frac128::Frac;
+use linear_oracle::leaf_proof;
+use lp_model::Model;
+use quick_oracle::QuickOracle;
+use report_text::{Answer, Core, Witnesses};
+use std::alloc::{AllocError, Global};
+
+/// The members that a cheapest weighting of the active members uses, which are irreducible, with the weighting as their
+/// proof, its cost, and a price that shows that no weighting costs less (Gleeson and Ryan 1990); or a point; or the column
+/// of the first active mark; or the size of the system of the alternative, where it passes the most. The oracle, which was
+/// asked nothing yet, is asked for all of them where they can be satisfied, and else for these members without each.
+pub(crate) fn weighed_search(
+    alloc: Global,
+    model: &Model,
+    budgets: Budgets,
+    oracle: &mut QuickOracle<'_, Reference<'_>>,
+    set: &MemberSet,
+) -> Result<Answer, AllocError>
+    requires few { budgets.pivots < 2 ^ 63 }
+    requires whole { set.now ≡ active_set model.now }
+    requires inner { oracle.old.inner ≡ fresh_oracle model.now (budgets_of budgets) }
+    requires tale { oracle.old.tale ≡ no_tale }
+    ensures right { IfOk result (IsFound Alternative model.now (budgets_of budgets)) }
+    ensures known { IfOk result (IsKnownAnswer model.now) }
+{
+    if let Some(answer) = not_weighed(alloc, model, set)? {
+        return Ok(answer);
+    }
+    weighed(alloc, model, budgets, oracle, set)
+}
+
+// The same where there is no mark.
+fn weighed(
+    alloc: Global,
+    model: &Model,
+    budgets: Budgets,
+    oracle: &mut QuickOracle<'_, Reference<'_>>,
+    set: &MemberSet,
+) -> Result<Answer, AllocError>
+    requires few { budgets.pivots < 2 ^ 63 }
+    requires whole { set.now ≡ active_set model.now }
+    requires linear { first_mark (active_members model.now) ≡ None }
+    requires inner { oracle.old.inner ≡ fresh_oracle model.now (budgets_of budgets) }
+    requires tale { oracle.old.tale ≡ no_tale }
+    ensures right { IfOk result (IsWeighedTold model.now (budgets_of budgets)) }
+    ensures known { IfOk result (IsKnownAnswer model.now) }
+{
+    set.stands_in_order();
+    match cheapest(alloc, model, set, budgets.pivots) {
+        Ok(Priced::Feasible) => satisfied(alloc, model, budgets, oracle, set),
+        Ok(
+            Priced::Set {
+                members,
+                combo,
+                total,
+                price,
+            },
+        ) => match witnesses(alloc, model, budgets, oracle, &members) {
+            Ok(points) => {
+                members.stands_in_order();
+                let proof = leaf_proof(alloc, combo)?;
+                Ok(weighed_core(members, points, proof, (total, price)))
+            }
+            Err(stop) => stopped(stop),
+        },
+        Err(stop) => stopped(stop),
+    }
+}
+
+// A point of the active members, where some point satisfies them.
+fn satisfied(
+    alloc: Global,
+    model: &Model,
+    budgets: Budgets,
+    oracle: &mut QuickOracle<'_, Reference<'_>>,
+    set: &MemberSet,
+) -> Result<Answer, AllocError>
+    requires whole { set.now ≡ active_set model.now }
+    requires can { IsSatisfiable model.now (active_members model.now) }
+    requires inner { oracle.old.inner ≡ fresh_oracle model.now (budgets_of budgets) }
+    ensures right { IfOk result (IsWeighedTold model.now (budgets_of budgets)) }
+    ensures known { IfOk result (IsKnownAnswer model.now) }
+{
+    match oracle.ask(alloc, set) {
+        Ok(Verdict::Feasible(point)) => Ok(Answer::Feasible(point)),
+        Ok(Verdict::Infeasible(_)) => unreachable!(),
+        Err(stop) => stopped(stop),
+    }
+}
+
+// Members with their witnesses as an answer, with a proof, and a total with its price.
+fn weighed_core(
+    members: MemberSet,
+    witnesses: Vec<Point>,
+    proof: Proof,
+    priced: (Frac, Point),
+) -> Answer
+    ensures { result ≡ weighed_answer members witnesses.items proof priced }
+{
+    Answer::Irreducible(Core {
+        members,
+        witnesses: Witnesses::new(witnesses),
+        proof,
+        rounds: None,
+        price: Some(priced),
+    })
+}
