@@ -7,6 +7,7 @@ ghost use Rattle.certs.specs.Filter.{EarlyLaw, EarlyMeansLaw, EarlyTestLaw, Late
 ghost use Rattle.certs.specs.Proof.{OneTreeLaw, ProofLaw};
 ghost use Rattle.certs.specs.System.{CheapestLaw, LastTableLaw, NoWeightingLaw};
 ghost use Rattle.certs.specs.Violation.{LeastLaw, LeastPointLaw};
+ghost use Rattle.evidence_laws.specs.Weighed.{TotalLaw, WeighedLaw};
 
 /// Where there is a combination, nothing satisfies the set.
 pub fn combination_refutes()
@@ -31,6 +32,16 @@ pub fn nodes_tell_the_tree()
 /// A dual's total is at most every weighted violation.
 pub fn least_is_bounded()
     ensures { LeastLaw }
+{}
+
+/// Whatever the weights, a dual's total is at most every violation that is weighed so.
+pub fn weighed_is_bounded()
+    ensures { WeighedLaw }
+{}
+
+/// Beside enforced members, each other one with weight 1, a dual's total is at most every total violation.
+pub fn total_is_bounded()
+    ensures { TotalLaw }
 {}
 
 /// A point that reaches a dual's total is least.

@@ -13,7 +13,7 @@ pub use laws::{
     proof_refutes, ray_is_unbounded, reached_is_least, refused_bound, refused_combination,
     refused_least, refused_point, refused_price, refused_ray, rounds_are_few,
     support_is_irreducible, taken_combination_is_unsatisfiable, taken_combination_refutes,
-    taken_values_satisfy, wide_is_first, yes_is_all_passed,
+    taken_values_satisfy, total_is_bounded, weighed_is_bounded, wide_is_first, yes_is_all_passed,
 };
 pub use run_laws::{
     blocked_is_combination, combination_is_translated, flip_keeps_system, one_end, one_table,

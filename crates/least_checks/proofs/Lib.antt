@@ -1,4 +1,4 @@
 pub mod Steps
 pub mod Given
 pub mod Missing
-pub mod Rigid
+pub mod Passing

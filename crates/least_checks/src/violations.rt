@@ -59,7 +59,7 @@ fn weighted_violation(model: &Model, set: &MemberSet, values: &[Frac]) -> Result
     let mut sum = Frac::whole(0);
     for member in set.iter() {
         if let Weight::Soft(weight) = weight_of(model, member) {
-            let missed = missed_by(model, member, values)?;
+            let missed = member_violation(model, member, values)?;
             let product = weight.times(missed)?;
             sum = sum.plus(product)?;
         }
@@ -67,8 +67,9 @@ fn weighted_violation(model: &Model, set: &MemberSet, values: &[Frac]) -> Result
     Ok(sum)
 }
 
-// By how much a member is missed at these values.
-fn missed_by(model: &Model, member: Member, values: &[Frac]) -> Result<Frac, Wide>
+/// By how much a member is missed at these values, one for each column. An error is the first operation that is too wide, and
+/// comes just where one is.
+pub fn member_violation(model: &Model, member: Member, values: &[Frac]) -> Result<Frac, Wide>
     requires point { length values.now ≡ length model.now.columns }
     requires member { IsMemberFor (length model.now.rows) (length model.now.columns) member }
     ensures { let x = values_at values.now in

@@ -95,8 +95,9 @@ pub(crate) fn weight_of(model: &Model, member: Member) -> Weight
     }
 }
 
-// How much weight the shares put on a member, added up from 0.
-fn weight_on(shares: &[Share], member: Member) -> Result<Frac, Wide>
+/// How much weight the shares put on a member, added up from 0. An error is the first operation that is too wide, and comes
+/// just where one is.
+pub fn weight_on(shares: &[Share], member: Member) -> Result<Frac, Wide>
     ensures { let work = weight_operations shares.now member in
         MatchResult result
         (λ v. (v ≡ weight_given shares.now member) × (first_wide limit work ≡ None))

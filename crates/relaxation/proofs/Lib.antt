@@ -9,6 +9,6 @@ mod Stops
 mod Bounded
 mod Shares
 mod BestEnds
-mod Reaching
+pub mod Reaching
 mod Parts
 pub mod Found

@@ -132,6 +132,28 @@ none_left test (m ∷ list) e = by (none_left test list) (test m) refl
     by rest true t = absurd (let z : length (cond (test m) (m ∷ filter test list) (filter test list)) ≡ 0 = e in let y : suc (length (filter test list)) ≡ 0 = sym (ap (λ b. length (cond b (m ∷ filter test list) (filter test list))) t) ∙ z in omega (arith, y))
     by rest false t = All-cons (λ m. test m ≡ false) m list t (rest (sym (ap (λ b. length (cond b (m ∷ filter test list) (filter test list))) t) ∙ e))
 
+-- ---- members to be enforced
+swapped : (h v : Bool) → ((h || v) && not h) ≡ (not h && v)
+swapped true v = refl
+swapped false true = refl
+swapped false false = refl
+
+-- those that are not enforced and are violated at a point of least total violation are to be enforced, where there is one
+pub violated_further : (model : Program) (set enforced : List Member) (point : Point) (found : List Member) → Satisfies model enforced (coordinate point)
+    → ((q : Point) → Satisfies model enforced (coordinate q) → total_violation model set (coordinate point) ≤ℚ total_violation model set (coordinate q))
+    → found ≡ filter (λ m. not (has enforced m) && is_violated model (coordinate point) m) set → 0 < length found → IsFurther model set enforced found
+violated_further model set enforced point found held least is some =
+    let y : Assignment = coordinate point in
+    record {
+      next = filter (λ m. has enforced m || is_violated model y m) set;
+      stretches = record { point = point; satisfies = held; least = least; adds = refl };
+      further_are =
+          is
+          ∙ sym (filter_both (λ m. has enforced m || is_violated model y m) (λ m. not (has enforced m)) set
+          ∙ agree_on (λ m. (has enforced m || is_violated model y m) && not (has enforced m)) (λ m. not (has enforced m) && is_violated model y m) set (λ m c. swapped (has enforced m) (is_violated model y m)));
+      some = some;
+    }
+
 module _ (model : Program) (set enforced : List Member) (values : List ℚ) (dual : Dual) (formed : IsWellFormed model) (elastic : IsElastic model set enforced) (best : IsBest (system_by model set enforced Ones) values dual) where
   abbrev soft : List Member
   soft = soft_members set enforced
@@ -177,11 +199,6 @@ module _ (model : Program) (set enforced : List Member) (values : List ℚ) (dua
       by m true e held h plain = All-contains (Holds model (values_at point.values)) enforced m held (contains_of_has enforced m e)
       by m false e held h plain = unmissed_holds model (values_at point.values) m plain (lt_q-false zero_ℚ (violation model (values_at point.values) m) (h (ap not e)))
 
-  swapped : (h v : Bool) → ((h || v) && not h) ≡ (not h && v)
-  swapped true v = refl
-  swapped false true = refl
-  swapped false false = refl
-
   -- and else those that are, are to be enforced
   abbrev pub common : Point
   common = (common_denominator (take (length model.columns) values)).0
@@ -193,20 +210,8 @@ module _ (model : Program) (set enforced : List Member) (values : List ℚ) (dua
   further found is some =
       let y : Assignment = coordinate common in
       let held : Satisfies model enforced y = satisfies model set enforced Ones formed elastic values dual best y common_same in
-      record {
-        next = filter (λ m. has enforced m || is_violated model y m) set;
-        stretches = record {
-          point = common;
-          satisfies = held;
-          least = λ q h.
-              subst (λ z. z ≤ℚ total_violation model set (coordinate q)) (sym (reached model set enforced Ones formed elastic values dual best y common_same) ∙ total_at y held)
-              (subst (λ z. neg_ℚ dual.bound ≤ℚ z) (total_at (coordinate q) h) (least model set enforced Ones formed elastic values dual best y common_same (coordinate q) h));
-          adds = refl;
-        };
-        further_are =
-            is
-            ∙ filter_both (λ m. not (has enforced m)) (is_violated model y) set
-            ∙ sym (filter_both (λ m. has enforced m || is_violated model y m) (λ m. not (has enforced m)) set
-            ∙ agree_on (λ m. (has enforced m || is_violated model y m) && not (has enforced m)) (λ m. not (has enforced m) && is_violated model y m) set (λ m c. swapped (has enforced m) (is_violated model y m)));
-        some = some;
-      }
+      violated_further model set enforced common found held
+      (λ q h.
+      subst (λ z. z ≤ℚ total_violation model set (coordinate q)) (sym (reached model set enforced Ones formed elastic values dual best y common_same) ∙ total_at y held)
+      (subst (λ z. neg_ℚ dual.bound ≤ℚ z) (total_at (coordinate q) h) (least model set enforced Ones formed elastic values dual best y common_same (coordinate q) h)))
+      (is ∙ filter_both (λ m. not (has enforced m)) (is_violated model y) set) some

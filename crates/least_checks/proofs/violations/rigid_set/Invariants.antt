@@ -1,8 +1,10 @@
 use Rattle.std.proofs.Common.{length}
 use Rattle.std.specs.Prelude.{All, Contains}
+use Rattle.lp_model.specs.Members.{weight}
 use Rattle.lp_model.specs.MemberSets.{IsMemberFor}
 use Rattle.certs.specs.Named.{IsOfSize}
-use Rattle.least_checks.proofs.Rigid.{HasRigid}
+use Rattle.certs.specs.Violation.{is_rigid}
+use Rattle.least_checks.proofs.Passing.{HasPassing}
 use Rattle.least_checks.proofs.violations.rigid_set.Given as goal
 
 -- of the members that were passed the rigid ones are there
@@ -11,5 +13,5 @@ invariant-loop-member l = record {
   known : All (IsMemberFor (length l.model.rows) (length l.model.columns)) l.member-iterator;
   inside : All (Contains l.set.members) l.member-iterator;
   size : IsOfSize l.set l.rigid;
-  there : HasRigid l.model l.set l.member-iterator l.rigid;
+  there : HasPassing (λ m. is_rigid (weight l.model m)) l.set l.member-iterator l.rigid;
 }

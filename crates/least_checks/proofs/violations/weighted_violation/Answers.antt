@@ -42,8 +42,8 @@ weight_of-requires c =
     let For = IsMemberFor (length c.args.model.now.rows) (length c.args.model.now.columns) in
     All-head For c.in-Some.member c.next.new.self (subst (All For) c.in-Some.ensures.steps c.loop-member.invariant.known)
 
-pub missed_by-requires-clause-member : goal.missed_by-requires-clause-member
-missed_by-requires-clause-member c =
+pub member_violation-requires-clause-member : goal.member_violation-requires-clause-member
+member_violation-requires-clause-member c =
     let For = IsMemberFor (length c.args.model.now.rows) (length c.args.model.now.columns) in
     All-head For c.in-Some.member c.next.new.self (subst (All For) c.in-Some.ensures.steps c.loop-member.invariant.known)
 

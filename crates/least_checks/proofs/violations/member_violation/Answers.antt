@@ -7,7 +7,7 @@ use Rattle.certs.specs.Violation.{violation}
 use Rattle.std.proofs.Common.{◌≡◌, None}
 use Rattle.least_checks.specs.Parts.{missing_operations}
 use Rattle.least_checks.proofs.Missing.{mark_missed}
-use Rattle.least_checks.proofs.violations.missed_by.Goals as goal
+use Rattle.least_checks.proofs.violations.member_violation.Goals as goal
 
 pub returns-in-Whole : goal.returns-in-Whole
 returns-in-Whole c =
