@@ -1,5 +1,5 @@
 mod Floors
 mod Values
 mod TakenNodes
-mod Answering
+pub mod Answering
 pub mod Reference

@@ -17,7 +17,7 @@ const SMALL: u64 = 1_000;
 
 /// Whether no quick run is to be made of a set: it is small, or limits cross, or it has a mark and a quick tree may have no
 /// nodes.
-pub(crate) fn stands_alone(model: &Model, set: &MemberSet, nodes: u64) -> bool
+pub fn stands_alone(model: &Model, set: &MemberSet, nodes: u64) -> bool
     requires { IsSetOf model.now set.now }
     ensures { result ≡ is_alone model.now set.now.members nodes }
 {

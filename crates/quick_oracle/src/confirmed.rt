@@ -19,7 +19,7 @@ use lp_model::Model;
 use std::alloc::{AllocError, Global};
 
 /// Whether a point has a value for each column, and its check says that it satisfies the set.
-pub(crate) fn is_point(model: &Model, set: &MemberSet, point: &Point) -> bool
+pub fn is_point(model: &Model, set: &MemberSet, point: &Point) -> bool
     ensures { result ≡ true → IsPointOf model.now set.now.members point.now }
 {
     if point.values.as_slice().len() != model.column_count() as usize {
@@ -30,7 +30,7 @@ pub(crate) fn is_point(model: &Model, set: &MemberSet, point: &Point) -> bool
 
 /// Whether the shares of a combination stand in order, and its check says that no point on a path satisfies the set. Where
 /// memory is refused, it does not.
-pub(crate) fn is_combo(
+pub fn is_combo(
     alloc: Global,
     model: &Model,
     set: &MemberSet,
@@ -54,8 +54,8 @@ pub(crate) fn is_combo(
     is_yes(check_combo(model, set, path, combo, sums.as_mut_slice()))
 }
 
-// Whether a check says yes.
-fn is_yes(checked: Checked) -> bool
+/// Whether a check says yes.
+pub fn is_yes(checked: Checked) -> bool
     ensures { result ≡ true → checked ≡ Checked.Yes }
 {
     matches!(checked, Checked::Yes)

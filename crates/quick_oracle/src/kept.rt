@@ -12,7 +12,9 @@ use crate::confirmed::{
 use crate::trees::quick_tree;
 use certs::{Combo, MemberSet, Node, Point, Proof, Verdict};
 use lp_model::Model;
-use quick_run::{QuickRun, Suggest, Suggestion};
+use quick_run::{
+    BestSuggestion, CheapestSuggestion, Costs, LeastSuggestion, QuickRun, Suggest, Suggestion,
+};
 use std::alloc::Global;
 
 #[cfg(test)]
@@ -88,6 +90,86 @@ impl<S: Suggest> Kept<S> {
         ensures { result ≡ self.now.taken }
     {
         self.taken
+    }
+
+    /// What may show whether a set can be satisfied, marks left out, by a quick run of at most so many pivots. It has not been
+    /// checked.
+    pub fn suggest(
+        &mut self,
+        alloc: Global,
+        model: &Model,
+        set: &MemberSet,
+        pivots: u64,
+    ) -> Option<Suggestion>
+        requires same { IsSetOf model.now set.now }
+        ensures counted { self.old.made ≤ self.new.made }
+        ensures spent { self.new.made ≤ self.old.made + pivots }
+        ensures taken { self.new.taken ≡ self.old.taken }
+    {
+        self.run.suggest(alloc, model, set, &[], pivots)
+    }
+
+    /// What may show how little of a set must give way, the rigid members kept, by a quick run of at most so many pivots that
+    /// goes on from the last one, which was for the rigid members or, where there are none, for the set. It has not been
+    /// checked.
+    pub fn suggest_least(
+        &mut self,
+        alloc: Global,
+        model: &Model,
+        set: &MemberSet,
+        rigid: &MemberSet,
+        costs: Costs,
+        pivots: u64,
+    ) -> Option<LeastSuggestion>
+        requires same { IsSetOf model.now set.now }
+        requires rigid { IsSetOf model.now rigid.now }
+        ensures counted { self.old.made ≤ self.new.made }
+        ensures spent { self.new.made ≤ self.old.made + pivots }
+        ensures taken { self.new.taken ≡ self.old.taken }
+    {
+        self.run
+            .suggest_least(alloc, model, set, rigid, costs, pivots)
+    }
+
+    /// What may be the cheapest weighting of a set that refutes it, by a quick run of at most so many pivots that goes on from
+    /// the last one, which was for the set and gave a combination. It has not been checked.
+    pub fn suggest_cheapest(
+        &mut self,
+        alloc: Global,
+        model: &Model,
+        set: &MemberSet,
+        pivots: u64,
+    ) -> Option<CheapestSuggestion>
+        requires same { IsSetOf model.now set.now }
+        ensures counted { self.old.made ≤ self.new.made }
+        ensures spent { self.new.made ≤ self.old.made + pivots }
+        ensures taken { self.new.taken ≡ self.old.taken }
+    {
+        self.run.suggest_cheapest(alloc, model, set, pivots)
+    }
+
+    /// What may show how far the objective can go over a set, by a quick run of at most so many pivots that goes on from the
+    /// last one, which was for the set and gave a point. It has not been checked.
+    pub fn suggest_best(
+        &mut self,
+        alloc: Global,
+        model: &Model,
+        set: &MemberSet,
+        pivots: u64,
+    ) -> Option<BestSuggestion>
+        requires same { IsSetOf model.now set.now }
+        ensures counted { self.old.made ≤ self.new.made }
+        ensures spent { self.new.made ≤ self.old.made + pivots }
+        ensures taken { self.new.taken ≡ self.old.taken }
+    {
+        self.run.suggest_best(alloc, model, set, pivots)
+    }
+
+    /// Gives up what quick runs keep from one to the next. True where one from nothing may suggest something else.
+    pub fn restart(&mut self) -> bool
+        ensures { self.new ≡ self.old }
+    {
+        self.run.restart()
     }
 
     /// A confirmed verdict for a set, by what is kept where it is the first ask, or else by quick runs: one for a set without

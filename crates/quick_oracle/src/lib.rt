@@ -9,5 +9,7 @@ mod oracle;
 mod splits;
 mod trees;
 
+pub use alone::stands_alone;
+pub use confirmed::{is_combo, is_point, is_yes};
 pub use kept::Kept;
 pub use oracle::QuickOracle;

@@ -45,3 +45,12 @@ pub(crate) fn common_divisor(divisor: i128, number: i128) -> Option<i128> {
     }
     quotient(divisor, Frac::new(number, divisor).ok()?.den())
 }
+
+/// The least number above 0 that both divide, which are above 0.
+pub(crate) fn common_multiple(first: i128, second: i128) -> Option<i128> {
+    if divides(second, first) {
+        return Some(first);
+    }
+    let shared = common_divisor(first, second)?;
+    product(quotient(first, shared)?, second)
+}

@@ -79,7 +79,8 @@ pub(crate) fn helping(
         if limit.is_some_and(|limit| limit == known.value) {
             continue;
         }
-        keep(&mut best, (table.columns.head(*variable)?.count, *variable))?;
+        let candidate = (table.columns.head(*variable)?.count, *variable);
+        keep(&mut best, candidate, CANDIDATES)?;
         if rule == Rule::Bland {
             break;
         }
@@ -87,14 +88,14 @@ pub(crate) fn helping(
     Some(best)
 }
 
-// Keeps a candidate among the first ones.
-fn keep(best: &mut Vec<(u32, u32)>, candidate: (u32, u32)) -> Option<()> {
-    if best.len() >= CANDIDATES && best.last().is_some_and(|last| *last < candidate) {
+/// Keeps a candidate, which is a count with a variable, among so many first ones.
+pub(crate) fn keep(best: &mut Vec<(u32, u32)>, candidate: (u32, u32), most: usize) -> Option<()> {
+    if best.len() >= most && best.last().is_some_and(|last| *last < candidate) {
         return Some(());
     }
     best.push(candidate).ok()?;
     best.sort().ok()?;
-    best.truncate(CANDIDATES);
+    best.truncate(most);
     Some(())
 }
 

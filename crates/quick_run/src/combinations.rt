@@ -11,6 +11,7 @@ ghost use Rattle.quick_run.specs.Shape.{IsLimitOf, IsShareOf, IsSourceOf, has_le
 use crate::choices::side_of;
 use crate::limits::opposite;
 use crate::rows::TableRow;
+use crate::shares::variable_of;
 use crate::tables::{Blocked, Table};
 use certs::{Branch, Combo, Share, Shares, Side, Source, stands_before};
 use frac128::Frac;
@@ -120,14 +121,7 @@ fn member_shares(
 fn weight_of(columns: u32, row: BlockedRow<'_>, member: Member) -> Option<Frac>
     ensures { IfSome result (λ weight. zero_ℚ <ℚ weight) }
 {
-    let variable = match member {
-        Member::RowLo(index) => columns.checked_add(index)?,
-        Member::RowUp(index) => columns.checked_add(index)?,
-        Member::Lower(index) => index,
-        Member::Upper(index) => index,
-        Member::Whole(_) => return None,
-    };
-    let weighed = row.weighed(variable)?;
+    let weighed = row.weighed(variable_of(columns, member)?)?;
     let is_taken = weighed.side == member.side() && !weighed.is_branched;
     if is_taken && is_positive(weighed.weight) {
         Some(weighed.weight)

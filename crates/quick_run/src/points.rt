@@ -72,6 +72,15 @@ pub(crate) fn read_off(table: &Table) -> Option<Step> {
     })
 }
 
+/// Moves the table to the point that the last suggestion read off, where it did.
+pub(crate) fn take_over(table: &mut Table) -> Option<()> {
+    let Some(step) = read_off(table) else {
+        return Some(());
+    };
+    table.blocked = None;
+    table.shift(step.variable, step.step)
+}
+
 // The one entry of a blocked row whose limit is gone; none where it is not just one.
 fn freed(table: &Table, row: &TableRow, blocked: Blocked) -> Option<Entry> {
     let mut freed = None;

@@ -1,14 +1,20 @@
 //! Runs on a table that is kept.
-ghost use Rattle.std.specs.Prelude.{◌≡◌, ◌+◌, ◌≤◌, IfSome, false, is_some};
+ghost use Rattle.std.specs.Prelude.{◌≡◌, ◌+◌, ◌≤◌, IfSome, false, is_some, length};
 ghost use Rattle.certs.specs.Checks.{IsSetOf};
-ghost use Rattle.quick_run.specs.Shape.{IsSuggestion};
+ghost use Rattle.quick_run.specs.Shape.{HasShape, IsSuggestion};
 ghost use Rattle.quick_run.specs.Value.{RunValue};
 
+use crate::alternative::cheapest;
 use crate::combinations::{combo, crossing};
+use crate::improving::best;
 use crate::pivots::{Turn, choose, make_pivot, most_pivots};
 use crate::points::{point, read_off};
+use crate::prices::Prices;
+use crate::relaxing::least;
 use crate::starts::start;
-use crate::suggestions::{Suggest, Suggestion};
+use crate::suggestions::{
+    BestSuggestion, CheapestSuggestion, Costs, LeastSuggestion, Suggest, Suggestion,
+};
 use crate::tables::Table;
 use certs::{Branch, MemberSet};
 use lp_model::Model;
@@ -91,6 +97,99 @@ impl Suggest for QuickRun {
         let suggestion = suggested(alloc, model, set, path, &mut table, pivots, &mut self.made)?;
         self.table = Some(table);
         Some(suggestion)
+    }
+
+    /// A point and shares that may show how little of a set must give way, where the rigid members may not be missed, found
+    /// with at most so many pivots from the table that the last suggestion left; none where there is no table, where a number
+    /// does not fit, or where too many pivots or entries are wanted or memory is refused. Nothing is promised of them but that
+    /// the point has a value for each column.
+    ///
+    /// The run is a primal simplex on the sum of weight times violation, which is piecewise linear: a basic variable that misses
+    /// a limit has its weight as its slope, and a variable that enters passes the limits of others as long as the sum falls
+    /// (the long step; Maros, *Computational Techniques of the Simplex Method*, 2003, chapter 9). Where none is returned the
+    /// table is thrown away.
+    fn suggest_least(
+        &mut self,
+        alloc: Global,
+        model: &Model,
+        set: &MemberSet,
+        rigid: &MemberSet,
+        costs: Costs,
+        pivots: u64,
+    ) -> Option<LeastSuggestion>
+        requires same { IsSetOf model.now set.now }
+        requires rigid { IsSetOf model.now rigid.now }
+        ensures shape { IfSome result (λ least. length least.point.values ≡ length model.now.columns) }
+        ensures counted { self.old.made ≤ self.new.made }
+        ensures spent { self.new.made ≤ self.old.made + pivots }
+        ensures kept { self.new.has_table ≡ is_some result }
+        ensures went_on { self.new.went_on ≡ self.old.went_on }
+    {
+        let mut table = self.table.take()?;
+        let most = pivots.min(most_pivots(&table));
+        let prices = Prices::new(alloc, model, rigid, costs)?;
+        let found = least(alloc, model, set, prices, &mut table, most, &mut self.made)?;
+        self.table = Some(table);
+        Some(found)
+    }
+
+    /// Shares, their cost and a price that may show the cheapest weighting of a set that refutes it (Gleeson and Ryan 1990),
+    /// found with at most so many pivots from the table that the last suggestion left, which was a combination of the set; none
+    /// where there is no such table, where a number does not fit, or where too many pivots or entries are wanted or memory is
+    /// refused. Nothing is promised of them but that the price has a value for each column.
+    ///
+    /// A row that shows that the set cannot be satisfied is a vertex of the alternative polyhedron. The run makes limits wider
+    /// by so many times their weights, as little as will do, and improves the vertex by dual simplex pivots: each variable
+    /// stands at a number with a multiple of that extent. Where none is returned the table is thrown away.
+    fn suggest_cheapest(
+        &mut self,
+        alloc: Global,
+        model: &Model,
+        set: &MemberSet,
+        pivots: u64,
+    ) -> Option<CheapestSuggestion>
+        requires same { IsSetOf model.now set.now }
+        ensures shape { IfSome result (λ cheapest. length cheapest.price.values ≡ length model.now.columns) }
+        ensures counted { self.old.made ≤ self.new.made }
+        ensures spent { self.new.made ≤ self.old.made + pivots }
+        ensures kept { self.new.has_table ≡ is_some result }
+        ensures went_on { self.new.went_on ≡ self.old.went_on }
+    {
+        let mut table = self.table.take()?;
+        let most = pivots.min(most_pivots(&table));
+        let found = cheapest(alloc, model, set, &mut table, most, &mut self.made)?;
+        self.table = Some(table);
+        Some(found)
+    }
+
+    /// A point with shares that may show how far the objective can go over a set, or with a ray that may show that it has no
+    /// end, found with at most so many pivots from the table that the last suggestion left, which was a point of the set; none
+    /// where there is no table, where a number does not fit, or where too many pivots or entries are wanted or memory is
+    /// refused. Nothing is promised of them but that the point and the ray have a value for each column.
+    ///
+    /// The objective's row is brought in, and the run is a primal simplex, in which of the candidates of least count the
+    /// steepest enters (Goldfarb and Reid, *A practicable steepest-edge simplex algorithm*, 1977); after many steps of length
+    /// 0 the least variable enters and leaves, until a step has a length (Bland 1977). Where none is returned the table is
+    /// thrown away.
+    fn suggest_best(
+        &mut self,
+        alloc: Global,
+        model: &Model,
+        set: &MemberSet,
+        pivots: u64,
+    ) -> Option<BestSuggestion>
+        requires same { IsSetOf model.now set.now }
+        ensures shape { IfSome result (HasShape (length model.now.columns)) }
+        ensures counted { self.old.made ≤ self.new.made }
+        ensures spent { self.new.made ≤ self.old.made + pivots }
+        ensures kept { self.new.has_table ≡ is_some result }
+        ensures went_on { self.new.went_on ≡ self.old.went_on }
+    {
+        let mut table = self.table.take()?;
+        let most = pivots.min(most_pivots(&table));
+        let found = best(alloc, model, set, &mut table, most, &mut self.made)?;
+        self.table = Some(table);
+        Some(found)
     }
 
     /// Throws the table away. True where the last suggestion was asked of a table that had been kept, and the table was not

@@ -2,7 +2,7 @@
 ghost use Rattle.std.specs.Prelude.{◌≡◌};
 ghost use Rattle.certs.specs.Checks.{IsSetOf};
 
-use crate::arithmetic::{common_divisor, product, quotient};
+use crate::arithmetic::{common_multiple, product, quotient};
 use crate::columns::Columns;
 use crate::entries::Entries;
 use crate::limits::{column_limits, row_limits};
@@ -82,8 +82,8 @@ fn sum(table: &Table, terms: &[Term]) -> Option<Frac> {
     Some(sum)
 }
 
-// The terms over their common denominator.
-fn whole_row(alloc: Global, base: u32, terms: &[Term]) -> Option<TableRow> {
+/// The terms over their common denominator.
+pub(crate) fn whole_row(alloc: Global, base: u32, terms: &[Term]) -> Option<TableRow> {
     let scale = common_denominator(terms)?;
     let mut entries = Entries::with_room(alloc, terms.len())?;
     for term in terms {
@@ -103,12 +103,7 @@ fn whole_row(alloc: Global, base: u32, terms: &[Term]) -> Option<TableRow> {
 fn common_denominator(terms: &[Term]) -> Option<i128> {
     let mut common: i128 = 1;
     for term in terms {
-        let denominator = term.factor.den();
-        if denominator == 1 {
-            continue;
-        }
-        let shared = common_divisor(common, denominator)?;
-        common = product(quotient(common, shared)?, denominator)?;
+        common = common_multiple(common, term.factor.den())?;
     }
     Some(common)
 }

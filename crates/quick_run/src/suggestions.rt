@@ -2,7 +2,8 @@
 ghost use Rattle.std.specs.Prelude.{◌≡◌, ◌+◌, ◌≤◌, ℕ};
 ghost use Rattle.certs.specs.Checks.{IsSetOf};
 
-use certs::{Branch, Combo, MemberSet, Point};
+use certs::{Branch, Combo, MemberSet, Point, Ray};
+use frac128::Frac;
 use lp_model::Model;
 use std::alloc::Global;
 
@@ -13,8 +14,39 @@ pub enum Suggestion {
     Combo(Combo),
 }
 
-/// What suggests whether sets of one program's members can be satisfied on paths. Nothing is promised of a suggestion, so all
-/// of it is to be checked; what is counted is its work.
+/// What may show how little of a set must give way: a point, and shares of members with which no point gives way by less.
+#[derive(Drop)]
+pub struct LeastSuggestion {
+    pub point: Point,
+    pub combo: Combo,
+}
+
+/// What it counts to miss a member that is not rigid by one: its own weight in the program, or 1.
+#[derive(Clone, Copy, PartialEq, Eq, Debug)]
+pub enum Costs {
+    Weights,
+    Ones,
+}
+
+/// What may be the cheapest weighting of a set that refutes it: shares with the right side -1, what they cost, and a price for
+/// that cost, with a value for each column.
+#[derive(Drop)]
+pub struct CheapestSuggestion {
+    pub combo: Combo,
+    pub total: Frac,
+    pub price: Point,
+}
+
+/// What may show how far the objective can go: a point at which it is best, and shares of members that add up to it; or a
+/// point, and a ray along which it has no end.
+#[derive(Drop)]
+pub enum BestSuggestion {
+    Bounded(Point, Combo),
+    Unbounded(Point, Ray),
+}
+
+/// What suggests whether sets of one program's members can be satisfied on paths, and what is least or best of them. Nothing is
+/// promised of a suggestion, so all of it is to be checked; what is counted is its work.
 pub trait Suggest {
     /// How many pivots were made so far.
     ghost made: { Self → ℕ };
@@ -29,6 +61,49 @@ pub trait Suggest {
         path: &[Branch],
         pivots: u64,
     ) -> Option<Suggestion>
+        requires same { IsSetOf model.now set.now }
+        ensures counted { made self.old ≤ made self.new }
+        ensures spent { made self.new ≤ made self.old + pivots };
+
+    /// What may show how little of a set must give way, where the rigid members may not be missed, found with at most so many
+    /// pivots. It goes on from the last suggestion, which was for the rigid members or, where there are none, for the set; none
+    /// where nothing is kept of that.
+    fn suggest_least(
+        &mut self,
+        alloc: Global,
+        model: &Model,
+        set: &MemberSet,
+        rigid: &MemberSet,
+        costs: Costs,
+        pivots: u64,
+    ) -> Option<LeastSuggestion>
+        requires same { IsSetOf model.now set.now }
+        requires rigid { IsSetOf model.now rigid.now }
+        ensures counted { made self.old ≤ made self.new }
+        ensures spent { made self.new ≤ made self.old + pivots };
+
+    /// What may be the cheapest weighting of a set that refutes it, found with at most so many pivots. It goes on from the last
+    /// suggestion, which was a combination of the set; none where nothing is kept of that.
+    fn suggest_cheapest(
+        &mut self,
+        alloc: Global,
+        model: &Model,
+        set: &MemberSet,
+        pivots: u64,
+    ) -> Option<CheapestSuggestion>
+        requires same { IsSetOf model.now set.now }
+        ensures counted { made self.old ≤ made self.new }
+        ensures spent { made self.new ≤ made self.old + pivots };
+
+    /// What may show how far the objective can go over a set, found with at most so many pivots. It goes on from the last
+    /// suggestion, which was a point of the set; none where nothing is kept of that.
+    fn suggest_best(
+        &mut self,
+        alloc: Global,
+        model: &Model,
+        set: &MemberSet,
+        pivots: u64,
+    ) -> Option<BestSuggestion>
         requires same { IsSetOf model.now set.now }
         ensures counted { made self.old ≤ made self.new }
         ensures spent { made self.new ≤ made self.old + pivots };

@@ -42,13 +42,8 @@ impl Table {
     pub(crate) fn limit(&mut self, model: &Model, set: &MemberSet, path: &[Branch]) -> Option<()>
         requires same { IsSetOf model.now set.now }
     {
+        self.put_all_limits(model, set)?;
         let columns = model.column_count();
-        for index in 0..columns {
-            self.put_limits(index, column_limits(model, set, index))?;
-        }
-        for index in 0..model.row_count() {
-            self.put_limits(columns.checked_add(index)?, row_limits(model, set, index))?;
-        }
         for branch in path {
             if branch.column >= columns {
                 return None;
@@ -57,6 +52,20 @@ impl Table {
         }
         for variable in 0..u32::try_from(self.variables.len()).ok()? {
             self.bring_inside(variable)?;
+        }
+        Some(())
+    }
+
+    /// Puts the variables under the limits of a set, and moves none.
+    pub(crate) fn put_all_limits(&mut self, model: &Model, set: &MemberSet) -> Option<()>
+        requires same { IsSetOf model.now set.now }
+    {
+        let columns = model.column_count();
+        for index in 0..columns {
+            self.put_limits(index, column_limits(model, set, index))?;
+        }
+        for index in 0..model.row_count() {
+            self.put_limits(columns.checked_add(index)?, row_limits(model, set, index))?;
         }
         Some(())
     }

@@ -2,15 +2,15 @@
 ghost use Rattle.certs.specs.Checks.{IsSetOf};
 
 use crate::beside::{active, reference_of};
-use crate::models::opposed_text;
 use certs::{
     Branch, Combo, MemberSet, Oracle, Point, Share, Shares, Source, Stop, Values, Verdict,
 };
+use chance_models::opposed_text;
 use frac128::Frac;
 use lp_model::{Member, Model};
 use mps_reader::read_mps;
 use quick_oracle::{Kept, QuickOracle};
-use quick_run::{Suggest, Suggestion};
+use quick_run::{BestSuggestion, CheapestSuggestion, Costs, LeastSuggestion, Suggest, Suggestion};
 use std::alloc::{AllocError, Global};
 
 // What a run may spend.
@@ -60,6 +60,38 @@ impl Suggest for Liar {
     ) -> Option<Suggestion> {
         self.made = self.made.saturating_add(pivots.min(1));
         suggestion(alloc, model, self.lie).ok()?
+    }
+
+    fn suggest_least(
+        &mut self,
+        _alloc: Global,
+        _model: &Model,
+        _set: &MemberSet,
+        _rigid: &MemberSet,
+        _costs: Costs,
+        _pivots: u64,
+    ) -> Option<LeastSuggestion> {
+        None
+    }
+
+    fn suggest_cheapest(
+        &mut self,
+        _alloc: Global,
+        _model: &Model,
+        _set: &MemberSet,
+        _pivots: u64,
+    ) -> Option<CheapestSuggestion> {
+        None
+    }
+
+    fn suggest_best(
+        &mut self,
+        _alloc: Global,
+        _model: &Model,
+        _set: &MemberSet,
+        _pivots: u64,
+    ) -> Option<BestSuggestion> {
+        None
     }
 
     fn restart(&mut self) -> bool {
@@ -133,10 +165,10 @@ pub(crate) fn try_lie(
     is_marked: bool,
 ) -> Result<Option<Told>, AllocError> {
     let text = opposed_text(alloc, is_marked)?;
-    if text.bytes.len() >= 2_147_483_648 {
+    if text.len() >= 2_147_483_648 {
         return Ok(None);
     }
-    let Ok(model) = read_mps(alloc, text.bytes.as_slice()) else {
+    let Ok(model) = read_mps(alloc, text.as_slice()) else {
         return Ok(None);
     };
     let mut set = active(alloc, &model)?;

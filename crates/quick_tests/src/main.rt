@@ -9,16 +9,13 @@
 #![tactic(auto)]
 
 mod beside;
-mod chance;
 mod liars;
-mod models;
 mod tally;
 
 use crate::beside::try_text;
-use crate::chance::Chance;
 use crate::liars::{Lie, try_lie};
-use crate::models::{Kind, Shape, model_text};
 use crate::tally::Tally;
+use chance_models::{Chance, Kind, Rows, kind_text};
 use std::alloc::{AllocError, Global};
 use std::io;
 
@@ -32,8 +29,8 @@ struct Batch {
 }
 
 // Rows with whole numbers of one digit, beside so many columns that stand in no row.
-fn plain(idle: u32) -> Shape {
-    Shape {
+fn plain(idle: u32) -> Rows {
+    Rows {
         most_rows: 8,
         most_busy: 7,
         idle,
@@ -50,7 +47,7 @@ fn batches() -> [Batch; 12] {
     [
         Batch {
             name: "small",
-            kind: Kind::Rows(Shape {
+            kind: Kind::Rows(Rows {
                 crossing: 12,
                 ..plain(0)
             }),
@@ -65,7 +62,7 @@ fn batches() -> [Batch; 12] {
         },
         Batch {
             name: "bounds that cross",
-            kind: Kind::Rows(Shape {
+            kind: Kind::Rows(Rows {
                 crossing: 60,
                 ..wide
             }),
@@ -74,7 +71,7 @@ fn batches() -> [Batch; 12] {
         },
         Batch {
             name: "tenths",
-            kind: Kind::Rows(Shape {
+            kind: Kind::Rows(Rows {
                 places: 1,
                 digits: 2,
                 ..wide
@@ -84,7 +81,7 @@ fn batches() -> [Batch; 12] {
         },
         Batch {
             name: "many digits",
-            kind: Kind::Rows(Shape {
+            kind: Kind::Rows(Rows {
                 places: 3,
                 digits: 9,
                 ..wide
@@ -112,7 +109,7 @@ fn batches() -> [Batch; 12] {
         },
         Batch {
             name: "marked rows",
-            kind: Kind::Rows(Shape {
+            kind: Kind::Rows(Rows {
                 is_marked: true,
                 ..wide
             }),
@@ -145,8 +142,8 @@ fn try_batch(alloc: Global, batch: Batch) -> Result<Tally, AllocError> {
     let mut tally = Tally::new();
     for number in 0..batch.models {
         let mut chance = Chance::new(batch.seed.wrapping_add(number));
-        let text = model_text(alloc, batch.kind, &mut chance)?;
-        try_text(alloc, text.bytes.as_slice(), &mut tally)?;
+        let text = kind_text(alloc, batch.kind, &mut chance)?;
+        try_text(alloc, text.as_slice(), &mut tally)?;
     }
     Ok(tally)
 }

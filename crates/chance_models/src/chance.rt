@@ -3,13 +3,13 @@ ghost use Rattle.std.specs.Prelude.{◌<◌, ◌≤◌, ◌+◌};
 
 /// A generator of numbers by shifts: the same seed gives the same numbers.
 #[derive(Drop)]
-pub(crate) struct Chance {
+pub struct Chance {
     state: u64,
 }
 
 impl Chance {
     /// The generator of a seed.
-    pub(crate) fn new(seed: u32) -> Chance {
+    pub fn new(seed: u32) -> Chance {
         Chance {
             state: u64::from(seed)
                 .wrapping_mul(0x9e37_79b9_7f4a_7c15)
@@ -18,7 +18,7 @@ impl Chance {
     }
 
     /// A number from 0 up, below a limit.
-    pub(crate) fn below(&mut self, limit: u32) -> u32
+    pub fn below(&mut self, limit: u32) -> u32
         requires { 0 < limit }
         ensures { result < limit }
     {
@@ -31,7 +31,7 @@ impl Chance {
     }
 
     /// Whether one of so many cases comes.
-    pub(crate) fn one_in(&mut self, cases: u32) -> bool
+    pub fn one_in(&mut self, cases: u32) -> bool
         requires { 0 < cases }
     {
         self.below(cases) == 0

@@ -1,14 +1,15 @@
-//! Models by chance, as texts in the MPS format.
+//! Models of several kinds, most of which have more rows times columns than a small set.
 ghost use Rattle.std.specs.Prelude.{◌<◌};
 
 use crate::chance::Chance;
+use crate::texts::{Text, number};
 use std::alloc::{AllocError, Global};
 
 /// A kind of models.
 #[derive(Clone, Copy)]
-pub(crate) enum Kind {
+pub enum Kind {
     /// Rows over a few columns, beside which others stand in no row.
-    Rows(Shape),
+    Rows(Rows),
     /// A plan: what is made and what is in store meets each period's demand.
     Plan,
     /// A transport from suppliers to customers.
@@ -25,7 +26,7 @@ pub(crate) enum Kind {
 
 /// The sizes of a model of rows, and what may stand in it.
 #[derive(Clone, Copy)]
-pub(crate) struct Shape {
+pub struct Rows {
     /// There are from 2 rows to so many.
     pub most_rows: u32,
     /// There are from 2 columns in the rows to so many.
@@ -42,74 +43,12 @@ pub(crate) struct Shape {
     pub is_marked: bool,
 }
 
-/// A text that grows line by line.
-#[derive(Drop)]
-pub(crate) struct Text {
-    alloc: Global,
-    pub bytes: Vec<u8>,
-}
-
-impl Text {
-    // A text with nothing in it.
-    fn new(alloc: Global) -> Text {
-        Text {
-            alloc,
-            bytes: Vec::new(alloc),
-        }
-    }
-
-    // Puts words last.
-    fn put(&mut self, words: &str) -> Result<(), AllocError> {
-        self.bytes.extend_from_slice(words.as_bytes())?;
-        Ok(())
-    }
-
-    // The lines of rows of a kind, by number.
-    fn rows(&mut self, kind: &str, first: u32, count: u32) -> Result<(), AllocError> {
-        for row in first..first.saturating_add(count) {
-            let line = format!(in self.alloc; " {kind} r{row}\n")?;
-            self.put(line.as_str())?;
-        }
-        Ok(())
-    }
-
-    // The line by which a column is declared.
-    fn column(&mut self, column: u32) -> Result<(), AllocError> {
-        let line = format!(in self.alloc; " x{column} cost 1\n")?;
-        self.put(line.as_str())
-    }
-
-    // The line of an entry.
-    fn entry(&mut self, column: u32, row: u32, factor: &str) -> Result<(), AllocError> {
-        let line = format!(in self.alloc; " x{column} r{row} {factor}\n")?;
-        self.put(line.as_str())
-    }
-
-    // The line of a right side.
-    fn side(&mut self, row: u32, number: &str) -> Result<(), AllocError> {
-        let line = format!(in self.alloc; " rhs r{row} {number}\n")?;
-        self.put(line.as_str())
-    }
-
-    // The line of an upper bound that marks the column.
-    fn whole(&mut self, column: u32, number: u32) -> Result<(), AllocError> {
-        let line = format!(in self.alloc; " UI bound x{column} {number}\n")?;
-        self.put(line.as_str())
-    }
-
-    // The line of an upper bound.
-    fn upper(&mut self, column: u32, number: u32) -> Result<(), AllocError> {
-        let line = format!(in self.alloc; " UP bound x{column} {number}\n")?;
-        self.put(line.as_str())
-    }
-}
-
 /// A model of a kind.
-pub(crate) fn model_text(
-    alloc: Global,
-    kind: Kind,
-    chance: &mut Chance,
-) -> Result<Text, AllocError> {
+///
+/// # Errors
+///
+/// Where there is no memory for it.
+pub fn kind_text(alloc: Global, kind: Kind, chance: &mut Chance) -> Result<Vec<u8>, AllocError> {
     let mut text = Text::new(alloc);
     text.put("NAME made\nROWS\n N cost\n")?;
     match kind {
@@ -122,24 +61,46 @@ pub(crate) fn model_text(
         Kind::Triangles => put_triangles(&mut text, chance)?,
     }
     text.put("ENDATA\n")?;
-    Ok(text)
+    Ok(text.bytes)
 }
 
 /// A model of two rows, of which one asks a column to be at least 1 and the other to be at most 0, beside 1,100 columns that
 /// stand in no row. The column may be marked.
-pub(crate) fn opposed_text(alloc: Global, is_marked: bool) -> Result<Text, AllocError> {
+///
+/// # Errors
+///
+/// Where there is no memory for it.
+pub fn opposed_text(alloc: Global, is_marked: bool) -> Result<Vec<u8>, AllocError> {
     let mut text = Text::new(alloc);
     text.put("NAME opposed\nROWS\n N cost\n G r0\n L r1\nCOLUMNS\n")?;
     text.put(" x0 r0 1\n x0 r1 1\n")?;
     for column in 1..1_101 {
-        text.column(column)?;
+        text.cost(column, "1")?;
     }
     text.put("RHS\n rhs r0 1\n")?;
     if is_marked {
         text.put("BOUNDS\n LI bound x0 0\n")?;
     }
     text.put("ENDATA\n")?;
-    Ok(text)
+    Ok(text.bytes)
+}
+
+/// A model of two columns, each of which one row asks to be at least 1 and another to be at most 0. The objective is to be
+/// small; it is the first column less the second. 1,100 columns beside them stand in no row of a kind.
+///
+/// # Errors
+///
+/// Where there is no memory for it.
+pub fn paired_text(alloc: Global) -> Result<Vec<u8>, AllocError> {
+    let mut text = Text::new(alloc);
+    text.put("NAME paired\nROWS\n N cost\n G r0\n L r1\n G r2\n L r3\n N spare\nCOLUMNS\n")?;
+    text.put(" x0 cost 1 r0 1\n x0 r1 1\n x1 cost -1 r2 1\n x1 r3 1\n")?;
+    for column in 2..1_102 {
+        let line = format!(in alloc; " x{column} spare 1\n")?;
+        text.put(line.as_str())?;
+    }
+    text.put("RHS\n rhs r0 1 r2 1\nENDATA\n")?;
+    Ok(text.bytes)
 }
 
 // ---- rows of all kinds
@@ -150,7 +111,7 @@ fn some(most: u32, chance: &mut Chance) -> u32 {
 }
 
 // Rows of all kinds over columns with all kinds of bounds.
-fn put_rows(text: &mut Text, shape: Shape, chance: &mut Chance) -> Result<(), AllocError> {
+fn put_rows(text: &mut Text, shape: Rows, chance: &mut Chance) -> Result<(), AllocError> {
     let rows = some(shape.most_rows, chance);
     let busy = some(shape.most_busy, chance);
     let columns = busy.saturating_add(shape.idle);
@@ -159,23 +120,17 @@ fn put_rows(text: &mut Text, shape: Shape, chance: &mut Chance) -> Result<(), Al
     }
     text.put("COLUMNS\n")?;
     for column in 0..columns {
-        text.column(column)?;
+        text.cost(column, "1")?;
         if column < busy {
             put_entries(text, shape, column, rows, chance)?;
         }
     }
     text.put("RHS\n")?;
     for row in 0..rows {
-        let number = number(text.alloc, shape, chance)?;
+        let number = number(text.alloc, shape.places, shape.digits, chance)?;
         text.side(row, number.as_str())?;
     }
-    text.put("RANGES\n")?;
-    for row in 0..rows {
-        if chance.one_in(6) {
-            let line = format!(in text.alloc; " range r{row} {}\n", chance.below(7))?;
-            text.put(line.as_str())?;
-        }
-    }
+    text.ranges(rows, chance)?;
     text.put("BOUNDS\n")?;
     for column in 0..columns {
         if shape.is_marked && column < busy {
@@ -199,53 +154,29 @@ fn row_kind(chance: &mut Chance) -> &'static str {
 // About every second entry of a column.
 fn put_entries(
     text: &mut Text,
-    shape: Shape,
+    shape: Rows,
     column: u32,
     rows: u32,
     chance: &mut Chance,
 ) -> Result<(), AllocError> {
     for row in 0..rows {
         if chance.one_in(2) {
-            let factor = number(text.alloc, shape, chance)?;
+            let factor = number(text.alloc, shape.places, shape.digits, chance)?;
             text.entry(column, row, factor.as_str())?;
         }
     }
     Ok(())
 }
 
-// A number of either sign with so many digits, as a decimal literal.
-fn number(alloc: Global, shape: Shape, chance: &mut Chance) -> Result<String, AllocError> {
-    let mut literal = String::new(alloc);
-    if chance.one_in(2) {
-        literal.push('-')?;
-    }
-    for _ in shape.places.saturating_add(1)..shape.digits {
-        literal.push(digit(chance.below(10)))?;
-    }
-    literal.push(digit(chance.below(5)))?;
-    if shape.places > 0 {
-        literal.push('.')?;
-    }
-    for _ in 0..shape.places {
-        literal.push(digit(chance.below(10)))?;
-    }
-    Ok(literal)
-}
-
-// The digit of a number below 10.
-fn digit(number: u32) -> char {
-    char::from_digit(number, 10).unwrap_or('0')
-}
-
 // Whether the bounds of a column are to cross.
-fn do_cross(shape: Shape, chance: &mut Chance) -> bool {
+fn do_cross(shape: Rows, chance: &mut Chance) -> bool {
     shape.crossing > 0 && chance.one_in(shape.crossing)
 }
 
 // One of the kinds of bounds: none of its own, one, both in order or crossing, one number for both, and none at all.
 fn put_bounds(
     text: &mut Text,
-    shape: Shape,
+    shape: Rows,
     column: u32,
     chance: &mut Chance,
 ) -> Result<(), AllocError> {
@@ -284,14 +215,14 @@ fn put_plan(text: &mut Text, chance: &mut Chance) -> Result<(), AllocError> {
     text.rows("E", 0, periods)?;
     text.put("COLUMNS\n")?;
     for period in 0..periods {
-        text.column(period)?;
+        text.cost(period, "1")?;
         text.entry(period, period, "-1")?;
         if period.saturating_add(1) < periods {
             text.entry(period, period.saturating_add(1), "1")?;
         }
     }
     for period in 0..periods {
-        text.column(periods.saturating_add(period))?;
+        text.cost(periods.saturating_add(period), "1")?;
         text.entry(periods.saturating_add(period), period, "1")?;
     }
     text.put("RHS\n")?;
@@ -319,7 +250,7 @@ fn put_transport(text: &mut Text, chance: &mut Chance) -> Result<(), AllocError>
     text.rows("G", 10, 10)?;
     text.put("COLUMNS\n")?;
     for route in 0..100 {
-        text.column(route)?;
+        text.cost(route, "1")?;
         text.entry(route, route / 10, "1")?;
         text.entry(route, (route % 10).saturating_add(10), "1")?;
     }
@@ -343,7 +274,7 @@ fn put_flow(text: &mut Text, chance: &mut Chance) -> Result<(), AllocError> {
             .saturating_add(from)
             .saturating_add(1)
             .min(23);
-        text.column(arc)?;
+        text.cost(arc, "1")?;
         if from > 0 {
             text.entry(arc, from, "-1")?;
         }
@@ -364,18 +295,18 @@ fn put_flow(text: &mut Text, chance: &mut Chance) -> Result<(), AllocError> {
 // The lines of columns from a number on that stand in no row.
 fn put_idle(text: &mut Text, first: u32, count: u32) -> Result<(), AllocError> {
     for column in first..first.saturating_add(count) {
-        text.column(column)?;
+        text.cost(column, "1")?;
     }
     Ok(())
 }
 
-// From 3 to 4 columns of at most 3 whose even weights are to come to an odd total, and of which all together are to come to at
-// least 1 and at most 12, beside 400 that stand in no row.
+// From 3 to 4 columns of at most 3 whose even weights are to come to an odd total, and of which all together are to come to
+// at least 1 and at most 12, beside 400 that stand in no row.
 fn put_knapsack(text: &mut Text, chance: &mut Chance) -> Result<(), AllocError> {
     let busy = chance.below(2).saturating_add(3);
     text.put(" E r0\n G r1\n L r2\nCOLUMNS\n")?;
     for column in 0..busy {
-        text.column(column)?;
+        text.cost(column, "1")?;
         let weight = format!(in text.alloc; "{}", chance.below(6).saturating_add(3) * 2)?;
         text.entry(column, 0, weight.as_str())?;
         text.entry(column, 1, "1")?;
@@ -398,7 +329,7 @@ fn put_shifts(text: &mut Text, chance: &mut Chance) -> Result<(), AllocError> {
     text.rows("L", 7, 1)?;
     text.put("COLUMNS\n")?;
     for shift in 0..7 {
-        text.column(shift)?;
+        text.cost(shift, "1")?;
         for day in 0..5 {
             text.entry(shift, shift.saturating_add(day) % 7, "1")?;
         }
@@ -431,7 +362,7 @@ fn put_triangles(text: &mut Text, chance: &mut Chance) -> Result<(), AllocError>
     text.rows("L", columns, 1)?;
     text.put("COLUMNS\n")?;
     for column in 0..columns {
-        text.column(column)?;
+        text.cost(column, "1")?;
         let first = column - column % 3;
         text.entry(column, column, "1")?;
         text.entry(column, first.saturating_add((column % 3 + 1) % 3), "1")?;

@@ -1,0 +1,3 @@
+pub mod Weighings
+pub mod Witnessing
+pub mod Further

@@ -1,0 +1,115 @@
+//! How far the objective can go over a set, by quick runs.
+ghost use Rattle.std.specs.Prelude.{◌≡◌, ◌+◌, ◌≤◌, IfSome, None, false, true};
+ghost use Rattle.certs.specs.Checks.{IsSetOf};
+ghost use Rattle.certs.specs.Trees.{has_mark};
+ghost use Rattle.quick_oracle.specs.Alone.{stands_alone as is_alone};
+ghost use Rattle.quick_optimum.specs.Best.{IsBestOf};
+
+use crate::spending::left;
+use bound_checks::{
+    Dual, Ray, check_bound, check_ray, check_value, checked_value, directed, right_side,
+};
+use certs::{Combo, Point, are_in_order};
+use frac128::Frac;
+use lp_model::{MemberSet, Model};
+use quick_oracle::{Kept, is_point, is_yes, stands_alone};
+use quick_run::{BestSuggestion, Suggest, Suggestion};
+use std::alloc::Global;
+use unbounded::Diagnosis;
+
+/// Whether the objective runs away over a set, or how far it can go, where quick runs of at most so many pivots suggest it and
+/// the checks of `bound_checks` confirm it: the point satisfies the set and reaches the bound that the dual shows, or the ray
+/// improves the objective and keeps the set. Where what was kept gives nothing, it is tried once more from nothing. None where
+/// nothing was confirmed, and where the set stands alone: it is small, limits cross, or it has a mark.
+pub fn quick_best<S: Suggest>(
+    alloc: Global,
+    model: &Model,
+    set: &MemberSet,
+    kept: &mut Kept<S>,
+    pivots: u64,
+) -> Option<Diagnosis>
+    requires same { IsSetOf model.now set.now }
+    ensures found { IfSome result (IsBestOf model.now set.now.members) }
+    ensures alone { is_alone model.now set.now.members 0 ≡ true → result ≡ None }
+    ensures counted { kept.old.made ≤ kept.new.made }
+    ensures spent { kept.new.made ≤ kept.old.made + pivots }
+{
+    if stands_alone(model, set, 0) {
+        return None;
+    }
+    let before = kept.pivots_made();
+    if let Some(found) = best_once(alloc, model, set, kept, pivots) {
+        return Some(found);
+    }
+    if !kept.restart() {
+        return None;
+    }
+    let pivots = left(kept, before, pivots);
+    best_once(alloc, model, set, kept, pivots)
+}
+
+// The same by what is kept: the set is settled, and then the objective is improved.
+fn best_once<S: Suggest>(
+    alloc: Global,
+    model: &Model,
+    set: &MemberSet,
+    kept: &mut Kept<S>,
+    pivots: u64,
+) -> Option<Diagnosis>
+    requires same { IsSetOf model.now set.now }
+    requires linear { has_mark set.now.members ≡ false }
+    ensures found { IfSome result (IsBestOf model.now set.now.members) }
+    ensures counted { kept.old.made ≤ kept.new.made }
+    ensures spent { kept.new.made ≤ kept.old.made + pivots }
+{
+    let before = kept.pivots_made();
+    let Suggestion::Point(_) = kept.suggest(alloc, model, set, pivots)? else {
+        return None;
+    };
+    let pivots = left(kept, before, pivots);
+    match kept.suggest_best(alloc, model, set, pivots)? {
+        BestSuggestion::Bounded(point, combo) => bounded(alloc, model, set, point, combo),
+        BestSuggestion::Unbounded(point, ray) => unbounded(model, set, point, ray),
+    }
+}
+
+// A point, and a bound that shares show, where the checks confirm that the point reaches it.
+fn bounded(
+    alloc: Global,
+    model: &Model,
+    set: &MemberSet,
+    point: Point,
+    combo: Combo,
+) -> Option<Diagnosis>
+    requires same { IsSetOf model.now set.now }
+    requires linear { has_mark set.now.members ≡ false }
+    ensures { IfSome result (IsBestOf model.now set.now.members) }
+{
+    checked_value();
+    if !are_in_order(combo.shares.as_slice()) || !is_point(model, set, &point) {
+        return None;
+    }
+    let bound = directed(model, right_side(model, combo.shares.as_slice()).ok()?);
+    let dual = Dual { combo, bound };
+    let mut sums = vec![in alloc; Frac::whole(0); model.column_count() as usize].ok()?;
+    if !is_yes(check_bound(model, set, &dual, sums.as_mut_slice()))
+        || !is_yes(check_value(model, &point, bound))
+    {
+        return None;
+    }
+    Some(Diagnosis::Bounded(point, Some(bound), dual))
+}
+
+// A point and a ray, where the checks confirm them.
+fn unbounded(model: &Model, set: &MemberSet, point: Point, ray: Ray) -> Option<Diagnosis>
+    requires linear { has_mark set.now.members ≡ false }
+    ensures { IfSome result (IsBestOf model.now set.now.members) }
+{
+    if ray.values.as_slice().len() != model.column_count() as usize
+        || !is_point(model, set, &point)
+        || !is_yes(check_ray(model, set, &ray))
+    {
+        return None;
+    }
+    Some(Diagnosis::Unbounded(point, ray))
+}

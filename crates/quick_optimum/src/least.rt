@@ -1,0 +1,119 @@
+//! How little of a set must give way, by quick runs.
+ghost use Rattle.std.specs.Prelude.{◌≡◌, ◌+◌, ◌≤◌, IfSome, List, None, true};
+ghost use Rattle.lp_model.specs.declared.members.Member.{Member as OneMember};
+ghost use Rattle.certs.specs.Checks.{IsSetOf};
+ghost use Rattle.certs.specs.Violation.{rigid_members};
+ghost use Rattle.quick_oracle.specs.Alone.{stands_alone as is_alone};
+ghost use Rattle.relaxation.specs.Relaxed.{IsRelaxed};
+
+use crate::spending::left;
+use bound_checks::{Dual, right_side};
+use certs::{Combo, are_in_order};
+use frac128::Frac;
+use least_checks::{check_least, check_violation, checked_violation, reached_is_least, rigid_set};
+use lp_model::{MemberSet, Model};
+use quick_oracle::{Kept, is_combo, is_point, is_yes, stands_alone};
+use quick_run::{Costs, LeastSuggestion, Suggest, Suggestion};
+use relaxation::Relaxed;
+use std::alloc::Global;
+
+/// How little of a set's members must give way, where quick runs of at most so many pivots suggest it and the checks of
+/// `least_checks` confirm it: the point satisfies the rigid members, and its weighted violation is the total that the dual
+/// shows; or a combination of the rigid members. Where what was kept gives nothing, it is tried once more from nothing. None
+/// where nothing was confirmed, and where the set stands alone: it is small, limits cross, or it has a mark.
+pub fn quick_least<S: Suggest>(
+    alloc: Global,
+    model: &Model,
+    set: &MemberSet,
+    kept: &mut Kept<S>,
+    pivots: u64,
+) -> Option<Relaxed>
+    requires same { IsSetOf model.now set.now }
+    ensures found { IfSome result (IsRelaxed model.now set.now.members) }
+    ensures alone { is_alone model.now set.now.members 0 ≡ true → result ≡ None }
+    ensures counted { kept.old.made ≤ kept.new.made }
+    ensures spent { kept.new.made ≤ kept.old.made + pivots }
+{
+    if stands_alone(model, set, 0) {
+        return None;
+    }
+    let rigid = rigid_set(alloc, model, set).ok()?;
+    let before = kept.pivots_made();
+    if let Some(found) = least_once(alloc, model, set, &rigid, kept, pivots) {
+        return Some(found);
+    }
+    if !kept.restart() {
+        return None;
+    }
+    let pivots = left(kept, before, pivots);
+    least_once(alloc, model, set, &rigid, kept, pivots)
+}
+
+// The same by what is kept: the rigid members are settled, or where there are none the set, and then the violation is made least.
+fn least_once<S: Suggest>(
+    alloc: Global,
+    model: &Model,
+    set: &MemberSet,
+    rigid: &MemberSet,
+    kept: &mut Kept<S>,
+    pivots: u64,
+) -> Option<Relaxed>
+    requires same { IsSetOf model.now set.now }
+    requires rigid { IsSetOf model.now rigid.now }
+    requires rigid_are { rigid.now.members ≡ rigid_members model.now set.now.members }
+    ensures found { IfSome result (IsRelaxed model.now set.now.members) }
+    ensures counted { kept.old.made ≤ kept.new.made }
+    ensures spent { kept.new.made ≤ kept.old.made + pivots }
+{
+    let before = kept.pivots_made();
+    let has_rigid = rigid.count() > 0;
+    let first = if has_rigid { rigid } else { set };
+    let settled = kept.suggest(alloc, model, first, pivots)?;
+    if has_rigid && let Suggestion::Combo(combo) = settled {
+        return rigid_refuted(alloc, model, rigid, combo);
+    }
+    let pivots = left(kept, before, pivots);
+    let found = kept.suggest_least(alloc, model, set, rigid, Costs::Weights, pivots)?;
+    confirmed(alloc, model, set, rigid, found)
+}
+
+// A combination of the rigid members, where it is confirmed.
+fn rigid_refuted(alloc: Global, model: &Model, rigid: &MemberSet, combo: Combo) -> Option<Relaxed>
+    requires rigid { IsSetOf model.now rigid.now }
+    ensures { (set : List OneMember) → rigid.now.members ≡ rigid_members model.now set
+        → IfSome result (IsRelaxed model.now set) }
+{
+    if !is_combo(alloc, model, rigid, &[], &combo) {
+        return None;
+    }
+    Some(Relaxed::RigidInfeasible(combo))
+}
+
+// A point and the dual of the shares, where the checks confirm that they show the same total.
+fn confirmed(
+    alloc: Global,
+    model: &Model,
+    set: &MemberSet,
+    rigid: &MemberSet,
+    found: LeastSuggestion,
+) -> Option<Relaxed>
+    requires same { IsSetOf model.now set.now }
+    requires rigid_are { rigid.now.members ≡ rigid_members model.now set.now.members }
+    ensures { IfSome result (IsRelaxed model.now set.now.members) }
+{
+    checked_violation();
+    reached_is_least();
+    let LeastSuggestion { point, combo } = found;
+    if !are_in_order(combo.shares.as_slice()) || !is_point(model, rigid, &point) {
+        return None;
+    }
+    let bound = right_side(model, combo.shares.as_slice()).ok()?.negate();
+    let dual = Dual { combo, bound };
+    let mut sums = vec![in alloc; Frac::whole(0); model.column_count() as usize].ok()?;
+    if !is_yes(check_least(model, set, &dual, sums.as_mut_slice()))
+        || !is_yes(check_violation(model, set, &point, bound))
+    {
+        return None;
+    }
+    Some(Relaxed::Least { point, dual })
+}
