@@ -1,5 +1,5 @@
 -- What a diagnosis gives, as an answer.
-use Rattle.std.proofs.Common.{◌≡◌, ◌⊎◌, ◌<◌, ◌≤◌, refl, sym, subst, Bool, false, not, List, [], filter, length, Result, Ok, Err, inl, inr, arith}
+use Rattle.std.proofs.Common.{◌≡◌, ◌⊎◌, ◌<◌, ◌≤◌, refl, sym, subst, Bool, true, false, not, List, [], filter, length, Result, Ok, Err, inl, inr, arith}
 use Rattle.std.specs.Prelude.{All, Contains, IfOk, IfErr}
 use Rattle.std.proofs.lemmas.List.Filters.{length-filter_both}
 use Rattle.certs.specs.Ended.{numbers_from}
@@ -34,6 +34,8 @@ use Rattle.report_text.specs.Form.{IsRunSite}
 use Rattle.report_printer.specs.Printing.{IsKnownAnswer, IsKnownSource}
 use Rattle.branch_oracle.specs.Value.{BranchValue}
 use Rattle.presolve_oracle.specs.Value.{PresolveValue}
+use Rattle.quick_oracle.specs.Alone.{stands_alone}
+use Rattle.quick_optimum.specs.Best.{IsBestOf}
 use Rattle.analysis.specs.Answers.{IsPossibleSite, IsRefutedBy, IsStopAnswer, IsToldStop, fresh_oracle, oracle_state}
 use Rattle.analysis.specs.Objectives.{IsFoundBy, IsTold}
 use Rattle.analysis.specs.Right.{IsWhole}
@@ -128,8 +130,8 @@ module _ (model : Program) (budgets : Budgets) where
 
   pub found_by : (old new : OracleState) (found : Result Diagnosis Stop) → IfOk found (IsDiagnosis model set) → IfErr found (λ stop. QuickAnswers model budgets set (Err stop) ⊎ IsOwnStop model set budgets.pivots stop)
       → (has_mark set ≡ false → IfOk found (HasLastPoint model set budgets.pivots)) → AsksOnce (QuickAnswers model budgets set) old new set found → IsFoundBy model budgets found
-  found_by old new (Ok (AlongRay p ray)) is stop last asked = (is, last)
-  found_by old new (Ok (ByDual p v dual)) is stop last asked = (is, last)
+  found_by old new (Ok (AlongRay p ray)) is stop last asked = (is, λ alone. last)
+  found_by old new (Ok (ByDual p v dual)) is stop last asked = (is, λ alone. last)
   found_by old new (Ok (NoPoint proof)) is stop last asked =
       let answered = asked_proof old new proof asked in
       (is, (proof_ordered model budgets set proof answered, proof_fits model budgets set proof answered))
@@ -145,6 +147,12 @@ module _ (model : Program) (budgets : Budgets) where
       (subst (λ (o : BranchValue PresolveValue). IfErr found (λ stop. QuickAnswers (oracle_state o).model (oracle_state o).budgets set (Err stop) ⊎ IsOwnStop model set budgets.pivots stop)) fresh stop)
       last
       (subst (λ (o : BranchValue PresolveValue). AsksOnce (QuickAnswers (oracle_state o).model (oracle_state o).budgets set) old new set found) fresh asked)
+
+  -- what quick runs show, of a set of which such runs are made
+  pub best_found : (found : Diagnosis) → (stands_alone model set 0 ≡ true → ⊥) → IsBestOf model set found → IsFoundBy model budgets (Ok found)
+  best_found (AlongRay p ray) other is = (is, λ alone. absurd (other alone))
+  best_found (ByDual p v dual) other is = (is, λ alone. absurd (other alone))
+  best_found (NoPoint proof) other is = absurd is
 
   -- each of the two by itself
   pub first_of : {E : Type 0} (result : Result Answer E) → IfOk result (λ a. IsTold model budgets a × IsKnownAnswer model a) → IfOk result (IsTold model budgets)

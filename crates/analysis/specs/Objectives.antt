@@ -1,5 +1,5 @@
 -- What is told of the objective over the active members.
-use Rattle.std.specs.Prelude.{◌≡◌, ◌⊎◌, ℕ, ◌+◌, ◌*◌, ◌<◌, ◌≤◌, false, length, All, Result, Ok, Err}
+use Rattle.std.specs.Prelude.{◌≡◌, ◌⊎◌, ℕ, ◌+◌, ◌*◌, ◌<◌, ◌≤◌, true, false, length, All, Result, Ok, Err}
 use Rattle.lp_model.specs.Program.{Program}
 use Rattle.lp_model.specs.Members.{active_members}
 use Rattle.certs.specs.declared.solving.Stop.{Stop}
@@ -11,6 +11,7 @@ use Rattle.certs.specs.Proof.{IsFittingNode, IsProof}
 use Rattle.certs.specs.Sites.{Budgets}
 use Rattle.certs.specs.Trees.{has_mark}
 use Rattle.presolve_laws.specs.Answers.{IsPresolvedReference}
+use Rattle.quick_oracle.specs.Alone.{stands_alone}
 use Rattle.unbounded.specs.declared.diagnosing.Diagnosis.{Diagnosis}
 use Rattle.unbounded.specs.Diagnosed.{HasLastPoint, IsUnboundedBy, IsBoundedBy, IsOwnStop}
 use Rattle.report_text.specs.declared.report.Answer.{Answer}
@@ -28,9 +29,10 @@ abbrev pub most_entries : ℕ
 most_entries = 8000000
 
 -- ---- answers
--- without an active mark the point is the last one of the improve run of the active members
+-- where no quick run is made of the active members, and none of them is a mark, the point is the last one of their improve run
 abbrev pub StandsLast : Program → Budgets → Diagnosis → Type 0
-StandsLast model budgets found = has_mark (active_members model) ≡ false → HasLastPoint model (active_members model) budgets.pivots found
+StandsLast model budgets found =
+    stands_alone model (active_members model) 0 ≡ true → has_mark (active_members model) ≡ false → HasLastPoint model (active_members model) budgets.pivots found
 
 -- the improve run of the active members stops so within the pivots
 abbrev pub IsImproveStop : Program → Budgets → Stop → Type 0

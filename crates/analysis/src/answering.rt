@@ -72,7 +72,7 @@ pub(crate) fn answer(
     match command {
         Command::Check => check(alloc, session.model(), budgets, kept),
         Command::Iis(method) => search(alloc, session.model(), budgets, *method, kept),
-        Command::Relax => relaxation(alloc, session.model(), budgets),
+        Command::Relax => relaxation(alloc, session.model(), budgets, kept),
         Command::Unbounded => diagnosis(alloc, session.model(), budgets, kept),
         Command::Reduce => reduction(alloc, session.model()),
         Command::Edit(edit) => session.take_edit(edit),

@@ -13,6 +13,7 @@ use crate::reducing::set_rows;
 use crate::searching::stopped;
 use certs::{MemberSet, Stop};
 use lp_model::Model;
+use quick_optimum::quick_best;
 use quick_oracle::Kept;
 use report_text::{Answer, Bounded};
 use std::alloc::{AllocError, Global};
@@ -53,7 +54,7 @@ fn size_of(alloc: Global, model: &Model, set: &MemberSet) -> Result<u64, AllocEr
     Ok((rows.as_slice().len() as u64 + 1) * columns)
 }
 
-// What is told of the objective, where the dictionary is not too large.
+// What is told of the objective, where the dictionary is not too large: what quick runs show, or else the improve run.
 fn diagnosed(
     alloc: Global,
     model: &Model,
@@ -66,6 +67,9 @@ fn diagnosed(
     ensures right { IfOk result (IsTold model.now (budgets_of budgets)) }
     ensures known { IfOk result (IsKnownAnswer model.now) }
 {
+    if let Some(found) = quick_best(alloc, model, set, kept, budgets.pivots) {
+        return told(alloc, model, budgets, set, Ok(found));
+    }
     let mut oracle = quick_oracle(alloc, model, budgets, 0, kept);
     let found = diagnose(alloc, model, &mut oracle, budgets.pivots);
     *kept = oracle.into_kept();

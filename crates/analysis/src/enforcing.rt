@@ -2,39 +2,38 @@
 ghost use Rattle.std.specs.Prelude.{◌≡◌, ◌<◌, ◌^◌, IfOk, None};
 ghost use Rattle.lp_model.specs.Members.{active_members};
 ghost use Rattle.lp_model.specs.MemberSets.{active_set};
-ghost use Rattle.certs.specs.Tales.{no_tale};
 ghost use Rattle.report_text.specs.declared.report.Method.TheVariants.{Elastic};
 ghost use Rattle.report_printer.specs.Printing.{IsKnownAnswer};
-ghost use Rattle.analysis.specs.Answers.{budgets_of, fresh_oracle};
+ghost use Rattle.analysis.specs.Answers.{budgets_of};
 ghost use Rattle.analysis.specs.Linear.{first_mark};
 ghost use Rattle.analysis.specs.Right.{IsEnforcedTold, IsFound};
 
 use crate::answering::Budgets;
-use crate::asking::Reference;
+use crate::asking::quick_oracle;
 use crate::linear::not_begun;
 use crate::searching::{concluded, stopped};
 use certs::MemberSet;
 use elastic_filter::{Enforced, enforce};
 use lp_model::Model;
-use quick_oracle::QuickOracle;
-use relaxation::ElasticStretcher;
+use quick_optimum::QuickStretcher;
+use quick_oracle::Kept;
 use report_text::Answer;
 use std::alloc::{AllocError, Global};
+use std::mem;
 
 /// What the deletion filter leaves of the active members that the rounds of the elastic filter enforce, with the number of
 /// rounds; or a point; or the column of the first active mark; or the size of the elastic system of all active members, where it
-/// passes the most (Chinneck and Dravnieks 1991). The deletion filter asks the oracle, which was asked nothing yet.
+/// passes the most (Chinneck and Dravnieks 1991). The rounds go by quick runs where what these suggest is confirmed. What is
+/// kept of the program serves the rounds, then the deletion filter, and the next command too.
 pub(crate) fn enforced_search(
     alloc: Global,
     model: &Model,
     budgets: Budgets,
-    oracle: &mut QuickOracle<'_, Reference<'_>>,
     set: &MemberSet,
+    kept: &mut Kept,
 ) -> Result<Answer, AllocError>
     requires few { budgets.pivots < 2 ^ 63 }
     requires whole { set.now ≡ active_set model.now }
-    requires inner { oracle.old.inner ≡ fresh_oracle model.now (budgets_of budgets) }
-    requires tale { oracle.old.tale ≡ no_tale }
     ensures right { IfOk result (IsFound Elastic model.now (budgets_of budgets)) }
     ensures known { IfOk result (IsKnownAnswer model.now) }
 {
@@ -42,7 +41,7 @@ pub(crate) fn enforced_search(
     if let Some(answer) = not_begun(alloc, model, set, &none)? {
         return Ok(answer);
     }
-    enforced(alloc, model, budgets, oracle, set)
+    enforced(alloc, model, budgets, set, kept)
 }
 
 // The same where there is no mark.
@@ -50,20 +49,21 @@ fn enforced(
     alloc: Global,
     model: &Model,
     budgets: Budgets,
-    oracle: &mut QuickOracle<'_, Reference<'_>>,
     set: &MemberSet,
+    kept: &mut Kept,
 ) -> Result<Answer, AllocError>
     requires few { budgets.pivots < 2 ^ 63 }
     requires whole { set.now ≡ active_set model.now }
     requires linear { first_mark (active_members model.now) ≡ None }
-    requires inner { oracle.old.inner ≡ fresh_oracle model.now (budgets_of budgets) }
-    requires tale { oracle.old.tale ≡ no_tale }
     ensures right { IfOk result (IsEnforcedTold model.now (budgets_of budgets)) }
     ensures known { IfOk result (IsKnownAnswer model.now) }
 {
     set.stands_in_order();
-    let mut stretcher = ElasticStretcher::new(alloc, model, budgets.pivots);
-    match enforce(alloc, &mut stretcher, set) {
+    let taken = mem::replace(kept, Kept::new());
+    let mut stretcher = QuickStretcher::new(alloc, model, taken, budgets.pivots);
+    let ended = enforce(alloc, &mut stretcher, set);
+    *kept = stretcher.into_kept();
+    match ended {
         Ok(
             Enforced::Set {
                 members,
@@ -71,7 +71,9 @@ fn enforced(
                 ..
             },
         ) => {
-            let given = deletion_filter::isolate(alloc, oracle, &members);
+            let mut oracle = quick_oracle(alloc, model, budgets, budgets.nodes, kept);
+            let given = deletion_filter::isolate(alloc, &mut oracle, &members);
+            *kept = oracle.into_kept();
             concluded(Some(rounds), given)
         }
         Ok(Enforced::Feasible(point)) => Ok(Answer::Feasible(point)),

@@ -5,6 +5,7 @@ ghost use Rattle.lp_model.specs.MemberSets.{active_set};
 ghost use Rattle.certs.specs.Sites.{Budgets as OneBudgets};
 ghost use Rattle.certs.specs.Violation.{rigid_members};
 ghost use Rattle.elastic_systems.specs.Laws.{RefutesEnforced};
+ghost use Rattle.relaxation.specs.Relaxed.{IsRelaxed};
 ghost use Rattle.report_printer.specs.Printing.{IsKnownAnswer};
 ghost use Rattle.analysis.specs.Answers.{budgets_of};
 ghost use Rattle.analysis.specs.Least.{IsLeastTold, IsRelaxation};
@@ -17,17 +18,20 @@ use certs::{Combo, MemberSet, members_used};
 use least_checks::rigid_set;
 use linear_oracle::leaf_proof;
 use lp_model::Model;
+use quick_optimum::quick_least;
+use quick_oracle::Kept;
 use relaxation::{Relaxed, relax};
 use report_text::Answer;
 use std::alloc::{AllocError, Global};
 
 /// How little of the active members must give way: a point of least weighted violation among those that satisfy the rigid
 /// ones, with the dual that shows so; or a combination of the rigid ones; or the column of the first active mark; or the size
-/// of the elastic system, where it passes the most (Chinneck 2008).
+/// of the elastic system, where it passes the most (Chinneck 2008). What is kept of the program serves the next command too.
 pub(crate) fn relaxation(
     alloc: Global,
     model: &Model,
     budgets: Budgets,
+    kept: &mut Kept,
 ) -> Result<Answer, AllocError>
     requires few { budgets.pivots < 2 ^ 63 }
     ensures right { IfOk result (IsRelaxation model.now (budgets_of budgets)) }
@@ -38,15 +42,16 @@ pub(crate) fn relaxation(
     if let Some(answer) = not_begun(alloc, model, &set, &rigid)? {
         return Ok(answer);
     }
-    relaxed(alloc, model, budgets, &set)
+    relaxed(alloc, model, budgets, &set, kept)
 }
 
-// What is told of it, where there is no mark.
+// What is told of it, where there is no mark: what quick runs show, or else the run of the elastic system.
 fn relaxed(
     alloc: Global,
     model: &Model,
     budgets: Budgets,
     set: &MemberSet,
+    kept: &mut Kept,
 ) -> Result<Answer, AllocError>
     requires few { budgets.pivots < 2 ^ 63 }
     requires whole { set.now ≡ active_set model.now }
@@ -55,10 +60,25 @@ fn relaxed(
     ensures known { IfOk result (IsKnownAnswer model.now) }
 {
     set.stands_in_order();
+    if let Some(found) = quick_least(alloc, model, set, kept, budgets.pivots) {
+        return told(alloc, model, set, found);
+    }
     match relax(alloc, model, set, budgets.pivots) {
-        Ok(Relaxed::Least { point, dual }) => Ok(Answer::Least(point, dual)),
-        Ok(Relaxed::RigidInfeasible(combo)) => rigid_refuted(alloc, model, set, combo),
+        Ok(found) => told(alloc, model, set, found),
         Err(stop) => stopped(stop),
+    }
+}
+
+// What is found, as an answer.
+fn told(alloc: Global, model: &Model, set: &MemberSet, found: Relaxed) -> Result<Answer, AllocError>
+    requires whole { set.now ≡ active_set model.now }
+    requires found { IsRelaxed model.now (active_members model.now) found }
+    ensures right { (budgets : OneBudgets) → IfOk result (IsLeastTold model.now budgets) }
+    ensures known { IfOk result (IsKnownAnswer model.now) }
+{
+    match found {
+        Relaxed::Least { point, dual } => Ok(Answer::Least(point, dual)),
+        Relaxed::RigidInfeasible(combo) => rigid_refuted(alloc, model, set, combo),
     }
 }
 

@@ -1,18 +1,18 @@
 //! Searches for irreducible sets of the active members, and stops of solves as answers.
 ghost use Rattle.std.specs.Prelude.{◌≡◌, ◌<◌, ◌^◌, All, IfErr, IfOk, false};
 ghost use Rattle.lp_model.specs.MemberSets.{active_set};
-ghost use Rattle.certs.specs.Tales.{no_tale};
+ghost use Rattle.report_text.specs.declared.report.Method.TheVariants.{Additive, Deletion, Sensitivity};
 ghost use Rattle.report_printer.specs.Printing.{IsKnownAnswer};
-ghost use Rattle.analysis.specs.Answers.{IsAnswerOf, IsFoundInOrder, IsRunStop, IsToldStop, answer_of, budgets_of, fresh_oracle};
+ghost use Rattle.analysis.specs.Answers.{IsAnswerOf, IsFoundInOrder, IsRunStop, IsToldStop, answer_of, budgets_of};
 ghost use Rattle.analysis.specs.Right.{IsFound};
 
 use crate::answering::Budgets;
-use crate::asking::{Reference, quick_oracle, reference_oracle};
+use crate::asking::{quick_oracle, reference_oracle};
 use crate::enforcing::enforced_search;
 use crate::weighing::weighed_search;
 use certs::{Irreducible, MemberSet, Stop};
 use lp_model::Model;
-use quick_oracle::{Kept, QuickOracle};
+use quick_oracle::Kept;
 use report_text::{Answer, Core, Method, Witnesses};
 use std::alloc::{AllocError, Global};
 
@@ -30,40 +30,72 @@ pub(crate) fn search(
     ensures known { IfOk result (IsKnownAnswer model.now) }
 {
     let set = model.members(alloc)?;
-    let mut oracle = quick_oracle(alloc, model, budgets, budgets.nodes, kept);
-    let answer = search_by(alloc, model, budgets, method, &mut oracle, &set);
-    *kept = oracle.into_kept();
-    answer
+    match method {
+        Method::Deletion => late_search(alloc, model, budgets, &set, kept),
+        Method::Additive => early_search(alloc, model, budgets, &set, kept),
+        Method::Elastic => enforced_search(alloc, model, budgets, &set, kept),
+        Method::Alternative => weighed_search(alloc, model, budgets, &set, kept),
+        Method::Sensitivity => core_search(alloc, model, budgets, &set, kept),
+    }
 }
 
-// What a method leaves of the active members, by a quick oracle. The sensitivity filter asks for all of them by a run of
-// the budget, since the first core is the one of that run.
-fn search_by(
+// What the deletion filter leaves of the active members, by a quick oracle.
+fn late_search(
     alloc: Global,
     model: &Model,
     budgets: Budgets,
-    method: Method,
-    oracle: &mut QuickOracle<'_, Reference<'_>>,
     set: &MemberSet,
+    kept: &mut Kept,
 ) -> Result<Answer, AllocError>
     requires few { budgets.pivots < 2 ^ 63 }
     requires whole { set.now ≡ active_set model.now }
-    requires inner { oracle.old.inner ≡ fresh_oracle model.now (budgets_of budgets) }
-    requires tale { oracle.old.tale ≡ no_tale }
-    ensures right { IfOk result (IsFound method model.now (budgets_of budgets)) }
+    ensures right { IfOk result (IsFound Deletion model.now (budgets_of budgets)) }
     ensures known { IfOk result (IsKnownAnswer model.now) }
 {
-    match method {
-        Method::Deletion => concluded(None, deletion_filter::isolate(alloc, oracle, set)),
-        Method::Additive => concluded(None, additive_filter::isolate(alloc, oracle, set)),
-        Method::Elastic => enforced_search(alloc, model, budgets, oracle, set),
-        Method::Alternative => weighed_search(alloc, model, budgets, oracle, set),
-        Method::Sensitivity => {
-            let mut first = reference_oracle(alloc, model, budgets);
-            let given = sensitivity_filter::isolate_with(alloc, &mut first, oracle, set);
-            concluded(None, given)
-        }
-    }
+    let mut oracle = quick_oracle(alloc, model, budgets, budgets.nodes, kept);
+    let given = deletion_filter::isolate(alloc, &mut oracle, set);
+    *kept = oracle.into_kept();
+    concluded(None, given)
+}
+
+// What the additive filter leaves of the active members, by a quick oracle.
+fn early_search(
+    alloc: Global,
+    model: &Model,
+    budgets: Budgets,
+    set: &MemberSet,
+    kept: &mut Kept,
+) -> Result<Answer, AllocError>
+    requires few { budgets.pivots < 2 ^ 63 }
+    requires whole { set.now ≡ active_set model.now }
+    ensures right { IfOk result (IsFound Additive model.now (budgets_of budgets)) }
+    ensures known { IfOk result (IsKnownAnswer model.now) }
+{
+    let mut oracle = quick_oracle(alloc, model, budgets, budgets.nodes, kept);
+    let given = additive_filter::isolate(alloc, &mut oracle, set);
+    *kept = oracle.into_kept();
+    concluded(None, given)
+}
+
+// What the sensitivity filter leaves of the active members, by a quick oracle. It asks for all of them by a run of the budget,
+// since the first core is the one of that run.
+fn core_search(
+    alloc: Global,
+    model: &Model,
+    budgets: Budgets,
+    set: &MemberSet,
+    kept: &mut Kept,
+) -> Result<Answer, AllocError>
+    requires few { budgets.pivots < 2 ^ 63 }
+    requires whole { set.now ≡ active_set model.now }
+    ensures right { IfOk result (IsFound Sensitivity model.now (budgets_of budgets)) }
+    ensures known { IfOk result (IsKnownAnswer model.now) }
+{
+    let mut first = reference_oracle(alloc, model, budgets);
+    let mut oracle = quick_oracle(alloc, model, budgets, budgets.nodes, kept);
+    let given = sensitivity_filter::isolate_with(alloc, &mut first, &mut oracle, set);
+    *kept = oracle.into_kept();
+    concluded(None, given)
 }
 
 /// What a filter gives, with the rounds before it, as an answer.

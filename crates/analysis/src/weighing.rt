@@ -3,7 +3,8 @@ ghost use Rattle.std.specs.Prelude.{◌≡◌, ◌<◌, ◌^◌, IfOk, None};
 ghost use Rattle.lp_model.specs.Members.{active_members};
 ghost use Rattle.lp_model.specs.MemberSets.{active_set};
 ghost use Rattle.lp_model.specs.Satisfaction.{IsSatisfiable};
-ghost use Rattle.certs.specs.Tales.{no_tale};
+ghost use Rattle.certs.specs.Sites.{Budgets as OneBudgets};
+ghost use Rattle.quick_optimum.specs.Cores.{IsWeighed};
 ghost use Rattle.report_text.specs.declared.report.Method.TheVariants.{Alternative};
 ghost use Rattle.report_printer.specs.Printing.{IsKnownAnswer};
 ghost use Rattle.analysis.specs.Answers.{budgets_of, fresh_oracle, weighed_answer};
@@ -11,45 +12,91 @@ ghost use Rattle.analysis.specs.Linear.{first_mark};
 ghost use Rattle.analysis.specs.Right.{IsFound, IsWeighedTold};
 
 use crate::answering::Budgets;
-use crate::asking::Reference;
+use crate::asking::{Reference, quick_oracle};
 use crate::linear::not_weighed;
 use crate::searching::stopped;
-use crate::witnesses::witnesses;
+use crate::witnesses::{witness, witnesses};
 use alt_polyhedron::{Priced, cheapest};
-use certs::{MemberSet, Oracle, Point, Proof, Verdict};
+use certs::{MemberSet, Point, Proof};
 use frac128::Frac;
 use linear_oracle::leaf_proof;
 use lp_model::Model;
-use quick_oracle::QuickOracle;
+use quick_optimum::{QuickCore, Weighed, quick_cheapest};
+use quick_oracle::{Kept, QuickOracle};
 use report_text::{Answer, Core, Witnesses};
 use std::alloc::{AllocError, Global};
 
 /// The members that a cheapest weighting of the active members uses, which are irreducible, with the weighting as their
 /// proof, its cost, and a price that shows that no weighting costs less (Gleeson and Ryan 1990); or a point; or the column
-/// of the first active mark; or the size of the system of the alternative, where it passes the most. The oracle, which was
-/// asked nothing yet, is asked for all of them where they can be satisfied, and else for these members without each.
+/// of the first active mark; or the size of the system of the alternative, where it passes the most. What is kept of the
+/// program serves the next command too.
 pub(crate) fn weighed_search(
     alloc: Global,
     model: &Model,
     budgets: Budgets,
-    oracle: &mut QuickOracle<'_, Reference<'_>>,
     set: &MemberSet,
+    kept: &mut Kept,
 ) -> Result<Answer, AllocError>
     requires few { budgets.pivots < 2 ^ 63 }
     requires whole { set.now ≡ active_set model.now }
-    requires inner { oracle.old.inner ≡ fresh_oracle model.now (budgets_of budgets) }
-    requires tale { oracle.old.tale ≡ no_tale }
     ensures right { IfOk result (IsFound Alternative model.now (budgets_of budgets)) }
     ensures known { IfOk result (IsKnownAnswer model.now) }
 {
     if let Some(answer) = not_weighed(alloc, model, set)? {
         return Ok(answer);
     }
-    weighed(alloc, model, budgets, oracle, set)
+    weighed(alloc, model, budgets, set, kept)
 }
 
-// The same where there is no mark.
+// The same where there is no mark: what quick runs show, or else the run of the system of the alternative.
 fn weighed(
+    alloc: Global,
+    model: &Model,
+    budgets: Budgets,
+    set: &MemberSet,
+    kept: &mut Kept,
+) -> Result<Answer, AllocError>
+    requires few { budgets.pivots < 2 ^ 63 }
+    requires whole { set.now ≡ active_set model.now }
+    requires linear { first_mark (active_members model.now) ≡ None }
+    ensures right { IfOk result (IsWeighedTold model.now (budgets_of budgets)) }
+    ensures known { IfOk result (IsKnownAnswer model.now) }
+{
+    if let Some(found) = quick_cheapest(alloc, model, set, kept, budgets.pivots) {
+        return Ok(quickly_weighed(model, set, found));
+    }
+    let mut oracle = quick_oracle(alloc, model, budgets, budgets.nodes, kept);
+    let answer = weighed_by_run(alloc, model, budgets, &mut oracle, set);
+    *kept = oracle.into_kept();
+    answer
+}
+
+// What quick runs show, as an answer.
+fn quickly_weighed(model: &Model, set: &MemberSet, found: Weighed) -> Answer
+    requires whole { set.now ≡ active_set model.now }
+    requires found { IsWeighed model.now (active_members model.now) found }
+    ensures right { (budgets : OneBudgets) → IsWeighedTold model.now budgets result }
+    ensures known { IsKnownAnswer model.now result }
+{
+    match found {
+        Weighed::Feasible(point) => Answer::Feasible(point),
+        Weighed::Core(core) => {
+            core.members.stands_in_order();
+            let QuickCore {
+                members,
+                proof,
+                total,
+                price,
+                witnesses,
+            } = core;
+            weighed_core(members, witnesses, proof, (total, price))
+        }
+    }
+}
+
+// The same by the run of the system of the alternative, where there is no mark. The oracle, which was asked nothing yet, is
+// asked for all of the members where they can be satisfied, and else for these members without each.
+fn weighed_by_run(
     alloc: Global,
     model: &Model,
     budgets: Budgets,
@@ -60,7 +107,6 @@ fn weighed(
     requires whole { set.now ≡ active_set model.now }
     requires linear { first_mark (active_members model.now) ≡ None }
     requires inner { oracle.old.inner ≡ fresh_oracle model.now (budgets_of budgets) }
-    requires tale { oracle.old.tale ≡ no_tale }
     ensures right { IfOk result (IsWeighedTold model.now (budgets_of budgets)) }
     ensures known { IfOk result (IsKnownAnswer model.now) }
 {
@@ -100,9 +146,8 @@ fn satisfied(
     ensures right { IfOk result (IsWeighedTold model.now (budgets_of budgets)) }
     ensures known { IfOk result (IsKnownAnswer model.now) }
 {
-    match oracle.ask(alloc, set) {
-        Ok(Verdict::Feasible(point)) => Ok(Answer::Feasible(point)),
-        Ok(Verdict::Infeasible(_)) => unreachable!(),
+    match witness(alloc, model, budgets, oracle, set) {
+        Ok(point) => Ok(Answer::Feasible(point)),
         Err(stop) => stopped(stop),
     }
 }

@@ -50,8 +50,12 @@ pub(crate) fn witnesses(
     Ok(points)
 }
 
-// A point of members that some point satisfies.
-fn witness(
+/// A point of members that some point satisfies, by one ask.
+///
+/// # Errors
+///
+/// The stop of the ask.
+pub(crate) fn witness(
     alloc: Global,
     model: &Model,
     budgets: Budgets,

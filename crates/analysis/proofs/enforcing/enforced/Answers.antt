@@ -4,7 +4,8 @@ use Rattle.lp_model.specs.Members.{active_members, is_mark}
 use Rattle.lp_model.specs.MemberSets.{SetValue}
 use Rattle.elastic_filter.specs.declared.enforcing.Enforced.{Enforced}
 use Rattle.elastic_filter.specs.Enforced.{IsEnforced, IsRoundStop}
-use Rattle.relaxation.specs.Stretching.{IsRound, StretcherValue}
+use Rattle.relaxation.specs.Stretching.{IsRound}
+use Rattle.quick_optimum.specs.Stretching.{QuickStretcherValue}
 use Rattle.quick_oracle.specs.Value.{state_with}
 use Rattle.analysis.specs.Answers.{budgets_of, oracle_state}
 use Rattle.analysis.proofs.Asked.{all_served}
@@ -12,8 +13,8 @@ use Rattle.analysis.proofs.Chained.{enforced_answer, rounds_told}
 use Rattle.analysis.proofs.Marks.{no_mark}
 use Rattle.analysis.proofs.enforcing.enforced.Goals as goal
 
-pub enforce-requires-clause-linear : goal.enforce-requires-clause-linear
-enforce-requires-clause-linear c = subst (λ (s : SetValue). All (λ m. is_mark m ≡ false) s.members) (sym c.requires.whole) (no_mark (active_members c.args.model.now) c.requires.linear)
+pub enforce-ended-requires-clause-linear : goal.enforce-ended-requires-clause-linear
+enforce-ended-requires-clause-linear c = subst (λ (s : SetValue). All (λ m. is_mark m ≡ false) s.members) (sym c.requires.whole) (no_mark (active_members c.args.model.now) c.requires.linear)
 
 pub isolate-given-requires-clause-served : goal.isolate-given-requires-clause-served
 isolate-given-requires-clause-served c = all_served c.in-Ok-Set.members.members
@@ -22,29 +23,29 @@ pub returns-in-Ok-Set-clause-right : goal.returns-in-Ok-Set-clause-right
 returns-in-Ok-Set-clause-right c =
     let model = c.args.model.now in
     let budgets = budgets_of c.args.budgets in
-    let old = c.args.oracle.now in
+    let old = c.quick_oracle-oracle.result in
     let call = c.isolate-given in
     let new = call.new.oracle in
     let members = c.in-Ok-Set.members in
     let found =
     subst (λ (s : SetValue). IsEnforced model s.members (Enforced.Set members c.in-Ok-Set.field-0-1 c.in-Ok-Set.rounds)) c.requires.whole
-    (subst (λ (v : StretcherValue). IsEnforced v.model c.args.set.now.members (Enforced.Set members c.in-Ok-Set.field-0-1 c.in-Ok-Set.rounds)) c.new-stretcher.ensures
-    (subst (λ (e : Enforced). IsEnforced c.new-stretcher.result.model c.args.set.now.members e) c.in-Ok-Set.field-0-is c.in-Ok-Set.ensures.found)) in
-    (enforced_answer model budgets old.inner old.tale members c.in-Ok-Set.field-0-1 c.in-Ok-Set.rounds (state_with (oracle_state new.inner) new.tale) call.result c.concluded.result c.requires.inner found call.ensures.found call.ensures.stop c.concluded.ensures).0
+    (subst (λ (v : QuickStretcherValue). IsEnforced v.inner.model c.args.set.now.members (Enforced.Set members c.in-Ok-Set.field-0-1 c.in-Ok-Set.rounds)) c.new-stretcher.ensures
+    (subst (λ (e : Enforced). IsEnforced c.new-stretcher.result.inner.model c.args.set.now.members e) c.in-Ok-Set.field-0-is c.in-Ok-Set.ensures.found)) in
+    (enforced_answer model budgets old.inner old.tale members c.in-Ok-Set.field-0-1 c.in-Ok-Set.rounds (state_with (oracle_state new.inner) new.tale) call.result c.concluded.result c.quick_oracle-oracle.ensures.inner found call.ensures.found call.ensures.stop c.concluded.ensures).0
 
 pub returns-in-Ok-Set-clause-known : goal.returns-in-Ok-Set-clause-known
 returns-in-Ok-Set-clause-known c =
     let model = c.args.model.now in
     let budgets = budgets_of c.args.budgets in
-    let old = c.args.oracle.now in
+    let old = c.quick_oracle-oracle.result in
     let call = c.isolate-given in
     let new = call.new.oracle in
     let members = c.in-Ok-Set.members in
     let found =
     subst (λ (s : SetValue). IsEnforced model s.members (Enforced.Set members c.in-Ok-Set.field-0-1 c.in-Ok-Set.rounds)) c.requires.whole
-    (subst (λ (v : StretcherValue). IsEnforced v.model c.args.set.now.members (Enforced.Set members c.in-Ok-Set.field-0-1 c.in-Ok-Set.rounds)) c.new-stretcher.ensures
-    (subst (λ (e : Enforced). IsEnforced c.new-stretcher.result.model c.args.set.now.members e) c.in-Ok-Set.field-0-is c.in-Ok-Set.ensures.found)) in
-    (enforced_answer model budgets old.inner old.tale members c.in-Ok-Set.field-0-1 c.in-Ok-Set.rounds (state_with (oracle_state new.inner) new.tale) call.result c.concluded.result c.requires.inner found call.ensures.found call.ensures.stop c.concluded.ensures).1
+    (subst (λ (v : QuickStretcherValue). IsEnforced v.inner.model c.args.set.now.members (Enforced.Set members c.in-Ok-Set.field-0-1 c.in-Ok-Set.rounds)) c.new-stretcher.ensures
+    (subst (λ (e : Enforced). IsEnforced c.new-stretcher.result.inner.model c.args.set.now.members e) c.in-Ok-Set.field-0-is c.in-Ok-Set.ensures.found)) in
+    (enforced_answer model budgets old.inner old.tale members c.in-Ok-Set.field-0-1 c.in-Ok-Set.rounds (state_with (oracle_state new.inner) new.tale) call.result c.concluded.result c.quick_oracle-oracle.ensures.inner found call.ensures.found call.ensures.stop c.concluded.ensures).1
 
 pub returns-clause-right : goal.returns-clause-right
 returns-clause-right c =
@@ -53,5 +54,5 @@ returns-clause-right c =
     let stop = c.in-Err.stop in
     rounds_told model budgets stop c.stopped.result
     (subst (λ (s : SetValue). IsRoundStop IsRound model (record { pivots = budgets.pivots; nodes = 0 }) s.members stop) c.requires.whole
-    (subst (λ (v : StretcherValue). IsRoundStop IsRound v.model (record { pivots = v.pivots; nodes = 0 }) c.args.set.now.members stop) c.new-stretcher.ensures c.in-Err.ensures.stop))
+    (subst (λ (v : QuickStretcherValue). IsRoundStop IsRound v.inner.model (record { pivots = v.inner.pivots; nodes = 0 }) c.args.set.now.members stop) c.new-stretcher.ensures c.in-Err.ensures.stop))
     c.stopped.ensures

@@ -2,28 +2,26 @@ use Rattle.std.proofs.Common.{◌≡◌, false, sym, subst}
 use Rattle.std.specs.Prelude.{All}
 use Rattle.lp_model.specs.Members.{active_members, is_mark}
 use Rattle.lp_model.specs.MemberSets.{SetValue}
-use Rattle.least_checks.specs.Least.{IsLeastBy}
-use Rattle.relaxation.specs.declared.relaxing.Relaxed.{Relaxed}
 use Rattle.relaxation.specs.Relaxed.{IsRelaxStop, IsRelaxed}
 use Rattle.analysis.specs.Answers.{budgets_of}
-use Rattle.analysis.proofs.Easing.{least_known, stops_eased}
+use Rattle.analysis.proofs.Easing.{stops_eased}
 use Rattle.analysis.proofs.Marks.{no_mark}
 use Rattle.analysis.proofs.relaxing.relaxed.Goals as goal
 
 pub relax-requires-clause-linear : goal.relax-requires-clause-linear
 relax-requires-clause-linear c = subst (λ (s : SetValue). All (λ m. is_mark m ≡ false) s.members) (sym c.requires.whole) (no_mark (active_members c.args.model.now) c.requires.linear)
 
-pub returns-in-Ok-Least-clause-known : goal.returns-in-Ok-Least-clause-known
-returns-in-Ok-Least-clause-known c =
-    let model = c.args.model.now in
-    let point = c.in-Ok-Least.point in
-    let dual = c.in-Ok-Least.dual in
-    least_known model point dual
-    (subst (λ (s : SetValue). IsLeastBy model s.members point dual) c.requires.whole
-    (subst (λ (r : Relaxed). IsRelaxed model c.args.set.now.members r) c.in-Ok-Least.field-0-is c.in-Ok-Least.ensures.found))
+pub told-requires-clause-found : goal.told-requires-clause-found
+told-requires-clause-found c = subst (λ (s : SetValue). IsRelaxed c.args.model.now s.members c.in-Some.found) c.requires.whole c.in-Some.ensures.found
 
-pub returns-in-Ok-RigidInfeasible-clause-right : goal.returns-in-Ok-RigidInfeasible-clause-right
-returns-in-Ok-RigidInfeasible-clause-right c = c.rigid_refuted.ensures.right (budgets_of c.args.budgets)
+pub told-requires-in-Ok-clause-found : goal.told-requires-in-Ok-clause-found
+told-requires-in-Ok-clause-found c = subst (λ (s : SetValue). IsRelaxed c.args.model.now s.members c.in-Ok.found) c.requires.whole c.in-Ok.ensures.found
+
+pub returns-in-Some-clause-right : goal.returns-in-Some-clause-right
+returns-in-Some-clause-right c = c.told.ensures.right (budgets_of c.args.budgets)
+
+pub returns-in-Ok-clause-right : goal.returns-in-Ok-clause-right
+returns-in-Ok-clause-right c = c.told-in-Ok.ensures.right (budgets_of c.args.budgets)
 
 pub returns-in-Err-clause-right : goal.returns-in-Err-clause-right
 returns-in-Err-clause-right c =
