@@ -116,6 +116,8 @@ plan 20 -
 plan 40 -
 plan 80 -
 plan 160 -
+plan 400 -
+plan 800 -
 tight 6 6
 tight 10 10
 tight 20 20

@@ -171,4 +171,5 @@ shipment 10 10
 shipment 20 20
 shipment 30 30
 shipment 40 40
+shipment 60 60
 END

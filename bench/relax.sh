@@ -106,6 +106,7 @@ plan 20 -
 plan 40 -
 plan 80 -
 plan 160 -
+plan 400 -
 plan 5 - rigid
 plan 10 - rigid
 plan 20 - rigid
@@ -113,6 +114,8 @@ plan 40 - rigid
 plan 80 - rigid
 plan 160 - rigid
 plan 320 - rigid
+plan 400 - rigid
+plan 900 - rigid
 tight 6 6
 tight 10 10
 tight 20 20
