@@ -11,8 +11,6 @@ use Rattle.certs.specs.declared.evidence.Source.TheVariants.{Member as Of, Below
 use Rattle.certs.specs.Order.{AreSharesInOrder}
 use Rattle.quick_run.specs.declared.suggestions.Suggestion.{Suggestion}
 use Rattle.quick_run.specs.declared.suggestions.Suggestion.TheVariants.{Point, Combo}
-use Rattle.quick_run.specs.declared.suggestions.BestSuggestion.{BestSuggestion}
-use Rattle.quick_run.specs.declared.suggestions.BestSuggestion.TheVariants.{Bounded, Unbounded}
 
 -- some branch of the path says that the column is at most a number
 abbrev pub has_most : List Branch → ℕ → Bool
@@ -43,8 +41,3 @@ pub record IsShareOf (set : List Member) (path : List Branch) (share : Share) : 
 abbrev pub IsSuggestion : Program → List Member → List Branch → Suggestion → Type 0
 IsSuggestion model set path (Point point) = length point.values ≡ length model.columns
 IsSuggestion model set path (Combo combo) = AreSharesInOrder combo.shares × All (IsShareOf set path) combo.shares
-
--- so many values in the point, and in the ray
-abbrev pub HasShape : ℕ → BestSuggestion → Type 0
-HasShape columns (Bounded point combo) = length point.values ≡ columns
-HasShape columns (Unbounded point ray) = (length point.values ≡ columns) × (length ray.values ≡ columns)

@@ -8,14 +8,10 @@ ghost use Rattle.certs.specs.Order.{AreSharesInOrder, source_before};
 ghost use Rattle.rational.specs.Rational.{◌<ℚ◌, zero_ℚ};
 ghost use Rattle.quick_run.specs.Shape.{IsLimitOf, IsShareOf, IsSourceOf, has_least, has_most};
 
-use crate::choices::side_of;
-use crate::limits::opposite;
-use crate::rows::TableRow;
-use crate::shares::variable_of;
-use crate::tables::{Blocked, Table};
 use certs::{Branch, Combo, Share, Shares, Side, Source, stands_before};
 use frac128::Frac;
 use lp_model::{Member, MemberSet, Model};
+use quick_table::{Blocked, Table, TableRow, opposite, side_of, variable_of};
 use std::alloc::{AllocError, Global};
 
 // A limit of a variable, so many times, and whether a branch gives it.

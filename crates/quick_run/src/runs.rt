@@ -1,24 +1,19 @@
 //! Runs on a table that is kept.
 ghost use Rattle.std.specs.Prelude.{◌≡◌, ◌+◌, ◌≤◌, IfSome, false, is_some, length};
 ghost use Rattle.certs.specs.Checks.{IsSetOf};
-ghost use Rattle.quick_run.specs.Shape.{HasShape, IsSuggestion};
+ghost use Rattle.quick_run.specs.Shape.{IsSuggestion};
 ghost use Rattle.quick_run.specs.Value.{RunValue};
+ghost use Rattle.table_optima.specs.Shape.{HasShape};
 
-use crate::alternative::cheapest;
 use crate::combinations::{combo, crossing};
-use crate::improving::best;
-use crate::pivots::{Turn, choose, make_pivot, most_pivots};
-use crate::points::{point, read_off};
-use crate::prices::Prices;
-use crate::relaxing::least;
-use crate::starts::start;
-use crate::suggestions::{
-    BestSuggestion, CheapestSuggestion, Costs, LeastSuggestion, Suggest, Suggestion,
-};
-use crate::tables::Table;
+use crate::suggestions::{Suggest, Suggestion};
 use certs::{Branch, MemberSet};
 use lp_model::Model;
+use quick_table::{Table, Turn, choose, make_pivot, most_pivots, point, read_off, start};
 use std::alloc::Global;
+use table_optima::{
+    BestSuggestion, CheapestSuggestion, Costs, LeastSuggestion, Prices, best, cheapest, least,
+};
 
 /// Runs on one program, with the table that is kept from one to the next.
 #[derive(Drop)]

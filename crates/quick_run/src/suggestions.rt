@@ -2,47 +2,16 @@
 ghost use Rattle.std.specs.Prelude.{◌≡◌, ◌+◌, ◌≤◌, ℕ};
 ghost use Rattle.certs.specs.Checks.{IsSetOf};
 
-use certs::{Branch, Combo, MemberSet, Point, Ray};
-use frac128::Frac;
+use certs::{Branch, Combo, MemberSet, Point};
 use lp_model::Model;
 use std::alloc::Global;
+use table_optima::{BestSuggestion, CheapestSuggestion, Costs, LeastSuggestion};
 
 /// What may show whether a set can be satisfied: a point, or a combination. Neither has been checked.
 #[derive(Drop)]
 pub enum Suggestion {
     Point(Point),
     Combo(Combo),
-}
-
-/// What may show how little of a set must give way: a point, and shares of members with which no point gives way by less.
-#[derive(Drop)]
-pub struct LeastSuggestion {
-    pub point: Point,
-    pub combo: Combo,
-}
-
-/// What it counts to miss a member that is not rigid by one: its own weight in the program, or 1.
-#[derive(Clone, Copy, PartialEq, Eq, Debug)]
-pub enum Costs {
-    Weights,
-    Ones,
-}
-
-/// What may be the cheapest weighting of a set that refutes it: shares with the right side -1, what they cost, and a price for
-/// that cost, with a value for each column.
-#[derive(Drop)]
-pub struct CheapestSuggestion {
-    pub combo: Combo,
-    pub total: Frac,
-    pub price: Point,
-}
-
-/// What may show how far the objective can go: a point at which it is best, and shares of members that add up to it; or a
-/// point, and a ray along which it has no end.
-#[derive(Drop)]
-pub enum BestSuggestion {
-    Bounded(Point, Combo),
-    Unbounded(Point, Ray),
 }
 
 /// What suggests whether sets of one program's members can be satisfied on paths, and what is least or best of them. Nothing is
