@@ -1,11 +1,12 @@
 //! How far objectives can go by quick runs, beside the reference.
-ghost use Rattle.std.specs.Prelude.{◌≡◌, ◌<◌, ◌^◌, IfOk, length};
+ghost use Rattle.std.specs.Prelude.{◌≡◌, ◌<◌, ◌^◌, true, IfOk, length};
+ghost use Rattle.lp_model.specs.Members.{active_members};
+ghost use Rattle.certs.specs.Answers.{is_linear};
 ghost use Rattle.certs.specs.Checks.{IsSetOf};
 
 use crate::counts::raise;
-use crate::sets::active;
+use crate::sets::{active, has_mark};
 use bound_checks::{Dual, check_bound, check_ray, objective_value};
-use branch_oracle::BranchOracle;
 use certs::{Combo, MemberSet, Point, Ray};
 use chance_models::{Chance, Shape, shape_text};
 use frac128::Frac;
@@ -19,9 +20,6 @@ use unbounded::{Diagnosis, diagnose};
 
 // What a run may spend.
 const PIVOTS: u64 = 100_000;
-
-// What a tree may take.
-const NODES: u64 = 400;
 
 /// What was found of the models of a shape.
 #[derive(Clone, Copy)]
@@ -96,16 +94,25 @@ fn try_text(alloc: Global, bytes: &[u8], tally: &mut BestTally) -> Result<(), Al
         raise(&mut tally.refused, 1);
         return Ok(());
     };
-    let set = active(alloc, &model)?;
+    try_model(alloc, &model, tally)
+}
+
+// Tries a model twice by quick runs, with one table, and then by the reference. One with a mark is passed over.
+fn try_model(alloc: Global, model: &Model, tally: &mut BestTally) -> Result<(), AllocError> {
+    let set = active(alloc, model)?;
+    if has_mark(&set) {
+        raise(&mut tally.silent, 1);
+        return Ok(());
+    }
     let mut kept = Kept::new();
-    let found = quick_find(alloc, &model, &set, &mut kept);
-    let again = quick_find(alloc, &model, &set, &mut kept);
+    let found = quick_find(alloc, model, &set, &mut kept);
+    let again = quick_find(alloc, model, &set, &mut kept);
     raise(&mut tally.pivots, kept.pivots_made());
     tally_quick(tally, found);
     if found != again {
         raise(&mut tally.changed, 1);
     }
-    let reference = reference_find(alloc, &model);
+    let reference = reference_find(alloc, model);
     if reference == Found::Nothing {
         raise(&mut tally.stopped, 1);
     } else if found != Found::Nothing && found != reference {
@@ -181,10 +188,11 @@ fn unbounded(model: &Model, set: &MemberSet, point: &Point, ray: &Ray) -> Found 
     }
 }
 
-// What the reference tells of the active members.
-fn reference_find(alloc: Global, model: &Model) -> Found {
-    let inner = LinearOracle::new(alloc, model, PIVOTS);
-    let mut oracle = BranchOracle::new(alloc, model, inner, NODES);
+// What the reference tells of the active members, of which none is a mark.
+fn reference_find(alloc: Global, model: &Model) -> Found
+    requires linear { is_linear (active_members model.now) ≡ true }
+{
+    let mut oracle = LinearOracle::new(alloc, model, PIVOTS);
     let found = diagnose(alloc, model, &mut oracle, PIVOTS);
     match found {
         Ok(Diagnosis::Bounded(_, _, dual)) => Found::Best(dual.bound),

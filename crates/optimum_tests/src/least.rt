@@ -84,14 +84,24 @@ pub(crate) fn try_least(
         pivots: 0,
     };
     for number in 0..models {
-        let seed = seed.wrapping_add(number);
-        let text = shape_text(alloc, shape, &mut Chance::new(seed))?;
-        match read_models(alloc, text.as_slice(), seed) {
-            Some(models) => try_models(alloc, &models, &mut tally)?,
-            None => raise(&mut tally.refused, 1),
-        }
+        try_seed(alloc, shape, seed.wrapping_add(number), &mut tally)?;
     }
     Ok(tally)
+}
+
+// Tries the models of one seed.
+fn try_seed(
+    alloc: Global,
+    shape: Shape,
+    seed: u32,
+    tally: &mut LeastTally,
+) -> Result<(), AllocError> {
+    let text = shape_text(alloc, shape, &mut Chance::new(seed))?;
+    let Some(models) = read_models(alloc, text.as_slice(), seed) else {
+        raise(&mut tally.refused, 1);
+        return Ok(());
+    };
+    try_models(alloc, &models, tally)
 }
 
 // The models of a text; none where it is not read.

@@ -350,37 +350,28 @@ pub(crate) fn tell_lies(rt: &HostRuntime) -> io::Result<()> {
     let Some(model) = paired(alloc)? else {
         return println!(rt; "the model is not read");
     };
-    for (name, lie) in least_lies() {
-        tell(
-            rt,
-            "least",
-            name,
-            is_answered(alloc, &model, Ask::Least, lie)?,
-        )?;
-    }
-    for (name, lie) in cheapest_lies() {
-        tell(
-            rt,
-            "cheapest",
-            name,
-            is_answered(alloc, &model, Ask::Cheapest, lie)?,
-        )?;
-    }
-    for (name, lie) in bounded_lies() {
-        tell(
-            rt,
-            "best",
-            name,
-            is_answered(alloc, &model, Ask::Bounded, lie)?,
-        )?;
-    }
-    for (name, lie) in endless_lies() {
-        tell(
-            rt,
-            "best without an end",
-            name,
-            is_answered(alloc, &model, Ask::Endless, lie)?,
-        )?;
+    tell_each(rt, &model, "least", Ask::Least, &least_lies())?;
+    tell_each(rt, &model, "cheapest", Ask::Cheapest, &cheapest_lies())?;
+    tell_each(rt, &model, "best", Ask::Bounded, &bounded_lies())?;
+    tell_each(
+        rt,
+        &model,
+        "best without an end",
+        Ask::Endless,
+        &endless_lies(),
+    )
+}
+
+// Tells of each suggestion for an ask whether anything was answered.
+fn tell_each(
+    rt: &HostRuntime,
+    model: &Model,
+    asked: &str,
+    ask: Ask,
+    lies: &[(&'static str, Lie)],
+) -> io::Result<()> {
+    for (name, lie) in lies {
+        tell(rt, asked, name, is_answered(rt.alloc(), model, ask, *lie)?)?;
     }
     Ok(())
 }

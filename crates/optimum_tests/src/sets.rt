@@ -1,6 +1,7 @@
 //! Sets of a model's members.
 ghost use Rattle.std.specs.Prelude.{◌≡◌, IfOk};
 ghost use Rattle.lp_model.specs.Members.{is_mark as mark_test};
+ghost use Rattle.lp_model.specs.MemberSets.{active_set};
 ghost use Rattle.certs.specs.Checks.{IsSetOf};
 ghost use Rattle.certs.specs.Trees.{has_mark as some_mark};
 
@@ -10,7 +11,8 @@ use std::alloc::{AllocError, Global};
 
 /// All active members of a model.
 pub(crate) fn active(alloc: Global, model: &Model) -> Result<MemberSet, AllocError>
-    ensures { IfOk result (IsSetOf model.now) }
+    ensures same { IfOk result (IsSetOf model.now) }
+    ensures whole { IfOk result (λ set. set ≡ active_set model.now) }
 {
     model.members(alloc)
 }

@@ -136,19 +136,33 @@ fn ask_all(
 {
     let mut kept = Kept::new();
     for question in [Question::Check, Question::Deletion, Question::Additive] {
-        let mut reference = reference_of(alloc, model, PIVOTS, NODES);
-        let alone = ask_question(alloc, &mut reference, set, question)?;
-        let inner = reference_of(alloc, model, PIVOTS, NODES);
-        let mut quick = QuickOracle::new(alloc, model, kept, inner, PIVOTS, NODES);
-        let answered = ask_question(alloc, &mut quick, set, question)?;
-        raise(&mut tally.asks, quick.tale().asks());
-        raise(&mut tally.handed, quick.inner().tale().asks());
-        raise(&mut tally.nodes_alone, reference.nodes_taken());
-        count(tally, &alone, &answered);
-        kept = quick.into_kept();
+        kept = ask_beside(alloc, model, set, question, kept, tally)?;
     }
     raise(&mut tally.nodes, kept.nodes_taken());
     Ok(())
+}
+
+// Asks one question of the reference alone and of quick runs over it, with the table that is kept and is given back.
+fn ask_beside(
+    alloc: Global,
+    model: &Model,
+    set: &MemberSet,
+    question: Question,
+    kept: Kept,
+    tally: &mut Tally,
+) -> Result<Kept, AllocError>
+    requires same { IsSetOf model.now set.now }
+{
+    let mut reference = reference_of(alloc, model, PIVOTS, NODES);
+    let alone = ask_question(alloc, &mut reference, set, question)?;
+    raise(&mut tally.nodes_alone, reference.nodes_taken());
+    let inner = reference_of(alloc, model, PIVOTS, NODES);
+    let mut quick = QuickOracle::new(alloc, model, kept, inner, PIVOTS, NODES);
+    let answered = ask_question(alloc, &mut quick, set, question)?;
+    raise(&mut tally.asks, quick.tale().asks());
+    raise(&mut tally.handed, quick.inner().tale().asks());
+    count(tally, &alone, &answered);
+    Ok(quick.into_kept())
 }
 
 /// Asks all questions of the model that a text declares, and tallies what comes of them.
