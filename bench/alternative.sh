@@ -1,12 +1,14 @@
 #!/bin/sh
-# Asks `iis alternative` of models that nothing satisfies: plans of so many periods and random systems whose rows ask for more than
-# others allow (`bench/entries.sh`). Prints for each how many members it has, the size of the table of their system of the
-# alternative, the pivots, the least budget with which the answer is not that they are spent; the processor seconds and the peak of
-# memory of a run from start to end, which asks besides for a witness of each member that is found; and the total with the number
-# of these. Beside them stand the seconds of `glpsol --exact` and of `esolver` (QSopt_ex) on the system of the alternative written
-# as an LP, where these are installed, and whether their totals are the same: esolver's exactly, glpsol's in the digits that it
-# prints. The program is the one that the variable IISAN names, or else the one that ./iisan builds. With words, only the models
-# whose names have one of them are gone through. It wants GNU time (Debian's package `time`). A benchmark, no test.
+# Asks `iis alternative` of models that nothing satisfies: plans of so many periods and random systems whose rows ask for more
+# than others allow (`bench/entries.sh`), and transports, flows, mixed and sparse systems (`bench/models.sh`). Prints for each how
+# many members it has, the size of the table of their system of the alternative, the pivots, the least budget with which the
+# answer is not that they are spent; the processor seconds and the peak of memory of a run from start to end, which asks besides
+# for a witness of each member that is found; and the total with the number of these. Beside them stand the seconds of `glpsol
+# --exact` and of `esolver` (QSopt_ex) on the system of the alternative written as an LP, where these are installed, and whether
+# their totals are the same: esolver's exactly, glpsol's in the digits that it prints. A run is cut off after 30 seconds by the
+# clock. The pivots are not counted of runs that take a second or more. The program is the one that the variable IISAN names, or
+# else the one that ./iisan builds. With words, only the models whose names have one of them are gone through. It wants GNU time
+# (Debian's package `time`). A benchmark, no test.
 set -eu
 
 top=$(CDPATH='' cd -- "$(dirname -- "$0")/.." && pwd)
@@ -14,8 +16,12 @@ work=$(mktemp -d)
 trap 'rm -rf "$work"' EXIT
 # shellcheck source=bench/models.sh
 . "$top/bench/models.sh"
+# shellcheck source=bench/forms.sh
+. "$top/bench/forms.sh"
 # shellcheck source=bench/timing.sh
 . "$top/bench/timing.sh"
+# shellcheck source=bench/others.sh
+. "$top/bench/others.sh"
 # shellcheck source=bench/entries.sh
 . "$top/bench/entries.sh"
 program=${IISAN:-}
@@ -25,7 +31,7 @@ if [ -z "$program" ]; then
 fi
 program=$(realpath "$program")
 cd "$work"
-limit=120 limit_of_others=60 other_system=alternative.lp
+limit=30 other_system=alternative.lp other_format=lp
 
 # The model of the entries in the LP format.
 model_of() {
@@ -81,25 +87,25 @@ alternative_of() {
 # Asks with a budget of pivots: what is said goes to the file `said`.
 ask() {
     printf 'budget pivots %s\niis alternative\n' "$1" >script
-    timeout "$limit" "$program" analyse model.lp script >said 2>&1 </dev/null || true
+    timeout "$limit" "$program" analyse "$file" script >said 2>&1 </dev/null || true
 }
 
 # One line of the table: the kind and its numbers.
 measure() {
     kind=$1 first=$2 second=$3
-    "${kind}_entries" "$first" "$second" >entries
-    model_of >model.lp
+    make_model "$kind" "$first" "$second"
     alternative_of >alternative.lp
     rows=$(grep -c '^row' entries) columns=$(grep -c '^bound' entries)
     members=$(awk '/^Subject/ { exit } /^  . y/ { n++ } END { print n }' alternative.lp)
-    pivots=$(least_budget "")
     printf 'budget pivots 1000000\niis alternative\n' >script
-    timed "$limit" "$program" analyse model.lp script
+    timed "$limit" "$program" analyse "$file" script
     total=$(awk '$1 == "total" { print $2 }' said)
     end=${total:-$(grep -v 'done\|command\|report' said | head -n 1)}
     found=$(grep -c '^member' said || true)
+    whole=$(cat seconds) most=$(cat megabytes) pivots=-
+    ! is_quick "$whole" "$total" || pivots=$(least_budget "")
     line="$kind $first${second:+ x $second} | $rows | $columns | $members | $(((columns + 2) * members)) | $pivots"
-    line="$line | $(cat seconds) | $(cat megabytes) | $end | $found"
+    line="$line | $whole | $most | $end | $found"
     echo "| $line | $(glpsol_told "$total") | $(esolver_told "$total") |"
 }
 
@@ -114,8 +120,10 @@ plan 5 -
 plan 10 -
 plan 20 -
 plan 40 -
+plan 60 -
 plan 80 -
 plan 160 -
+plan 200 -
 plan 400 -
 plan 800 -
 tight 6 6
@@ -125,4 +133,12 @@ tight 30 30
 tight 40 40
 tight 60 60
 tight 80 80
+transport 20 -
+transport 40 -
+flow 200 4
+mixed 100 -
+mixed 400 -
+mixed 1000 -
+system 400 800
+system 1000 2000
 END

@@ -1,6 +1,5 @@
-# What bench/relax.sh and bench/alternative.sh share: plans and random systems as lines of entries, the least budget of pivots, and
-# what other solvers tell. It wants bench/timing.sh, a function `ask BUDGET RIGID` that leaves what is said in the file `said`, the
-# seconds limit_of_others, and an LP in the file whose name other_system has.
+# What bench/relax.sh and bench/alternative.sh share: plans and random systems as lines of entries. It wants bench/models.sh and
+# bench/forms.sh, and a function `model_of` that prints the model of the file `entries` in the LP format.
 
 # A plan as lines of entries: `row NAME LO UP`, `term ROW COLUMN FACTOR` and `bound COLUMN LO UP`, a dash where there is none.
 plan_entries() {
@@ -34,46 +33,36 @@ tight_entries() {
     }'
 }
 
-# The least budget with which the answer is not that the pivots are spent.
-least_budget() {
-    spent=-1 enough=1
-    ask "$enough" "$1"
-    while grep -qx 'pivots spent' said; do
-        spent=$enough enough=$((enough * 2))
-        ask "$enough" "$1"
-    done
-    while [ $((enough - spent)) -gt 1 ]; do
-        middle=$(((enough + spent) / 2))
-        ask "$middle" "$1"
-        if grep -qx 'pivots spent' said; then spent=$middle; else enough=$middle; fi
-    done
-    echo "$enough"
-}
-
-# What is told of another solver, which has run: its seconds, and whether its total is the same, as text or in nine digits.
-told() {
-    awk -v seconds="$(cat seconds)" -v value="$1" -v found="$2" -v exact="$3" '
-        function number(text, part, n) { n = split(text, part, "/"); return part[1] / (n > 1 ? part[2] : 1) }
-        function size(x) { return x < 0 ? -x : x }
-        BEGIN {
-            if (value == "" || found == "") { print seconds; exit }
-            gap = size(number(value) - number(found))
-            same = exact ? value "" == found "" : gap <= 1e-9 * (1 + size(number(value)))
-            print seconds ", " (same ? "same" : "another total: " found)
+# The lines of entries of a model in the MPS format.
+mps_entries() {
+    plain "$1" | awk '
+        BEGIN { columns = rows = 0 }
+        $1 == "column" { print "bound x" columns++, $2, $3 }
+        $1 == "row" {
+            print "row r" rows, $2, $3
+            for (k = 4; k < NF; k += 2) print "term r" rows, "x" $(k + 1), $k
+            rows++
         }'
 }
 
-# The same of each that is installed, or a dash.
-glpsol_told() {
-    command -v glpsol >/dev/null 2>&1 || { echo - && return; }
-    : >solution
-    timed "$limit_of_others" glpsol --exact --lp "$other_system" -w solution
-    told "$1" "$(awk '$1 == "s" && $5 == "f" { print $NF }' solution)" ""
+# Makes a model of a kind with its numbers, and its entries in the file of that name; the name of its file goes to the variable
+# `file`. Plans and tight systems are made of their entries, the others by bench/models.sh.
+make_model() {
+    case $1 in
+    plan | tight)
+        file=model.lp
+        "${1}_entries" "$2" "$3" >entries
+        model_of >"$file"
+        ;;
+    *)
+        file=model.mps
+        infeasible "$@" >"$file"
+        mps_entries "$file" >entries
+        ;;
+    esac
 }
 
-esolver_told() {
-    command -v esolver >/dev/null 2>&1 || { echo - && return; }
-    : >solution
-    timed "$limit_of_others" esolver -O solution "$other_system"
-    told "$1" "$(awk '$1 == "Value" { print $3 }' solution)" exact
+# A model of bench/models.sh that nothing satisfies.
+infeasible() {
+    if [ "$1" = system ]; then system "$2" "$3" infeasible; else "$@"; fi
 }

@@ -1,13 +1,15 @@
 #!/bin/sh
 # Asks `unbounded` of models with a greatest value: packings, whose rows have four entries from 1 to 5, and shipments, whose
 # columns each count once at a source and once at a sink, every third column with an upper limit. Each column is at least 0, and
-# each row at most something above 0, so the start is settled and all pivots are those of the improve run. Prints for each the
-# pivots, the least budget with which the answer is not that they are spent; the processor seconds of a run from start to end; the
-# nanoseconds of one more question for each entry of the table and each pivot, as the mean over many; and the greatest value.
-# Beside them stand the seconds of `glpsol --exact` and of `esolver` (QSopt_ex) on the same files, where these are installed, and
-# whether their values are the same: esolver's exactly, glpsol's in the digits that it prints. The program is the one that the
-# variable IISAN names, or else the one that ./iisan builds. With words, only the models whose names have one of them are gone
-# through. It wants GNU time (Debian's package `time`). A benchmark, no test.
+# each row at most something above 0, so the start is settled and all pivots are those of the improve run. Then of plans,
+# transports, flows, mixed and sparse systems that a point satisfies (`bench/models.sh`), the others than plans with costs from 1
+# to 20, whose cost is made least. Prints for each the pivots, the least budget with which the answer is not that they are spent;
+# the processor seconds and the peak of memory of a run from start to end; and the best value. Beside them stand the seconds of
+# `glpsol --exact` and of `esolver` (QSopt_ex) on the same files, where these are installed, and whether their values are the same:
+# esolver's exactly, glpsol's in the digits that it prints. A run is cut off after 30 seconds by the clock. The pivots are not
+# counted of runs that take a second or more. The program is the one that the variable IISAN names, or else the one that ./iisan
+# builds. With words, only the models whose names have one of them are gone through. It wants GNU time (Debian's package `time`).
+# A benchmark, no test.
 set -eu
 
 top=$(CDPATH='' cd -- "$(dirname -- "$0")/.." && pwd)
@@ -15,8 +17,12 @@ work=$(mktemp -d)
 trap 'rm -rf "$work"' EXIT
 # shellcheck source=bench/models.sh
 . "$top/bench/models.sh"
+# shellcheck source=bench/forms.sh
+. "$top/bench/forms.sh"
 # shellcheck source=bench/timing.sh
 . "$top/bench/timing.sh"
+# shellcheck source=bench/others.sh
+. "$top/bench/others.sh"
 program=${IISAN:-}
 if [ -z "$program" ]; then
     "$top/iisan" >/dev/null 2>&1 </dev/null || true
@@ -24,7 +30,7 @@ if [ -z "$program" ]; then
 fi
 program=$(realpath "$program")
 cd "$work"
-limit=120 limit_of_others=30
+limit=30
 
 # A packing of so many rows and columns in the LP format; each column counts in a row of its own, so that it is bounded.
 packing() {
@@ -71,92 +77,63 @@ shipment() {
     }'
 }
 
-# Asks so often with a budget of pivots: what is said goes to the file `answer`, and the processor seconds to `asking`.
+# A model of bench/models.sh that a point satisfies, in the MPS format, with costs by chance from 1 to 20.
+priced() {
+    if [ "$1" = flow ] || [ "$1" = system ]; then "$1" "$2" "$3" feasible; else "$1" "$2" feasible; fi |
+        awk '$2 == "cost" && $3 == 1 { state = (state + 7) * 16807 % 2147483647; $0 = " " $1 " cost " 1 + state % 20 } { print }'
+}
+
+# Makes a model of a kind with its numbers; the name of its file goes to the variable `file`.
+make_model() {
+    file=model.lp other_format=lp
+    case $1 in
+    packing | shipment) "$1" "$2" "$3" >"$file" ;;
+    plan) plan "$2" feasible >"$file" ;;
+    *)
+        file=model.mps other_format=freemps
+        priced "$1" "$2" "$3" >"$file"
+        ;;
+    esac
+    other_system=$file
+}
+
+# The rows and columns of that model.
+count_rows_and_columns() {
+    case $1 in
+    packing) rows=$2 columns=$3 ;;
+    shipment) rows=$(($2 + $3)) columns=$(($2 * $3)) ;;
+    *)
+        plain "$file" >lines
+        rows=$(grep -c '^row' lines) columns=$(grep -c '^column' lines)
+        ;;
+    esac
+}
+
+# Asks with a budget of pivots: what is said goes to the file `said`.
 ask() {
-    { echo "budget pivots $1" && yes unbounded | head -n "$2"; } >script
-    /usr/bin/time -q -f '%U %S' -o figures timeout "$limit" "$program" analyse model.lp script >answer </dev/null || true
-    tail -n 1 figures | awk '{ print $1 + $2 }' >asking
-}
-
-# The least budget with which the answer is not that the pivots are spent.
-least_budget() {
-    spent=-1 enough=1
-    ask "$enough" 1
-    while grep -qx 'pivots spent' answer; do
-        spent=$enough enough=$((enough * 2))
-        ask "$enough" 1
-    done
-    while [ $((enough - spent)) -gt 1 ]; do
-        middle=$(((enough + spent) / 2))
-        ask "$middle" 1
-        if grep -qx 'pivots spent' answer; then spent=$middle; else enough=$middle; fi
-    done
-    echo "$enough"
-}
-
-# The seconds of one more question, as the mean over so many that they take a fifth of a second.
-question_seconds() {
-    times=1
-    ask "$1" 1
-    first=$(cat asking)
-    ask "$1" 2
-    while [ "$times" -lt 1000 ] && awk -v first="$first" '{ exit !($1 - first < 0.2) }' asking; do
-        times=$((times * 10))
-        ask "$1" $((times + 1))
-    done
-    awk -v first="$first" -v times="$times" '{ printf "%.9f\n", ($1 - first) / times }' asking
-}
-
-# What is told of another solver, which has run: its seconds and, where both it and the program have a value, whether they are the
-# same, as text or in nine digits.
-told() {
-    awk -v seconds="$(cat seconds)" -v value="$1" -v found="$2" -v exact="$3" '
-        function number(text, part, n) { n = split(text, part, "/"); return part[1] / (n > 1 ? part[2] : 1) }
-        function size(x) { return x < 0 ? -x : x }
-        BEGIN {
-            if (value == "" || found == "") { print seconds; exit }
-            gap = size(number(value) - number(found))
-            same = exact ? value "" == found "" : gap <= 1e-9 * (1 + size(number(value)))
-            print seconds ", " (same ? "same" : "another value: " found)
-        }'
-}
-
-# The same of each that is installed, or a dash.
-glpsol_told() {
-    command -v glpsol >/dev/null 2>&1 || { echo - && return; }
-    : >solution
-    timed "$limit_of_others" glpsol --exact --lp model.lp -w solution
-    told "$1" "$(awk '$1 == "s" && $5 == "f" { print $NF }' solution)" ""
-}
-
-esolver_told() {
-    command -v esolver >/dev/null 2>&1 || { echo - && return; }
-    : >solution
-    timed "$limit_of_others" esolver -O solution model.lp
-    told "$1" "$(awk '$1 == "Value" { print $3 }' solution)" exact
+    printf 'budget pivots %s\nunbounded\n' "$1" >script
+    timeout "$limit" "$program" analyse "$file" script >said 2>&1 </dev/null || true
 }
 
 # One line of the table.
 measure() {
     kind=$1 first=$2 second=$3
-    "$kind" "$first" "$second" >model.lp
-    rows=$first columns=$second
-    if [ "$kind" = shipment ]; then rows=$((first + second)) columns=$((first * second)); fi
-    pivots=$(least_budget)
-    echo unbounded >script
-    timed "$limit" "$program" analyse model.lp script
+    make_model "$kind" "$first" "$second"
+    count_rows_and_columns "$kind" "$first" "$second"
+    printf 'budget pivots 1000000\nunbounded\n' >script
+    timed "$limit" "$program" analyse "$file" script
     value=$(awk '$1 == "objective" { print $2 }' said)
-    end=${value:-$(sed -n 3p said)}
-    each=-
-    [ -z "$value" ] || each=$(question_seconds "$pivots" | awk -v work="$((rows * columns * pivots))" '{ printf work ? "%.1f" : "-", work ? $1 * 1e9 / work : 0 }')
-    whole=$(cat seconds)
-    line="$kind $first x $second | $rows | $columns | $pivots | $whole | $each | $end"
+    end=${value:-$(grep -v 'done\|command\|report' said | head -n 1)}
+    whole=$(cat seconds) most=$(cat megabytes) pivots=-
+    ! is_quick "$whole" "$value" || pivots=$(least_budget)
+    line="$kind $first${second:+ x $second} | $rows | $columns | $pivots | $whole | $most | $end"
     echo "| $line | $(glpsol_told "$value") | $(esolver_told "$value") |"
 }
 
-echo "| model | rows | columns | pivots | seconds | ns per entry and pivot | greatest value | \`glpsol --exact\` | \`esolver\` |"
+echo "| model | rows | columns | pivots | seconds | peak megabytes | best value | \`glpsol --exact\` | \`esolver\` |"
 echo "|---|---|---|---|---|---|---|---|---|"
 while read -r kind first second; do
+    second=${second#-}
     has_word "$kind $first x $second " "$@" || continue
     measure "$kind" "$first" "$second"
 done <<'END'
@@ -172,4 +149,19 @@ shipment 20 20
 shipment 30 30
 shipment 40 40
 shipment 60 60
+plan 60 -
+plan 200 -
+plan 500 -
+plan 1000 -
+transport 20 -
+transport 40 -
+flow 200 4
+flow 600 4
+flow 1500 2
+mixed 100 -
+mixed 200 -
+mixed 400 -
+mixed 1000 -
+system 400 800
+system 1000 2000
 END

@@ -3,16 +3,17 @@
 # systems of rows of all kinds. To be read by `.`; it does nothing of its own.
 
 # A plan of so many periods: what is made and what is in store meets each period's demand, and no more than 10 can be made. The
-# last period asks for 2 more than is left, so all rows, all upper bounds and the last lower bound contradict one another.
+# last period asks for 2 more than is left, so all rows, all upper bounds and the last lower bound contradict one another; with
+# `feasible` it asks for no more than that, as the last rows of the models below do.
 plan() {
-    awk -v n="$1" 'BEGIN {
+    awk -v n="$1" -v feasible="${2:-}" 'BEGIN {
         print "Minimize"
         line = " cost: s1"
         for (t = 2; t <= n; t++) line = line (t % 10 == 1 ? "\n  + s" : " + s") t
         print line
         print "Subject To"
         for (t = 1; t <= n; t++) {
-            demand = (t % 2 == 1 ? 9 : 11) + (t == n ? 2 : 0)
+            demand = (t % 2 == 1 ? 9 : 11) + (t == n && !feasible ? 2 : 0)
             if (t == 1) print " b1: p1 - s1 = " demand
             else print " b" t ": s" t - 1 " + p" t " - s" t " = " demand
         }
@@ -88,14 +89,14 @@ made='
 # A transport from so many suppliers to as many customers, each of whom may buy from each supplier: a row for each, at most what
 # there is, and at least what is asked for, which is 1 more in all.
 transport() {
-    awk -v n="$1" "$made"'BEGIN {
+    awk -v n="$1" -v feasible="${2:-}" "$made"'BEGIN {
         state = n
         for (i = 0; i < n; i++) {
             kind[i] = "L"; kind[n + i] = "G"
             side[i] = 5 + below(16); side[n + i] = 0
         }
         for (i = 0; i < n; i++) for (k = 0; k < side[i]; k++) side[n + below(n)]++
-        side[n + n - 1]++
+        if (!feasible) side[n + n - 1]++
         for (i = 0; i < n; i++) for (j = 0; j < n; j++) { put(i, i * n + j, 1); put(n + j, i * n + j, 1) }
         print_model(2 * n, n * n)
     }'
@@ -105,7 +106,7 @@ transport() {
 # to a node leaves it, and the last one is to have 1 more than the greatest flow brings. The greatest flow is found by shortest
 # ways on which more can flow (Edmonds and Karp).
 flow() {
-    awk -v nodes="$1" -v arcs="$2" "$made"'
+    awk -v nodes="$1" -v arcs="$2" -v feasible="${3:-}" "$made"'
     # Puts an arc, and behind it the way back, on which nothing can flow yet.
     function arc(from, to, most) {
         head[ends] = to; room[ends] = most; after[ends] = first[from]; first[from] = ends++
@@ -154,16 +155,16 @@ flow() {
         }
         greatest = 0
         while (find()) greatest += push()
-        for (v = 1; v < nodes; v++) { kind[v - 1] = v < nodes - 1 ? "E" : "G"; side[v - 1] = v < nodes - 1 ? 0 : greatest + 1 }
+        for (v = 1; v < nodes; v++) { kind[v - 1] = v < nodes - 1 ? "E" : "G"; side[v - 1] = v < nodes - 1 ? 0 : greatest + !feasible }
         print_model(nodes - 1, columns)
     }'
 }
 
 # So many random rows over twice as many columns, of which three in ten have the upper bound 10: 5 entries a row, of either sign,
 # that a point of small whole numbers satisfies, of each ten rows about three equations, three at least, three at most and one
-# with a range. The row behind them asks for 1 more than ten of them allow together.
+# with a range. The row behind them asks for 1 more than ten of them allow together; with `feasible` there is none.
 mixed() {
-    awk -v n="$1" "$made"'BEGIN {
+    awk -v n="$1" -v feasible="${2:-}" "$made"'BEGIN {
         state = n
         for (j = 0; j < 2 * n; j++) {
             point[j] = below(6)
@@ -193,11 +194,12 @@ mixed() {
                 entry[n, j] += entry[i, j]
             }
         }
-        for (i = 0; i <= n; i++) for (k = 0; k < count[i]; k++) {
+        rows = feasible ? n : n + 1
+        for (i = 0; i < rows; i++) for (k = 0; k < count[i]; k++) {
             j = column[i, k]
             if (entry[i, j] != 0) put(i, j, entry[i, j])
         }
-        print_model(n + 1, 2 * n)
+        print_model(rows, 2 * n)
     }
 
     # How far up the sides of a row reach from the right side of at least.

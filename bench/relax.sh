@@ -1,12 +1,13 @@
 #!/bin/sh
-# Asks `relax` of models that nothing satisfies: plans of so many periods (`bench/models.sh`), with all members soft and with their
-# bounds rigid, and random systems whose rows ask for more than others allow. Prints for each how many soft members it has, the size
-# of the elastic system's table, the pivots, the least budget with which the answer is not that they are spent; the processor
-# seconds and the peak of memory of a run from start to end; and the least total. Beside them stand the seconds of `glpsol --exact`
-# and of `esolver` (QSopt_ex) on the elastic system written as an LP, where these are installed, and whether their totals are the
-# same: esolver's exactly, glpsol's in the digits that it prints. The program is the one that the variable IISAN names, or else the
-# one that ./iisan builds. With words, only the models whose names have one of them are gone through. It wants GNU time (Debian's
-# package `time`). A benchmark, no test.
+# Asks `relax` of models that nothing satisfies: plans of so many periods, with all members soft and with their bounds rigid,
+# random systems whose rows ask for more than others allow (`bench/entries.sh`), and transports, flows, mixed and sparse systems
+# (`bench/models.sh`). Prints for each how many soft members it has, the size of the elastic system's table, the pivots, the least
+# budget with which the answer is not that they are spent; the processor seconds and the peak of memory of a run from start to
+# end; and the least total. Beside them stand the seconds of `glpsol --exact` and of `esolver` (QSopt_ex) on the elastic system
+# written as an LP, where these are installed, and whether their totals are the same: esolver's exactly, glpsol's in the digits
+# that it prints. A run is cut off after 30 seconds by the clock. The pivots are not counted of runs that take a second or more.
+# The program is the one that the variable IISAN names, or else the one that ./iisan builds. With words, only the models whose
+# names have one of them are gone through. It wants GNU time (Debian's package `time`). A benchmark, no test.
 set -eu
 
 top=$(CDPATH='' cd -- "$(dirname -- "$0")/.." && pwd)
@@ -14,8 +15,12 @@ work=$(mktemp -d)
 trap 'rm -rf "$work"' EXIT
 # shellcheck source=bench/models.sh
 . "$top/bench/models.sh"
+# shellcheck source=bench/forms.sh
+. "$top/bench/forms.sh"
 # shellcheck source=bench/timing.sh
 . "$top/bench/timing.sh"
+# shellcheck source=bench/others.sh
+. "$top/bench/others.sh"
 # shellcheck source=bench/entries.sh
 . "$top/bench/entries.sh"
 program=${IISAN:-}
@@ -25,11 +30,11 @@ if [ -z "$program" ]; then
 fi
 program=$(realpath "$program")
 cd "$work"
-limit=120 limit_of_others=60 other_system=elastic.lp
+limit=30 other_system=elastic.lp other_format=lp
 
 # The model of such entries in the LP format, or with `elastic` its elastic system, where with `rigid` the bounds stay as they are.
 model_of() {
-    awk -v elastic="$1" -v rigid="$2" '
+    awk -v elastic="${1:-}" -v rigid="${2:-}" '
         $1 == "row" { names[++count] = $2; lo[$2] = $3; up[$2] = $4 }
         $1 == "term" { form[$2] = form[$2] ($4 < 0 ? " - " (0 - $4) : " + " $4) " " $3 }
         $1 == "bound" { columns[++width] = $2; least[$2] = $3; most[$2] = $4 }
@@ -71,23 +76,22 @@ script_of() {
 # Asks with a budget of pivots: what is said goes to the file `said`.
 ask() {
     script_of "$1" "$2" >script
-    timeout "$limit" "$program" analyse model.lp script >said 2>&1 </dev/null || true
+    timeout "$limit" "$program" analyse "$file" script >said 2>&1 </dev/null || true
 }
 
 # One line of the table: the kind, its numbers, and whether the bounds are rigid.
 measure() {
     kind=$1 first=$2 second=$3 rigid=$4
-    "${kind}_entries" "$first" "$second" >entries
-    model_of "" "" >model.lp
+    make_model "$kind" "$first" "$second"
     model_of elastic "$rigid" >elastic.lp
     rows=$(grep -c '^row' entries) columns=$(grep -c '^bound' entries)
     soft=$(grep -o '[-+] e[0-9]*' elastic.lp | sort -u | sed 's/.* //' | sort -u | wc -l)
-    pivots=$(least_budget "$rigid")
     script_of 1000000 "$rigid" >script
-    timed "$limit" "$program" analyse model.lp script
+    timed "$limit" "$program" analyse "$file" script
     total=$(awk '$1 == "total" { print $2 }' said)
     end=${total:-$(grep -v 'done\|command\|report' said | head -n 1)}
-    whole=$(cat seconds) most=$(cat megabytes)
+    whole=$(cat seconds) most=$(cat megabytes) pivots=-
+    ! is_quick "$whole" "$total" || pivots=$(least_budget "$rigid")
     size=$(((soft + 1) * (columns + soft)))
     line="$kind $first${second:+ x $second}${rigid:+, bounds rigid} | $rows | $columns | $soft | $size | $pivots | $whole | $most | $end"
     echo "| $line | $(glpsol_told "$total") | $(esolver_told "$total") |"
@@ -104,8 +108,10 @@ plan 5 -
 plan 10 -
 plan 20 -
 plan 40 -
+plan 60 -
 plan 80 -
 plan 160 -
+plan 200 -
 plan 400 -
 plan 5 - rigid
 plan 10 - rigid
@@ -123,4 +129,10 @@ tight 30 30
 tight 40 40
 tight 60 60
 tight 80 80
+transport 20 -
+transport 40 -
+flow 200 4
+mixed 100 -
+mixed 400 -
+system 400 800
 END
