@@ -1,9 +1,15 @@
-"""What the slow readers share: files of cases, each of which is a line with what is expected, and a text."""
+"""What the slow readers and ./test share: files of cases, each of which is a line with what is expected, and a text.
+
+What is expected is the first fault, or the model in one line; `report_of` gives a report that `verify` accepts of that model alone.
+"""
 
 import random
 import re
 import sys
+from fractions import Fraction
 from typing import Callable
+
+from models import LO, UP, Column, Model, Row
 
 Answer = Callable[[bytes], str]
 Maker = Callable[[random.Random], bytes]
@@ -16,6 +22,66 @@ def cases_of(content: bytes, mark: bytes) -> list:
         expected, _, text = case.partition(b"\n")
         cases.append((expected.rstrip(), text))
     return cases
+
+
+def model_of(line: str) -> Model:
+    """The model that a line tells."""
+    name = lambda word: bytes(map(int, filter(None, word.split(", ")))).decode()
+    limit = lambda word: None if word == "none" else Fraction(word)
+    form = lambda words: {int(j): Fraction(a) for j, a in (word.split("*") for word in words.split())}
+    terms = r"((?: \d+\*\S+)*)"
+    rows = [Row(name(it), form(its), limit(lo), limit(up)) for it, lo, up, its in re.findall(rf" row \[([^]]*)\] (\S+) (\S+){terms}", line)]
+    columns = re.findall(r" column \[([^]]*)\] (\S+) (\S+) (true|false)", line)
+    columns = [Column(name(it), limit(lo), limit(up), mark == "true") for it, lo, up, mark in columns]
+    return Model(rows, columns, form(re.search(rf" objective{terms}", line)[1]), line.startswith("max true"))
+
+
+def report_of(line: str) -> tuple:
+    """A report that tells all of the model in a line but the sense of an objective of 0, and how many entries it has.
+
+    Its notes are there. Each side, bound and mark is set to what it is, which is to change nothing. A stop leaves out all members, so
+    that rows and columns stand in their order. Then all columns are 0, and each row is refuted where it alone is to be at least 1, by
+    its factors; and the objective is bounded by 0, by its own.
+    """
+    model = model_of(line)
+    lines = [f"note {model.columns[int(j)].name} lower {word}" for word, j in re.findall(r" (removed|kept) (\d+)", line)]
+
+    def edit(command: str) -> str:
+        answer = model.edit(command.split(" "))
+        lines.extend([f"command {command}", answer])
+        return answer
+
+    def use(j: int, factor: Fraction) -> str:
+        return f"{'upper' if factor > 0 else 'lower'} {model.columns[j].name}"
+
+    def refuted(row: Row) -> list:
+        uses = [(f"rowlo {row.name}", 1)]
+        uses += [(use(j, a), abs(a)) for a_is_above in (False, True) for j, a in sorted(row.form.items()) if (a > 0) == a_is_above]
+        members = [f"member {name}" for name, _ in uses]
+        return ["command check", "infeasible", *members, "proof", "leaf", *(f"use {name} {a}" for name, a in uses), "end"]
+
+    parts = [("row", it) for it in model.rows] + [("column", it) for it in model.columns]
+    for kind, it in parts:
+        for word, side in (("lower", LO), ("upper", UP)):
+            number = it.limits[side]
+            assert edit(f"set {kind} {it.name} {word} {'none' if number is None else number}") == "no change"
+    for it in model.columns:
+        assert edit(f"mark {it.name} {'whole' if it.is_whole else 'plain'}") == "no change"
+    lines += ["command check", "pivots spent", "site settle", *(f"without {model.name(it)}" for it in model.members()), "end"]
+    for kind, it in parts:
+        for word in ("lower", "upper"):
+            edit(f"set {kind} {it.name} {word} {'none' if kind == 'row' else 0}")
+    for it in model.columns:
+        edit(f"mark {it.name} plain")
+    for row in model.rows:
+        edit(f"set row {row.name} lower 1")
+        lines.extend(refuted(row))
+        edit(f"set row {row.name} lower none")
+    sign = 1 if model.is_greatest else -1
+    uses = sorted((sign * a > 0, j, sign * a) for j, a in model.objective.items())
+    lines += ["command unbounded", "bounded", "point", "objective 0", "bound 0", "dual", *(f"use {use(j, a)} {abs(a)}" for _, j, a in uses), "end"]
+    entries = sum(it.startswith("command ") for it in lines)
+    return "\n".join(["iisan report 2", *lines, "report end", ""]).encode(), entries
 
 
 def check(path: str, mark: bytes, answer: Answer) -> int:

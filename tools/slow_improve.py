@@ -1,26 +1,19 @@
-#!/usr/bin/env python3
-"""Slow settle and improve runs, and rows of crates/run_rows that the program has to agree with: `tools/slow_improve.py`
+"""Slow settle and improve runs, beside which the program is tried.
 
-It goes by the definitions alone: at each basis the whole table is solved from the rows of the system again, in fractions of
-any size. Of each system it prints a row in the form of crates/run_rows/data/rows.txt: the model, a script that asks for
-`unbounded`, and the report. Systems are drawn at random from a stored seed; those with no point, and those with a number that
-could make an operation too wide, are left out. Each dual and each ray is checked. With `--bases` it tells instead, for each
-system of crates/slow_runs, how many bases pivots and changes of place lead to, how many improve runs there are from them with
-each budget up to one pivot more than the run takes, and the greatest value of the objective.
+It goes by the definitions alone: at each basis the whole table is solved from the rows of the system again, in fractions of any
+size. `cases()` gives models with what `unbounded` has to answer, with each budget up to what it takes where the models
+are listed, and with the usual one where they are drawn at random from a stored seed; of these those with no point, and those with a
+number that could make an operation too wide, are left out. Each dual and each ray is checked.
 """
 
-import ast
-import os
 import random
-import re
-import sys
 from fractions import Fraction
 
-from slow_reduction import LO, UP, OTHER, minus, over, plus, times
+from models import LO, UP, Column, Model, Row, sum_of
+from slow_reduction import OTHER, active_limits, member, minus, over, plus, times, values_text
 
 BASIC, ZERO = "basic", "zero"
 SMALL = 10**9
-TOP = os.path.dirname(os.path.dirname(os.path.realpath(__file__)))
 
 
 class System:
@@ -48,7 +41,7 @@ class System:
             at = next(k for k, line in enumerate(lines) if line.get(basic))
             pivot = lines.pop(at)
             pivot = {v: a / pivot[basic] for v, a in pivot.items()}
-            without = lambda line: {v: line.get(v, 0) - line.get(basic, 0) * pivot.get(v, 0) for v in {*line, *pivot}}
+            without = lambda line: line if not line.get(basic) else {v: line.get(v, 0) - line[basic] * pivot.get(v, 0) for v in {*line, *pivot}}
             lines, solved = list(map(without, lines)), {v: without(line) for v, line in solved.items()}
             solved[basic] = pivot
         return {basic: {v: -a for v, a in line.items() if v != basic and a} for basic, line in solved.items()}
@@ -131,16 +124,6 @@ class Stand:
         basis[variable] = OTHER[basis[variable]]
         return tuple(basis)
 
-    def changed(self):
-        """The bases that one exchange or one change of place leads to."""
-        for basic in self.limited_basics:
-            for side in (LO, UP):
-                if self.system.limits[basic][side] is not None:
-                    yield from (self.exchanged(basic, side, v) for v in self.nonbasics if self.factor(basic, v))
-        for v in self.nonbasics:
-            if None not in self.system.limits[v].values():
-                yield self.flipped(v)
-
 
 def run(system, basis, turn):
     """The last basis of a run by such turns, what it ends with, and how many changes it makes."""
@@ -154,9 +137,12 @@ def run(system, basis, turn):
 
 
 def improved(system, basis):
-    """The same of the settle run and then the improve run, or None where no point satisfies the system."""
-    stand, found, _ = run(system, basis, Stand.settle_turn)
-    return None if found is not None else run(system, stand.basis, Stand.improve_turn)
+    """The same of the settle run and then the improve run together, or None where no point satisfies the system."""
+    stand, found, settling = run(system, basis, Stand.settle_turn)
+    if found is not None:
+        return None
+    stand, found, improving = run(system, stand.basis, Stand.improve_turn)
+    return stand, found, settling + improving
 
 
 # ---- what an end shows
@@ -171,10 +157,6 @@ def ray(stand, moving):
     way = 1 if stand.factor(stand.system.objective, moving) > 0 else -1
     change = lambda v: Fraction(way * (v == moving)) if stand.basis[v] != BASIC else way * stand.factor(v, moving)
     return [change(v) for v in range(stand.system.columns)]
-
-
-def sum_of(form, values):
-    return sum((a * values[j] for j, a in form.items()), Fraction(0))
 
 
 def check_point(system, values):
@@ -201,79 +183,50 @@ def check_ray(system, changes):
 
 
 # ---- in print
-def form_text(form, columns):
-    terms = ((form.get(j, Fraction(0)), j) for j in columns)
-    return " ".join(f"{'-' if a < 0 else '+'} {abs(a)} x{j}" for a, j in terms)
+def system_of(model):
+    """The active members of a model but its marks, and its objective, to be made greatest."""
+    columns, rows = active_limits(model)
+    sign = 1 if model.is_greatest else -1
+    return System(columns, rows, [(j, sign * a) for j, a in model.objective.items()])
 
 
-def model_text(system, is_greatest):
-    """The system as an LP model; the objective names every column, so that they are declared in order."""
-    sign = 1 if is_greatest else -1
-    objective = {j: sign * a for j, a in system.forms[-1].items()}
-    lines = ["Maximize" if is_greatest else "Minimize", f" cost: {form_text(objective, range(system.columns))}", "Subject To"]
-    for i, form in enumerate(system.forms[:-1]):
-        lo, up = system.limits[system.columns + i].values()
-        text = form_text(form, sorted(form))
-        if lo == up:
-            lines.append(f" r{i}: {text} = {lo}")
-        elif None not in (lo, up):
-            lines.append(f" r{i}: {lo} <= {text} <= {up}")
-        else:
-            lines.append(f" r{i}: {text} " + (f"<= {up}" if lo is None else f">= {lo}"))
-    lines.append("Bounds")
-    for j in range(system.columns):
-        lo, up = system.limits[j].values()
-        if (lo, up) == (None, None):
-            lines.append(f" x{j} free")
-        else:
-            lines.append(f" {'-inf' if lo is None else lo} <= x{j} <= {'inf' if up is None else up}")
-    return "\n".join([*lines, "End"])
+def uses_text(model, weights):
+    """The lines of members with their weights."""
+    return [f"use {model.name(it)} {weights[it]}" for it in sorted(weights)]
 
 
-def values_text(values):
-    return [f"value x{j} {value}" for j, value in enumerate(values) if value]
-
-
-def use_text(system, side, variable, weight):
-    if variable >= system.columns:
-        return f"use row{side} r{variable - system.columns} {weight}"
-    return f"use {'lower' if side == LO else 'upper'} x{variable} {weight}"
-
-
-def answer(system, is_greatest):
-    """The lines of the answer, or None where no point satisfies the system."""
+def answer(model, spent=10**6):
+    """The lines of the answer within so many changes of the basis, or None where no point satisfies the model."""
+    system = system_of(model)
     found = improved(system, system.start())
     if found is None:
         return None
-    stand, moving, _ = found
+    stand, moving, changes = found
+    if changes > spent:
+        return ["pivots spent"]
     values = [stand.value(j) for j in range(system.columns)]
     check_point(system, values)
-    point = ["point", *values_text(values)]
+    point = ["point", *values_text(model, values)]
     if moving is not None:
         changes = ray(stand, moving)
         check_ray(system, changes)
-        return ["unbounded", *point, "ray", *values_text(changes), "end"]
+        return ["unbounded", *point, "ray", *values_text(model, changes), "end"]
     weights, bound = dual(stand)
     check_dual(system, weights, bound)
     assert bound == sum_of(system.forms[-1], values)
-    told = bound if is_greatest else -bound
-    order = lambda it: (0, it[0][1], it[0][0] == UP) if it[0][1] >= system.columns else (1, it[0][0] == UP, it[0][1])
-    uses = [use_text(system, side, v, weight) for (side, v), weight in sorted(weights.items(), key=order)]
+    told = bound if model.is_greatest else -bound
+    uses = uses_text(model, {member(system.columns, *it): weight for it, weight in weights.items()})
     return ["bounded", *point, f"objective {told}", f"bound {told}", "dual", *uses, "end"]
 
 
-def row(system, is_greatest):
-    """The row of run_rows for a system, or None."""
-    lines = answer(system, is_greatest)
-    if lines is None:
-        return None
-    report = "\n".join(["iisan report 2", "command unbounded", *lines, "report end"])
-    return f"== analyse m.lp s.script\n-- m.lp\n{model_text(system, is_greatest)}\n-- s.script\nunbounded\n-- status 0\n{report}"
+# ---- the models
+def model_of(columns, rows, objective, is_greatest):
+    rows = [Row(f"r{i}", dict(terms), lo, up) for i, (terms, lo, up) in enumerate(rows)]
+    return Model(rows, [Column(f"x{j}", *ends) for j, ends in enumerate(columns)], dict(objective), is_greatest)
 
 
-# ---- the systems
 def drawn(source):
-    """A small system of random numbers."""
+    """A small model of random numbers."""
     columns = [source.choice([(0, None), (0, source.randint(1, 4)), (-2, 3), (1, 5), (None, 2), (None, None)]) for _ in range(source.randint(3, 4))]
     rows = []
     for _ in range(source.randint(2, 3)):
@@ -282,56 +235,109 @@ def drawn(source):
         lo = source.randint(-4, 4)
         rows.append((terms, *source.choice([(lo, None), (None, lo + 6), (None, lo + 6), (lo, lo), (lo, lo + source.randint(1, 5))])))
     objective = [(j, a) for j in range(len(columns)) for a in [source.choice([-2, -1, 0, 1, 2, 3])] if a]
-    return System(columns, rows, objective), source.random() < 0.7
+    return model_of(columns, rows, objective, source.random() < 0.7)
 
 
-def printed():
-    """Rows of which some two in three have a greatest value; none twice."""
-    source, kinds, rows = random.Random(39), {"bounded": 40, "unbounded": 20}, []
+FREE = (None, None)
+# Columns, rows and an objective to be made greatest; the first three are those of Beale, of Marshall and Suurballe and of Kuhn, on
+# which the simplex method by the greatest coefficient never ends.
+LISTED = [
+    ([(0, None)] * 4, [([(0, 1), (1, -32), (2, -4), (3, 36)], None, 0), ([(0, 1), (1, -24), (2, -1), (3, 6)], None, 0), ([(2, 1)], None, 1)], [(0, 3), (1, -80), (2, 2), (3, -24)]),
+    ([(0, None)] * 4, [([(0, 1), (1, -11), (2, -5), (3, 18)], None, 0), ([(0, 1), (1, -3), (2, -1), (3, 2)], None, 0), ([(0, 1)], None, 1)], [(0, 10), (1, -57), (2, -9), (3, -24)]),
+    ([(0, None)] * 4, [([(0, -2), (1, -9), (2, 1), (3, 9)], None, 0), ([(0, 1), (1, 3), (2, -1), (3, -6)], None, 0), ([(0, 2), (1, 3), (2, -1), (3, -12)], None, 2)], [(0, 2), (1, 3), (2, -1), (3, -12)]),
+    # a corner of two rows
+    ([(0, 3), (0, None)], [([(0, 1), (1, 1)], None, 4), ([(0, 1), (1, 3)], None, 6)], [(0, 3), (1, 2)]),
+    # boxes and one row
+    ([(0, 1)] * 3, [([(0, 2), (1, 2), (2, 3)], -9, 4)], [(0, 2), (1, 1), (2, 1)]),
+    # boxes that do not start at 0
+    ([(-2, 3), (1, 2), (-1, 1)], [([(0, 1), (1, -1), (2, 1)], -4, 1), ([(0, -1), (1, 2), (2, 3)], None, 5)], [(0, 1), (1, -3), (2, 2)]),
+    # free columns between rows
+    ([FREE] * 2, [([(0, 1), (1, 1)], None, 4), ([(0, 1), (1, -1)], -2, 2), ([(0, 1)], -3, None)], [(0, 1), (1, 2)]),
+    # two equations
+    ([(0, 4), (0, None), (0, None)], [([(0, 1), (1, 1), (2, 1)], 6, 6), ([(0, 1), (1, -1)], 1, 1)], [(0, 2), (2, 1)]),
+    # equations with a free column
+    ([FREE, (0, 3), (0, 3)], [([(0, 1), (1, 2), (2, -1)], 2, 2), ([(0, 2), (1, -1)], None, 5)], [(0, -1), (1, 1), (2, -2)]),
+    # rows with two sides
+    ([(0, 4)] * 2, [([(0, 1), (1, 1)], 1, 5), ([(0, 1), (1, -1)], -2, 2)], [(0, 1), (1, -3)]),
+    # without end by a column
+    ([(0, None)] * 2, [([(0, 1), (1, -1)], None, 1)], [(0, 1)]),
+    # without end by a free column that falls
+    ([FREE, (0, 2)], [([(0, 1), (1, 1)], None, 3)], [(0, -1), (1, 1)]),
+    # without end after changes of place
+    ([(0, 1), (0, None), (0, None)], [([(0, 1), (1, 1), (2, -1)], None, 2), ([(0, 1), (1, -1), (2, 1)], -3, 3)], [(0, 1), (1, 1)]),
+    # upper limits alone
+    ([(None, 3), (None, 5)], [([(0, 1), (1, 2)], None, 9), ([(0, 1), (1, -1)], -3, None)], [(0, 1), (1, 3)]),
+    # a fixed column
+    ([(2, 2), (0, 3), (0, None)], [([(0, 1), (1, 1), (2, 2)], None, 4)], [(0, 1), (1, 1), (2, 3)]),
+    # four rows through one vertex
+    ([(0, None)] * 2, [([(0, 1), (1, 1)], None, 2), ([(0, 2), (1, 1)], None, 3), ([(0, 1), (1, 2)], None, 3), ([(0, 1)], None, 1)], [(0, 2), (1, 1)]),
+    # fractions
+    ([(0, 4)] * 2, [([(0, 3), (1, 7)], None, 22), ([(0, 5), (1, 2)], None, 17)], [(0, 2), (1, 3)]),
+    # the row and the column at once
+    ([(0, 2)] * 3, [([(0, 1), (1, 1)], None, 2), ([(1, 1), (2, 1)], None, 2)], [(0, 1), (1, 2), (2, 2)]),
+    # no rows to improve in
+    ([(0, 1), (-1, 2), (None, 3)], [], [(0, 2), (1, -1), (2, 1)]),
+    # an objective of 0
+    ([(0, 1), (0, None)], [([(0, 1), (1, 1)], 1, 3)], []),
+    ([(0, 1)] * 2, [([(0, 2), (1, 2)], None, 3)], [(0, 2), (1, 1)]),
+    # two rows against each other
+    ([(0, None)] * 2, [([(0, 3), (1, 3)], None, 1), ([(0, 2), (1, 2)], 1, None)], []),
+    # equal rows against one
+    ([(0, None)], [([(0, 1)], None, 0), ([(0, 1)], 1, None), ([(0, 1)], None, 0)], []),
+    # production plan, second
+    ([(0, 10), (0, 10), (0, 10), (0, None), (0, None), (0, None)], [([(0, 1), (3, -1)], 8, 8), ([(1, 1), (3, 1), (4, -1)], 12, 12), ([(2, 1), (4, 1), (5, -1)], 13, 13)], [(3, -1), (4, -1), (5, -1)]),
+    # rows through one vertex
+    ([(0, None)] * 2, [([(0, 1), (1, 1)], 2, None), ([(0, 1), (1, -1)], 0, None), ([(1, 1)], 1, None), ([(0, 2), (1, 1)], 3, None), ([(0, 1)], None, 1)], []),
+    # redundant equations, first
+    ([(0, None)] * 2, [([(0, 1), (1, 1)], 4, 4), ([(0, 1), (1, 1)], 4, 4), ([(0, 2), (1, 2)], 8, 8), ([(0, 1), (1, -1)], 0, 0)], []),
+    # redundant equations, second
+    ([(0, None)] * 2, [([(0, 1), (1, 1)], 4, 4), ([(0, 1), (1, 1)], 4, 4), ([(0, 2), (1, 2)], 9, None), ([(0, 1), (1, -1)], 0, 0)], []),
+    # rows without terms, first
+    ([(0, 5)], [([], None, 1), ([(0, 1)], 2, None), ([], 0, 0)], []),
+    # rows without terms, second
+    ([(0, 5)], [([(0, 1)], 2, None), ([], 1, None)], []),
+    # free columns, first
+    ([FREE] * 2, [([(0, 1), (1, 1)], 3, 3), ([(0, 1), (1, -1)], 1, 1), ([(0, 1), (1, 2)], None, 3)], []),
+    # free columns, second
+    ([FREE] * 3, [([(0, 1), (1, 1), (2, 1)], 3, 3), ([(0, 1), (1, -1)], 1, 1), ([(1, 2), (2, -3)], None, -4)], []),
+    # columns with upper limits alone, first
+    ([(None, 3), (None, 5)], [([(0, 1), (1, 1)], None, -1), ([(0, 1), (1, -1)], 0, None)], []),
+    # columns with upper limits alone, second
+    ([(None, 3), (None, 5)], [([(0, 2), (1, 1)], 4, None), ([(0, 1), (1, 1)], 9, None)], []),
+    # boxed columns
+    ([(0, 2), (1, 3), (-1, 1)], [([(0, 1), (1, 1), (2, 1)], 5, None), ([(0, 1), (1, -1)], None, -1), ([(1, 1), (2, -2)], None, 2)], []),
+    # fixed column never enters
+    ([(2, 2), FREE, (0, 1)], [([(0, 1), (1, 1), (2, 1)], 5, 5), ([(0, 1), (1, -1)], 1, None)], []),
+    # objective never leaves, first
+    ([(0, 4)] * 2, [([(0, 1), (1, 2)], 5, None), ([(0, 3), (1, 1)], None, 6)], [(0, 1), (1, 1)]),
+    # objective never leaves, second
+    ([(0, 1)] * 2, [([(0, 1), (1, 2)], 3, None), ([(0, 3), (1, 1)], None, 2)], [(0, -1), (1, 7)]),
+    # no rows
+    ([(0, 1), FREE], [], [(0, 1)]),
+    # many pivots to a point
+    ([(-1, 2), FREE, (-2, -1), FREE], [([(0, 3), (1, 3), (2, 3), (3, 1)], 5, None), ([(0, 1), (1, 2), (3, 3)], None, 5), ([(0, -3), (1, 3), (2, -1)], 5, 5), ([(1, 1), (2, -3), (3, 3)], -2, 1)], [(0, 1), (1, -1), (3, 2)]),
+    # many pivots to none, first
+    ([(3, 4), (-3, -2), FREE, FREE], [([(0, -3), (1, -3), (2, -1), (3, -1)], -2, None), ([(0, -1), (1, -2), (2, 3), (3, -3)], None, 1), ([(0, -2), (1, 2), (2, -3), (3, 3)], 2, 2), ([(0, 3), (1, -1), (2, -3), (3, 2)], None, -5)], []),
+    # many pivots to none, second
+    ([(-3, 1), (2, 6), (-1, 1)], [([(0, -2), (1, -1), (2, -3)], None, -4), ([(0, 1), (1, -1), (2, 2)], 1, None), ([(0, -3), (1, 3), (2, 3)], None, 5)], [(0, 1), (1, -1), (2, 3)]),
+]
+
+
+def cases():
+    """The listed models that a point satisfies, within each number of changes up to enough, and 60 drawn ones, none twice."""
+    found = []
+    for columns, rows, objective in LISTED:
+        model = model_of(columns, rows, objective, True)
+        system = system_of(model)
+        most = (improved(system, system.start()) or (None, None, -1))[2]
+        script = [line for spent in range(most + 1) for line in (f"budget pivots {spent}", "unbounded")]
+        found += [(model, script, [it for spent in range(most + 1) for it in (["done"], answer(model, spent))])] if script else []
+    source, kinds, texts = random.Random(39), {"bounded": 40, "unbounded": 20}, set()
     while any(kinds.values()):
-        found = row(*drawn(source))
-        kind = found and found.split("command unbounded\n")[1].split("\n")[0]
-        if kind and kinds[kind] and found not in rows:
-            kinds[kind] -= 1
-            rows.append(found)
-    return "\n".join(rows)
-
-
-def listed():
-    """The systems of crates/slow_runs by name, read from its table."""
-    with open(f"{TOP}/crates/slow_runs/src/improve_systems.rt", encoding="utf-8") as it:
-        text = re.sub(r"//.*", "", it.read())
-    for name, columns, rows, objective in re.findall(
-        r'name: ("[^"]*"),\s*plain: Plain \{\s*columns: &(\[.*?\]),\s*rows: &(\[.*?\]),\s*objective: Some\(&(\[.*?\])\),\s*\},', text, re.S
-    ):
-        plain = lambda it: ast.literal_eval(re.sub(r"Some\((-?\d+)\)", r"\1", it.replace("&", "")))
-        yield plain(name), System(plain(columns), plain(rows), plain(objective))
-
-
-def told(system):
-    """How many bases and improve runs a system has, and the greatest value."""
-    bases, runs, ends = [system.start()], 0, set()
-    for basis in bases:
-        bases += [it for it in dict.fromkeys(Stand(system, basis).changed()) if it not in bases]
-        stand, moving, changes = improved(system, basis)
-        runs += changes + 2
-        if moving is None:
-            check_dual(system, *dual(stand))
-        else:
-            check_ray(system, ray(stand, moving))
-        ends.add(stand.value(system.objective) if moving is None else None)
-    (end,) = ends
-    return f"bases {len(bases)}, improve runs {runs}", end
-
-
-def main(words):
-    if words == ["--bases"]:
-        for name, system in listed():
-            counts, end = told(system)
-            print(f"{name}: {counts}, differ 0" + ("" if end is None else f"; greatest {end}"))
-    else:
-        print(printed())
-
-
-if __name__ == "__main__":
-    main(sys.argv[1:])
+        model = drawn(source)
+        lines = answer(model)
+        if lines and kinds[lines[0]] and model.lp() not in texts:
+            kinds[lines[0]] -= 1
+            texts.add(model.lp())
+            found.append((model, ["unbounded"], [lines]))
+    return found

@@ -1,106 +1,60 @@
-#!/usr/bin/env python3
-"""Slow relaxations, and rows of crates/run_rows that the program has to agree with: `tools/slow_least.py`
+"""Slow relaxations, beside which the program is tried.
 
 It goes by the definitions alone: the elastic system of all members is written out, with an elastic variable for each soft one,
-and settled and improved by the slow runs of slow_improve.py. Of each program it prints a row in the form of
-crates/run_rows/data/rows.txt: the model, a script that sets weights and asks for `relax`, and the report. Programs are drawn
-at random from a stored seed; those with a number that could make an operation too wide are left out. Each point, each dual and
-each combination is checked against the program itself, in which no elastic variable is.
+and settled and improved by the slow runs of slow_improve.py. `cases()` gives models with what `relax` has to answer: those listed
+there that no point satisfies, and others with weights that are drawn at random from a stored seed; of these those with a number
+that could make an operation too wide are left out. Each point, each dual and each combination is checked against the model itself,
+in which no elastic variable is.
 """
 
 import random
 from fractions import Fraction
 
-from slow_improve import Stand, System, dual, model_text, run, sum_of, values_text
-from slow_reduction import LO, UP
-
-RIGID = "rigid"
-ROW, LOWER, UPPER = range(3)
+from models import LO, RIGID, ROW, UP, UPPER, sum_of
+from slow_improve import LISTED, Stand, System, dual, improved, model_of, run, system_of, uses_text
+from slow_reduction import member, values_text
 
 
-class Fault(Exception):
-    """What is found does not hold of the program."""
-
-
-def sure(*tests):
-    if not all(tests):
-        raise Fault
-
-
-class Member:
-    """A side of a row or a bound of a column: its form, its number, its side and its name in reports."""
-
-    def __init__(self, kind, index, side, form, number):
-        self.kind, self.index, self.side, self.form, self.number = kind, index, side, form, number
-        self.weight = Fraction(1)
-
-    def name(self):
-        if self.kind == ROW:
-            return f"row{self.side} r{self.index}"
-        return f"{'lower' if self.side == LO else 'upper'} x{self.index}"
-
-    def missed(self, values):
-        value = sum_of(self.form, values)
-        return max(Fraction(0), self.number - value if self.side == LO else value - self.number)
-
-
-def members_of(system):
-    """The members of a program, in member order."""
-    limits = lambda v: system.limits[v]
-    rows = range(len(system.forms) - 1)
-    sides = [(ROW, i, side, system.forms[i], limits(system.columns + i)[side]) for i in rows for side in (LO, UP)]
-    bounds = [(kind, j, side, {j: Fraction(1)}, limits(j)[side]) for kind, side in ((LOWER, LO), (UPPER, UP)) for j in range(system.columns)]
-    return [Member(*it) for it in sides + bounds if it[-1] is not None]
-
-
-def elastic(system, members):
-    """The elastic system of the members, the rigid ones enforced, and what each side of each of its rows stands for."""
-    columns = [[None, None] for _ in range(system.columns)]
-    for it in members:
-        if it.weight == RIGID and it.kind != ROW:
-            columns[it.index][it.kind == UPPER] = it.number
-    soft = [it for it in members if it.weight != RIGID]
-    own = {id(it): system.columns + k for k, it in enumerate(soft)}
+def elastic(model):
+    """The elastic system, the rigid members enforced, and the member that each side of each of its rows stands for."""
+    columns = [[None, None] for _ in model.columns]
+    soft, rigid = [], []
+    for it in model.members():
+        (rigid if model.weight(it) == RIGID else soft).append(it)
+    for kind, index, side in rigid:
+        if kind != ROW:
+            columns[index][kind == UPPER] = model.number((kind, index, side))
+    own = {it: len(model.columns) + k for k, it in enumerate(soft)}
     rows, stands = [], []
-    put = lambda terms, lo, up, of: (rows.append((sorted(terms.items()), lo, up)), stands.append(of))
 
-    def put_soft(it):
-        terms = {**it.form, own[id(it)]: Fraction(1 if it.side == LO else -1)}
-        put(terms, *((it.number, None) if it.side == LO else (None, it.number)), {it.side: it})
+    def put(members, terms):
+        sides = {it[2]: it for it in members}
+        rows.append((sorted(terms.items()), *(model.number(sides[side]) if side in sides else None for side in (LO, UP))))
+        stands.append(sides)
 
-    for i in range(len(system.forms) - 1):
-        of = [it for it in members if (it.kind, it.index) == (ROW, i)]
-        hard = {it.side: it for it in of if it.weight == RIGID}
-        if hard:
-            put(system.forms[i], *(hard[side].number if side in hard else None for side in (LO, UP)), hard)
-        for it in of:
-            if it.weight != RIGID:
+    put_soft = lambda it: put([it], {**model.form(it), own[it]: Fraction(1 if it[2] == LO else -1)})
+    for i, row in enumerate(model.rows):
+        enforced = [it for it in rigid if it[:2] == (ROW, i)]
+        if enforced:
+            put(enforced, row.form)
+        for it in soft:
+            if it[:2] == (ROW, i):
                 put_soft(it)
     for it in soft:
-        if it.kind != ROW:
+        if it[0] != ROW:
             put_soft(it)
-    made = System([*columns, *[(0, None)] * len(soft)], rows, [(own[id(it)], -it.weight) for it in soft])
-    return made, stands
+    return System([*columns, *[(0, None)] * len(soft)], rows, [(own[it], -model.weight(it)) for it in soft]), stands
 
 
-def member_at(system, members, stands, side, variable, columns):
-    """The member that a limit of the elastic system stands for, or none where it is that of an elastic variable."""
-    if variable >= columns:
-        return stands[variable - columns][side]
-    if variable >= system.columns:
-        return None
-    return next(it for it in members if (it.kind, it.index) == ((LOWER if side == LO else UPPER), variable))
-
-
-def named(system, members, elastic_system, stands, weights):
-    """Weights by side and variable as weights by member, in member order."""
+def named(model, made, stands, weights):
+    """Weights by side and variable of the elastic system as weights by member."""
     found = {}
     for (side, v), weight in weights.items():
-        it = member_at(system, members, stands, side, v, elastic_system.columns)
+        it = stands[v - made.columns][side] if v >= made.columns else member(made.columns, side, v) if v < len(model.columns) else None
         if it is not None:
-            sure(weight > 0, id(it) not in found)
-            found[id(it)] = weight
-    return [(it, found[id(it)]) for it in members if id(it) in found]
+            assert weight > 0 and it not in found
+            found[it] = weight
+    return found
 
 
 def crossed(system):
@@ -119,60 +73,63 @@ def blocked(stand, basic):
     return {(side, basic): Fraction(1), **{(UP if a > 0 else LO, v): abs(a) for v, a in factors.items()}}
 
 
-def right_side(shares):
-    return sum(((w if it.side == UP else -w) * it.number for it, w in shares), Fraction(0))
+def right_side(model, weights):
+    return sum(((w if it[2] == UP else -w) * model.number(it) for it, w in weights.items()), Fraction(0))
 
 
-def check_cancelled(shares):
+def is_cancelled(model, weights):
     sums = {}
-    for it, w in shares:
-        for j, a in it.form.items():
-            sums[j] = sums.get(j, 0) + (w if it.side == UP else -w) * a
-    sure(not any(sums.values()))
+    for it, w in weights.items():
+        for j, a in model.form(it).items():
+            sums[j] = sums.get(j, 0) + (w if it[2] == UP else -w) * a
+    return not any(sums.values())
 
 
-def uses_text(shares):
-    return [f"use {it.name()} {w}" for it, w in shares]
-
-
-def answer(system, members):
-    """The lines of the answer."""
-    made, stands = elastic(system, members)
+def answer(model):
+    """The lines of the answer, of a model of which all members are active."""
+    made, stands = elastic(model)
+    members, is_rigid = model.members(), lambda it: model.weight(it) == RIGID
     refuting = crossed(made)
     if refuting is None:
         stand, basic, _ = run(made, made.start(), Stand.settle_turn)
         refuting = None if basic is None else blocked(stand, basic)
     if refuting is not None:
-        shares = named(system, members, made, stands, refuting)
-        check_cancelled(shares)
-        sure(right_side(shares) < 0, *(it.weight == RIGID for it, _ in shares))
-        return ["rigid infeasible", *(f"member {it.name()}" for it, _ in shares), "proof", "leaf", *uses_text(shares), "end"]
+        weights = named(model, made, stands, refuting)
+        assert is_cancelled(model, weights) and right_side(model, weights) < 0 and all(map(is_rigid, weights))
+        told = [f"member {model.name(it)}" for it in sorted(weights)]
+        return ["rigid infeasible", *told, "proof", "leaf", *uses_text(model, weights), "end"]
     stand, moving, _ = run(made, stand.basis, Stand.improve_turn)
-    sure(moving is None)
-    values = [stand.value(j) for j in range(system.columns)]
-    weights, bound = dual(stand)
-    shares = named(system, members, made, stands, weights)
-    check_cancelled(shares)
-    sure(*(it.weight == RIGID or w <= it.weight for it, w in shares), right_side(shares) == bound)
-    sure(*(it.weight != RIGID or not it.missed(values) for it in members))
-    total = sum((it.weight * it.missed(values) for it in members if it.weight != RIGID), Fraction(0))
-    sure(total == -bound)
-    return ["least", f"total {total}", "point", *values_text(values), "dual", *uses_text(shares), "end"]
+    assert moving is None
+    values = [stand.value(j) for j in range(len(model.columns))]
+    shares, bound = dual(stand)
+    weights = named(model, made, stands, shares)
+    assert is_cancelled(model, weights) and right_side(model, weights) == bound
+    assert all(is_rigid(it) or w <= model.weight(it) for it, w in weights.items())
+    assert not any(is_rigid(it) and model.missed(it, values) for it in members)
+    total = sum((model.weight(it) * model.missed(it, values) for it in members if not is_rigid(it)), Fraction(0))
+    assert total == -bound
+    return ["least", f"total {total}", "point", *values_text(model, values), "dual", *uses_text(model, weights), "end"]
 
 
-def row(system, members, edits):
-    """The row of run_rows for a program with these weights."""
-    report = ["iisan report 2"]
-    for edit in edits:
-        report += [f"command {edit}", "done"]
-    report += ["command relax", *answer(system, members), "report end"]
-    script = "\n".join([*edits, "relax"])
-    text = "\n".join(report)
-    return f"== analyse m.lp s.script\n-- m.lp\n{model_text(system, True)}\n-- s.script\n{script}\n-- status 0\n{text}"
+def infeasible_models():
+    """The listed models that no point satisfies."""
+    models = [model_of(*it, True) for it in LISTED]
+    return [model for model in models if improved(system_of(model), system_of(model).start()) is None]
+
+
+def weighed(model, source, weights):
+    """Gives some members a weight, and returns the edits that do."""
+    edits = []
+    for it in model.members():
+        weight = source.choice(weights(source))
+        if weight is not None:
+            model.weights[it] = weight
+            edits.append(f"weight {model.name(it)} {weight}")
+    return edits
 
 
 def drawn(source):
-    """A small program of random numbers that is tight, with a weight for some members, and the edits that set these."""
+    """A small model of random numbers that is tight, with a weight for some members, and the edits that set these."""
     columns = [source.choice([(0, None), (0, source.randint(1, 4)), (-2, 3), (1, 5), (None, 2)]) for _ in range(source.randint(2, 3))]
     rows = []
     for _ in range(source.randint(3, 4)):
@@ -180,31 +137,29 @@ def drawn(source):
         terms = [(j, source.choice([-3, -2, -1, 1, 1, 2, 3])) for j in picked]
         lo = source.randint(-6, 6)
         rows.append((terms, *source.choice([(lo, None), (None, lo), (lo, lo), (lo, lo + 3), (lo + 1, lo)])))
-    system = System(columns, rows, [(j, source.randint(1, 3)) for j in range(len(columns))])
-    members, edits = members_of(system), []
-    for it in members:
-        weight = source.choice([None, None, RIGID, RIGID, Fraction(source.randint(2, 5)), Fraction(source.randint(1, 5), 6)])
-        if weight is not None:
-            it.weight = weight
-            edits.append(f"weight {it.name()} {weight}")
-    return system, members, edits
+    model = model_of(columns, rows, [(j, source.randint(1, 3)) for j in range(len(columns))], True)
+    return model, weighed(model, source, lambda it: [None, None, RIGID, RIGID, Fraction(it.randint(2, 5)), Fraction(it.randint(1, 5), 6)])
 
 
-def printed():
-    """Rows of which some have a least violation of 0, some a greater one, and some rigid members that contradict; none twice."""
-    source, kinds, rows = random.Random(26), {"met": 8, "least": 32, "rigid": 10}, []
+def chosen(source, drawn, kinds, kind_of, command, answer):
+    """Drawn models with their edits, so many of each kind of answer, none twice."""
+    found, texts = [], set()
     while any(kinds.values()):
+        model, edits = drawn(source)
         try:
-            found = row(*drawn(source))
+            lines = answer(model)
         except AssertionError:
             continue
-        lines = found.split("command relax\n")[1].split("\n")
-        kind = "rigid" if lines[0] == "rigid infeasible" else "met" if lines[1] == "total 0" else "least"
-        if kinds[kind] and found not in rows:
-            kinds[kind] -= 1
-            rows.append(found)
-    return "\n".join(rows)
+        text = "\n".join([model.lp(), *edits])
+        if kinds.get(kind_of(lines)) and text not in texts:
+            kinds[kind_of(lines)] -= 1
+            texts.add(text)
+            found.append((model, [*edits, command], [*(["done"] for _ in edits), lines]))
+    return found
 
 
-if __name__ == "__main__":
-    print(printed())
+def cases():
+    """The listed models, and 50 drawn ones: some with a least violation of 0, some a greater one, and some whose rigid members contradict."""
+    kind_of = lambda lines: "rigid" if lines[0] == "rigid infeasible" else "met" if lines[1] == "total 0" else "least"
+    found = chosen(random.Random(26), drawn, {"met": 8, "least": 32, "rigid": 10}, kind_of, "relax", answer)
+    return [(model, ["relax"], [answer(model)]) for model in infeasible_models()] + found

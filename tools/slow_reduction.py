@@ -1,18 +1,17 @@
-#!/usr/bin/env python3
-"""A slow reduction of linear systems, and rows of crates/run_rows that the program has to agree with: `tools/slow_reduction.py`
+"""A slow reduction of linear systems, beside which the program is tried.
 
 It goes by the definitions alone: at each step every rule is tried at every place of the whole system, in fractions of any
-size, and a rule whose numbers the program could not hold is passed over. Of each system it prints a row in the form of
-crates/run_rows/data/rows.txt: the model, a script that asks for `reduce` and `check`, and the report. Systems are listed
-below, one or two for each rule, and then drawn at random from a stored seed. Each combination is checked, and each point.
-Where a run would have to find the point, which is not made here, the script asks for `reduce` alone.
+size, and a rule whose numbers the program could not hold is passed over. `cases()` gives systems with what `reduce` and `check`
+have to answer: they are listed below, one or two for each rule, and then drawn at random from a stored seed. Each combination is
+checked, and each point. Where a run would have to find the point, which is not made here, the script asks for `reduce` alone.
 """
 
 import math
 import random
 from fractions import Fraction
 
-LO, UP = "lo", "up"
+from models import LO, LOWER, ROW, UP, UPPER, Column, Model, Row
+
 OTHER = {LO: UP, UP: LO}
 GREATEST = 2**127 - 1
 
@@ -69,13 +68,14 @@ def narrow(make):
 
 
 class System:
-    """A system while it is reduced: limits of columns by side, rows with terms and sides, and which rows are live."""
+    """A system while it is reduced: limits of columns by side, rows with terms and sides, and which rows are live: those with a side."""
 
     def __init__(self, columns, rows):
         number = lambda it: None if it is None else Fraction(it)
         self.columns = [{LO: number(lo), UP: number(up)} for lo, up in columns]
-        self.rows = [{"terms": {j: Fraction(a) for j, a in terms}, LO: number(lo), UP: number(up)} for terms, lo, up in rows]
-        self.live = [True] * len(rows)
+        self.live = [lo is not None or up is not None for _, lo, up in rows]
+        form = lambda i, terms: {j: Fraction(a) for j, a in terms if self.live[i]}
+        self.rows = [{"terms": form(i, terms), LO: number(lo), UP: number(up)} for i, (terms, lo, up) in enumerate(rows)]
 
     def limits(self, variable):
         return self.columns[variable] if variable < len(self.columns) else self.rows[variable - len(self.columns)]
@@ -309,99 +309,84 @@ def is_met(system, point):
 
 
 # ---- in print
-def literal(number):
-    """The decimal of a number."""
-    number = Fraction(number)
-    places = next(k for k in range(40) if (number * 10**k).denominator == 1)
-    return f"{number * 10**places}e-{places}" if places else str(number)
-
-
-def model_text(system):
-    """The system as an MPS model: sides that cross are set by the script."""
-    kinds, ranges, rhs = [], [], []
-    for i, row in enumerate(system.rows):
-        lo, up = row[LO], row[UP]
-        crosses = lo is not None and up is not None and up < lo
-        kind = "G" if up is None or crosses else "E" if lo == up else "L"
-        kinds.append(f" {kind} r{i}")
-        side = lo if kind == "G" else up
-        if side:
-            rhs.append(f" rhs r{i} {literal(side)}")
-        if kind == "L" and lo is not None:
-            ranges.append(f" rng r{i} {literal(up - lo)}")
-    terms = [f" x{j} r{i} {literal(row['terms'][j])}" for j in range(len(system.columns)) for i, row in enumerate(system.rows) if j in row["terms"]]
-    named = {term.split()[0] for term in terms}
-    terms += [f" x{j} cost 0" for j in range(len(system.columns)) if f"x{j}" not in named]
-    terms.sort(key=lambda it: int(it.split()[0][1:]))
-    bounds = []
-    for j, limits in enumerate(system.columns):
-        if limits[LO] is None:
-            bounds.append(f" MI bnd x{j}")
-        elif limits[LO]:
-            bounds.append(f" LO bnd x{j} {literal(limits[LO])}")
-        if limits[UP] is not None:
-            bounds.append(f" UP bnd x{j} {literal(limits[UP])}")
-    sections = [("ROWS", [" N cost", *kinds]), ("COLUMNS", terms), ("RHS", rhs), ("RANGES", ranges), ("BOUNDS", bounds)]
-    lines = [line for name, body in sections if body for line in (name, *body)]
-    return "\n".join([*lines, "ENDATA"])
-
-
-def edits(system):
-    """The edits by which sides of rows cross, which no model has."""
-    return [f"set row r{i} upper {row[UP]}" for i, row in enumerate(system.rows) if None not in (row[LO], row[UP]) and row[UP] < row[LO]]
-
-
 def member(columns, side, variable):
-    return f"row{side} r{variable - columns}" if variable >= columns else f"{'lower' if side == LO else 'upper'} x{variable}"
+    if variable >= columns:
+        return ROW, variable - columns, side
+    return LOWER if side == LO else UPPER, variable, side
 
 
-def infeasible(columns, weights):
-    order = lambda it: (0, it[1], it[0] == UP) if it[1] >= columns else (1, it[0] == UP, it[1])
-    used = sorted((it for it in weights if weights[it]), key=order)
-    uses = [f"use {member(columns, *it)} {weights[it]}" for it in used]
-    return ["infeasible", *(f"member {member(columns, *it)}" for it in used), "proof", "leaf", *uses, "end"]
+def infeasible(model, weights):
+    used = {member(len(model.columns), *it): weight for it, weight in weights.items() if weight}
+    names = [(model.name(it), used[it]) for it in sorted(used)]
+    return ["infeasible", *(f"member {name}" for name, _ in names), "proof", "leaf", *(f"use {name} {weight}" for name, weight in names), "end"]
 
 
-def told(step):
+def step_text(step, rows, columns):
+    """The line of a step, by the names of rows and columns."""
     if step[0] == "fixed":
-        return f"fixed x{step[1]} {step[2]}"
-    return f"{step[0]} r{step[1]}" + {"forcing": lambda: f" {step[2]}", "doubleton": lambda: f" x{step[3]}"}.get(step[0], str)()
+        return f"fixed {columns[step[1]]} {step[2]}"
+    parts = {"forcing": lambda: f" {step[2]}", "doubleton": lambda: f" {columns[step[3]]}"}
+    return f"{step[0]} {rows[step[1]]}" + parts.get(step[0], str)()
 
 
-def answers(system):
-    """The lines of the answers to `reduce` and to `check`, the latter only where no run is to find the point."""
-    columns, written = len(system.columns), System([], [])
-    written.columns, written.rows = [dict(it) for it in system.columns], [dict(it) for it in system.rows]
+def active_limits(model):
+    """The columns and rows of the active members of a model but its marks."""
+    active = lambda it: model.number(it) if model.is_active(it) else None
+    columns = [(active((LOWER, j, LO)), active((UPPER, j, UP))) for j in range(len(model.columns))]
+    return columns, [(row.form.items(), active((ROW, i, LO)), active((ROW, i, UP))) for i, row in enumerate(model.rows)]
+
+
+def reduction(model):
+    """The lines of the answer to `reduce`, the steps, and the system that is left, or None where the steps decide."""
+    system, written = System(*active_limits(model)), System(*active_limits(model))
     steps, decided = reduced(system)
     if decided is None:
-        gone = {step[1] if step[0] == "fixed" else step[3] for step in steps if step[0] in ("fixed", "doubleton")}
-        left = f"left rows {sum(system.live)} columns {columns - len(gone)}"
-        lines, point = ["reduced", *map(told, steps), left, "end"], start_point(system)
-        if not is_met(system, point):
-            return lines, None
-        for step in reversed(steps):
-            point_before(step, point)
-        assert is_met(written, point)
-        values = [f"value x{j} {value}" for j, value in enumerate(point) if value]
-        return lines, ["feasible", "point", *values, "end"]
+        gone = [step for step in steps if step[0] in ("fixed", "doubleton")]
+        left = f"left rows {sum(system.live)} columns {len(model.columns) - len(gone)}"
+        names = [row.name for row in model.rows], [column.name for column in model.columns]
+        return ["reduced", *(step_text(step, *names) for step in steps), left, "end"], steps, system
     weights = {}
     for side, variable, weight in decided:
         weights[side, variable] = weights.get((side, variable), Fraction(0)) + weight
     for step in reversed(steps):
-        weights_before(columns, step, weights)
+        weights_before(len(model.columns), step, weights)
     check_combination(written, weights)
-    return infeasible(columns, weights), infeasible(columns, weights)
+    return infeasible(model, weights), steps, None
 
 
-def row(columns, rows):
-    """The row of run_rows for a system."""
-    system = System(columns, rows)
-    model, changes = model_text(system), edits(system)
-    reduction, verdict = answers(system)
-    report = ["iisan report 2", *(line for it in changes for line in (f"command {it}", "done"))]
-    report += ["command reduce", *reduction, *(["command check", *verdict] if verdict else []), "report end"]
-    script, report = "\n".join([*changes, "reduce", *(["check"] if verdict else [])]), "\n".join(report)
-    return f"== analyse m.mps s.script\n-- m.mps\n{model}\n-- s.script\n{script}\n-- status 0\n{report}"
+def verdict(model, lines, steps, system):
+    """The lines of the answer to `check`, or None where a run is to find the point."""
+    if system is None:
+        return lines
+    point = start_point(system)
+    if not is_met(system, point):
+        return None
+    for step in reversed(steps):
+        point_before(step, point)
+    assert is_met(System(*active_limits(model)), point)
+    return ["feasible", "point", *values_text(model, point), "end"]
+
+
+def values_text(model, values):
+    return [f"value {column.name} {value}" for column, value in zip(model.columns, values) if value]
+
+
+def case(columns, rows):
+    """A model, which is not yet edited, a script, and what its commands are answered. Sides that cross are set by the script."""
+    crossing = [(i, up) for i, (_, lo, up) in enumerate(rows) if None not in (lo, up) and up < lo]
+    sides = [(lo, None if (i, up) in crossing else up) for i, (_, lo, up) in enumerate(rows)]
+    made = lambda ends: Model(
+        [Row(f"r{i}", dict(terms), *ends[i]) for i, (terms, _, _) in enumerate(rows)],
+        [Column(f"x{j}", *ends) for j, ends in enumerate(columns)],
+        {},
+        False,
+    )
+    edits = [f"set row r{i} upper {up}" for i, up in crossing]
+    model = made([(lo, up) for _, lo, up in rows])
+    lines, *end = reduction(model)
+    check = verdict(model, lines, *end)
+    script, answers = [*edits, "reduce"], [*(["done"] for _ in edits), lines]
+    return made(sides), script + ["check"] * bool(check), answers + [check] * bool(check)
 
 
 FREE = (None, None)
@@ -455,15 +440,11 @@ def drawn(source):
     return columns, rows
 
 
-def main():
-    source = random.Random(24)
-    rows = [row(columns, system) for columns, system in SYSTEMS]
-    while len(rows) < 75:
-        found = row(*drawn(source))
-        if found not in rows:
-            rows.append(found)
-    print("\n".join(rows))
-
-
-if __name__ == "__main__":
-    main()
+def cases():
+    """The listed systems, and others up to 75, none twice."""
+    source, found = random.Random(24), [case(*system) for system in SYSTEMS]
+    while len(found) < 75:
+        made = case(*drawn(source))
+        if (made[0].mps(), made[1]) not in [(model.mps(), script) for model, script, _ in found]:
+            found.append(made)
+    return found

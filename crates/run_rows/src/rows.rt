@@ -1,69 +1,46 @@
-//! Rows: a run, the files that it finds, and what is expected of it.
-use crate::runs::Outcome;
-use iis_edge::{Cut, File};
+//! Rows: a run, the files that it finds, the calls that fail, and what is expected of it.
+use iis_edge::{Cut, File, MemShelf, MemSink};
+use iis_run::run;
 use std::alloc::{AllocError, Global};
+
+// The most bytes that a run may write.
+const ROOM: usize = 1_000;
 
 /// A run: its words, the files on its shelf, the numbers of the fetches that fail, the puts that fail, and its status and
 /// what it writes.
 #[derive(Drop)]
 pub struct Row {
-    pub words: Vec<String>,
-    pub files: Vec<File>,
-    pub failing: Vec<u32>,
-    pub cuts: Vec<Cut>,
-    pub status: u8,
-    pub written: Vec<u8>,
+    words: Vec<String>,
+    files: Vec<File>,
+    failing: Vec<u32>,
+    cuts: Vec<Cut>,
+    status: u8,
+    written: Vec<u8>,
 }
 
-impl Row {
-    /// Whether the run is as the row has it.
-    pub fn expects(&self, found: &Outcome) -> bool {
-        found.status == self.status && found.written == self.written
-    }
-
-    /// Whether the run writes a whole report.
-    pub fn is_report(&self) -> bool {
-        let is_analysis = self
-            .words
-            .first()
-            .is_some_and(|word| word.as_str() == "analyse");
-        is_analysis && self.status < 2
-    }
-
-    /// Whether the check of the report accepts it, with status 1 just where it has a stop or a reduction, or comes to a sum
-    /// that is too wide.
-    pub fn is_accepted(&self, checked: &Outcome) -> bool {
-        let status = u8::from(has_unsettled(self.written.as_slice()));
-        let written = checked.written.as_slice();
-        let accepted = checked.status == status && written.starts_with(b"accepted settled ");
-        accepted || checked.status == 8 && written.starts_with(b"wide line ")
-    }
-}
-
-// Whether a line of a report says that a solve stopped, or how far a program is reduced.
-fn is_unsettled(line: &[u8]) -> bool {
-    line == b"reduced".as_slice()
-        || line == b"too wide".as_slice()
-        || line == b"pivots spent".as_slice()
-        || line == b"nodes spent".as_slice()
-        || line.starts_with(b"too large ")
-        || line.starts_with(b"not linear ")
-}
-
-// Whether some answer of a report is one that no check looks into.
-fn has_unsettled(report: &[u8]) -> bool {
-    report.split(|byte| *byte == b'\n').any(is_unsettled)
-}
-
-// The words of a line.
-fn read_words(alloc: Global, line: &str) -> Result<Vec<String>, AllocError> {
+/// The words of a line.
+///
+/// # Errors
+///
+/// Where there is no memory for them.
+pub fn read_words(alloc: Global, line: &str) -> Result<Vec<String>, AllocError> {
     let mut words = Vec::new(alloc);
-    if !line.is_empty() {
-        for word in line.split(' ') {
-            words.push(String::from_str(alloc, word)?)?;
-        }
+    for word in line.split(' ') {
+        words.push(String::from_str(alloc, word)?)?;
     }
     Ok(words)
+}
+
+/// A file of this name with these bytes.
+///
+/// # Errors
+///
+/// Where there is no memory for it.
+pub fn file(alloc: Global, name: &[u8], bytes: &[u8]) -> Result<File, AllocError> {
+    Ok(File {
+        name: name.to_vec(alloc)?,
+        bytes: bytes.to_vec(alloc)?,
+    })
 }
 
 // A number; 0 where the word is none.
@@ -131,4 +108,16 @@ pub fn read_row(alloc: Global, text: &str) -> Result<Row, AllocError> {
         take_part(alloc, &mut row, part)?;
     }
     Ok(row)
+}
+
+/// Whether the run of a row over its files, with the calls that fail, is as the row has it.
+///
+/// # Errors
+///
+/// Where there is no memory for the sink.
+pub fn is_as_expected(alloc: Global, row: Row) -> Result<bool, AllocError> {
+    let mut shelf = MemShelf::new(alloc, row.files, row.failing);
+    let mut out = MemSink::new(alloc, ROOM, row.cuts)?;
+    let status = run(alloc, row.words.as_slice(), &mut shelf, &mut out);
+    Ok(status == row.status && out.bytes() == row.written.as_slice())
 }

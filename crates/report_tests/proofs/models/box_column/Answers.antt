@@ -1,9 +1,0 @@
-use Rattle.std.proofs.Common.{sym, subst}
-use Rattle.lp_model.specs.declared.parts.Column.{Column}
-use Rattle.lp_model.specs.Program.{IsWellFormedColumn}
-use Rattle.lp_model.specs.Shown.{named_column}
-use Rattle.lp_model.proofs.New.{new_column_formed}
-use Rattle.report_tests.proofs.models.box_column.Goals as goal
-
-pub returns : goal.returns
-returns c name = subst (λ (column : Column). IsWellFormedColumn (named_column name column)) (sym c.new.ensures) (new_column_formed name _ _ _)
