@@ -9,7 +9,7 @@ import sys
 from fractions import Fraction
 from typing import Callable
 
-from models import LO, UP, Column, Model, Row
+from models import Column, Model, Row
 
 Answer = Callable[[bytes], str]
 Maker = Callable[[random.Random], bytes]
@@ -36,6 +36,27 @@ def model_of(line: str) -> Model:
     return Model(rows, columns, form(re.search(rf" objective{terms}", line)[1]), line.startswith("max true"))
 
 
+def use(model: Model, j: int, factor: Fraction) -> tuple:
+    """The bound that a column is taken at so often, where it is 0, and how often."""
+    return f"{'upper' if factor > 0 else 'lower'} {model.columns[j].name}", abs(factor)
+
+
+def refuted(model: Model, row: Row) -> list:
+    """The lines of a contradiction of a row that is to be at least 1, where all columns are 0."""
+    uses = [(f"rowlo {row.name}", Fraction(1))]
+    uses += [use(model, j, a) for is_upper in (False, True) for j, a in sorted(row.form.items()) if (a > 0) == is_upper]
+    members = [f"member {name}" for name, _ in uses]
+    return ["command check", "infeasible", *members, "proof", "leaf", *(f"use {name} {a}" for name, a in uses), "end"]
+
+
+def bounded(model: Model) -> list:
+    """The lines of the objective's bound, where all columns are 0."""
+    sign = 1 if model.is_greatest else -1
+    uses = [use(model, j, sign * a) for is_upper in (False, True) for j, a in sorted(model.objective.items()) if (sign * a > 0) == is_upper]
+    uses = [f"use {name} {a}" for name, a in uses]
+    return ["command unbounded", "bounded", "point", "objective 0", "bound 0", "dual", *uses, "end"]
+
+
 def report_of(line: str) -> tuple:
     """A report that tells all of the model in a line but the sense of an objective of 0, and how many entries it has.
 
@@ -46,27 +67,16 @@ def report_of(line: str) -> tuple:
     model = model_of(line)
     lines = [f"note {model.columns[int(j)].name} lower {word}" for word, j in re.findall(r" (removed|kept) (\d+)", line)]
 
-    def edit(command: str) -> str:
-        answer = model.edit(command.split(" "))
-        lines.extend([f"command {command}", answer])
-        return answer
-
-    def use(j: int, factor: Fraction) -> str:
-        return f"{'upper' if factor > 0 else 'lower'} {model.columns[j].name}"
-
-    def refuted(row: Row) -> list:
-        uses = [(f"rowlo {row.name}", 1)]
-        uses += [(use(j, a), abs(a)) for a_is_above in (False, True) for j, a in sorted(row.form.items()) if (a > 0) == a_is_above]
-        members = [f"member {name}" for name, _ in uses]
-        return ["command check", "infeasible", *members, "proof", "leaf", *(f"use {name} {a}" for name, a in uses), "end"]
+    def edit(command: str) -> None:
+        lines.extend([f"command {command}", model.edit(command.split(" "))])
 
     parts = [("row", it) for it in model.rows] + [("column", it) for it in model.columns]
     for kind, it in parts:
-        for word, side in (("lower", LO), ("upper", UP)):
-            number = it.limits[side]
-            assert edit(f"set {kind} {it.name} {word} {'none' if number is None else number}") == "no change"
+        for word, number in zip(("lower", "upper"), list(it.limits.values())):
+            edit(f"set {kind} {it.name} {word} {'none' if number is None else number}")
     for it in model.columns:
-        assert edit(f"mark {it.name} {'whole' if it.is_whole else 'plain'}") == "no change"
+        edit(f"mark {it.name} {'whole' if it.is_whole else 'plain'}")
+    assert not model.edits
     lines += ["command check", "pivots spent", "site settle", *(f"without {model.name(it)}" for it in model.members()), "end"]
     for kind, it in parts:
         for word in ("lower", "upper"):
@@ -75,13 +85,10 @@ def report_of(line: str) -> tuple:
         edit(f"mark {it.name} plain")
     for row in model.rows:
         edit(f"set row {row.name} lower 1")
-        lines.extend(refuted(row))
+        lines += refuted(model, row)
         edit(f"set row {row.name} lower none")
-    sign = 1 if model.is_greatest else -1
-    uses = sorted((sign * a > 0, j, sign * a) for j, a in model.objective.items())
-    lines += ["command unbounded", "bounded", "point", "objective 0", "bound 0", "dual", *(f"use {use(j, a)} {abs(a)}" for _, j, a in uses), "end"]
-    entries = sum(it.startswith("command ") for it in lines)
-    return "\n".join(["iisan report 2", *lines, "report end", ""]).encode(), entries
+    lines += bounded(model)
+    return "\n".join(["iisan report 2", *lines, "report end", ""]).encode(), sum(it.startswith("command ") for it in lines)
 
 
 def check(path: str, mark: bytes, answer: Answer) -> int:

@@ -10,7 +10,7 @@ in which no elastic variable is.
 import random
 from fractions import Fraction
 
-from models import LO, RIGID, ROW, UP, UPPER, sum_of
+from models import LO, RIGID, ROW, UP, UPPER
 from slow_improve import LISTED, Stand, System, dual, improved, model_of, run, system_of, uses_text
 from slow_reduction import member, values_text
 
