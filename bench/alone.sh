@@ -1,5 +1,5 @@
 #!/bin/sh
-# What quick runs cost where they do not help: `check`, the deletion and the additive filter of the program iis_bench with quick
+# What quick runs cost where they do not help: `check`, the deletion and the additive filter of the program bench with quick
 # runs beside the same by reference runs alone, on models whose numbers are too wide for quick runs or for both, on small ones,
 # which are asked of the reference run at once, and on some that quick runs answer. Prints for each the end with quick runs, and
 # that of reference runs alone where it is another; the asks, and those of them that went to the reference run; the processor
@@ -13,8 +13,9 @@ work=$(mktemp -d)
 trap 'rm -rf "$work"' EXIT
 # shellcheck source=bench/models.sh
 . "$top/bench/models.sh"
+# shellcheck source=bench/building.sh
+. "$top/bench/building.sh"
 cd "$work"
-bench=${IIS_BENCH:-$top/crates/iis_bench/out/iis_bench}
 
 # Runs the program so often: what it says goes to a file, and the mean of its processor seconds to the end of another.
 run() {
@@ -29,14 +30,14 @@ line() {
     name=$1 file=$2 question=$3
     : >quick.times
     : >alone.times
-    run quick quick.times 1 "$bench" "$file" "$question"
-    run alone alone.times 1 "$bench" "$file" "$question" reference
+    run quick quick.times 1 "$bench" ask "$file" "$question"
+    run alone alone.times 1 "$bench" ask "$file" "$question" reference
     often=$(awk '$1 > most { most = $1 } END { print most < 0.01 ? 100 : most < 0.1 ? 20 : 1 }' quick.times alone.times)
     : >quick.times
     : >alone.times
     for _ in 1 2 3; do
-        run quick quick.times "$often" "$bench" "$file" "$question"
-        run alone alone.times "$often" "$bench" "$file" "$question" reference
+        run quick quick.times "$often" "$bench" ask "$file" "$question"
+        run alone alone.times "$often" "$bench" ask "$file" "$question" reference
     done
     { head -n 1 quick; head -n 1 alone; paste -d ' ' quick.times alone.times; } | awk -v name="$name" -v question="$question" '
         NR == 1 { asks = $2; reference = $4; quick_end = $8 == "set" ? $10 : $8 }
@@ -66,6 +67,7 @@ other() {
     measure "$kind $rows x $columns, $each of $digits digits" model.mps
 }
 
+build
 echo "| model | question | end | asks, of the reference run | with quick runs | alone | ratio |"
 echo "|---|---|---|---|---|---|---|"
 while read -r rows columns each digits; do

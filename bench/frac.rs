@@ -1,12 +1,10 @@
-// Fractions in plain Rust by the algorithm of the crate frac128: parts of 128 bits, crosswise cancelling for products, the least
-// common denominator for sums, and comparison by whole parts. Twins of proved programs share it; not each needs all of it.
-#![allow(dead_code)]
-use std::cmp::Ordering;
+// Fractions in plain Rust by the algorithm of the crate frac128: parts of 128 bits, crosswise cancelling for products, and the least
+// common denominator for sums.
 
 const MOST: u128 = (1 << 127) - 1;
 const WORD: u128 = u64::MAX as u128;
 
-#[derive(Clone, Copy, PartialEq, Eq)]
+#[derive(Clone, Copy)]
 pub struct Frac {
     pub num: i128,
     pub den: u128,
@@ -47,24 +45,6 @@ fn signed(negative: bool, magnitude: u128) -> i128 {
     if negative { -(magnitude as i128) } else { magnitude as i128 }
 }
 
-// How a / b and c / d compare.
-fn compare(mut a: u128, mut b: u128, mut c: u128, mut d: u128) -> Ordering {
-    if a <= WORD && b <= WORD && c <= WORD && d <= WORD {
-        return (a * d).cmp(&(c * b));
-    }
-    loop {
-        let (left, right) = (a / b, c / d);
-        if left != right {
-            return left.cmp(&right);
-        }
-        let (left_rest, right_rest) = (a % b, c % d);
-        if left_rest == 0 || right_rest == 0 {
-            return left_rest.cmp(&right_rest);
-        }
-        (a, b, c, d) = (d, right_rest, b, left_rest);
-    }
-}
-
 impl Frac {
     pub fn new(num: i128, den: i128) -> Option<Frac> {
         if den == 0 {
@@ -101,27 +81,5 @@ impl Frac {
         let rest = gcd(num.unsigned_abs(), by);
         let top = divide(num.unsigned_abs(), rest);
         Some(Frac { num: signed(num < 0, top), den: divide(common, rest) })
-    }
-
-    pub fn minus(self, other: Frac) -> Option<Frac> {
-        self.plus(Frac { num: -other.num, den: other.den })
-    }
-}
-
-impl Ord for Frac {
-    fn cmp(&self, other: &Frac) -> Ordering {
-        let (top, other_top) = (self.num.unsigned_abs(), other.num.unsigned_abs());
-        match (self.num < 0, other.num < 0) {
-            (true, true) => compare(other_top, other.den, top, self.den),
-            (true, false) => Ordering::Less,
-            (false, true) => Ordering::Greater,
-            (false, false) => compare(top, self.den, other_top, other.den),
-        }
-    }
-}
-
-impl PartialOrd for Frac {
-    fn partial_cmp(&self, other: &Frac) -> Option<Ordering> {
-        Some(self.cmp(other))
     }
 }

@@ -1,4 +1,4 @@
-// The same loop as the program fraction_bench, in plain Rust over the same algorithm.
+// The same loop as `bench fractions`, in plain Rust over the same algorithm.
 use std::env;
 
 mod frac;

@@ -1,5 +1,5 @@
 #!/bin/sh
-# Ten million sums and ten million products of small fractions: the proved crate frac128 beside the same loop in plain
+# Ten million sums and ten million products of small fractions: the proved crate frac128 (program bench) beside the same loop in plain
 # Rust (rustc -O), in one run. Prints the seconds of each and their ratio. A benchmark, no test.
 set -eu
 
@@ -7,13 +7,12 @@ top=$(CDPATH='' cd -- "$(dirname -- "$0")/.." && pwd)
 work=$(mktemp -d)
 trap 'rm -rf "$work"' EXIT
 count=${1:-10000000}
+# shellcheck source=bench/building.sh
+. "$top/bench/building.sh"
 
-(cd "$top/crates/fraction_bench" && rt run) >"$work/log" 2>&1 </dev/null || {
-    tail -n 5 "$work/log" >&2
-    exit 1
-}
+build
 rustc -O -o "$work/plain" "$top/bench/fractions.rs"
-/usr/bin/time -f '%e' -o "$work/proved.time" "$top/crates/fraction_bench/out/fraction_bench" "$count" >"$work/proved"
+/usr/bin/time -f '%e' -o "$work/proved.time" "$bench" fractions "$count" >"$work/proved"
 /usr/bin/time -f '%e' -o "$work/plain.time" "$work/plain" "$count" >"$work/said"
 cmp -s "$work/proved" "$work/said" || {
     echo "the check sums differ: $(cat "$work/proved") $(cat "$work/said")" >&2

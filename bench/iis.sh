@@ -18,6 +18,8 @@ trap 'rm -rf "$work"' EXIT
 . "$top/bench/forms.sh"
 # shellcheck source=bench/timing.sh
 . "$top/bench/timing.sh"
+# shellcheck source=bench/building.sh
+. "$top/bench/building.sh"
 cd "$work"
 limit=120 limit_of_others=30
 
@@ -33,7 +35,7 @@ smt() {
 
 # One line of the table for a filter.
 filter() {
-    timed "$limit" "$top/crates/iis_bench/out/iis_bench" "$2" "$3"
+    timed "$limit" "$bench" ask "$2" "$3"
     awk -v name="$1" -v filter="$3" -v seconds="$(cat seconds)" -v megabytes="$(cat megabytes)" '
         { for (k = 1; k < NF; k += 2) told[$k] = $(k + 1) }
         function of(word) { return word in told ? told[word] : "-" }
@@ -73,10 +75,7 @@ measure() {
     solver "$1" cvc5 --minimal-unsat-cores cvc5.smt2
 }
 
-(cd "$top/crates/iis_bench" && rt run) >log 2>&1 </dev/null || {
-    tail -n 5 log >&2
-    exit 1
-}
+build
 echo "| model | by | asks | of the reference run | pivots | seconds | megabytes | members |"
 echo "|---|---|---|---|---|---|---|---|"
 each_model measure "$@"

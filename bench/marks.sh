@@ -19,6 +19,8 @@ trap 'rm -rf "$work"' EXIT
 cd "$work"
 # shellcheck source=bench/timing.sh
 . "$top/bench/timing.sh"
+# shellcheck source=bench/building.sh
+. "$top/bench/building.sh"
 
 # So many columns from 0 to 1, each twice, come to an odd number.
 box() {
@@ -114,14 +116,11 @@ for model in "box 5" "box 9" "box 11" "box 13" "knapsack 3" "knapsack 5" "knapsa
     echo "$model $nodes $seconds $megabytes $bytes $verify$others"
 done
 
-(cd "$top/crates/iis_bench" && rt run) >log 2>&1 </dev/null || {
-    tail -n 5 log >&2
-    exit 1
-}
+build
 
 # One line of the table of filters.
 filter() {
-    timed 120 "$top/crates/iis_bench/out/iis_bench" model.lp deletion "$2"
+    timed 120 "$bench" ask model.lp deletion "$2"
     awk -v name="$1" -v trees="$2" -v seconds="$(cat seconds)" '
         { for (k = 1; k < NF; k += 2) told[$k] = $(k + 1) }
         function of(word) { return word in told ? told[word] : "-" }

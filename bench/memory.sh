@@ -1,9 +1,7 @@
 #!/bin/sh
-# What a quick run keeps: the peak of memory of the program iis_bench when it asks whether a point satisfies a model, and when it
-# reads the model and asks nothing, on models of `bench/models.sh`; beside them how many entries the table of the quick run has at
-# most, as `bench/quick.rs` tells, which makes the same pivots, and twice what these take at 16 bytes a number and 4 a column. With
-# words, only the models whose names have one of them are gone through. It wants GNU time (Debian's package `time`) and `rustc`. A
-# benchmark, no test.
+# What a quick run keeps: the peak of memory of the program bench when it asks whether a point satisfies a model, beside that when
+# it reads the model and asks nothing, on models of `bench/models.sh`. With words, only the models whose names have one of them are
+# gone through. It wants GNU time (Debian's package `time`). A benchmark, no test.
 set -eu
 
 top=$(CDPATH='' cd -- "$(dirname -- "$0")/.." && pwd)
@@ -11,10 +9,9 @@ work=$(mktemp -d)
 trap 'rm -rf "$work"' EXIT
 # shellcheck source=bench/models.sh
 . "$top/bench/models.sh"
-# shellcheck source=bench/forms.sh
-. "$top/bench/forms.sh"
+# shellcheck source=bench/building.sh
+. "$top/bench/building.sh"
 cd "$work"
-bench=${IIS_BENCH:-$top/crates/iis_bench/out/iis_bench}
 [ "$#" -gt 0 ] || set -- "plan of 200" "plan of 500" "plan of 1000" "2000 x 4000" transport flow mixed
 
 # The peak of memory of a run in kilobytes, the mean of 20: of one run the system may count 100 more or fewer.
@@ -27,16 +24,14 @@ peak() {
 
 # One line of the table.
 measure() {
-    plain "$2" >model.plain
-    entries=$(./plain model.plain check | sed -n 's/.*stored //p')
-    nothing=$(peak "$bench" "$2" nothing)
-    check=$(peak "$bench" "$2" check)
-    awk -v name="$1" -v entries="$entries" -v nothing="$nothing" -v check="$check" 'BEGIN {
-        printf "| %s | %d | %.2f | %.2f | %.2f | %.2f |\n", name, entries, entries * 40 / 1048576, nothing / 1024, check / 1024, (check - nothing) / 1024
+    nothing=$(peak "$bench" ask "$2" nothing)
+    check=$(peak "$bench" ask "$2" check)
+    awk -v name="$1" -v nothing="$nothing" -v check="$check" 'BEGIN {
+        printf "| %s | %.2f | %.2f | %.2f |\n", name, nothing / 1024, check / 1024, (check - nothing) / 1024
     }'
 }
 
-rustc -O --edition 2024 -o plain "$top/bench/quick.rs"
-echo "| model | entries | twice their size, MB | the model read, MB | \`check\`, MB | more, MB |"
-echo "|---|---|---|---|---|---|"
+build
+echo "| model | the model read, MB | \`check\`, MB | more, MB |"
+echo "|---|---|---|---|"
 each_model measure "$@"

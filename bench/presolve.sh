@@ -2,7 +2,7 @@
 # How far `reduce` gets with models, and what it takes: plans of 60 to 1,000 periods, chains of equations of two columns, random
 # sparse systems of up to 2,000 rows and 4,000 columns, transports and flows. Prints for each the steps and what is left, the
 # seconds of processor time, those for each step in microseconds, and the peak of memory; then the seconds of `check` by the
-# reference with the reduction before its run and without (program iis_bench), and those of `glpsol --exact` and of `esolver`
+# reference with the reduction before its run and without (program bench), and those of `glpsol --exact` and of `esolver`
 # (QSopt_ex) on the same files, where these are installed. A run is cut off after 120 seconds by the clock, that of another
 # solver after 30. With words, only the models whose names have one of them are gone through. It wants GNU time (Debian's
 # package `time`). A benchmark, no test.
@@ -15,8 +15,10 @@ trap 'rm -rf "$work"' EXIT
 . "$top/bench/models.sh"
 # shellcheck source=bench/timing.sh
 . "$top/bench/timing.sh"
+# shellcheck source=bench/building.sh
+. "$top/bench/building.sh"
 cd "$work"
-program=${IISAN:-$top/.build/iisan} bench=${IIS_BENCH:-$top/crates/iis_bench/out/iis_bench}
+program=${IISAN:-$top/.build/iisan}
 limit=120 limit_of_others=30
 echo reduce >script
 
@@ -49,15 +51,16 @@ measure() {
     left=$(sed -n -e 's/^left rows \(.*\) columns \(.*\)$/\1 x \2/p' -e 's/^infeasible$/contradiction/p' said)
     reduced=$(cat seconds) memory=$(cat megabytes)
     each=$(echo "$reduced $steps" | awk '{ if ($2 > 0) printf "%.1f", $1 * 1000000 / $2; else print "-" }')
-    timed "$limit" "$bench" "$file" check presolved
+    timed "$limit" "$bench" ask "$file" check presolved
     presolved=$(cat seconds) end=$(sed -n 's/.* end \([a-z]*\) .*/\1/p' said)
-    timed "$limit" "$bench" "$file" check reference
+    timed "$limit" "$bench" ask "$file" check reference
     alone=$(cat seconds)
     glpsol=$(other glpsol --exact "--$format" "$file")
     esolver=$(other esolver "$file")
     echo "| $name | $steps | $left | $reduced | $each | $memory | $end | $presolved | $alone | $glpsol | $esolver |"
 }
 
+build
 echo "| model | steps | left | seconds | µs a step | megabytes | end | presolved | alone | \`glpsol --exact\` | \`esolver\` |"
 echo "|---|---|---|---|---|---|---|---|---|---|---|"
 for length in 60 250 1000 1900; do

@@ -1,21 +1,14 @@
 #!/bin/sh
 # What the benchmarks of readers share. To be read by `.`, where `top` is the top of the repository, `work` a folder for files
-# that go away, and `turns` how often each text is read; it says which program is measured, and does nothing of its own. It wants
+# that go away, and `turns` how often each text is read; it does nothing of its own. It wants
 # GNU time (Debian's package `time`).
 
-program=$top/crates/reader_bench/out/reader_bench
-
-# Builds the program.
-build() {
-    (cd "$top/crates/reader_bench" && rt run) >"$work/log" 2>&1 </dev/null || {
-        tail -n 5 "$work/log" >&2
-        exit 1
-    }
-}
+# shellcheck source=bench/building.sh
+. "$top/bench/building.sh"
 
 # Does a task of the program with a text, and prints MB per second and the peak of memory.
 read_text() {
-    (cd "$work" && /usr/bin/time -f '%e %M' -o read.time "$program" "$1" "$2" "$turns") >"$work/said"
+    (cd "$work" && /usr/bin/time -f '%e %M' -o read.time "$bench" "$1" "$2" "$turns") >"$work/said"
     grep -q 'rows [1-9]' "$work/said" || {
         echo "$2 is refused" >&2
         exit 1

@@ -25,7 +25,7 @@ head -c 16777216 "$work/whole" >"$work/model.mps"
 
 build
 words=$(wc -w <"$work/model.mps")
-(cd "$work" && /usr/bin/time -f '%e' -o proved.time "$program" scan model.mps "$turns") >"$work/said"
+(cd "$work" && /usr/bin/time -f '%e' -o proved.time "$bench" scan model.mps "$turns") >"$work/said"
 grep -q " fields $((words))$" "$work/said" || {
     echo "the words differ: $(cat "$work/said") $words" >&2
     exit 1

@@ -7,14 +7,13 @@ set -eu
 top=$(CDPATH='' cd -- "$(dirname -- "$0")/.." && pwd)
 work=$(mktemp -d)
 trap 'rm -rf "$work"' EXIT
+# shellcheck source=bench/building.sh
+. "$top/bench/building.sh"
 
-(cd "$top/crates/settle_bench" && rt run) >"$work/log" 2>&1 </dev/null || {
-    tail -n 5 "$work/log" >&2
-    exit 1
-}
+build
 echo "rows columns pivots seconds nanoseconds megabytes"
 while read -r rows columns times; do
-    (cd "$work" && /usr/bin/time -f '%U %M' -o figures "$top/crates/settle_bench/out/settle_bench" "$rows" "$columns" "$times") >"$work/said" </dev/null
+    (cd "$work" && /usr/bin/time -f '%U %M' -o figures "$bench" settle "$rows" "$columns" "$times") >"$work/said" </dev/null
     grep -q ' end infeasible$' "$work/said" || {
         echo "not infeasible: $(cat "$work/said")" >&2
         exit 1

@@ -1,21 +1,6 @@
-//! Sums and products of small fractions, as many as the word says: what `bench/fractions.sh` measures.
-#![tactic(auto)]
+//! Sums and products of small fractions: what `bench/fractions.sh` measures.
 
 use frac128::Frac;
-use std::{env, io};
-
-// The number that the first word after the program's name says, else 1,000.
-fn read_count(rt: &HostRuntime) -> u64 {
-    let Ok(args) = env::args(rt) else {
-        return 1000;
-    };
-    for word in args.skip(1) {
-        if let Ok(count) = word.as_str().parse::<u64>() {
-            return count;
-        }
-    }
-    1000
-}
 
 // A small fraction that changes with the turn.
 fn make(turn: u64, step: u64) -> Frac {
@@ -37,8 +22,8 @@ fn mix(sum: u64, value: Frac) -> u64 {
         .wrapping_add(denominator)
 }
 
-// The check sum over so many turns, each with a sum and a product.
-fn run(count: u64) -> u64 {
+/// The check sum over so many turns, each with a sum and a product.
+pub(crate) fn run(count: u64) -> u64 {
     let mut sum = 0u64;
     for turn in 0..count {
         let left = make(turn, 7);
@@ -51,9 +36,4 @@ fn run(count: u64) -> u64 {
         }
     }
     sum
-}
-
-fn main(rt: HostRuntime) -> io::Result<()> {
-    let sum = run(read_count(&rt));
-    println!(rt; "{sum}")
 }

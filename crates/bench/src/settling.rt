@@ -1,6 +1,4 @@
 //! A settle run over a network whose sinks ask for more than its sources have: what `bench/settle.sh` measures.
-#![tactic(auto)]
-
 ghost use Rattle.std.specs.Prelude.{◌<◌};
 ghost use Rattle.frac128.specs.Limit.{limit};
 ghost use Rattle.certs.specs.Tableau.{IsWellFormedSystem};
@@ -12,17 +10,16 @@ use frac128::Frac;
 use lp_model::{Row, Term, Terms};
 use simplex::{RunStop, Settled, settle};
 use std::alloc::{AllocError, Global};
-use std::{env, io};
 
 // More pivots than any of the sizes takes.
 const BUDGET: u64 = 1_000_000_000;
 
-// How many sources, sinks and routes there are; a route leads from one source to one or two sinks.
+/// How many sources, sinks and routes there are; a route leads from one source to one or two sinks.
 #[derive(Clone, Copy)]
-struct Network {
-    sources: u32,
-    sinks: u32,
-    routes: u32,
+pub(crate) struct Network {
+    pub(crate) sources: u32,
+    pub(crate) sinks: u32,
+    pub(crate) routes: u32,
 }
 
 // A number below the bound, by a linear congruence.
@@ -112,12 +109,12 @@ fn columns(alloc: Global, network: Network) -> Result<Vec<Limits>, AllocError> {
     Ok(columns)
 }
 
-// What a run came to.
+/// What a run came to.
 #[derive(Clone, Copy)]
-struct Told {
-    pivots: u64,
-    turns: u64,
-    end: &'static str,
+pub(crate) struct Told {
+    pub(crate) pivots: u64,
+    pub(crate) turns: u64,
+    pub(crate) end: &'static str,
 }
 
 // The word for the end of a run.
@@ -179,8 +176,12 @@ fn repeat(alloc: Global, system: &System, times: u32) -> Result<Told, AllocError
     Ok(told)
 }
 
-// The last of so many runs over the network's system.
-fn run_network(alloc: Global, network: Network, times: u32) -> Result<Told, AllocError>
+/// The last of so many runs over the network's system.
+///
+/// # Errors
+///
+/// Where there is no memory for it.
+pub(crate) fn run_network(alloc: Global, network: Network, times: u32) -> Result<Told, AllocError>
     requires sources { 0 < network.sources }
     requires sinks { 0 < network.sinks }
 {
@@ -193,56 +194,4 @@ fn run_network(alloc: Global, network: Network, times: u32) -> Result<Told, Allo
         return Ok(told_without_a_run("not formed"));
     }
     repeat(alloc, &system, times)
-}
-
-// What the words ask for.
-#[derive(Clone, Copy)]
-struct Request {
-    rows: u32,
-    columns: u32,
-    times: u32,
-}
-
-// The number that a word says, else another.
-fn number(word: Option<String>, other: u32) -> u32 {
-    match word {
-        Some(word) => word.as_str().parse::<u32>().unwrap_or(other),
-        None => other,
-    }
-}
-
-// The rows, the columns and the number of runs, in this order.
-fn read_words(rt: &HostRuntime) -> Request {
-    let mut request = Request {
-        rows: 20,
-        columns: 40,
-        times: 1,
-    };
-    let Ok(args) = env::args(rt) else {
-        return request;
-    };
-    let mut words = args.skip(1);
-    request.rows = number(words.next(), request.rows);
-    request.columns = number(words.next(), request.columns);
-    request.times = number(words.next(), request.times);
-    request
-}
-
-fn main(rt: HostRuntime) -> io::Result<()> {
-    let request = read_words(&rt);
-    let network = Network {
-        sources: request.rows / 2,
-        sinks: request.rows - request.rows / 2,
-        routes: request.columns,
-    };
-    if network.sources == 0 {
-        return println!(rt; "there are too few rows");
-    }
-    let Ok(told) = run_network(rt.alloc(), network, request.times) else {
-        return println!(rt; "there is too little memory");
-    };
-    println!(rt;
-        "rows {} columns {} pivots {} turns {} end {}",
-        request.rows, request.columns, told.pivots, told.turns, told.end
-    )
 }

@@ -1,5 +1,5 @@
-use Rattle.iis_bench.proofs.Served.{plain_served}
-use Rattle.iis_bench.proofs.ask_alone.Goals as goal
+use Rattle.bench.proofs.Served.{plain_served}
+use Rattle.bench.proofs.asking.ask_alone.Goals as goal
 
 pub asked-end-requires-clause-served : goal.asked-end-requires-clause-served
 asked-end-requires-clause-served c = plain_served c.in_ok-set.set.members

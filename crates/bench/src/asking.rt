@@ -1,8 +1,6 @@
 //! Asks whether a point satisfies a model, or looks for an irreducible set of it by a filter, with quick runs and trees of them,
-//! or by the reference runs and trees alone, with reductions before the runs or without: what `bench/iis.sh`, `bench/quick.sh`,
-//! `bench/alone.sh`, `bench/memory.sh`, `bench/marks.sh` and `bench/presolve.sh` measure.
-#![tactic(auto)]
-
+//! or by the reference runs and trees alone, with reductions before the runs or without: what `bench/iis.sh`, `bench/alone.sh`,
+//! `bench/memory.sh`, `bench/marks.sh` and `bench/presolve.sh` measure.
 ghost use Rattle.std.specs.Prelude.{◌≡◌, true, None, IfOk};
 ghost use Rattle.certs.specs.Checks.{IsSetOf};
 ghost use Rattle.certs.specs.Tales.{no_tale};
@@ -10,21 +8,16 @@ ghost use Rattle.linear_oracle.specs.Value.{OracleValue};
 
 use branch_oracle::BranchOracle;
 use certs::{Irreducible, MemberSet, Oracle, Stop, Verdict};
-use iis_edge::{HostShelf, Shelf};
 use linear_oracle::LinearOracle;
 use lp_model::Model;
 use model_files::read_model;
 use presolve_oracle::PresolveOracle;
 use quick_oracle::{Kept, QuickOracle};
 use std::alloc::{AllocError, Global};
-use std::{env, io};
 
-// The model that is read where no file is named: A and B contradict one another, and so do B and C.
-const SAMPLE: &[u8] =
+/// The model that is asked where no file is named: A and B contradict one another, and so do B and C.
+pub(crate) const SAMPLE: &[u8] =
     b"ROWS\n L A\n G B\n L C\nCOLUMNS\n x A 1\n x B 1\n x C 1\nRHS\n B 1\nENDATA\n";
-
-// The most bytes that are read of a file.
-const MOST: usize = 16_777_216;
 
 // What a run may spend.
 const PIVOTS: u64 = 100_000;
@@ -53,18 +46,9 @@ enum Runs {
     Reference,
 }
 
-// What the words ask for.
-#[derive(Drop)]
-struct Request {
-    name: String,
-    bytes: Vec<u8>,
-    question: Question,
-    runs: Runs,
-}
-
-// What a question came to: nothing was asked, a verdict, a set of so many members, or a stop.
+/// What a question came to: nothing was asked, a verdict, a set of so many members, or a stop.
 #[derive(Clone, Copy)]
-enum End {
+pub(crate) enum End {
     Nothing,
     Feasible,
     Infeasible,
@@ -77,8 +61,8 @@ enum End {
 }
 
 impl End {
-    // The word for it.
-    fn word(self) -> &'static str {
+    /// The word for it.
+    pub(crate) fn word(self) -> &'static str {
         match self {
             End::Nothing => "nothing",
             End::Feasible => "feasible",
@@ -92,8 +76,8 @@ impl End {
         }
     }
 
-    // How many members were found.
-    fn size(self) -> u64 {
+    /// How many members were found.
+    pub(crate) fn size(self) -> u64 {
         match self {
             End::Set(size) => size,
             _ => 0,
@@ -101,15 +85,15 @@ impl End {
     }
 }
 
-// What a question came to, and what it took: the asks, those of them that the reference was asked for, the pivots of all runs,
-// and the nodes of all trees.
+/// What a question came to, and what it took: the asks, those of them that the reference was asked for, the pivots of all runs,
+/// and the nodes of all trees.
 #[derive(Clone, Copy)]
-struct Told {
-    asks: u64,
-    reference: u64,
-    pivots: u64,
-    nodes: u64,
-    end: End,
+pub(crate) struct Told {
+    pub(crate) asks: u64,
+    pub(crate) reference: u64,
+    pub(crate) pivots: u64,
+    pub(crate) nodes: u64,
+    pub(crate) end: End,
 }
 
 // What a question comes to by one oracle.
@@ -242,14 +226,6 @@ fn named(word: &str) -> Question {
     }
 }
 
-// The bytes of the file, or none where it is not read.
-fn read_file(rt: &HostRuntime, name: &str, bytes: &mut Vec<u8>) {
-    bytes.clear();
-    if HostShelf::new(rt).fetch(name, MOST, bytes).is_err() {
-        bytes.clear();
-    }
-}
-
 // The oracle that a word stands for.
 fn oracle_named(word: &str) -> Runs {
     match word {
@@ -259,62 +235,25 @@ fn oracle_named(word: &str) -> Runs {
     }
 }
 
-// The model's file, the question, and `reference` or `presolved` where no quick runs are to be made, in this order.
-fn read_words(rt: &HostRuntime) -> Result<Request, AllocError> {
-    let alloc = rt.alloc();
-    let mut request = Request {
-        name: String::new(alloc),
-        bytes: SAMPLE.to_vec(alloc)?,
-        question: Question::Deletion,
-        runs: Runs::Quick,
-    };
-    let Ok(args) = env::args(rt) else {
-        return Ok(request);
-    };
-    let mut words = args.skip(1);
-    if let Some(name) = words.next() {
-        read_file(rt, name.as_str(), &mut request.bytes);
-        request.name = name;
-    }
-    if let Some(question) = words.next() {
-        request.question = named(question.as_str());
-    }
-    if let Some(runs) = words.next() {
-        request.runs = oracle_named(runs.as_str());
-    }
-    Ok(request)
-}
-
-// What the question that the words ask comes to, or none where the model is not read.
-fn answer(alloc: Global, request: &Request) -> Option<Told> {
-    if request.bytes.len() >= 2_147_483_648 {
+/// What a question of the model in a text comes to by some oracle, both by their words, or none where the model is not read.
+pub(crate) fn answer(
+    alloc: Global,
+    name: &str,
+    bytes: &[u8],
+    question: &str,
+    oracle: &str,
+) -> Option<Told> {
+    if bytes.len() >= 2_147_483_648 {
         return None;
     }
-    let Ok(model) = read_model(alloc, request.name.as_bytes(), request.bytes.as_slice()) else {
+    let Ok(model) = read_model(alloc, name.as_bytes(), bytes) else {
         return None;
     };
-    let told = match request.runs {
-        Runs::Quick => ask_quick(alloc, &model, request.question),
-        Runs::Presolved => ask_presolved(alloc, &model, request.question),
-        Runs::Reference => ask_alone(alloc, &model, request.question),
+    let question = named(question);
+    let told = match oracle_named(oracle) {
+        Runs::Quick => ask_quick(alloc, &model, question),
+        Runs::Presolved => ask_presolved(alloc, &model, question),
+        Runs::Reference => ask_alone(alloc, &model, question),
     };
     told.ok()
-}
-
-fn main(rt: HostRuntime) -> io::Result<()> {
-    let Ok(request) = read_words(&rt) else {
-        return println!(rt; "there is too little memory");
-    };
-    let Some(told) = answer(rt.alloc(), &request) else {
-        return println!(rt; "the model is not read");
-    };
-    println!(rt;
-        "asks {} reference {} pivots {} end {} size {} nodes {}",
-        told.asks,
-        told.reference,
-        told.pivots,
-        told.end.word(),
-        told.end.size(),
-        told.nodes
-    )
 }

@@ -1,4 +1,5 @@
-//! What is measured.
+//! Models that are read, and texts that are split into lines and fields: what `bench/read_mps.sh`, `bench/read_lp.sh` and
+//! `bench/scan.sh` measure.
 
 use lp_reader::read_lp;
 use mps_reader::read_mps;
@@ -7,7 +8,7 @@ use text_fields::{FieldStop, after_line, fields, next_line};
 
 /// What is done with a text.
 #[derive(Clone, Copy)]
-pub enum Task {
+pub(crate) enum Task {
     /// Read as a model in the MPS format.
     Mps,
     /// Read as a model in the LP format.
@@ -37,7 +38,7 @@ fn split(alloc: Global, bytes: &[u8]) -> Result<(u64, u64), FieldStop> {
 
 impl Task {
     /// The task of a name.
-    pub fn named(name: &str) -> Option<Task> {
+    pub(crate) fn named(name: &str) -> Option<Task> {
         match name {
             "mps" => Some(Task::Mps),
             "lp" => Some(Task::Lp),
@@ -47,7 +48,7 @@ impl Task {
     }
 
     /// What is read where no file is named.
-    pub fn sample(self) -> &'static [u8] {
+    pub(crate) fn sample(self) -> &'static [u8] {
         match self {
             Task::Mps => b"ROWS\n L r\nCOLUMNS\n x r 1\nENDATA\n",
             Task::Lp => b"min\nx\nst\nx >= 1\nend\n",
@@ -56,7 +57,7 @@ impl Task {
     }
 
     /// What its two counts are of.
-    pub fn labels(self) -> (&'static str, &'static str) {
+    pub(crate) fn labels(self) -> (&'static str, &'static str) {
         match self {
             Task::Mps | Task::Lp => ("rows", "columns"),
             Task::Scan => ("lines", "fields"),
@@ -64,7 +65,7 @@ impl Task {
     }
 
     /// How many rows and columns the model has, or lines and fields the text; none where it is refused.
-    pub fn run(self, alloc: Global, bytes: &[u8]) -> (u64, u64) {
+    pub(crate) fn run(self, alloc: Global, bytes: &[u8]) -> (u64, u64) {
         if bytes.len() >= 2_147_483_648 {
             return (0, 0);
         }

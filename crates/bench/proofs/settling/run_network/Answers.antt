@@ -1,4 +1,4 @@
-use Rattle.settle_bench.proofs.run_network.Goals as goal
+use Rattle.bench.proofs.settling.run_network.Goals as goal
 
 pub repeat-requires-clause-formed : goal.repeat-requires-clause-formed
 repeat-requires-clause-formed c = c.is_formed.ensures.formed c.if-not-is_formed.false

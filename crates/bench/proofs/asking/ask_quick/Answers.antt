@@ -3,9 +3,9 @@ use Rattle.lp_model.specs.Program.{Program}
 use Rattle.certs.specs.Checks.{IsSetOf}
 use Rattle.linear_oracle.specs.Value.{OracleValue}
 use Rattle.branch_oracle.specs.Value.{BranchValue}
-use Rattle.iis_bench.proofs.Served.{plain_served}
+use Rattle.bench.proofs.Served.{plain_served}
 use Rattle.quick_oracle.specs.Value.{QuickValue}
-use Rattle.iis_bench.proofs.ask_quick.Goals as goal
+use Rattle.bench.proofs.asking.ask_quick.Goals as goal
 
 pub isolate_with-given-requires-clause-served : goal.isolate_with-given-requires-clause-served
 isolate_with-given-requires-clause-served c = plain_served c.in_ok-set.set.members

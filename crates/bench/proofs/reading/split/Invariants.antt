@@ -1,5 +1,5 @@
 use Rattle.std.proofs.Common.{◌-◌, ◌≤◌, length}
-use Rattle.reader_bench.proofs.tasks.split.Given as goal
+use Rattle.bench.proofs.reading.split.Given as goal
 
 abbrev pub invariant-loop-line : goal.invariant-loop-line
 invariant-loop-line l = l.at ≤ length l.bytes
