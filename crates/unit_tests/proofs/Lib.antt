@@ -1,2 +1,0 @@
-mod Linear
-mod Forms
