@@ -17,9 +17,6 @@ use quick_run::{
 };
 use std::alloc::Global;
 
-#[cfg(test)]
-mod tests;
-
 // After so many asks in a row that gave nothing, no quick run is made.
 const MOST_FAILURES: u32 = 2;
 
