@@ -18,14 +18,14 @@ use Rattle.certs.specs.Ended.{IsSolution, IsWithin}
 use Rattle.certs.specs.Improves.{objective_variable}
 use Rattle.certs.proofs.Feasible.{feasible_law, limits_are, listed, none_passes}
 use Rattle.evidence_laws.specs.Tables.{TermsLaw, terms_of}
-use Rattle.elastic_systems.specs.Origins.{from_zero}
+use Rattle.relaxation.specs.Origins.{from_zero}
 use Rattle.dictionary.specs.Value.{DictionaryValue, tableau_of}
-use Rattle.improve_ends.specs.Duals.{objective_multiple}
-use Rattle.improve_ends.proofs.Ends.{last_is, one_more, optimal_none}
+use Rattle.simplex.specs.Duals.{objective_multiple}
+use Rattle.simplex.proofs.Ends.{last_is, one_more, optimal_none}
 use Rattle.unbounded.proofs.Settled.{settled}
 use Rattle.relaxation.specs.Runs.{StandsBest}
-use Rattle.alternative_systems.proofs.Formed.{formed_law}
-use Rattle.alternative_systems.proofs.Variables.{column_limits, last_limits, member_limits, system_columns, system_rows}
+use Rattle.alt_polyhedron.proofs.Formed.{formed_law}
+use Rattle.alt_polyhedron.proofs.Variables.{column_limits, last_limits, member_limits, system_columns, system_rows}
 
 -- ---- limits
 -- wherever a variable from 0 on stands, and is not basic, its value is 0

@@ -23,7 +23,7 @@ use Rattle.certs.specs.System.{CheapestLaw, IsLastTable, LastTableLaw, alternati
 use Rattle.certs.specs.Tableau.{Tableau, value_of}
 use Rattle.evidence_laws.specs.Tables.{TermsLaw, terms_of}
 use Rattle.dictionary.specs.Value.{DictionaryValue, tableau_of}
-use Rattle.improve_ends.specs.Duals.{objective_multiple}
+use Rattle.simplex.specs.Duals.{objective_multiple}
 use Rattle.relaxation.specs.Runs.{StandsBest}
 use Rattle.alt_polyhedron.specs.Pricing.{IsCheapestSet}
 use Rattle.alt_polyhedron.specs.Reading.{IsPriceRead}

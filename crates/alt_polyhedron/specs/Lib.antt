@@ -1,2 +1,4 @@
 pub mod Reading
 pub mod Pricing
+pub mod Forms
+pub mod Laws

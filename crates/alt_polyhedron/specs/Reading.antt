@@ -6,7 +6,7 @@ use Rattle.lp_model.specs.Satisfaction.{values_at}
 use Rattle.certs.specs.declared.evidence.Source.TheVariants.{Member as Of}
 use Rattle.certs.specs.declared.evidence.Share.{Share}
 use Rattle.certs.specs.Tableau.{Tableau}
-use Rattle.improve_ends.specs.Duals.{objective_multiple}
+use Rattle.simplex.specs.Duals.{objective_multiple}
 
 -- the share of a member whose value is above 0
 abbrev pub share_of : Member → ℚ → List Share

@@ -9,7 +9,7 @@ ghost use Rattle.alt_polyhedron.specs.Pricing.{IsPricing, IsPricingStop};
 use crate::reading::{price_of, total_of};
 use crate::stops::stop_of;
 use crate::supports::{support, used_members};
-use alternative_systems::{
+use crate::{
     alternative_system, alternative_systems_are_apart, alternative_systems_are_bounded,
     alternative_systems_are_few, alternative_systems_are_formed, bounding_members,
 };

@@ -1,8 +1,8 @@
 //! What the objective's row shows where the cost is least: the cost, and a price for it.
 ghost use Rattle.std.specs.Prelude.{◌≡◌, ◌+◌, ◌<◌, IfOk, true, length};
 ghost use Rattle.dictionary.specs.Value.{tableau_of};
-ghost use Rattle.improve_run.specs.Ends.{HasObjective};
-ghost use Rattle.improve_ends.specs.Duals.{objective_multiple};
+ghost use Rattle.simplex.specs.ImproveEnds.{HasObjective};
+ghost use Rattle.simplex.specs.Duals.{objective_multiple};
 ghost use Rattle.alt_polyhedron.specs.Reading.{IsPriceRead};
 
 use certs::{Point, Values};

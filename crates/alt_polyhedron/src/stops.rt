@@ -30,10 +30,12 @@ fn site_of(alloc: Global, set: &MemberSet) -> Result<Site, AllocError>
     ensures { (model : Program) → IsSetOf model set.now
         → IfOk result (IsAlternativeSite model set.now.members) }
 {
+    let set = set.copy(alloc)?;
+    let enforced = set.emptied(alloc)?;
     Ok(Site {
         kind: SiteKind::Alternative,
-        set: set.copy(alloc)?,
-        enforced: set.emptied(alloc)?,
+        set,
+        enforced,
         path: Path::new(Vec::new(alloc)),
     })
 }

@@ -30,9 +30,8 @@ use Rattle.branch_oracle.specs.Value.{BranchValue}
 use Rattle.quick_oracle.specs.Value.{state_with}
 use Rattle.report_text.specs.declared.report.Answer.{Answer}
 use Rattle.report_text.specs.Form.{IsRunSite}
-use Rattle.report_printer.specs.Printing.{IsKnownAnswer}
 use Rattle.analysis.specs.Answers.{IsAnswerOf, IsPossibleSite, IsToldStop, fresh_oracle, oracle_state}
-use Rattle.analysis.specs.Right.{IsEnforcedTold, IsIsolated, IsLateOfRounds, IsRoundAnswer, IsRoundsTest}
+use Rattle.analysis.specs.Right.{IsEnforcedTold, IsIsolated, IsLateOfRounds, IsRoundStop, IsRoundsTest, IsStoppedBy}
 use Rattle.analysis.proofs.Asked.{QuickAnswers}
 use Rattle.analysis.proofs.Found.{late_is_part, late_test_is_part, within}
 use Rattle.analysis.proofs.Searched.{filter_answer}
@@ -56,20 +55,19 @@ chain_within : (model : Program) (set : List Member) (count : ℕ) (enforced : L
 chain_within model set count enforced chain = subst (λ (l : List Member). IsPart l set) (sym (chain_part model set count enforced chain)) (All-filter (has enforced) (Contains set) set (All-contains_itself set))
 
 -- ---- what the deletion filter leaves of the last set of the chain
-left_of : (IsTold : Answer → Type 0) (model : Program) (budgets : Budgets) {E : Type 0} (result : Result Answer E)
-    → IfOk result (IsIsolated (IsLateOfRounds model) (IsRoundsTest model) model budgets) × IfOk result IsTold → IfOk result (IsEnforcedTold model budgets) × IfOk result IsTold
-left_of IsTold model budgets (Ok answer) h = (inl h.0, h.1)
-left_of IsTold model budgets (Err error) h = h
+left_of : (model : Program) (budgets : Budgets) {E : Type 0} (result : Result Answer E) → IfOk result (IsIsolated (IsLateOfRounds model) (IsRoundsTest model) model budgets) → IfOk result (IsEnforcedTold model budgets)
+left_of model budgets (Ok answer) h = inl h
+left_of model budgets (Err error) h = tt
 
 pub enforced_answer : (model : Program) (budgets : Budgets) (inner : BranchValue PresolveValue) (tale : TaleValue) (members : SetValue) (combo : Combo) (rounds : ℕ) (after : OracleState)
     (given : Result Irreducible Stop) {E : Type 0} (result : Result Answer E) → inner ≡ fresh_oracle model budgets → IsEnforcedBy model (active_members model) members combo rounds
     → IfOk given (IsIsolation Late QuickAnswers (state_with (oracle_state inner) tale) members.members) → IfErr given (IsStoppedAt IsLateTest QuickAnswers members.members (state_with (oracle_state inner) tale) after)
-    → IfOk result (IsAnswerOf (Some rounds) given) → IfOk result (IsEnforcedTold model budgets) × IfOk result (IsKnownAnswer model)
+    → IfOk result (IsAnswerOf (Some rounds) given) → IfOk result (IsEnforcedTold model budgets)
 enforced_answer model budgets inner tale members combo rounds after given {E} result fresh e found stopped is =
     let all = active_members model in
     let set = members.members in
     let part = chain_within model all rounds set e.rounds_are.chain in
-    left_of (IsKnownAnswer model) model budgets {E = E} result
+    left_of model budgets {E = E} result
     (filter_answer Late IsLateTest (IsLateOfRounds model) (IsRoundsTest model) model set (Some rounds) budgets tale after given {E = E} result
     (λ core told unpriced k. record { count = rounds; told = told; price = unpriced; enforced = set; rounds = e.rounds_are; late = k; few = e.few })
     (λ k l. within k set all (late_is_part model set k l) part)
@@ -105,17 +103,23 @@ module _ (model : Program) (budgets : Budgets) where
   abbrev IsAnsweredHere : Stop → Type 0
   IsAnsweredHere stop = IsAnsweredRound IsRound model (record { pivots = budgets.pivots; nodes = 0 }) set stop
 
-  round_told : (stop : Stop) (answer : Answer) → IsAnsweredHere stop → IsToldStop stop answer → IsRoundAnswer model budgets answer
-  round_told (Wide site k o) answer h told =
-      subst (IsRoundAnswer model budgets) (sym told.0) (
-        round_site h.count h.enforced site h.chain h.answered.0 told.1,
-        (h.count, (h.enforced, (h.chain, (h.answered.0, (h.answered.1.0, first_by model budgets site (TreeEnd.TooWide site.path k o) h.answered.0.kind h.answered.1.1))))),
-      )
-  round_told (Spent site) answer h told =
-      subst (IsRoundAnswer model budgets) (sym told.0) (
-        round_site h.count h.enforced site h.chain h.answered.0 told.1,
-        (h.count, (h.enforced, (h.chain, (h.answered.0, (h.answered.1.0, first_by model budgets site (TreeEnd.OutOfPivots site.path) h.answered.0.kind h.answered.1.1))))),
-      )
+  round_told : (stop : Stop) (answer : Answer) → IsAnsweredHere stop → IsToldStop stop answer → IsStoppedBy (IsRoundStop model budgets) answer
+  round_told (Wide site k o) answer h told = record {
+    stop = Wide site k o;
+    is = told.0;
+    so = (
+      round_site h.count h.enforced site h.chain h.answered.0 told.1,
+      (h.count, (h.enforced, (h.chain, (h.answered.0, (h.answered.1.0, first_by model budgets site (TreeEnd.TooWide site.path k o) h.answered.0.kind h.answered.1.1))))),
+    );
+  }
+  round_told (Spent site) answer h told = record {
+    stop = Spent site;
+    is = told.0;
+    so = (
+      round_site h.count h.enforced site h.chain h.answered.0 told.1,
+      (h.count, (h.enforced, (h.chain, (h.answered.0, (h.answered.1.0, first_by model budgets site (TreeEnd.OutOfPivots site.path) h.answered.0.kind h.answered.1.1))))),
+    );
+  }
   round_told (Nodes site) answer h told = absurd h.answered
   round_told (Large size) answer h told = absurd told
   round_told Memory answer h told = absurd told

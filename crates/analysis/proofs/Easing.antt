@@ -26,8 +26,8 @@ use Rattle.certs.specs.Order.{AreLeavesInOrder, IsNodeInOrder}
 use Rattle.certs.specs.Proof.{IsFittingNode, IsProof, Tip}
 use Rattle.certs.specs.Sites.{Budgets}
 use Rattle.certs.specs.Violation.{is_of, is_rigid, rigid_members}
-use Rattle.bound_checks.specs.declared.bounds.Dual.{Dual}
-use Rattle.elastic_systems.specs.Laws.{RefutesEnforced}
+use Rattle.certs.specs.declared.evidence.Dual.{Dual}
+use Rattle.relaxation.specs.Laws.{RefutesEnforced}
 use Rattle.least_checks.specs.Least.{IsLeastBy}
 use Rattle.relaxation.specs.Relaxed.{IsRelaxSite, IsRelaxStop}
 use Rattle.report_text.specs.declared.report.Answer.{Answer}

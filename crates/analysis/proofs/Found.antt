@@ -1,8 +1,7 @@
 -- What filters give as answers.
 use Rattle.std.proofs.Common.{◌≡◌, refl, sym, subst, ℕ, Option, List, append_assoc, append-nil, length, Ok, Err}
-use Rattle.std.specs.Prelude.{All, Contains, IfErr, IfOk, IfSome, None, Some, Result}
+use Rattle.std.specs.Prelude.{All, Contains, IfErr, IfOk, None, Result}
 use Rattle.std.proofs.lemmas.List.Elements.{All-contains, All-contains_itself, All-filter, All-weaker}
-use Rattle.rational.specs.Rational.{ℚ}
 use Rattle.lp_model.specs.declared.members.Member.{Member}
 use Rattle.lp_model.specs.Program.{Program}
 use Rattle.lp_model.specs.Members.{active_members, is_active, possible_members}
@@ -14,7 +13,7 @@ use Rattle.certs.specs.declared.evidence.Proof.{Proof}
 use Rattle.certs.specs.declared.solving.Irreducible.{Irreducible}
 use Rattle.certs.specs.declared.solving.Irreducible.TheVariants.{Set, Feasible as AtPoint}
 use Rattle.certs.specs.Filter.{Early, IsEarlyTest, IsLateTest, Late}
-use Rattle.certs.specs.Proof.{IsFittingNode, IsProof}
+use Rattle.certs.specs.Proof.{IsFittingNode}
 use Rattle.certs.specs.Sites.{Budgets}
 use Rattle.certs.specs.declared.solving.Stop.{Stop}
 use Rattle.certs.specs.declared.solving.Verdict.{Verdict}
@@ -25,11 +24,9 @@ use Rattle.filter_steps.specs.Isolated.{IsIsolation}
 use Rattle.filter_steps.proofs.Reached.{early_part, late_part, part_of_part}
 use Rattle.report_text.specs.declared.report.Answer.{Answer}
 use Rattle.report_text.specs.declared.report.Core.{Core}
-use Rattle.report_printer.specs.Printing.{IsKnownAnswer, IsKnownCore, IsKnownNode, IsKnownPrice}
-use Rattle.analysis.specs.Answers.{IsAnswerOf, IsFoundInOrder, IsStopAnswer, answer_of}
-use Rattle.analysis.specs.Right.{IsIsolated, IsRightCore}
-use Rattle.analysis.proofs.Refuting.{known_nodes}
-use Rattle.analysis.proofs.Stopping.{IsRunOf, isolated_stop, known_stopped, run_answer}
+use Rattle.analysis.specs.Answers.{IsAnswerOf, IsFoundInOrder, answer_of}
+use Rattle.analysis.specs.Right.{IsIsolated}
+use Rattle.analysis.proofs.Stopping.{IsRunOf, isolated_stop, run_answer}
 
 -- ---- parts of the active members
 pub within : (part whole all : List Member) → IsPart part whole → IsPart whole all → IsPart part all
@@ -85,25 +82,6 @@ pub part_possible : (model : Program) (part : List Member) → IsPart part (acti
 part_possible model part h =
     All-weaker (Contains (active_members model)) (IsPossibleIn (active_set model)) (λ m c. All-contains (IsPossibleIn (active_set model)) (active_members model) m (possible_members_are model) c) part h
 
-pub known_proof : (model : Program) (part : List Member) (proof : Proof) → IsPart part (active_members model) → IsProof model part proof.nodes → All (IsKnownNode model) proof.nodes
-known_proof model part proof h p = known_nodes model part (part_possible model part h) proof.nodes p
-
-known_price : (model : Program) (price : Option (ℚ × Point)) → IfSome price (λ p. length p.1.values ≡ length model.columns) → IsKnownPrice model price
-known_price model None h = tt
-known_price model (Some p) h = h
-
-pub known_core : (model : Program) (core : Core) → IsRightCore model core → IsKnownCore model core
-known_core model core h = record {
-  members = h.of_model;
-  points = λ k d l. (h.witnesses.each k d l).each_column;
-  proof = known_proof model core.members.members core.proof h.active h.proves;
-  price = known_price model core.price h.price;
-}
-
-pub found_is_known : (IsKept : Core → Type 0) (IsTest : List Member → Type 0) (model : Program) (rounds : Option ℕ) (budgets : Budgets) (found : Irreducible) → IsIsolated IsKept IsTest model budgets (answer_of rounds found) → IsKnownAnswer model (answer_of rounds found)
-found_is_known IsKept IsTest model rounds budgets (Set members witnesses proof) h = known_core model (record { members = members; witnesses = witnesses.items; proof = proof; rounds = rounds; price = None }) h.0
-found_is_known IsKept IsTest model rounds budgets (AtPoint point) h = h.each_column
-
 -- ---- the answer
 -- for what a filter finds
 found_answer : (answers : Program → Budgets → List Member → Result Verdict Stop → Type 0) (IsLeft : Program → List Member → List Member → Type 0) (IsKept : Core → Type 0) (IsTest : List Member → Type 0) (state : OracleState) (set : List Member) (rounds : Option ℕ) (budgets : Budgets) (found : Irreducible) (answer : Answer)
@@ -111,12 +89,9 @@ found_answer : (answers : Program → Budgets → List Member → Result Verdict
     → ((asked : List Member) (proof : Proof) → answers state.model state.budgets asked (Ok (Infeasible proof)) → All IsFittingNode proof.nodes)
     → ((core : Core) → core.rounds ≡ rounds → core.price ≡ None → IsLeft state.model set core.members.members → IsKept core) → ((k : List Member) → IsLeft state.model set k → IsPart k (active_members state.model))
     → ((p : Point) → IsPointOf state.model set p → IsPointOf state.model (active_members state.model) p)
-    → (answer ≡ answer_of rounds found) × IsFoundInOrder found → IsIsolation IsLeft answers state set found → IsIsolated IsKept IsTest state.model budgets answer × IsKnownAnswer state.model answer
+    → (answer ≡ answer_of rounds found) × IsFoundInOrder found → IsIsolation IsLeft answers state set found → IsIsolated IsKept IsTest state.model budgets answer
 found_answer answers IsLeft IsKept IsTest state set rounds budgets found answer ordered fits kept part at is h =
-    let right : IsIsolated IsKept IsTest state.model budgets (answer_of rounds found) = found_is_right answers IsLeft IsKept IsTest state set rounds budgets found ordered fits kept part at is.1 h in (
-      subst (IsIsolated IsKept IsTest state.model budgets) (sym is.0) right,
-      subst (IsKnownAnswer state.model) (sym is.0) (found_is_known IsKept IsTest state.model rounds budgets found right),
-    )
+    subst (IsIsolated IsKept IsTest state.model budgets) (sym is.0) (found_is_right answers IsLeft IsKept IsTest state set rounds budgets found ordered fits kept part at is.1 h)
 
 -- and for what it gives, a stop included
 pub given_answer : (answers : Program → Budgets → List Member → Result Verdict Stop → Type 0) (IsLeft : Program → List Member → List Member → Type 0) (IsKept : Core → Type 0) (IsTest : List Member → Type 0) (state : OracleState) (set : List Member) (rounds : Option ℕ) (budgets : Budgets)
@@ -126,10 +101,9 @@ pub given_answer : (answers : Program → Budgets → List Member → Result Ver
     → ((core : Core) → core.rounds ≡ rounds → core.price ≡ None → IsLeft state.model set core.members.members → IsKept core) → ((k : List Member) → IsLeft state.model set k → IsPart k (active_members state.model))
     → ((p : Point) → IsPointOf state.model set p → IsPointOf state.model (active_members state.model) p)
     → IfOk given (IsIsolation IsLeft answers state set) → IfErr given (IsRunOf IsTest state.model budgets)
-    → IfOk result (IsAnswerOf rounds given) → IfOk result (IsIsolated IsKept IsTest state.model budgets) × IfOk result (IsKnownAnswer state.model)
+    → IfOk result (IsAnswerOf rounds given) → IfOk result (IsIsolated IsKept IsTest state.model budgets)
 given_answer answers IsLeft IsKept IsTest state set rounds budgets (Ok found) (Ok answer) ordered fits kept part at h run is = found_answer answers IsLeft IsKept IsTest state set rounds budgets found answer ordered fits kept part at is h
 given_answer answers IsLeft IsKept IsTest state set rounds budgets (Err stop) {E} (Ok answer) ordered fits kept part at h run is =
-    let stopped : IsStopAnswer IsTest state.model budgets answer = run_answer IsTest state.model budgets stop {E = E} (Ok answer) run is in
-    (isolated_stop IsKept IsTest state.model budgets {E = E} (Ok answer) stopped, known_stopped IsTest state.model budgets {E = E} (Ok answer) stopped)
-given_answer answers IsLeft IsKept IsTest state set rounds budgets (Ok found) (Err error) ordered fits kept part at h run is = (tt, tt)
-given_answer answers IsLeft IsKept IsTest state set rounds budgets (Err stop) (Err error) ordered fits kept part at h run is = (tt, tt)
+    isolated_stop IsKept IsTest state.model budgets {E = E} (Ok answer) (run_answer IsTest state.model budgets stop {E = E} (Ok answer) run is)
+given_answer answers IsLeft IsKept IsTest state set rounds budgets (Ok found) (Err error) ordered fits kept part at h run is = tt
+given_answer answers IsLeft IsKept IsTest state set rounds budgets (Err stop) (Err error) ordered fits kept part at h run is = tt

@@ -5,7 +5,7 @@ use Rattle.std.specs.List.{list_any}
 use Rattle.std.proofs.lemmas.Bool.{cases_lt}
 use Rattle.rational.specs.Rational.{ℚ}
 use Rattle.std.proofs.lemmas.List.{get_or_past, get_or_default}
-use Rattle.std.proofs.lemmas.List.Elements.{All-append, All-contains, All-contains_itself, All-cons, All-filter, All-head, All-nil, All-tail, All-weaker}
+use Rattle.std.proofs.lemmas.List.Elements.{All-append, All-contains, All-cons, All-filter, All-head, All-nil, All-tail, All-weaker}
 use Rattle.std.proofs.lemmas.List.Kept.{AllPairs-filter}
 use Rattle.rational.specs.Rational.{zero_ℚ, ◌<ℚ◌}
 use Rattle.lp_model.specs.declared.members.Member.{Member}
@@ -34,7 +34,7 @@ use Rattle.certs.specs.Proof.{IsFittingNode, IsProof}
 use Rattle.certs.specs.Sites.{Budgets}
 use Rattle.certs.specs.Tales.{IsPointOf}
 use Rattle.certs.specs.Violation.{rigid_members}
-use Rattle.bound_checks.specs.declared.bounds.Dual.{Dual}
+use Rattle.certs.specs.declared.evidence.Dual.{Dual}
 use Rattle.least_checks.specs.Least.{IsLeastBy}
 use Rattle.filter_steps.specs.Isolated.{without}
 use Rattle.report_text.specs.declared.report.Method.{Method}
@@ -47,33 +47,35 @@ use Rattle.report_text.specs.declared.report.Answer.{Answer}
 use Rattle.report_text.specs.declared.report.Answer.TheVariants.{Feasible, Infeasible, Irreducible, Unbounded as RunsAway, Bounded as BoundedBy, Least as LeastBy, RigidInfeasible as RigidRefuted, Reduced, Done, Refused, NotLinear, Stopped}
 use Rattle.report_text.specs.declared.report.Entry.{Entry}
 use Rattle.lp_model.specs.declared.edits.Edit.{Edit as OneEdit}
-use Rattle.model_history.specs.History.{changes}
+use Rattle.report_text.specs.History.{changes}
 use Rattle.report_text.specs.declared.report.NamedEdit.{NamedEdit}
 use Rattle.report_text.specs.declared.report.Refusal.{Refusal}
 use Rattle.report_text.specs.Edits.{named_edit, edit_answer, undo_answer}
 use Rattle.report_text.specs.Turns.{after, edits_after, AllEntries, entry_commands}
-use Rattle.model_session.proofs.Standing.{after_well_formed}
-use Rattle.model_session.proofs.Unchanged.{same_names, rows_same, columns_same, row_name_same, column_name_same}
+use Rattle.report_text.proofs.Standing.{after_well_formed}
+use Rattle.report_text.proofs.Unchanged.{same_names, rows_same, columns_same, row_name_same, column_name_same}
 use Rattle.report_text.specs.Grammar.{column_name}
 use Rattle.report_text.specs.Form.{IsPricedFor, has_price, is_one_leaf, is_word, AreUses, IsBoundedFor, IsRayFor, IsWithinLimit, IsNamedColumn, IsNamedMember, IsNamedRow, IsListed, IsPointFor, IsNamedSource, IsNodeFor, IsProofFor, IsRunSite, IsSiteFor, IsStopFor, IsStepFor, IsCoreFor, IsAnswerFor, IsCommand, IsEntryFor, IsReportFor, AreEntriesFor, AreNumbered, IsLeastFor, can_answer, has_rounds}
-use Rattle.evidence_printer.specs.Numbers.{IsStepWithin}
+use Rattle.report_printer.specs.EvidenceNumbers.{IsStepWithin}
 use Rattle.reductions.specs.declared.steps.ReduceStep.{ReduceStep}
 use Rattle.reductions.specs.declared.steps.ReduceStep.TheVariants.{Empty, Singleton, Fixed, Redundant, Forcing, Doubleton}
 use Rattle.report_printer.specs.Printing.{IsKnownSource, IsKnownStep}
 use Rattle.report_printer.specs.Numbers.{HasNumbersWithin, HasPriceWithin, HasValuesWithin, IsBoundedWithin, IsLeastWithin, IsRayWithin, HasWeightsWithin, HasWitnessesWithin, IsCoreWithin, IsProofWithin, IsStopWithin}
 use Rattle.analysis.specs.NamesAreWords.{HasWords}
-use Rattle.unbounded.specs.Diagnosed.{IsBoundedBy, IsUnboundedBy}
-use Rattle.analysis.specs.Objectives.{IsDiagnosed, IsImproveStop, IsTold, diagnosis_size, most_entries}
-use Rattle.analysis.specs.Least.{IsEasedStop, IsLeastTold}
+use Rattle.alt_polyhedron.specs.Pricing.{IsPricingStop}
+use Rattle.relaxation.specs.Relaxed.{IsRelaxStop}
+use Rattle.unbounded.specs.Diagnosed.{IsBoundedBy, IsOwnStop, IsUnboundedBy}
+use Rattle.analysis.specs.Objectives.{IsDiagnosed, IsTold, diagnosis_size, most_entries}
+use Rattle.analysis.specs.Least.{IsLeastTold}
 use Rattle.analysis.specs.Linear.{IsLinearly, IsLinearlyBy, alternative_size, elastic_size, first_mark}
-use Rattle.analysis.specs.Right.{AreRight, IsChecked, IsCheapestCore, IsEnforcedTold, IsIsolated, IsLateOfRounds, IsReduction, IsRefutation, IsRightAfter, IsRightCore, IsRightStop, IsRoundAnswer, IsRoundStop, IsRoundsTest, IsSupportTest, IsWeighedTold, IsWeighingAnswer, IsWeighingStop, IsWhole, Right, RightAfter, budgets_in_force}
+use Rattle.analysis.specs.Right.{AreRight, IsAtRun, IsChecked, IsChainStop, IsCheapestCore, IsEnforcedTold, IsIsolated, IsLateOfRounds, IsReduction, IsRefutation, IsRightAfter, IsRightCore, IsRoundsTest, IsSettleStop, IsStoppedBy, IsWhole, IsSupportTest, IsWeighedTold, Right, RightAfter, budgets_in_force}
 use Rattle.analysis.specs.Pieces.{Answers}
 use Rattle.analysis.proofs.Leaving.{known_steps}
 use Rattle.analysis.specs.Written.{report_of}
 use Rattle.analysis.proofs.Found.{part_possible, possible_members_are}
 use Rattle.analysis.proofs.Marks.{mark_known}
 use Rattle.analysis.proofs.Objectives.{dual_sources, least_sources}
-use Rattle.analysis.proofs.Refuting.{IsSoundNode, sound_nodes}
+use Rattle.analysis.proofs.Refuting.{IsSoundNode, sound_nodes, used_part, used_within}
 
 -- ---- lists
 front_of : {A : Type 0} (P : A → Type 0) (xs ys : List A) → All P (xs ++ ys) → All P xs
@@ -148,20 +150,17 @@ module _ (model : Program) (words : HasWords model) where
     }
 
   -- ---- the members that a proof uses
-  used_part : (nodes : List Node) → IsPart (used_set (active_set model) nodes).members (active_members model)
-  used_part nodes = All-filter (λ (m : Member). list_any (node_uses m) nodes) (Contains (active_members model)) (active_members model) (All-contains_itself (active_members model))
-
   used_listed : (nodes : List Node) → IsListed model (used_set (active_set model) nodes)
   used_listed nodes = record {
     of_model = record { rows = refl; columns = refl };
-    named = part_named (used_set (active_set model) nodes).members (used_part nodes);
+    named = part_named (used_set (active_set model) nodes).members (used_part model nodes);
     in_order = AllPairs-filter (λ m n. IsTrue (comes_before m n)) (λ (m : Member). list_any (node_uses m) nodes) (active_members model) (members_law model).0;
   }
 
   refutation_form : (printed : SetValue) (proof : Proof) → IsRefutation model printed proof → IsProofWithin proof → IsListed model printed × IsProofFor model proof
   refutation_form printed proof h within = (
     subst (IsListed model) (sym h.used) (used_listed proof.nodes),
-    proof_form printed.members (subst (λ (set : SetValue). IsPart set.members (active_members model)) (sym h.used) (used_part proof.nodes)) proof h.proves h.ordered h.fits within,
+    proof_form printed.members (used_within model printed proof.nodes h.used) proof h.proves h.ordered h.fits within,
   )
 
   -- ---- irreducible sets
@@ -193,12 +192,12 @@ module _ (model : Program) (words : HasWords model) where
     path = All-weaker (λ (b : Branch). b.column < length model.columns) (λ (b : Branch). IsNamedColumn model b.column) (λ b l. named_column b.column l) site.path h.known;
   }
 
-  stop_form : (IsTest : List Member → Type 0) (budgets : Budgets) (stop : Stop) → IsRightStop IsTest model budgets stop → IsStopWithin stop → IsStopFor model stop
-  stop_form IsTest budgets (TooWide site k o) h within = (site_form site h.0.run, within)
-  stop_form IsTest budgets (Spent site) h within = site_form site h.0.run
-  stop_form IsTest budgets (Nodes site) h within = site_form site h.0.run
-  stop_form IsTest budgets (Large size) h within = absurd h
-  stop_form IsTest budgets Memory h within = absurd h
+  stop_form : (IsSo : Site → Stop → Type 0) (stop : Stop) → IsAtRun model IsSo stop → IsStopWithin stop → IsStopFor model stop
+  stop_form IsSo (TooWide site k o) h within = (site_form site h.0, within)
+  stop_form IsSo (Spent site) h within = site_form site h.0
+  stop_form IsSo (Nodes site) h within = site_form site h.0
+  stop_form IsSo (Large size) h within = absurd h
+  stop_form IsSo Memory h within = absurd h
 
   -- ---- answers
   -- of a kind that the command may have, and in its form
@@ -217,7 +216,11 @@ module _ (model : Program) (words : HasWords model) where
   checked_form budgets Done h within = absurd h
   checked_form budgets (Refused r) h within = absurd h
   checked_form budgets (NotLinear j) h within = absurd h
-  checked_form budgets (Stopped stop) h within = (refl, stop_form (IsWhole model) budgets stop h within)
+  checked_form budgets (Stopped stop) h within = (refl, stop_form (IsSettleStop (IsWhole model) model budgets) stop h within)
+
+  -- a stop, to a command that may have one
+  stopped_form : (command : Command) (IsSo : Site → Stop → Type 0) (answer : Answer) → ((stop : Stop) → can_answer command (Stopped stop) ≡ true) → IsStoppedBy (IsAtRun model IsSo) answer → HasNumbersWithin answer → IsAnswerTo command answer
+  stopped_form command IsSo answer may h within = subst (IsAnswerTo command) (sym h.is) (may h.stop, stop_form IsSo h.stop h.so (subst HasNumbersWithin h.is within))
 
   -- rounds are told just where the method has them
   isolated_form : (IsKept : Core → Type 0) (IsTest : List Member → Type 0) (method : Method) (budgets : Budgets) (answer : Answer)
@@ -233,7 +236,7 @@ module _ (model : Program) (words : HasWords model) where
   isolated_form IsKept IsTest method budgets Done told h within = absurd h
   isolated_form IsKept IsTest method budgets (Refused r) told h within = absurd h
   isolated_form IsKept IsTest method budgets (NotLinear j) told h within = absurd h
-  isolated_form IsKept IsTest method budgets (Stopped stop) told h within = (refl, stop_form IsTest budgets stop h within)
+  isolated_form IsKept IsTest method budgets (Stopped stop) told h within = (refl, stop_form (IsSettleStop IsTest model budgets) stop h within)
 
   -- ---- of programs without active marks
   -- the column of the first mark is one of the program
@@ -253,59 +256,17 @@ module _ (model : Program) (words : HasWords model) where
       ]
 
   -- ---- the elastic filter
-  round_form : (budgets : Budgets) (stop : Stop) → IsRoundStop model budgets stop → IsStopWithin stop → IsStopFor model stop
-  round_form budgets (TooWide site k o) h within = (site_form site h.0, within)
-  round_form budgets (Spent site) h within = site_form site h.0
-  round_form budgets (Nodes site) h within = absurd h
-  round_form budgets (Large size) h within = absurd h
-  round_form budgets Memory h within = absurd h
-
-  round_answer_form : (budgets : Budgets) (answer : Answer) → IsRoundAnswer model budgets answer → HasNumbersWithin answer → IsAnswerTo (Iis Elastic) answer
-  round_answer_form budgets (Feasible p) h within = absurd h
-  round_answer_form budgets (Infeasible printed proof) h within = absurd h
-  round_answer_form budgets (Irreducible core) h within = absurd h
-  round_answer_form budgets (RunsAway p ray) h within = absurd h
-  round_answer_form budgets (BoundedBy b) h within = absurd h
-  round_answer_form budgets (LeastBy p dual) h within = absurd h
-  round_answer_form budgets (RigidRefuted printed proof) h within = absurd h
-  round_answer_form budgets (Reduced r) h within = absurd h
-  round_answer_form budgets Done h within = absurd h
-  round_answer_form budgets (Refused r) h within = absurd h
-  round_answer_form budgets (NotLinear j) h within = absurd h
-  round_answer_form budgets (Stopped stop) h within = (refl, round_form budgets stop h within)
-
   enforced_form : (budgets : Budgets) (answer : Answer) → IsEnforcedTold model budgets answer → HasNumbersWithin answer → IsAnswerTo (Iis Elastic) answer
   enforced_form budgets answer (inl h) within =
       isolated_form (IsLateOfRounds model) (IsRoundsTest model) Elastic budgets answer (λ core k. subst (λ (rounds : Option ℕ). (has_rounds Elastic rounds && has_price Elastic core.price) ≡ true) (sym k.told) (subst (λ (price : Option (ℚ × Point)). has_price Elastic price ≡ true) (sym k.price) refl)) h within
-  enforced_form budgets answer (inr h) within = round_answer_form budgets answer h within
+  enforced_form budgets answer (inr h) within = stopped_form (Iis Elastic) (λ site s. IsChainStop model budgets s) answer (λ stop. refl) h within
 
   -- ---- the cheapest weighting
-  weighing_form : (budgets : Budgets) (stop : Stop) → IsWeighingStop model budgets stop → IsStopWithin stop → IsStopFor model stop
-  weighing_form budgets (TooWide site k o) h within = (site_form site h.0, within)
-  weighing_form budgets (Spent site) h within = site_form site h.0
-  weighing_form budgets (Nodes site) h within = absurd h
-  weighing_form budgets (Large size) h within = absurd h
-  weighing_form budgets Memory h within = absurd h
-
-  weighing_answer_form : (budgets : Budgets) (answer : Answer) → IsWeighingAnswer model budgets answer → HasNumbersWithin answer → IsAnswerTo (Iis Alternative) answer
-  weighing_answer_form budgets (Feasible p) h within = absurd h
-  weighing_answer_form budgets (Infeasible printed proof) h within = absurd h
-  weighing_answer_form budgets (Irreducible core) h within = absurd h
-  weighing_answer_form budgets (RunsAway p ray) h within = absurd h
-  weighing_answer_form budgets (BoundedBy b) h within = absurd h
-  weighing_answer_form budgets (LeastBy p dual) h within = absurd h
-  weighing_answer_form budgets (RigidRefuted printed proof) h within = absurd h
-  weighing_answer_form budgets (Reduced r) h within = absurd h
-  weighing_answer_form budgets Done h within = absurd h
-  weighing_answer_form budgets (Refused r) h within = absurd h
-  weighing_answer_form budgets (NotLinear j) h within = absurd h
-  weighing_answer_form budgets (Stopped stop) h within = (refl, weighing_form budgets stop h within)
-
   weighed_form : (budgets : Budgets) (answer : Answer) → IsWeighedTold model budgets answer → HasNumbersWithin answer → IsAnswerTo (Iis Alternative) answer
   weighed_form budgets answer (inl h) within =
       isolated_form (IsCheapestCore model) (IsSupportTest model) Alternative budgets answer
       (λ core k. subst (λ (rounds : Option ℕ). (has_rounds Alternative rounds && has_price Alternative core.price) ≡ true) (sym k.rounds) (subst (λ (price : Option (ℚ × Point)). has_price Alternative price ≡ true) (sym k.told) refl)) h within
-  weighed_form budgets answer (inr h) within = weighing_answer_form budgets answer h within
+  weighed_form budgets answer (inr h) within = stopped_form (Iis Alternative) (λ site s. IsPricingStop model (active_members model) budgets.pivots s) answer (λ stop. refl) h within
 
   -- ---- the objective
   ray_form : (p : Point) (ray : Ray) → IsUnboundedBy model (active_members model) p ray → IsRayWithin ray → IsRayFor model ray
@@ -332,27 +293,20 @@ module _ (model : Program) (words : HasWords model) where
     uses = uses_form b.dual.combo.shares b.dual.bound h.dual_of h.ordered within.dual.weights;
   }
 
-  improve_form : (budgets : Budgets) (stop : Stop) → IsImproveStop model budgets stop → IsStopWithin stop → IsStopFor model stop
-  improve_form budgets (TooWide site k o) h within = (site_form site h.0, within)
-  improve_form budgets (Spent site) h within = site_form site h.0
-  improve_form budgets (Nodes site) h within = absurd h
-  improve_form budgets (Large size) h within = absurd h
-  improve_form budgets Memory h within = absurd h
-
   told_form : (budgets : Budgets) (answer : Answer) → IsTold model budgets answer → HasNumbersWithin answer → IsAnswerTo Unbounded answer
   told_form budgets (Feasible p) h within = absurd h
   told_form budgets (Infeasible printed proof) h within = (refl, refutation_form printed proof h within)
   told_form budgets (Irreducible core) h within = absurd h
-  told_form budgets (RunsAway p ray) h within = (refl, (point_form (active_members model) p h.0.point_of within.0, ray_form p ray h.0 within.1))
-  told_form budgets (BoundedBy b) h within = (refl, bounded_form b h.0 within)
+  told_form budgets (RunsAway p ray) h within = (refl, (point_form (active_members model) p h.point_of within.0, ray_form p ray h within.1))
+  told_form budgets (BoundedBy b) h within = (refl, bounded_form b h within)
   told_form budgets (LeastBy p dual) h within = absurd h
   told_form budgets (RigidRefuted printed proof) h within = absurd h
   told_form budgets (Reduced r) h within = absurd h
   told_form budgets Done h within = absurd h
   told_form budgets (Refused r) h within = absurd h
   told_form budgets (NotLinear j) h within = absurd h
-  told_form budgets (Stopped stop) (inl h) within = (refl, stop_form (IsWhole model) budgets stop h within)
-  told_form budgets (Stopped stop) (inr h) within = (refl, improve_form budgets stop h within)
+  told_form budgets (Stopped stop) (inl h) within = (refl, stop_form (IsSettleStop (IsWhole model) model budgets) stop h within)
+  told_form budgets (Stopped stop) (inr h) within = (refl, stop_form (λ site s. IsOwnStop model (active_members model) budgets.pivots s) stop h within)
 
   diagnosed_form : (budgets : Budgets) (answer : Answer) → IsDiagnosed model budgets answer → HasNumbersWithin answer → IsAnswerTo Unbounded answer
   diagnosed_form budgets answer h within = elim (cases_lt most_entries (diagnosis_size model)) [
@@ -361,13 +315,6 @@ module _ (model : Program) (words : HasWords model) where
   ]
 
   -- ---- how little must give way
-  eased_form : (budgets : Budgets) (stop : Stop) → IsEasedStop model budgets stop → IsStopWithin stop → IsStopFor model stop
-  eased_form budgets (TooWide site k o) h within = (site_form site h.0, within)
-  eased_form budgets (Spent site) h within = site_form site h.0
-  eased_form budgets (Nodes site) h within = absurd h
-  eased_form budgets (Large size) h within = absurd h
-  eased_form budgets Memory h within = absurd h
-
   least_form : (p : Point) (dual : Dual) → IsLeastBy model (active_members model) p dual → IsLeastWithin p dual → IsLeastFor model p dual
   least_form p dual h within = record {
     point = values_form p h.each_column within.point;
@@ -387,7 +334,7 @@ module _ (model : Program) (words : HasWords model) where
   relaxed_form budgets Done h within = absurd h
   relaxed_form budgets (Refused r) h within = absurd h
   relaxed_form budgets (NotLinear j) h within = absurd h
-  relaxed_form budgets (Stopped stop) h within = (refl, eased_form budgets stop h within)
+  relaxed_form budgets (Stopped stop) h within = (refl, stop_form (λ site s. IsRelaxStop model (active_members model) budgets.pivots s) stop h within)
 
   -- ---- reductions
   named_row : (i : ℕ) → i < length model.rows → IsNamedRow model i

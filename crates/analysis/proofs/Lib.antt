@@ -6,6 +6,7 @@ pub mod Stopping
 mod Leaving
 pub mod Asked
 pub mod Found
+pub mod Known
 pub mod InBox
 pub mod Searched
 pub mod Sofar

@@ -4,7 +4,7 @@ use Rattle.std.specs.Prelude.{IfOk}
 use Rattle.lp_model.specs.Program.{Program}
 use Rattle.certs.specs.Sites.{Budgets}
 use Rattle.lp_model.specs.declared.edits.Edit.{Edit as OneEdit}
-use Rattle.model_history.specs.History.{HistoryValue, after_edits, changes}
+use Rattle.report_text.specs.History.{HistoryValue, after_edits, changes}
 use Rattle.report_text.specs.declared.report.Method.{Method}
 use Rattle.report_text.specs.declared.report.NamedEdit.{NamedEdit}
 use Rattle.report_text.specs.declared.report.Refusal.{Refusal}
@@ -16,10 +16,10 @@ use Rattle.report_text.specs.declared.phrases.Phrase.{Phrase}
 use Rattle.report_text.specs.Edits.{named_edit, edit_answer, undo_answer}
 use Rattle.report_text.specs.Turns.{after, edits_after}
 use Rattle.report_text.specs.Grammar.{answer_phrases, entry_phrases, phrases_text}
-use Rattle.model_session.specs.Session.{session_at, IsReply, Takes}
-use Rattle.model_session.proofs.Standing.{edits_after-push}
-use Rattle.model_session.proofs.Taken.{session_stays}
-use Rattle.model_session.proofs.Unchanged.{same_names, phrases_text_same}
+use Rattle.report_text.specs.Session.{session_at, IsReply, Takes}
+use Rattle.report_text.proofs.Standing.{edits_after-push}
+use Rattle.report_text.proofs.Taken.{session_stays}
+use Rattle.report_text.proofs.Unchanged.{same_names, phrases_text_same}
 use Rattle.report_printer.specs.Printing.{IsKnownAnswer}
 use Rattle.analysis.specs.Objectives.{IsDiagnosed}
 use Rattle.analysis.specs.Least.{IsRelaxation}

@@ -1,5 +1,5 @@
 -- What a diagnosis gives, as an answer.
-use Rattle.std.proofs.Common.{◌≡◌, ◌⊎◌, ◌<◌, ◌≤◌, refl, sym, subst, Bool, true, false, not, List, [], filter, length, Result, Ok, Err, inl, inr, arith}
+use Rattle.std.proofs.Common.{◌≡◌, ◌⊎◌, ◌<◌, ◌≤◌, refl, sym, subst, Bool, not, List, [], filter, length, Result, Ok, Err, inl, inr, arith}
 use Rattle.std.specs.Prelude.{All, Contains, IfOk, IfErr}
 use Rattle.std.proofs.lemmas.List.Filters.{length-filter_both}
 use Rattle.certs.specs.Ended.{numbers_from}
@@ -23,26 +23,23 @@ use Rattle.certs.specs.Bound.{IsBoundDual, without_marks}
 use Rattle.certs.specs.Combination.{IsFitting, IsThere}
 use Rattle.certs.specs.Sites.{Budgets}
 use Rattle.certs.specs.Tales.{OracleState}
-use Rattle.certs.specs.Trees.{has_mark}
 use Rattle.certs.specs.Violation.{IsLeastDual}
 use Rattle.unbounded.specs.declared.diagnosing.Diagnosis.{Diagnosis}
 use Rattle.unbounded.specs.declared.diagnosing.Diagnosis.TheVariants.{Infeasible as NoPoint, Unbounded as AlongRay, Bounded as ByDual}
-use Rattle.unbounded.specs.Diagnosed.{AsksOnce, HasLastPoint, IsDiagnosis, IsImproveSite, IsOwnStop, PassesOn}
+use Rattle.unbounded.specs.Diagnosed.{AsksOnce, IsDiagnosis, IsImproveSite, IsOwnStop, PassesOn}
 use Rattle.report_text.specs.declared.report.Answer.{Answer}
-use Rattle.report_text.specs.declared.report.Answer.TheVariants.{Feasible, Infeasible, Irreducible, Unbounded as RunsAway, Bounded as BoundedBy, Least as LeastBy, RigidInfeasible as RigidRefuted, Reduced, Done, Refused, NotLinear, Stopped}
 use Rattle.report_text.specs.Form.{IsRunSite}
-use Rattle.report_printer.specs.Printing.{IsKnownAnswer, IsKnownSource}
+use Rattle.report_printer.specs.Printing.{IsKnownSource}
 use Rattle.branch_oracle.specs.Value.{BranchValue}
 use Rattle.presolve_oracle.specs.Value.{PresolveValue}
-use Rattle.quick_oracle.specs.Alone.{stands_alone}
 use Rattle.quick_optimum.specs.Best.{IsBestOf}
-use Rattle.analysis.specs.Answers.{IsPossibleSite, IsRefutedBy, IsStopAnswer, IsToldStop, fresh_oracle, oracle_state}
+use Rattle.analysis.specs.Answers.{IsPossibleSite, IsRefutedBy, IsToldStop, fresh_oracle, oracle_state}
 use Rattle.analysis.specs.Objectives.{IsFoundBy, IsTold}
 use Rattle.analysis.specs.Right.{IsWhole}
 use Rattle.analysis.proofs.Asked.{QuickAnswers, proof_fits, proof_ordered, stop_reference}
 use Rattle.analysis.proofs.Found.{part_possible}
 use Rattle.analysis.proofs.Refuting.{known_source}
-use Rattle.analysis.proofs.Stopping.{IsRunOf, active_site, known_stopped, none_part, run_answer}
+use Rattle.analysis.proofs.Stopping.{IsRunOf, active_site, none_part, run_answer}
 
 -- ---- the sources of a dual
 plain_part : (model : Program) → IsPart (without_marks (active_members model)) (active_members model)
@@ -79,39 +76,20 @@ module _ (model : Program) (budgets : Budgets) where
   }
 
   -- its own stop
-  own_told : (stop : Stop) (answer : Answer) → IsOwnStop model set budgets.pivots stop → IsToldStop stop answer → IsTold model budgets answer × IsKnownAnswer model answer
-  own_told (Wide site k o) answer h told =
-      let run = improve_run_site site h.0 told.1 in
-      subst (λ (a : Answer). IsTold model budgets a × IsKnownAnswer model a) (sym told.0) (inr (run, h), record { set = run.of_model; enforced = run.enforced_of; path = run.known })
-  own_told (Spent site) answer h told =
-      let run = improve_run_site site h.0 told.1 in
-      subst (λ (a : Answer). IsTold model budgets a × IsKnownAnswer model a) (sym told.0) (inr (run, h), record { set = run.of_model; enforced = run.enforced_of; path = run.known })
+  own_told : (stop : Stop) (answer : Answer) → IsOwnStop model set budgets.pivots stop → IsToldStop stop answer → IsTold model budgets answer
+  own_told (Wide site k o) answer h told = subst (IsTold model budgets) (sym told.0) (inr (improve_run_site site h.0 told.1, h))
+  own_told (Spent site) answer h told = subst (IsTold model budgets) (sym told.0) (inr (improve_run_site site h.0 told.1, h))
   own_told (Nodes site) answer h told = absurd h
   own_told (Large size) answer h told = absurd h
   own_told Memory answer h told = absurd told
 
-  -- the reference's
-  asked_told : (answer : Answer) → IsStopAnswer (IsWhole model) model budgets answer → IsTold model budgets answer
-  asked_told (Feasible p) h = absurd h
-  asked_told (Infeasible printed proof) h = absurd h
-  asked_told (Irreducible core) h = absurd h
-  asked_told (RunsAway p ray) h = absurd h
-  asked_told (BoundedBy b) h = absurd h
-  asked_told (LeastBy p dual) h = absurd h
-  asked_told (RigidRefuted printed proof) h = absurd h
-  asked_told (Reduced r) h = absurd h
-  asked_told Done h = absurd h
-  asked_told (Refused r) h = absurd h
-  asked_told (NotLinear j) h = absurd h
-  asked_told (Stopped stop) h = inl h
-
-  pub stop_told : (stop : Stop) {E : Type 0} (result : Result Answer E) → IsFoundBy model budgets (Err stop) → IfOk result (IsToldStop stop) → IfOk result (λ a. IsTold model budgets a × IsKnownAnswer model a)
+  pub stop_told : (stop : Stop) {E : Type 0} (result : Result Answer E) → IsFoundBy model budgets (Err stop) → IfOk result (IsToldStop stop) → IfOk result (IsTold model budgets)
   stop_told stop (Err e) h told = tt
   stop_told stop (Ok answer) (inr own) told = own_told stop answer own told
   stop_told stop {E = E} (Ok answer) (inl asked) told =
       let run : IsRunOf (IsWhole model) model budgets stop = record { asked = set; answered = asked; part = All-contains_itself set; test = refl } in
       let right = run_answer (IsWhole model) model budgets stop {E = E} (Ok answer) run told in
-      (asked_told answer right, known_stopped (IsWhole model) model budgets {E = E} (Ok answer) right)
+      subst (IsTold model budgets) (sym right.is) (inl right.so)
 
   -- ---- the proof
   pub refuted_told : (proof : Proof) (answer : Answer) → IsRefutedBy model proof answer → IsTold model budgets answer
@@ -129,39 +107,29 @@ module _ (model : Program) (budgets : Budgets) where
   asked_proof old new proof (inr h) = passed_proof h.answer proof h.answered h.passed
 
   pub found_by : (old new : OracleState) (found : Result Diagnosis Stop) → IfOk found (IsDiagnosis model set) → IfErr found (λ stop. QuickAnswers model budgets set (Err stop) ⊎ IsOwnStop model set budgets.pivots stop)
-      → (has_mark set ≡ false → IfOk found (HasLastPoint model set budgets.pivots)) → AsksOnce (QuickAnswers model budgets set) old new set found → IsFoundBy model budgets found
-  found_by old new (Ok (AlongRay p ray)) is stop last asked = (is, λ alone. last)
-  found_by old new (Ok (ByDual p v dual)) is stop last asked = (is, λ alone. last)
-  found_by old new (Ok (NoPoint proof)) is stop last asked =
+      → AsksOnce (QuickAnswers model budgets set) old new set found → IsFoundBy model budgets found
+  found_by old new (Ok (AlongRay p ray)) is stop asked = is
+  found_by old new (Ok (ByDual p v dual)) is stop asked = is
+  found_by old new (Ok (NoPoint proof)) is stop asked =
       let answered = asked_proof old new proof asked in
       (is, (proof_ordered model budgets set proof answered, proof_fits model budgets set proof answered))
-  found_by old new (Err s) is (inl h) last asked = inl (stop_reference model budgets set s (inr h))
-  found_by old new (Err s) is (inr h) last asked = inr h
+  found_by old new (Err s) is (inl h) asked = inl (stop_reference model budgets set s (inr h))
+  found_by old new (Err s) is (inr h) asked = inr h
 
   -- and so it is by the oracle that was asked nothing yet
   pub found_at : (inner : BranchValue PresolveValue) (old new : OracleState) (found : Result Diagnosis Stop) → inner ≡ fresh_oracle model budgets → IfOk found (IsDiagnosis model set)
       → IfErr found (λ stop. QuickAnswers (oracle_state inner).model (oracle_state inner).budgets set (Err stop) ⊎ IsOwnStop model set budgets.pivots stop)
-      → (has_mark set ≡ false → IfOk found (HasLastPoint model set budgets.pivots)) → AsksOnce (QuickAnswers (oracle_state inner).model (oracle_state inner).budgets set) old new set found → IsFoundBy model budgets found
-  found_at inner old new found fresh is stop last asked =
+      → AsksOnce (QuickAnswers (oracle_state inner).model (oracle_state inner).budgets set) old new set found → IsFoundBy model budgets found
+  found_at inner old new found fresh is stop asked =
       found_by old new found is
       (subst (λ (o : BranchValue PresolveValue). IfErr found (λ stop. QuickAnswers (oracle_state o).model (oracle_state o).budgets set (Err stop) ⊎ IsOwnStop model set budgets.pivots stop)) fresh stop)
-      last
       (subst (λ (o : BranchValue PresolveValue). AsksOnce (QuickAnswers (oracle_state o).model (oracle_state o).budgets set) old new set found) fresh asked)
 
-  -- what quick runs show, of a set of which such runs are made
-  pub best_found : (found : Diagnosis) → (stands_alone model set 0 ≡ true → ⊥) → IsBestOf model set found → IsFoundBy model budgets (Ok found)
-  best_found (AlongRay p ray) other is = (is, λ alone. absurd (other alone))
-  best_found (ByDual p v dual) other is = (is, λ alone. absurd (other alone))
-  best_found (NoPoint proof) other is = absurd is
-
-  -- each of the two by itself
-  pub first_of : {E : Type 0} (result : Result Answer E) → IfOk result (λ a. IsTold model budgets a × IsKnownAnswer model a) → IfOk result (IsTold model budgets)
-  first_of (Ok answer) h = h.0
-  first_of (Err e) h = tt
-
-  pub second_of : {E : Type 0} (result : Result Answer E) → IfOk result (λ a. IsTold model budgets a × IsKnownAnswer model a) → IfOk result (IsKnownAnswer model)
-  second_of (Ok answer) h = h.1
-  second_of (Err e) h = tt
+  -- what quick runs show
+  pub best_found : (found : Diagnosis) → IsBestOf model set found → IsFoundBy model budgets (Ok found)
+  best_found (AlongRay p ray) is = is
+  best_found (ByDual p v dual) is = is
+  best_found (NoPoint proof) is = absurd is
 
 -- ---- the size
 pub kept_few : {A : Type 0} (p : A → Bool) (xs : List A) → length (filter p xs) ≤ length xs

@@ -1,14 +1,16 @@
 -- The active members that a proof uses, and what it names.
 use Rattle.std.proofs.Common.{◌≡◌, ◌<◌, ℕ, refl, sym, ◌∙◌, ap, subst, Bool, true, false, true≢false, cond, not, ◌&&◌, ◌==◌, List, [], ◌∷◌, ◌++◌, length, option_map, Some, Result, Ok, Err}
-use Rattle.std.specs.Prelude.{All, IfOk, IsSome}
+use Rattle.std.specs.List.{list_any}
+use Rattle.std.specs.Prelude.{All, Contains, IfOk, IsSome}
 use Rattle.std.proofs.lemmas.Bool.{and_parts, eqb-true}
-use Rattle.std.proofs.lemmas.List.Elements.{All-weaker, All-contains, All-nil, All-cons, All-head, All-tail, All-append}
+use Rattle.std.proofs.lemmas.List.Elements.{All-weaker, All-contains, All-contains_itself, All-filter, All-nil, All-cons, All-head, All-tail, All-append}
 use lib.IntN.{pos, ◌+ℤ◌}
 use Rattle.rational.specs.Rational.{whole, zero_ℚ, ◌<ℚ◌}
 use Rattle.lp_model.specs.declared.members.Member.{Member}
 use Rattle.lp_model.specs.Program.{Program}
 use Rattle.lp_model.specs.Members.{active_members}
 use Rattle.lp_model.specs.MemberSets.{SetValue, IsPossibleIn, active_set}
+use Rattle.lp_model.specs.Satisfaction.{IsPart}
 use Rattle.certs.specs.declared.evidence.Branch.{Branch}
 use Rattle.certs.specs.declared.evidence.Source.{Source}
 use Rattle.certs.specs.declared.evidence.Source.TheVariants.{Member as Of, Below, Above}
@@ -19,7 +21,7 @@ use Rattle.certs.specs.Checks.{IsSetOf}
 use Rattle.certs.specs.Combination.{IsFrom, IsThere, source_number, least_upper, greatest_lower, lesser, greater}
 use Rattle.certs.specs.Proof.{IsProof, IsFittingNode, IsTreeProof, Tree, at_least, at_most, preorder}
 use Rattle.certs.specs.Proof.Tree.{Tip, Fork}
-use Rattle.certs.specs.Named.{used_set}
+use Rattle.certs.specs.Named.{node_uses, used_set}
 use Rattle.certs.specs.Order.{AreLeavesInOrder}
 use Rattle.certs.specs.Sites.{Budgets}
 use Rattle.certs.specs.System.{VariableShare}
@@ -114,3 +116,10 @@ used_of_model model set nodes used whole same = record {
   rows = ap (λ (l : SetValue). l.rows) same ∙ ap (λ (l : SetValue). l.rows) whole;
   columns = ap (λ (l : SetValue). l.columns) same ∙ ap (λ (l : SetValue). l.columns) whole;
 }
+
+-- and of the active ones
+pub used_part : (model : Program) (nodes : List Node) → IsPart (used_set (active_set model) nodes).members (active_members model)
+used_part model nodes = All-filter (λ (m : Member). list_any (node_uses m) nodes) (Contains (active_members model)) (active_members model) (All-contains_itself (active_members model))
+
+pub used_within : (model : Program) (printed : SetValue) (nodes : List Node) → printed ≡ used_set (active_set model) nodes → IsPart printed.members (active_members model)
+used_within model printed nodes same = subst (λ (set : SetValue). IsPart set.members (active_members model)) (sym same) (used_part model nodes)

@@ -29,7 +29,6 @@ use Rattle.sensitivity_filter.specs.Cores.{IsLateOfCore as IsLateOfTold}
 use Rattle.sensitivity_filter.specs.Pairs.{IsStoppedWith, at_core, at_whole, either}
 use Rattle.report_text.specs.declared.report.Answer.{Answer}
 use Rattle.report_text.specs.declared.report.Core.{Core}
-use Rattle.report_printer.specs.Printing.{IsKnownAnswer}
 use Rattle.analysis.specs.Answers.{IsAnswerOf, fresh_oracle, oracle_state}
 use Rattle.analysis.specs.Right.{IsBare, IsCoreTest, IsIsolated, IsLateOfCore}
 use Rattle.analysis.proofs.Asked.{InnerAnswers, QuickAnswers, by_tree, inner_fits, inner_ordered, inner_stop, marked_alone, proof_fits, proof_ordered, reference_core, stop_reference}
@@ -74,7 +73,7 @@ module _ (IsLeft IsTest : Program → List Member → List Member → Type 0) (I
       → ((p : Point) → IsPointOf model set p → IsPointOf model (active_members model) p)
       → ((t : List Member) → IsTest model set t → IsRight t) → ((t : List Member) → IsTest model set t → IsPart t (active_members model))
       → IfOk given (IsIsolation IsLeft QuickAnswers (quick_state model budgets tale) set) → IfErr given (IsStoppedAt IsTest QuickAnswers set (quick_state model budgets tale) after)
-      → IfOk result (IsAnswerOf rounds given) → IfOk result (IsIsolated IsKept IsRight model budgets) × IfOk result (IsKnownAnswer model)
+      → IfOk result (IsAnswerOf rounds given) → IfOk result (IsIsolated IsKept IsRight model budgets)
   filter_answer after given result kept part at right tested found stopped is =
       given_answer QuickAnswers IsLeft IsKept IsRight (quick_state model budgets tale) set rounds budgets given result (λ asked proof k. proof_ordered model budgets asked proof k) (λ asked proof k. proof_fits model budgets asked proof k) kept part at
       found (filter_stop IsTest IsRight model set budgets tale after tested right given stopped) is
@@ -85,7 +84,7 @@ pub search_answer : (IsLeft IsTest : Program → List Member → List Member →
     → ((k : List Member) → IsLeft model (active_members model) k → IsKept k) → ((k : List Member) → IsLeft model (active_members model) k → IsPart k (active_members model))
     → ((t : List Member) → IsTest model (active_members model) t → IsRight t) → ((t : List Member) → IsTest model (active_members model) t → IsPart t (active_members model))
     → IfOk given (IsIsolation IsLeft QuickAnswers (state_with (oracle_state inner) tale) set.members) → IfErr given (IsStoppedAt IsTest QuickAnswers set.members (state_with (oracle_state inner) tale) after)
-    → IfOk result (IsAnswerOf None given) → IfOk result (IsIsolated (IsBare IsKept) IsRight model budgets) × IfOk result (IsKnownAnswer model)
+    → IfOk result (IsAnswerOf None given) → IfOk result (IsIsolated (IsBare IsKept) IsRight model budgets)
 search_answer IsLeft IsTest IsKept IsRight model set budgets inner tale after given result fresh whole kept part right tested found stopped is =
     filter_answer IsLeft IsTest (IsBare IsKept) IsRight model (active_members model) None budgets tale after given result (λ core none unpriced k. (none, (unpriced, kept core.members.members k))) part (λ p h. h) right tested
     (subst (λ (s : SetValue). IfOk given (IsIsolation IsLeft QuickAnswers (quick_state model budgets tale) s.members)) whole
@@ -124,7 +123,7 @@ pub core_answer : (model : Program) (set : SetValue) (budgets : Budgets) (first 
     → first ≡ fresh_oracle model budgets → inner ≡ fresh_oracle model budgets → set ≡ active_set model
     → IfOk given (IsIsolation (IsLateOfTold (AnswersAt InnerAnswers (oracle_state first)) first_new.tale.first_core) (either InnerAnswers QuickAnswers (state_with (oracle_state inner) tale).budgets) (oracle_state first) set.members)
     → IfErr given (IsStoppedWith InnerAnswers QuickAnswers set.members (oracle_state first) first_new (state_with (oracle_state inner) tale) later_new)
-    → IfOk result (IsAnswerOf None given) → IfOk result (IsIsolated (IsBare (IsLateOfCore model budgets)) (IsCoreTest model budgets) model budgets) × IfOk result (IsKnownAnswer model)
+    → IfOk result (IsAnswerOf None given) → IfOk result (IsIsolated (IsBare (IsLateOfCore model budgets)) (IsCoreTest model budgets) model budgets)
 core_answer model set budgets first inner tale first_new later_new given result first_fresh inner_fresh whole found stopped is =
     let state : OracleState = oracle_state (fresh_oracle model budgets) in
     let told : Option FirstCore = first_new.tale.first_core in

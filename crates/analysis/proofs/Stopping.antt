@@ -14,7 +14,7 @@ use Rattle.certs.specs.declared.solving.Stop.{Stop}
 use Rattle.certs.specs.declared.solving.Stop.TheVariants.{Wide, Pivots as Spent, Nodes, Large, Memory}
 use Rattle.certs.specs.Checks.{IsSetOf}
 use Rattle.certs.specs.Combination.{IsFitting}
-use Rattle.certs.specs.Sites.{Budgets}
+use Rattle.certs.specs.Sites.{Budgets, IsStopped}
 use Rattle.certs.specs.Answers.{IsAnsweredStop, IsReferenceAnswer, IsTreeSite}
 use Rattle.certs.specs.Tales.{IsNodeSite}
 use Rattle.frac128.specs.declared.Wide.{Wide as Operation}
@@ -26,8 +26,7 @@ use Rattle.presolve_laws.specs.Answers.{IsPresolvedReference, IsPresolvedVerdict
 use Rattle.presolve_laws.specs.Eased.{IsEased}
 use Rattle.report_text.specs.declared.report.Answer.{Answer}
 use Rattle.report_text.specs.declared.report.Core.{Core}
-use Rattle.report_text.specs.declared.report.Answer.TheVariants.{Feasible, Infeasible, Irreducible, Unbounded as RunsAway, Bounded as BoundedBy, Least as LeastBy, RigidInfeasible as RigidRefuted, Reduced, Done, Refused, NotLinear, Stopped}
-use Rattle.report_printer.specs.Printing.{IsKnownAnswer, IsKnownSite, IsKnownStop}
+use Rattle.report_text.specs.Form.{IsRunSite}
 use Rattle.analysis.specs.Answers.{IsPossibleSite, IsStopAnswer, IsToldStop}
 use Rattle.analysis.specs.Right.{IsChecked, IsIsolated, IsRightStop, IsSiteOf, IsWhole}
 
@@ -67,21 +66,28 @@ none_part site none = none ∙ sym (ap (λ l. filter (has l) site.set.members) n
 abbrev IsUneasedSet : Program → Budgets → List Member → Type 0
 IsUneasedSet model budgets set = has_mark set ≡ false → IsEased (set_system model set) budgets.pivots → ⊥
 
--- the site of a node, whose path is known and fits
-site_of : (model : Program) (budgets : Budgets) (asked : List Member) (site : Site) → IsTreeSite model asked site → IsUneasedSet model budgets asked → IsPossibleSite site → IsPart asked (active_members model) → IsSiteOf (λ s. s ≡ asked) model budgets site
-site_of model budgets asked site h uneased possible part = record {
-  run = record {
+-- the site of a node, whose path is known and fits, with a stop there
+at_node : (model : Program) (budgets : Budgets) (asked : List Member) (site : Site) (stop : Stop) → IsTreeSite model asked site → IsUneasedSet model budgets asked → IsPossibleSite site → IsPart asked (active_members model) → IsStopped model budgets stop
+    → IsRunSite model site × (IsSiteOf (λ s. s ≡ asked) model budgets site × IsStopped model budgets stop)
+at_node model budgets asked site stop h uneased possible part stopped = (
+  record {
     of_model = h.node.set_of;
     active = active_site model site.set h.node.set_of possible (subst (λ l. IsPart l (active_members model)) (sym h.node.set_is) part);
     enforced_of = h.node.enforced_of;
     enforced_part = none_part site h.node.none_enforced;
     known = h.known;
     fits = h.fits;
-  };
-  settles = h.node.kind;
-  test = h.node.set_is;
-  uneased = subst (IsUneasedSet model budgets) (sym h.node.set_is) uneased;
-}
+  },
+  (
+    record {
+      settles = h.node.kind;
+      none_enforced = h.node.none_enforced;
+      test = h.node.set_is;
+      uneased = subst (IsUneasedSet model budgets) (sym h.node.set_is) uneased;
+    },
+    stopped,
+  ),
+)
 
 -- with no path there is nothing to be known
 root_site : (model : Program) (asked : List Member) (site : Site) → IsNodeSite model asked [] site → IsTreeSite model asked site
@@ -126,117 +132,57 @@ right_stop : (model : Program) (budgets : Budgets) (asked : List Member) (stop :
 right_stop model budgets asked (Wide site turn wide) answer h part told =
     let other : Wide site turn wide ≡ Memory → ⊥ = λ e. cc in
     let run = by_own_run model budgets asked (Wide site turn wide) other h in
-    subst (IsStopAnswer (λ s. s ≡ asked) model budgets) (sym told.0)
-    (site_of model budgets asked site (wide_site model budgets asked site turn wide run) (uneased_set model budgets asked (Wide site turn wide) other h) told.1 part, reference_stopped model budgets asked (Wide site turn wide) other run)
+    record {
+      stop = Wide site turn wide;
+      is = told.0;
+      so = at_node model budgets asked site (Wide site turn wide) (wide_site model budgets asked site turn wide run) (uneased_set model budgets asked (Wide site turn wide) other h) told.1 part (reference_stopped model budgets asked (Wide site turn wide) other run);
+    }
 right_stop model budgets asked (Spent site) answer h part told =
     let other : Spent site ≡ Memory → ⊥ = λ e. cc in
     let run = by_own_run model budgets asked (Spent site) other h in
-    subst (IsStopAnswer (λ s. s ≡ asked) model budgets) (sym told.0)
-    (site_of model budgets asked site (spent_site model budgets asked site run) (uneased_set model budgets asked (Spent site) other h) told.1 part, reference_stopped model budgets asked (Spent site) other run)
+    record {
+      stop = Spent site;
+      is = told.0;
+      so = at_node model budgets asked site (Spent site) (spent_site model budgets asked site run) (uneased_set model budgets asked (Spent site) other h) told.1 part (reference_stopped model budgets asked (Spent site) other run);
+    }
 right_stop model budgets asked (Nodes site) answer h part told =
     let other : Nodes site ≡ Memory → ⊥ = λ e. cc in
     let run = by_own_run model budgets asked (Nodes site) other h in
-    subst (IsStopAnswer (λ s. s ≡ asked) model budgets) (sym told.0)
-    (site_of model budgets asked site (whole_site model budgets asked site run) (uneased_set model budgets asked (Nodes site) other h) told.1 part, reference_stopped model budgets asked (Nodes site) other run)
+    record {
+      stop = Nodes site;
+      is = told.0;
+      so = at_node model budgets asked site (Nodes site) (whole_site model budgets asked site run) (uneased_set model budgets asked (Nodes site) other h) told.1 part (reference_stopped model budgets asked (Nodes site) other run);
+    }
 right_stop model budgets asked (Large size) answer h part told = absurd told
 right_stop model budgets asked Memory answer h part told = absurd told
 
 -- ---- stops that pass a test
 site_passes : (IsTest : List Member → Type 0) (model : Program) (budgets : Budgets) (asked : List Member) (site : Site) → IsTest asked → IsSiteOf (λ s. s ≡ asked) model budgets site → IsSiteOf IsTest model budgets site
-site_passes IsTest model budgets asked site test h = record { run = h.run; settles = h.settles; test = subst IsTest (sym h.test) test; uneased = h.uneased }
+site_passes IsTest model budgets asked site test h = record { settles = h.settles; none_enforced = h.none_enforced; test = subst IsTest (sym h.test) test; uneased = h.uneased }
 
 stop_passes : (IsTest : List Member → Type 0) (model : Program) (budgets : Budgets) (asked : List Member) → IsTest asked → (stop : Stop) → IsRightStop (λ s. s ≡ asked) model budgets stop → IsRightStop IsTest model budgets stop
-stop_passes IsTest model budgets asked test (Wide site turn wide) h = (site_passes IsTest model budgets asked site test h.0, h.1)
-stop_passes IsTest model budgets asked test (Spent site) h = (site_passes IsTest model budgets asked site test h.0, h.1)
-stop_passes IsTest model budgets asked test (Nodes site) h = (site_passes IsTest model budgets asked site test h.0, h.1)
+stop_passes IsTest model budgets asked test (Wide site turn wide) h = (h.0, (site_passes IsTest model budgets asked site test h.1.0, h.1.1))
+stop_passes IsTest model budgets asked test (Spent site) h = (h.0, (site_passes IsTest model budgets asked site test h.1.0, h.1.1))
+stop_passes IsTest model budgets asked test (Nodes site) h = (h.0, (site_passes IsTest model budgets asked site test h.1.0, h.1.1))
 stop_passes IsTest model budgets asked test (Large size) h = absurd h
 stop_passes IsTest model budgets asked test Memory h = absurd h
-
-passes : (IsTest : List Member → Type 0) (model : Program) (budgets : Budgets) (asked : List Member) → IsTest asked → (answer : Answer) → IsStopAnswer (λ s. s ≡ asked) model budgets answer → IsStopAnswer IsTest model budgets answer
-passes IsTest model budgets asked test (Feasible point) h = absurd h
-passes IsTest model budgets asked test (Infeasible printed proof) h = absurd h
-passes IsTest model budgets asked test (Irreducible core) h = absurd h
-passes IsTest model budgets asked test (RunsAway p ray) h = absurd h
-passes IsTest model budgets asked test (BoundedBy b) h = absurd h
-passes IsTest model budgets asked test (LeastBy p dual) h = absurd h
-passes IsTest model budgets asked test (RigidRefuted printed proof) h = absurd h
-passes IsTest model budgets asked test (Reduced r) h = absurd h
-passes IsTest model budgets asked test Done h = absurd h
-passes IsTest model budgets asked test (Refused r) h = absurd h
-passes IsTest model budgets asked test (NotLinear j) h = absurd h
-passes IsTest model budgets asked test (Stopped stop) h = stop_passes IsTest model budgets asked test stop h
 
 -- what is answered to an ask for a set of active members that passes the test
 stop_answer : (IsTest : List Member → Type 0) (model : Program) (budgets : Budgets) (asked : List Member) (stop : Stop) (answer : Answer) → IsAnsweredStop (IsPresolvedReference model budgets) asked stop
     → IsPart asked (active_members model) → IsTest asked → IsToldStop stop answer → IsStopAnswer IsTest model budgets answer
 stop_answer IsTest model budgets asked stop answer (inl memory) part test told = absurd (subst (λ (s : Stop). IsToldStop s answer) memory told)
-stop_answer IsTest model budgets asked stop answer (inr h) part test told = passes IsTest model budgets asked test answer (right_stop model budgets asked stop answer h part told)
+stop_answer IsTest model budgets asked stop answer (inr h) part test told =
+    let right = right_stop model budgets asked stop answer h part told in
+    record { stop = right.stop; is = right.is; so = stop_passes IsTest model budgets asked test right.stop right.so }
 
 -- is right to a search and to a check
-isolated_answer : (IsKept : Core → Type 0) (IsTest : List Member → Type 0) (model : Program) (budgets : Budgets) (answer : Answer) → IsStopAnswer IsTest model budgets answer → IsIsolated IsKept IsTest model budgets answer
-isolated_answer IsKept IsTest model budgets (Feasible point) h = absurd h
-isolated_answer IsKept IsTest model budgets (Infeasible printed proof) h = absurd h
-isolated_answer IsKept IsTest model budgets (Irreducible core) h = absurd h
-isolated_answer IsKept IsTest model budgets (RunsAway p ray) h = absurd h
-isolated_answer IsKept IsTest model budgets (BoundedBy b) h = absurd h
-isolated_answer IsKept IsTest model budgets (LeastBy p dual) h = absurd h
-isolated_answer IsKept IsTest model budgets (RigidRefuted printed proof) h = absurd h
-isolated_answer IsKept IsTest model budgets (Reduced r) h = absurd h
-isolated_answer IsKept IsTest model budgets Done h = absurd h
-isolated_answer IsKept IsTest model budgets (Refused r) h = absurd h
-isolated_answer IsKept IsTest model budgets (NotLinear j) h = absurd h
-isolated_answer IsKept IsTest model budgets (Stopped stop) h = h
-
 pub isolated_stop : (IsKept : Core → Type 0) (IsTest : List Member → Type 0) (model : Program) (budgets : Budgets) {E : Type 0} (result : Result Answer E) → IfOk result (IsStopAnswer IsTest model budgets) → IfOk result (IsIsolated IsKept IsTest model budgets)
-isolated_stop IsKept IsTest model budgets (Ok answer) h = isolated_answer IsKept IsTest model budgets answer h
+isolated_stop IsKept IsTest model budgets (Ok answer) h = subst (IsIsolated IsKept IsTest model budgets) (sym h.is) h.so
 isolated_stop IsKept IsTest model budgets (Err error) h = tt
 
-checked_answer : (model : Program) (budgets : Budgets) (answer : Answer) → IsStopAnswer (IsWhole model) model budgets answer → IsChecked model budgets answer
-checked_answer model budgets (Feasible point) h = absurd h
-checked_answer model budgets (Infeasible printed proof) h = absurd h
-checked_answer model budgets (Irreducible core) h = absurd h
-checked_answer model budgets (RunsAway p ray) h = absurd h
-checked_answer model budgets (BoundedBy b) h = absurd h
-checked_answer model budgets (LeastBy p dual) h = absurd h
-checked_answer model budgets (RigidRefuted printed proof) h = absurd h
-checked_answer model budgets (Reduced r) h = absurd h
-checked_answer model budgets Done h = absurd h
-checked_answer model budgets (Refused r) h = absurd h
-checked_answer model budgets (NotLinear j) h = absurd h
-checked_answer model budgets (Stopped stop) h = h
-
 pub checked_stop : (model : Program) (budgets : Budgets) {E : Type 0} (result : Result Answer E) → IfOk result (IsStopAnswer (IsWhole model) model budgets) → IfOk result (IsChecked model budgets)
-checked_stop model budgets (Ok answer) h = checked_answer model budgets answer h
+checked_stop model budgets (Ok answer) h = subst (IsChecked model budgets) (sym h.is) h.so
 checked_stop model budgets (Err error) h = tt
-
--- ---- and can be printed
-known_site : (IsTest : List Member → Type 0) (model : Program) (budgets : Budgets) (site : Site) → IsSiteOf IsTest model budgets site → IsKnownSite model site
-known_site IsTest model budgets site h = record { set = h.run.of_model; enforced = h.run.enforced_of; path = h.run.known }
-
-pub known_stop : (IsTest : List Member → Type 0) (model : Program) (budgets : Budgets) (stop : Stop) → IsRightStop IsTest model budgets stop → IsKnownStop model stop
-known_stop IsTest model budgets (Wide site turn wide) h = known_site IsTest model budgets site h.0
-known_stop IsTest model budgets (Spent site) h = known_site IsTest model budgets site h.0
-known_stop IsTest model budgets (Nodes site) h = known_site IsTest model budgets site h.0
-known_stop IsTest model budgets (Large size) h = absurd h
-known_stop IsTest model budgets Memory h = absurd h
-
-known_answer : (IsTest : List Member → Type 0) (model : Program) (budgets : Budgets) (answer : Answer) → IsStopAnswer IsTest model budgets answer → IsKnownAnswer model answer
-known_answer IsTest model budgets (Feasible point) h = absurd h
-known_answer IsTest model budgets (Infeasible printed proof) h = absurd h
-known_answer IsTest model budgets (Irreducible core) h = absurd h
-known_answer IsTest model budgets (RunsAway p ray) h = absurd h
-known_answer IsTest model budgets (BoundedBy b) h = absurd h
-known_answer IsTest model budgets (LeastBy p dual) h = absurd h
-known_answer IsTest model budgets (RigidRefuted printed proof) h = absurd h
-known_answer IsTest model budgets (Reduced r) h = absurd h
-known_answer IsTest model budgets Done h = tt
-known_answer IsTest model budgets (Refused r) h = tt
-known_answer IsTest model budgets (NotLinear j) h = absurd h
-known_answer IsTest model budgets (Stopped stop) h = known_stop IsTest model budgets stop h
-
-pub known_stopped : (IsTest : List Member → Type 0) (model : Program) (budgets : Budgets) {E : Type 0} (result : Result Answer E) → IfOk result (IsStopAnswer IsTest model budgets) → IfOk result (IsKnownAnswer model)
-known_stopped IsTest model budgets (Ok answer) h = known_answer IsTest model budgets answer h
-known_stopped IsTest model budgets (Err error) h = tt
 
 -- ---- what is asked
 -- The stop of the reference for a set of active members that passes a test; or want of memory.

@@ -34,11 +34,10 @@ use Rattle.branch_oracle.specs.Value.{BranchValue}
 use Rattle.report_text.specs.declared.report.Answer.{Answer}
 use Rattle.report_text.specs.declared.report.Core.{Core}
 use Rattle.report_text.specs.Form.{IsRunSite}
-use Rattle.report_printer.specs.Printing.{IsKnownAnswer}
-use Rattle.analysis.specs.Answers.{IsOracleOf, IsPossibleSite, IsStopAnswer, IsToldStop, IsWitnessStop, fresh_oracle, oracle_state, weighed_answer}
-use Rattle.analysis.specs.Right.{IsCheapestCore, IsIsolated, IsRightCore, IsSupportTest, IsWeighedTold, IsWeighingAnswer, IsWhole, IsWithoutOne}
-use Rattle.analysis.proofs.Found.{known_core, within}
-use Rattle.analysis.proofs.Stopping.{IsRunOf, active_site, isolated_stop, known_stopped, none_part, run_answer}
+use Rattle.analysis.specs.Answers.{IsOracleOf, IsPossibleSite, IsToldStop, IsWitnessStop, fresh_oracle, oracle_state, weighed_answer}
+use Rattle.analysis.specs.Right.{IsCheapestCore, IsIsolated, IsRightCore, IsStoppedBy, IsSupportTest, IsWeighedTold, IsWeighingStop, IsWhole, IsWithoutOne}
+use Rattle.analysis.proofs.Found.{within}
+use Rattle.analysis.proofs.Stopping.{IsRunOf, active_site, isolated_stop, none_part, run_answer}
 
 -- ---- the members of shares
 -- are some of those that the shares are from
@@ -58,14 +57,13 @@ told_by model budgets (Ok answer) h = inl h
 told_by model budgets (Err error) h = tt
 
 stopped_told : (model : Program) (budgets : Budgets) (stop : Stop) {E : Type 0} (result : Result Answer E) → IsRunOf (IsSupportTest model) model budgets stop → IfOk result (IsToldStop stop)
-    → IfOk result (IsWeighedTold model budgets) × IfOk result (IsKnownAnswer model)
+    → IfOk result (IsWeighedTold model budgets)
 stopped_told model budgets stop {E} result run told =
-    let answer : IfOk result (IsStopAnswer (IsSupportTest model) model budgets) = run_answer (IsSupportTest model) model budgets stop {E = E} result run told in
-    (told_by model budgets {E = E} result (isolated_stop (IsCheapestCore model) (IsSupportTest model) model budgets {E = E} result answer), known_stopped (IsSupportTest model) model budgets {E = E} result answer)
+    told_by model budgets {E = E} result (isolated_stop (IsCheapestCore model) (IsSupportTest model) model budgets {E = E} result (run_answer (IsSupportTest model) model budgets stop {E = E} result run told))
 
 -- of all active members
 pub whole_stopped : (model : Program) (budgets : Budgets) (stop : Stop) {E : Type 0} (result : Result Answer E) → IsRunOf (IsWhole model) model budgets stop → IfOk result (IsToldStop stop)
-    → IfOk result (IsWeighedTold model budgets) × IfOk result (IsKnownAnswer model)
+    → IfOk result (IsWeighedTold model budgets)
 whole_stopped model budgets stop {E} result run told = stopped_told model budgets stop {E = E} result (record { asked = run.asked; answered = run.answered; part = run.part; test = inl run.test }) told
 
 -- ---- an oracle that was asked nothing yet
@@ -118,10 +116,9 @@ module _ (model : Program) (members : SetValue) (combo : Combo) (total : ℚ) (p
 
   -- with its witnesses as an answer
   pub weighed_right : (budgets : Budgets) (witnesses : List Point) (proof : Proof) → IsInOrder members.members → proof.nodes ≡ Leaf combo ∷ [] → AreWitnesses model members.members witnesses
-      → IsWeighedTold model budgets (weighed_answer members witnesses proof (total, price)) × IsKnownAnswer model (weighed_answer members witnesses proof (total, price))
+      → IsWeighedTold model budgets (weighed_answer members witnesses proof (total, price))
   weighed_right budgets witnesses proof order leaf w =
-      let right : IsRightCore model (core_of witnesses proof) = right_core witnesses proof leaf order w in
-      (inl (right, cheapest_core witnesses proof leaf), known_core model (core_of witnesses proof) right)
+      inl (right_core witnesses proof leaf order w, cheapest_core witnesses proof leaf)
 
   others_within : (others : List Member) → IsWithoutOne members.members others → IsPart others (active_members model)
   others_within others w =
@@ -132,8 +129,8 @@ module _ (model : Program) (members : SetValue) (combo : Combo) (total : ℚ) (p
 
   -- and a stop of the asks for its witnesses
   pub witness_stopped : (budgets : Budgets) (stop : Stop) {E : Type 0} (result : Result Answer E) → IsWitnessStop model budgets members.members stop
-      → IfOk result (IsToldStop stop) → IfOk result (IsWeighedTold model budgets) × IfOk result (IsKnownAnswer model)
-  witness_stopped budgets stop (Err error) at told = (tt, tt)
+      → IfOk result (IsToldStop stop) → IfOk result (IsWeighedTold model budgets)
+  witness_stopped budgets stop (Err error) at told = tt
   witness_stopped budgets stop (Ok answer) (inl memory) told = absurd (subst (λ (s : Stop). IsToldStop s answer) memory told)
   witness_stopped budgets stop {E} (Ok answer) (inr (others, (w, answered))) told =
       let own : Proof = record { nodes = Leaf combo ∷ [] } in
@@ -152,9 +149,9 @@ module _ (model : Program) (budgets : Budgets) where
     fits = subst (All IsFitting) (sym h.path_is) (All-nil IsFitting);
   }
 
-  weighing_stop : (stop : Stop) (answer : Answer) → IsPricingStop model (active_members model) budgets.pivots stop → IsToldStop stop answer → IsWeighingAnswer model budgets answer
-  weighing_stop (Wide site k o) answer h told = subst (IsWeighingAnswer model budgets) (sym told.0) (weighing_site site h.0 told.1, h)
-  weighing_stop (Spent site) answer h told = subst (IsWeighingAnswer model budgets) (sym told.0) (weighing_site site h.0 told.1, h)
+  weighing_stop : (stop : Stop) (answer : Answer) → IsPricingStop model (active_members model) budgets.pivots stop → IsToldStop stop answer → IsStoppedBy (IsWeighingStop model budgets) answer
+  weighing_stop (Wide site k o) answer h told = record { stop = Wide site k o; is = told.0; so = (weighing_site site h.0 told.1, h) }
+  weighing_stop (Spent site) answer h told = record { stop = Spent site; is = told.0; so = (weighing_site site h.0 told.1, h) }
   weighing_stop (Nodes site) answer h told = absurd h
   weighing_stop (Large size) answer h told = absurd h
   weighing_stop Memory answer h told = absurd told

@@ -20,10 +20,10 @@ use Rattle.branch_oracle.specs.Value.{BranchValue, state_with as with_trees}
 use Rattle.report_text.specs.declared.report.Answer.{Answer}
 use Rattle.report_text.specs.declared.report.Answer.TheVariants.{Feasible, Infeasible, Irreducible as Isolated, Stopped}
 use Rattle.analysis.specs.declared.answering.Budgets.{Budgets as Code}
-use Rattle.model_history.specs.History.{HistoryValue}
+use Rattle.report_text.specs.History.{HistoryValue}
 use Rattle.report_text.specs.declared.report.Command.{Command}
-use Rattle.model_session.specs.Session.{session_at}
-use Rattle.analysis.specs.Right.{IsRefutation, IsRightStop, IsWithoutOne, RightAfter, budgets_in_force}
+use Rattle.report_text.specs.Session.{session_at}
+use Rattle.analysis.specs.Right.{IsRefutation, IsRightStop, IsStoppedBy, IsWithoutOne, RightAfter, budgets_in_force}
 
 -- as contracts have them
 abbrev pub budgets_of : Code → Budgets
@@ -96,5 +96,4 @@ IsAnswerOf rounds (Err stop) answer = IsToldStop stop answer
 
 -- the answer is a stop of a set that passes the test
 abbrev pub IsStopAnswer : (List Member → Type 0) → Program → Budgets → Answer → Type 0
-IsStopAnswer IsTest model budgets (Stopped stop) = IsRightStop IsTest model budgets stop
-IsStopAnswer IsTest model budgets _ = ⊥
+IsStopAnswer IsTest model budgets answer = IsStoppedBy (IsRightStop IsTest model budgets) answer

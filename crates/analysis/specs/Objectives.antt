@@ -1,23 +1,20 @@
 -- What is told of the objective over the active members.
-use Rattle.std.specs.Prelude.{◌≡◌, ◌⊎◌, ℕ, ◌+◌, ◌*◌, ◌<◌, ◌≤◌, true, false, length, All, Result, Ok, Err}
+use Rattle.std.specs.Prelude.{◌≡◌, ◌⊎◌, ℕ, ◌+◌, ◌*◌, ◌<◌, ◌≤◌, length, All, Result, Ok, Err}
 use Rattle.lp_model.specs.Program.{Program}
 use Rattle.lp_model.specs.Members.{active_members}
 use Rattle.certs.specs.declared.solving.Stop.{Stop}
-use Rattle.certs.specs.declared.solving.Stop.TheVariants.{Wide, Pivots as Spent, Nodes, Large, Memory}
+use Rattle.certs.specs.declared.solving.Stop.TheVariants.{Large}
 use Rattle.certs.specs.Answers.{IsAnsweredStop}
 use Rattle.certs.specs.Order.{AreLeavesInOrder}
 use Rattle.certs.specs.Plain.{rows_in}
 use Rattle.certs.specs.Proof.{IsFittingNode, IsProof}
 use Rattle.certs.specs.Sites.{Budgets}
-use Rattle.certs.specs.Trees.{has_mark}
 use Rattle.presolve_laws.specs.Answers.{IsPresolvedReference}
-use Rattle.quick_oracle.specs.Alone.{stands_alone}
 use Rattle.unbounded.specs.declared.diagnosing.Diagnosis.{Diagnosis}
-use Rattle.unbounded.specs.Diagnosed.{HasLastPoint, IsUnboundedBy, IsBoundedBy, IsOwnStop}
+use Rattle.unbounded.specs.Diagnosed.{IsUnboundedBy, IsBoundedBy, IsOwnStop}
 use Rattle.report_text.specs.declared.report.Answer.{Answer}
 use Rattle.report_text.specs.declared.report.Answer.TheVariants.{Infeasible, Unbounded, Bounded, Stopped}
-use Rattle.report_text.specs.Form.{IsRunSite}
-use Rattle.analysis.specs.Stops.{IsRefutation, IsRightStop, IsWhole}
+use Rattle.analysis.specs.Stops.{IsAtRun, IsRefutation, IsRightStop, IsWhole}
 
 -- ---- the size
 -- how many entries the dictionary of the active members' plain system with the objective has: a row for each row with an active side, and one for the objective
@@ -29,23 +26,14 @@ abbrev pub most_entries : ℕ
 most_entries = 8000000
 
 -- ---- answers
--- where no quick run is made of the active members, and none of them is a mark, the point is the last one of their improve run
-abbrev pub StandsLast : Program → Budgets → Diagnosis → Type 0
-StandsLast model budgets found =
-    stands_alone model (active_members model) 0 ≡ true → has_mark (active_members model) ≡ false → HasLastPoint model (active_members model) budgets.pivots found
-
 -- the improve run of the active members stops so within the pivots
 abbrev pub IsImproveStop : Program → Budgets → Stop → Type 0
-IsImproveStop model budgets (Wide site k o) = IsRunSite model site × IsOwnStop model (active_members model) budgets.pivots (Wide site k o)
-IsImproveStop model budgets (Spent site) = IsRunSite model site × IsOwnStop model (active_members model) budgets.pivots (Spent site)
-IsImproveStop model budgets (Nodes site) = ⊥
-IsImproveStop model budgets (Large size) = ⊥
-IsImproveStop model budgets Memory = ⊥
+IsImproveStop model budgets stop = IsAtRun model (λ site s. IsOwnStop model (active_members model) budgets.pivots s) stop
 
 -- A point of the active members, with a ray along which the objective runs away, or with a bound on it; a proof that there is no point; or a stop of the settle run or the tree of the active members, or of their improve run.
 abbrev pub IsTold : Program → Budgets → Answer → Type 0
-IsTold model budgets (Unbounded point ray) = IsUnboundedBy model (active_members model) point ray × StandsLast model budgets (Diagnosis.Unbounded point ray)
-IsTold model budgets (Bounded b) = IsBoundedBy model (active_members model) b.point b.objective b.dual × StandsLast model budgets (Diagnosis.Bounded b.point b.objective b.dual)
+IsTold model budgets (Unbounded point ray) = IsUnboundedBy model (active_members model) point ray
+IsTold model budgets (Bounded b) = IsBoundedBy model (active_members model) b.point b.objective b.dual
 IsTold model budgets (Infeasible printed proof) = IsRefutation model printed proof
 IsTold model budgets (Stopped stop) = IsRightStop (IsWhole model) model budgets stop ⊎ IsImproveStop model budgets stop
 IsTold model budgets _ = ⊥
@@ -58,7 +46,7 @@ pub record IsDiagnosed (model : Program) (budgets : Budgets) (answer : Answer) :
 -- ---- what a diagnosis gives
 -- What holds of the active members; a proof with its shares in order and numbers that fit; or a stop of the reference for the active members, or of the improve run.
 abbrev pub IsFoundBy : Program → Budgets → Result Diagnosis Stop → Type 0
-IsFoundBy model budgets (Ok (Diagnosis.Unbounded p ray)) = IsUnboundedBy model (active_members model) p ray × StandsLast model budgets (Diagnosis.Unbounded p ray)
-IsFoundBy model budgets (Ok (Diagnosis.Bounded p v dual)) = IsBoundedBy model (active_members model) p v dual × StandsLast model budgets (Diagnosis.Bounded p v dual)
+IsFoundBy model budgets (Ok (Diagnosis.Unbounded p ray)) = IsUnboundedBy model (active_members model) p ray
+IsFoundBy model budgets (Ok (Diagnosis.Bounded p v dual)) = IsBoundedBy model (active_members model) p v dual
 IsFoundBy model budgets (Ok (Diagnosis.Infeasible proof)) = IsProof model (active_members model) proof.nodes × (AreLeavesInOrder proof.nodes × All IsFittingNode proof.nodes)
 IsFoundBy model budgets (Err stop) = IsAnsweredStop (IsPresolvedReference model budgets) (active_members model) stop ⊎ IsOwnStop model (active_members model) budgets.pivots stop

@@ -1,6 +1,6 @@
 -- What it is for an answer to be right: of the program, within the budgets in force, to its command.
 use Rattle.std.specs.Prelude.{◌≡◌, ◌≢◌, ◌⊎◌, ℕ, suc, ◌*◌, ◌≤◌, true, List, [], ◌∷◌, ◌++◌, length, fold, Option, Some, None, IfSome, All}
-use Rattle.lp_model.specs.Program.{Program}
+use Rattle.lp_model.specs.Program.{Program, IsWellFormed}
 use Rattle.lp_model.specs.declared.members.Member.{Member}
 use Rattle.lp_model.specs.Members.{active_members, IsInOrder}
 use Rattle.rational.specs.Rational.{ℚ}
@@ -17,7 +17,7 @@ use Rattle.certs.specs.Tales.{IsPointOf, IsStretchStop}
 use Rattle.certs.specs.Filter.{Enforces, Late, Early, IsLateTest, IsEarlyTest, Rounds}
 use Rattle.certs.specs.declared.solving.Site.{Site}
 use Rattle.certs.specs.declared.solving.Stop.{Stop}
-use Rattle.certs.specs.declared.solving.Stop.TheVariants.{Wide, Pivots as Spent, Nodes, Large, Memory}
+use Rattle.certs.specs.declared.solving.Stop.TheVariants.{Nodes}
 use Rattle.certs.specs.Proof.{IsProof, IsFittingNode}
 use Rattle.certs.specs.Sites.{Budgets}
 use Rattle.certs.specs.System.{VariableShare}
@@ -25,7 +25,7 @@ use Rattle.certs.specs.Trees.{TreeEnd, HasTree, IsTree, has_mark}
 use Rattle.filter_steps.specs.Isolated.{AreWitnesses}
 use Rattle.presolve_laws.specs.Answers.{IsLeafOf, IsPresolvedReference, set_system}
 use Rattle.presolve_laws.specs.Eased.{DecidesBy}
-use Rattle.tree_laws.specs.Boxes.{Box, IsBoxOf, volume}
+use Rattle.branch_proof.specs.Boxes.{Box, IsBoxOf, volume}
 use Rattle.report_text.specs.declared.report.Method.{Method}
 use Rattle.report_text.specs.declared.report.Method.TheVariants.{Deletion, Additive, Sensitivity, Elastic, Alternative}
 use Rattle.report_text.specs.declared.report.Core.{Core}
@@ -34,7 +34,6 @@ use Rattle.report_text.specs.declared.report.Command.TheVariants.{Check, Iis, Un
 use Rattle.report_text.specs.declared.report.Answer.{Answer}
 use Rattle.report_text.specs.declared.report.Answer.TheVariants.{Feasible, Infeasible, Irreducible, Reduced, Done, Stopped}
 use Rattle.report_text.specs.declared.report.Entry.{Entry}
-use Rattle.report_text.specs.Form.{IsRunSite}
 use Rattle.report_text.specs.Turns.{after, answer_after, entry_commands, AllEntries}
 use Rattle.report_printer.specs.Numbers.{HasNumbersWithin}
 use Rattle.analysis.specs.Reduced.{IsReducedTo}
@@ -42,7 +41,7 @@ use Rattle.analysis.specs.Least.{IsRelaxation}
 use Rattle.analysis.specs.Linear.{IsLinearly, alternative_size, elastic_size}
 use Rattle.alt_polyhedron.specs.Pricing.{IsCheapestSet, IsPricingStop}
 use Rattle.analysis.specs.Objectives.{IsDiagnosed}
-pub use Rattle.analysis.specs.Stops.{IsRefutation, IsSiteOf, IsRightStop, IsWhole}
+pub use Rattle.analysis.specs.Stops.{IsAtRun, IsRefutation, IsSettleStop, IsSiteOf, IsRightStop, IsStoppedBy, IsWhole}
 
 -- ---- answers
 -- where some active member is a mark, the tree of the active members ends so
@@ -60,10 +59,10 @@ IsChecked model budgets (Infeasible printed proof) = IsRefutation model printed 
 IsChecked model budgets (Stopped stop) = IsRightStop (IsWhole model) model budgets stop
 IsChecked model budgets _ = ⊥
 
--- Where the active columns with marks stand in a box, the answer is no stop for want of nodes with twice its points to take.
-abbrev pub HasNodesInBox : Program → Budgets → Answer → Type 0
-HasNodesInBox model budgets answer =
-    (box : Box) → IsBoxOf model (active_members model) box → 2 * volume model (active_members model) box ≤ budgets.nodes → (site : Site) → answer ≢ Stopped (Nodes site)
+-- Where the active columns with marks stand in a box, what is right to `check` is no stop for want of nodes with twice its points to take.
+abbrev pub BoxLaw : Type 0
+BoxLaw = (model : Program) (budgets : Budgets) (answer : Answer) (box : Box) → IsWellFormed model → IsChecked model budgets answer → IsBoxOf model (active_members model) box
+    → 2 * volume model (active_members model) box ≤ budgets.nodes → (site : Site) → answer ≢ Stopped (Nodes site)
 
 -- ---- irreducible sets
 -- Active members in order that are irreducible: the proof is one of them, with the shares of each leaf in order and numbers of splits that fit, and for each of them its own witness satisfies all the others. A price that is told has a value for each column.
@@ -121,20 +120,11 @@ IsChainStop model budgets stop = (count : ℕ) × ((enforced : List Member) × (
 
 -- and its site can be told
 abbrev pub IsRoundStop : Program → Budgets → Stop → Type 0
-IsRoundStop model budgets (Wide site k o) = IsRunSite model site × IsChainStop model budgets (Wide site k o)
-IsRoundStop model budgets (Spent site) = IsRunSite model site × IsChainStop model budgets (Spent site)
-IsRoundStop model budgets (Nodes site) = ⊥
-IsRoundStop model budgets (Large size) = ⊥
-IsRoundStop model budgets Memory = ⊥
-
--- a stop of a round
-abbrev pub IsRoundAnswer : Program → Budgets → Answer → Type 0
-IsRoundAnswer model budgets (Stopped stop) = IsRoundStop model budgets stop
-IsRoundAnswer model budgets _ = ⊥
+IsRoundStop model budgets stop = IsAtRun model (λ site s. IsChainStop model budgets s) stop
 
 -- what is right to a search that leaves such members, or a stop of a round before it
 abbrev pub IsEnforcedTold : Program → Budgets → Answer → Type 0
-IsEnforcedTold model budgets answer = IsIsolated (IsLateOfRounds model) (IsRoundsTest model) model budgets answer ⊎ IsRoundAnswer model budgets answer
+IsEnforcedTold model budgets answer = IsIsolated (IsLateOfRounds model) (IsRoundsTest model) model budgets answer ⊎ IsStoppedBy (IsRoundStop model budgets) answer
 
 -- The members are the support of a cheapest weighting of the active members, of which the proof is the one leaf; its cost is the total that is told with a price for it.
 pub record IsCheapestCore (model : Program) (core : Core) : Type 0 where
@@ -160,20 +150,11 @@ IsSupportTest model set = IsWhole model set ⊎ ((core : Core) × (IsCheapestCor
 
 -- the run of the active members' system of the alternative stops so within the pivots
 abbrev pub IsWeighingStop : Program → Budgets → Stop → Type 0
-IsWeighingStop model budgets (Wide site k o) = IsRunSite model site × IsPricingStop model (active_members model) budgets.pivots (Wide site k o)
-IsWeighingStop model budgets (Spent site) = IsRunSite model site × IsPricingStop model (active_members model) budgets.pivots (Spent site)
-IsWeighingStop model budgets (Nodes site) = ⊥
-IsWeighingStop model budgets (Large size) = ⊥
-IsWeighingStop model budgets Memory = ⊥
-
--- such a stop
-abbrev pub IsWeighingAnswer : Program → Budgets → Answer → Type 0
-IsWeighingAnswer model budgets (Stopped stop) = IsWeighingStop model budgets stop
-IsWeighingAnswer model budgets _ = ⊥
+IsWeighingStop model budgets stop = IsAtRun model (λ site s. IsPricingStop model (active_members model) budgets.pivots s) stop
 
 -- what is right to a search for a cheapest weighting, or a stop of its run before it
 abbrev pub IsWeighedTold : Program → Budgets → Answer → Type 0
-IsWeighedTold model budgets answer = IsIsolated (IsCheapestCore model) (IsSupportTest model) model budgets answer ⊎ IsWeighingAnswer model budgets answer
+IsWeighedTold model budgets answer = IsIsolated (IsCheapestCore model) (IsSupportTest model) model budgets answer ⊎ IsStoppedBy (IsWeighingStop model budgets) answer
 
 -- what is right to a search by each method
 abbrev pub IsFound : Method → Program → Budgets → Answer → Type 0

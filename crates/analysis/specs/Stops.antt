@@ -1,5 +1,5 @@
 -- Proofs of printed members, and stops of runs and trees, as answers.
-use Rattle.std.specs.Prelude.{◌≡◌, false, List, All}
+use Rattle.std.specs.Prelude.{◌≡◌, false, List, [], All}
 use Rattle.lp_model.specs.Program.{Program}
 use Rattle.lp_model.specs.declared.members.Member.{Member}
 use Rattle.lp_model.specs.Members.{active_members}
@@ -16,6 +16,8 @@ use Rattle.certs.specs.Sites.{Budgets, IsStopped}
 use Rattle.certs.specs.Trees.{has_mark}
 use Rattle.presolve_laws.specs.Answers.{set_system}
 use Rattle.presolve_laws.specs.Eased.{IsEased}
+use Rattle.report_text.specs.declared.report.Answer.{Answer}
+use Rattle.report_text.specs.declared.report.Answer.TheVariants.{Stopped}
 use Rattle.report_text.specs.Form.{IsRunSite}
 
 -- The proof is one of the printed members, the shares of each leaf stand in order, the numbers of its splits fit, and these are the active members that it uses.
@@ -25,20 +27,33 @@ pub record IsRefutation (model : Program) (printed : SetValue) (proof : Proof) :
   pub fits : All IsFittingNode proof.nodes
   pub used : printed ≡ used_set (active_set model) proof.nodes
 
--- The site is a settle run of a set of active members that passes the test; and where none of them is a mark, their plain system is not eased.
+-- The site is a settle run of members that pass the test, none of them enforced; and where none of them is a mark, their plain system is not eased.
 pub record IsSiteOf (IsTest : List Member → Type 0) (model : Program) (budgets : Budgets) (site : Site) : Type 0 where
-  pub run : IsRunSite model site
   pub settles : site.kind ≡ Settle
+  pub none_enforced : site.enforced.members ≡ []
   pub test : IsTest site.set.members
   pub uneased : has_mark site.set.members ≡ false → IsEased (set_system model site.set.members) budgets.pivots → ⊥
 
--- the stop's site is one of such a set, and its own run stops so within the budgets
+-- the stop is at a site that can be told, a run of active members, and this holds of the two
+abbrev pub IsAtRun : Program → (Site → Stop → Type 0) → Stop → Type 0
+IsAtRun model IsSo (Wide site k o) = IsRunSite model site × IsSo site (Wide site k o)
+IsAtRun model IsSo (Spent site) = IsRunSite model site × IsSo site (Spent site)
+IsAtRun model IsSo (Nodes site) = IsRunSite model site × IsSo site (Nodes site)
+IsAtRun model IsSo (Large size) = ⊥
+IsAtRun model IsSo Memory = ⊥
+
+-- the site is one of such a set, and its own run stops so within the budgets
+abbrev pub IsSettleStop : (List Member → Type 0) → Program → Budgets → Site → Stop → Type 0
+IsSettleStop IsTest model budgets site stop = IsSiteOf IsTest model budgets site × IsStopped model budgets stop
+
 abbrev pub IsRightStop : (List Member → Type 0) → Program → Budgets → Stop → Type 0
-IsRightStop IsTest model budgets (Wide site k o) = IsSiteOf IsTest model budgets site × IsStopped model budgets (Wide site k o)
-IsRightStop IsTest model budgets (Spent site) = IsSiteOf IsTest model budgets site × IsStopped model budgets (Spent site)
-IsRightStop IsTest model budgets (Nodes site) = IsSiteOf IsTest model budgets site × IsStopped model budgets (Nodes site)
-IsRightStop IsTest model budgets (Large size) = ⊥
-IsRightStop IsTest model budgets Memory = ⊥
+IsRightStop IsTest model budgets stop = IsAtRun model (IsSettleStop IsTest model budgets) stop
+
+-- the answer is a stop of which this holds
+pub record IsStoppedBy (IsSo : Stop → Type 0) (answer : Answer) : Type 0 where
+  pub stop : Stop
+  pub is : answer ≡ Stopped stop
+  pub so : IsSo stop
 
 -- a check asks for all active members
 abbrev pub IsWhole : Program → List Member → Type 0

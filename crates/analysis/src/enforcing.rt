@@ -3,7 +3,6 @@ ghost use Rattle.std.specs.Prelude.{◌≡◌, ◌<◌, ◌^◌, IfOk, None};
 ghost use Rattle.lp_model.specs.Members.{active_members};
 ghost use Rattle.lp_model.specs.MemberSets.{active_set};
 ghost use Rattle.report_text.specs.declared.report.Method.TheVariants.{Elastic};
-ghost use Rattle.report_printer.specs.Printing.{IsKnownAnswer};
 ghost use Rattle.analysis.specs.Answers.{budgets_of};
 ghost use Rattle.analysis.specs.Linear.{first_mark};
 ghost use Rattle.analysis.specs.Right.{IsEnforcedTold, IsFound};
@@ -34,8 +33,7 @@ pub(crate) fn enforced_search(
 ) -> Result<Answer, AllocError>
     requires few { budgets.pivots < 2 ^ 63 }
     requires whole { set.now ≡ active_set model.now }
-    ensures right { IfOk result (IsFound Elastic model.now (budgets_of budgets)) }
-    ensures known { IfOk result (IsKnownAnswer model.now) }
+    ensures { IfOk result (IsFound Elastic model.now (budgets_of budgets)) }
 {
     let none = set.emptied(alloc)?;
     if let Some(answer) = not_begun(alloc, model, set, &none)? {
@@ -55,8 +53,7 @@ fn enforced(
     requires few { budgets.pivots < 2 ^ 63 }
     requires whole { set.now ≡ active_set model.now }
     requires linear { first_mark (active_members model.now) ≡ None }
-    ensures right { IfOk result (IsEnforcedTold model.now (budgets_of budgets)) }
-    ensures known { IfOk result (IsKnownAnswer model.now) }
+    ensures { IfOk result (IsEnforcedTold model.now (budgets_of budgets)) }
 {
     set.stands_in_order();
     let taken = mem::replace(kept, Kept::new());

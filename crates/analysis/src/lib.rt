@@ -14,5 +14,6 @@ mod searching;
 mod weighing;
 mod witnesses;
 
+pub use answering::box_has_nodes_enough;
 pub use once::search_once;
 pub use pieces::analyse;

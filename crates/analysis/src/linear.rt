@@ -1,16 +1,15 @@
 //! What only a program without active marks is asked.
-ghost use Rattle.std.specs.Prelude.{◌≡◌, ◌+◌, ◌<◌, ◌^◌, IfOk, IfSome, length};
+ghost use Rattle.std.specs.Prelude.{◌≡◌, ◌+◌, ◌<◌, ◌^◌, IfOk, length};
 ghost use Rattle.lp_model.specs.Program.{Program};
 ghost use Rattle.lp_model.specs.MemberSets.{active_set};
 ghost use Rattle.certs.specs.Checks.{IsSetOf};
 ghost use Rattle.certs.specs.Elastic.{soft_members};
 ghost use Rattle.certs.specs.Named.{IsOfSize};
-ghost use Rattle.report_printer.specs.Printing.{IsKnownAnswer};
 ghost use Rattle.analysis.specs.Linear.{IsBegun, alternative_size, elastic_size, first_mark as first_mark_of};
 
 use crate::diagnosing::MOST_ENTRIES;
 use crate::reducing::set_rows;
-use alternative_systems::bounding_members;
+use alt_polyhedron::bounding_members;
 use certs::{Member, MemberSet, Stop};
 use lp_model::Model;
 use report_text::Answer;
@@ -26,9 +25,8 @@ pub(crate) fn not_begun(
 ) -> Result<Option<Answer>, AllocError>
     requires whole { set.now ≡ active_set model.now }
     requires enforced { IsSetOf model.now enforced.now }
-    ensures begun { let size = elastic_size model.now set.now.members enforced.now.members in
+    ensures { let size = elastic_size model.now set.now.members enforced.now.members in
         IfOk result (IsBegun model.now size) }
-    ensures known { IfOk result (λ given. IfSome given (IsKnownAnswer model.now)) }
 {
     let size = size_of(alloc, model, set, enforced)?;
     Ok(hindrance(set, size))
@@ -41,9 +39,8 @@ pub(crate) fn not_weighed(
     set: &MemberSet,
 ) -> Result<Option<Answer>, AllocError>
     requires whole { set.now ≡ active_set model.now }
-    ensures begun { let size = alternative_size model.now set.now.members in
+    ensures { let size = alternative_size model.now set.now.members in
         IfOk result (IsBegun model.now size) }
-    ensures known { IfOk result (λ given. IfSome given (IsKnownAnswer model.now)) }
 {
     let members = bounding_members(alloc, model, set)?;
     let size = (model.column_count() as u64 + 2) * members.as_slice().len() as u64;
@@ -52,9 +49,7 @@ pub(crate) fn not_weighed(
 
 // The column of the first mark of the active members, or else the size of a dictionary, where it passes the most.
 fn hindrance(set: &MemberSet, size: u64) -> Option<Answer>
-    ensures begun { (model : Program) → set.now ≡ active_set model → IsBegun model size result }
-    ensures known { (model : Program) → set.now ≡ active_set model
-        → IfSome result (IsKnownAnswer model) }
+    ensures { (model : Program) → set.now ≡ active_set model → IsBegun model size result }
 {
     if let Some(column) = first_mark(set) {
         return Some(Answer::NotLinear(column));
@@ -67,10 +62,8 @@ fn hindrance(set: &MemberSet, size: u64) -> Option<Answer>
 
 // The column of the first mark of a set.
 fn first_mark(set: &MemberSet) -> Option<u32>
-    ensures mark { result ≡ first_mark_of set.now.members }
-    ensures known { IfSome result (λ column. column < set.now.columns) }
+    ensures { result ≡ first_mark_of set.now.members }
 {
-    set.stands_in_order();
     for member in set.iter() {
         if let Member::Whole(column) = member {
             return Some(column);

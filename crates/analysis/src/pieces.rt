@@ -5,7 +5,7 @@ ghost use Rattle.report_text.specs.declared.report.Command.{Command};
 ghost use Rattle.analysis.specs.declared.pieces.Want.TheVariants.{Memory};
 ghost use Rattle.report_text.specs.Form.{IsCommand};
 ghost use Rattle.analysis.specs.Answers.{budgets_of};
-ghost use Rattle.model_session.specs.Session.{session_at};
+ghost use Rattle.report_text.specs.Session.{session_at};
 ghost use Rattle.analysis.specs.Right.{budgets_in_force};
 ghost use Rattle.analysis.specs.Pieces.{EntriesPut, EntryPut, ReportPut, TextPut};
 ghost use Rattle.analysis.specs.Written.{IsAnalysis, head_text, foot_text, is_unmet as is_unmet_answer};
@@ -13,14 +13,13 @@ ghost use Rattle.analysis.specs.Written.{IsAnalysis, head_text, foot_text, is_un
 use crate::answering::{Budgets, after, answer, first_budgets};
 use iis_edge::{PutFault, Sink};
 use lp_model::Model;
-use model_session::Session;
 use quick_oracle::Kept;
 use report_printer::{print_entry, print_foot, print_head};
-use report_text::{Answer, Command, Script};
+use report_text::{Answer, Command, Script, Session};
 use std::alloc::{AllocError, Global};
 
 /// Why a piece was not put whole: for want of memory nothing of it was, or the put failed.
-#[derive(Clone, Copy, Debug, PartialEq, Eq)]
+#[derive(Clone, Copy, PartialEq, Eq)]
 pub enum Want {
     Memory,
     Fault,

@@ -63,8 +63,7 @@ fn decided(
     requires whole { set.now ≡ active_set model.now }
     requires decided { IsReductionOf (set_system model.now (active_members model.now))
         (Decided combo.now trace.now) }
-    ensures right { IfOk result (IsReduction model.now) }
-    ensures known { IfOk result (IsKnownAnswer model.now) }
+    ensures { IfOk result (IsReduction model.now) }
 {
     let proof = cut_back(alloc, model, set, trace, combo)?;
     match proof {
@@ -84,8 +83,7 @@ fn left_by(
     requires whole { set.now ≡ active_set model.now }
     requires ends { let system = set_system model.now (active_members model.now) in
         (last : Stage) × (LeadsTo system trace.now last × EndsThere model.now trace.now.steps last) }
-    ensures right { IfOk result (IsReduction model.now) }
-    ensures known { IfOk result (IsKnownAnswer model.now) }
+    ensures { IfOk result (IsReduction model.now) }
 {
     let steps = steps_in(alloc, model, set, trace)?;
     Ok(Answer::Reduced(Reduced {

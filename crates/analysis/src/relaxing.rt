@@ -4,9 +4,8 @@ ghost use Rattle.lp_model.specs.Members.{active_members};
 ghost use Rattle.lp_model.specs.MemberSets.{active_set};
 ghost use Rattle.certs.specs.Sites.{Budgets as OneBudgets};
 ghost use Rattle.certs.specs.Violation.{rigid_members};
-ghost use Rattle.elastic_systems.specs.Laws.{RefutesEnforced};
+ghost use Rattle.relaxation.specs.Laws.{RefutesEnforced};
 ghost use Rattle.relaxation.specs.Relaxed.{IsRelaxed};
-ghost use Rattle.report_printer.specs.Printing.{IsKnownAnswer};
 ghost use Rattle.analysis.specs.Answers.{budgets_of};
 ghost use Rattle.analysis.specs.Least.{IsLeastTold, IsRelaxation};
 ghost use Rattle.analysis.specs.Linear.{first_mark};
@@ -34,8 +33,7 @@ pub(crate) fn relaxation(
     kept: &mut Kept,
 ) -> Result<Answer, AllocError>
     requires few { budgets.pivots < 2 ^ 63 }
-    ensures right { IfOk result (IsRelaxation model.now (budgets_of budgets)) }
-    ensures known { IfOk result (IsKnownAnswer model.now) }
+    ensures { IfOk result (IsRelaxation model.now (budgets_of budgets)) }
 {
     let set = model.members(alloc)?;
     let rigid = rigid_set(alloc, model, &set)?;
@@ -56,8 +54,7 @@ fn relaxed(
     requires few { budgets.pivots < 2 ^ 63 }
     requires whole { set.now ≡ active_set model.now }
     requires linear { first_mark (active_members model.now) ≡ None }
-    ensures right { IfOk result (IsLeastTold model.now (budgets_of budgets)) }
-    ensures known { IfOk result (IsKnownAnswer model.now) }
+    ensures { IfOk result (IsLeastTold model.now (budgets_of budgets)) }
 {
     set.stands_in_order();
     if let Some(found) = quick_least(alloc, model, set, kept, budgets.pivots) {
@@ -73,8 +70,7 @@ fn relaxed(
 fn told(alloc: Global, model: &Model, set: &MemberSet, found: Relaxed) -> Result<Answer, AllocError>
     requires whole { set.now ≡ active_set model.now }
     requires found { IsRelaxed model.now (active_members model.now) found }
-    ensures right { (budgets : OneBudgets) → IfOk result (IsLeastTold model.now budgets) }
-    ensures known { IfOk result (IsKnownAnswer model.now) }
+    ensures { (budgets : OneBudgets) → IfOk result (IsLeastTold model.now budgets) }
 {
     match found {
         Relaxed::Least { point, dual } => Ok(Answer::Least(point, dual)),
@@ -92,8 +88,7 @@ fn rigid_refuted(
     requires whole { set.now ≡ active_set model.now }
     requires refutes { let rigid = rigid_members model.now (active_members model.now) in
         RefutesEnforced model.now rigid combo.shares }
-    ensures right { (budgets : OneBudgets) → IfOk result (IsLeastTold model.now budgets) }
-    ensures known { IfOk result (IsKnownAnswer model.now) }
+    ensures { (budgets : OneBudgets) → IfOk result (IsLeastTold model.now budgets) }
 {
     set.stands_in_order();
     let proof = leaf_proof(alloc, combo)?;

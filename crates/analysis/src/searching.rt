@@ -1,8 +1,7 @@
 //! Searches for irreducible sets of the active members, and stops of solves as answers.
-ghost use Rattle.std.specs.Prelude.{◌≡◌, ◌<◌, ◌^◌, All, IfErr, IfOk, false};
+ghost use Rattle.std.specs.Prelude.{◌≡◌, ◌<◌, ◌^◌, IfErr, IfOk};
 ghost use Rattle.lp_model.specs.MemberSets.{active_set};
 ghost use Rattle.report_text.specs.declared.report.Method.TheVariants.{Additive, Deletion, Sensitivity};
-ghost use Rattle.report_printer.specs.Printing.{IsKnownAnswer};
 ghost use Rattle.analysis.specs.Answers.{IsAnswerOf, IsFoundInOrder, IsRunStop, IsToldStop, answer_of, budgets_of};
 ghost use Rattle.analysis.specs.Right.{IsFound};
 
@@ -26,8 +25,7 @@ pub(crate) fn search(
     kept: &mut Kept,
 ) -> Result<Answer, AllocError>
     requires few { budgets.pivots < 2 ^ 63 }
-    ensures right { IfOk result (IsFound method model.now (budgets_of budgets)) }
-    ensures known { IfOk result (IsKnownAnswer model.now) }
+    ensures { IfOk result (IsFound method model.now (budgets_of budgets)) }
 {
     let set = model.members(alloc)?;
     match method {
@@ -49,8 +47,7 @@ fn late_search(
 ) -> Result<Answer, AllocError>
     requires few { budgets.pivots < 2 ^ 63 }
     requires whole { set.now ≡ active_set model.now }
-    ensures right { IfOk result (IsFound Deletion model.now (budgets_of budgets)) }
-    ensures known { IfOk result (IsKnownAnswer model.now) }
+    ensures { IfOk result (IsFound Deletion model.now (budgets_of budgets)) }
 {
     let mut oracle = quick_oracle(alloc, model, budgets, budgets.nodes, kept);
     let given = deletion_filter::isolate(alloc, &mut oracle, set);
@@ -68,8 +65,7 @@ fn early_search(
 ) -> Result<Answer, AllocError>
     requires few { budgets.pivots < 2 ^ 63 }
     requires whole { set.now ≡ active_set model.now }
-    ensures right { IfOk result (IsFound Additive model.now (budgets_of budgets)) }
-    ensures known { IfOk result (IsKnownAnswer model.now) }
+    ensures { IfOk result (IsFound Additive model.now (budgets_of budgets)) }
 {
     let mut oracle = quick_oracle(alloc, model, budgets, budgets.nodes, kept);
     let given = additive_filter::isolate(alloc, &mut oracle, set);
@@ -88,8 +84,7 @@ fn core_search(
 ) -> Result<Answer, AllocError>
     requires few { budgets.pivots < 2 ^ 63 }
     requires whole { set.now ≡ active_set model.now }
-    ensures right { IfOk result (IsFound Sensitivity model.now (budgets_of budgets)) }
-    ensures known { IfOk result (IsKnownAnswer model.now) }
+    ensures { IfOk result (IsFound Sensitivity model.now (budgets_of budgets)) }
 {
     let mut first = reference_oracle(alloc, model, budgets);
     let mut oracle = quick_oracle(alloc, model, budgets, budgets.nodes, kept);

@@ -6,7 +6,6 @@ ghost use Rattle.lp_model.specs.Satisfaction.{IsSatisfiable};
 ghost use Rattle.certs.specs.Sites.{Budgets as OneBudgets};
 ghost use Rattle.quick_optimum.specs.Cores.{IsWeighed};
 ghost use Rattle.report_text.specs.declared.report.Method.TheVariants.{Alternative};
-ghost use Rattle.report_printer.specs.Printing.{IsKnownAnswer};
 ghost use Rattle.analysis.specs.Answers.{budgets_of, fresh_oracle, weighed_answer};
 ghost use Rattle.analysis.specs.Linear.{first_mark};
 ghost use Rattle.analysis.specs.Right.{IsFound, IsWeighedTold};
@@ -39,8 +38,7 @@ pub(crate) fn weighed_search(
 ) -> Result<Answer, AllocError>
     requires few { budgets.pivots < 2 ^ 63 }
     requires whole { set.now ≡ active_set model.now }
-    ensures right { IfOk result (IsFound Alternative model.now (budgets_of budgets)) }
-    ensures known { IfOk result (IsKnownAnswer model.now) }
+    ensures { IfOk result (IsFound Alternative model.now (budgets_of budgets)) }
 {
     if let Some(answer) = not_weighed(alloc, model, set)? {
         return Ok(answer);
@@ -59,8 +57,7 @@ fn weighed(
     requires few { budgets.pivots < 2 ^ 63 }
     requires whole { set.now ≡ active_set model.now }
     requires linear { first_mark (active_members model.now) ≡ None }
-    ensures right { IfOk result (IsWeighedTold model.now (budgets_of budgets)) }
-    ensures known { IfOk result (IsKnownAnswer model.now) }
+    ensures { IfOk result (IsWeighedTold model.now (budgets_of budgets)) }
 {
     if let Some(found) = quick_cheapest(alloc, model, set, kept, budgets.pivots) {
         return Ok(quickly_weighed(model, set, found));
@@ -75,8 +72,7 @@ fn weighed(
 fn quickly_weighed(model: &Model, set: &MemberSet, found: Weighed) -> Answer
     requires whole { set.now ≡ active_set model.now }
     requires found { IsWeighed model.now (active_members model.now) found }
-    ensures right { (budgets : OneBudgets) → IsWeighedTold model.now budgets result }
-    ensures known { IsKnownAnswer model.now result }
+    ensures { (budgets : OneBudgets) → IsWeighedTold model.now budgets result }
 {
     match found {
         Weighed::Feasible(point) => Answer::Feasible(point),
@@ -107,8 +103,7 @@ fn weighed_by_run(
     requires whole { set.now ≡ active_set model.now }
     requires linear { first_mark (active_members model.now) ≡ None }
     requires inner { oracle.old.inner ≡ fresh_oracle model.now (budgets_of budgets) }
-    ensures right { IfOk result (IsWeighedTold model.now (budgets_of budgets)) }
-    ensures known { IfOk result (IsKnownAnswer model.now) }
+    ensures { IfOk result (IsWeighedTold model.now (budgets_of budgets)) }
 {
     set.stands_in_order();
     match cheapest(alloc, model, set, budgets.pivots) {
@@ -143,8 +138,7 @@ fn satisfied(
     requires whole { set.now ≡ active_set model.now }
     requires can { IsSatisfiable model.now (active_members model.now) }
     requires inner { oracle.old.inner ≡ fresh_oracle model.now (budgets_of budgets) }
-    ensures right { IfOk result (IsWeighedTold model.now (budgets_of budgets)) }
-    ensures known { IfOk result (IsKnownAnswer model.now) }
+    ensures { IfOk result (IsWeighedTold model.now (budgets_of budgets)) }
 {
     match witness(alloc, model, budgets, oracle, set) {
         Ok(point) => Ok(Answer::Feasible(point)),

@@ -4,7 +4,6 @@
 ghost use Rattle.std.specs.Prelude.{◌≡◌, true, None, IfOk};
 ghost use Rattle.certs.specs.Checks.{IsSetOf};
 ghost use Rattle.certs.specs.Tales.{no_tale};
-ghost use Rattle.linear_oracle.specs.Value.{OracleValue};
 
 use branch_oracle::BranchOracle;
 use certs::{Irreducible, MemberSet, Oracle, Stop, Verdict};

@@ -6,17 +6,10 @@ ghost use Rattle.certs.specs.Checks.{IsSetOf, bound_steps, checked_of, outcome};
 use crate::outcomes::checked;
 use crate::sources::are_usable;
 use crate::sums::{add_shares, are_factors, clear, directed, right_side};
-use certs::{Checked, Combo, Share};
+use certs::{Checked, Dual, Share};
 use evidence_laws::{bound_is_valid, checked_bound, refused_bound};
 use frac128::{Frac, Wide};
 use lp_model::{MemberSet, Model};
-
-/// Weights on row sides and bounds of which the columns add up to the objective, and the bound that they show.
-#[derive(Drop)]
-pub struct Dual {
-    pub combo: Combo,
-    pub bound: Frac,
-}
 
 /// Whether the dual shows that no point of the set has a better value of the objective than its bound.
 ///

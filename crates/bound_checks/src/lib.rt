@@ -9,8 +9,7 @@ mod sources;
 mod sums;
 mod values;
 
-pub use bounds::{Dual, check_bound};
-pub use certs::{Checked, Combo, Ray};
+pub use bounds::check_bound;
 pub use parts::{check_columns, check_right_side, parts_show_bound};
 pub use rays::{check_ray, value_of};
 pub use sources::are_usable;

@@ -4,11 +4,10 @@ ghost use Rattle.certs.specs.Checks.{IsSetOf, checked_of, outcome};
 ghost use Rattle.certs.specs.Combination.{source_form};
 ghost use Rattle.bound_checks.specs.Parts.{factor_steps, right_steps, PartsLaw};
 
-use crate::bounds::Dual;
 use crate::outcomes::checked;
 use crate::sources::are_usable;
 use crate::sums::{add_shares, are_factors, clear, directed, right_side};
-use certs::{Checked, Combo, Share};
+use certs::{Checked, Combo, Dual, Share};
 use frac128::{Frac, Wide};
 use lp_model::{MemberSet, Model};
 

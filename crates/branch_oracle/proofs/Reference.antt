@@ -1,18 +1,13 @@
 -- Over runs of plain systems an oracle by trees answers what the reference does.
-use Rattle.std.proofs.Common.{◌≡◌, true, false, not, sym, subst, List, Err, inl, inr}
+use Rattle.std.proofs.Common.{◌≡◌, sym, subst, List, Err, inl, inr}
 use Rattle.std.specs.Prelude.{Result, ◌⊎◌}
-use Rattle.std.proofs.lemmas.Bool.{not-true}
-use Rattle.std.proofs.lemmas.List.Elements.{All-weaker, filter_passes}
 use Rattle.lp_model.specs.declared.members.Member.{Member}
-use Rattle.lp_model.specs.Members.{is_mark}
 use Rattle.lp_model.specs.Program.{Program}
 use Rattle.certs.specs.declared.solving.Stop.{Stop}
 use Rattle.certs.specs.declared.solving.Stop.TheVariants.{Memory}
 use Rattle.certs.specs.declared.solving.Verdict.{Verdict}
-use Rattle.certs.specs.Answers.{IsPlainAnswer, IsPlainVerdict, is_linear}
-use Rattle.certs.specs.Bound.{without_marks}
+use Rattle.certs.specs.Answers.{IsPlainAnswer, IsPlainVerdict}
 use Rattle.certs.specs.Sites.{Budgets}
-use Rattle.certs.proofs.PlainAnswers.{linear_of}
 use Rattle.branch_oracle.specs.Answers.{ReferenceLaw}
 
 -- an answer that is passed on, or want of memory for it

@@ -1,7 +1,6 @@
 //! Nodes of a tree, one by one.
-ghost use Rattle.std.specs.Prelude.{◌≡◌, ◌≢◌, ◌<◌, ℕ, false, All, List, Ok, length};
+ghost use Rattle.std.specs.Prelude.{◌≡◌, ◌<◌, ℕ, false, All, List, Ok, length};
 ghost use Rattle.rational.specs.Rational.{ℚ, IsWhole, floor};
-ghost use Rattle.lp_model.specs.Program.{Program};
 ghost use Rattle.lp_model.specs.Satisfaction.{values_at};
 ghost use Rattle.certs.specs.declared.evidence.Branch.{Branch as OneBranch};
 ghost use Rattle.certs.specs.declared.evidence.Node.TheVariants.{Split};

@@ -1,3 +1,5 @@
 pub mod Walk
 pub mod Narrow
 pub mod Pending
+pub mod Ends
+pub mod Boxes

@@ -22,7 +22,7 @@ use std::alloc::{AllocError, Global};
 /// of the set, as where the program has no such column, or where the shares of a leaf are no combination for its path;
 /// `Wide` where a sum of a leaf is too wide, with that operation. Where each node passes but one is missing, or nodes
 /// follow the whole tree, `No` has the number of nodes.
-#[derive(Clone, Copy, PartialEq, Eq, Debug)]
+#[derive(Clone, Copy)]
 pub enum Judged {
     Yes,
     No(usize),

@@ -2,7 +2,11 @@
 #![tactic(auto)]
 
 mod checks;
+mod laws;
 mod paths;
 
 pub use checks::{Judged, check_proof, is_marked};
+pub use laws::{
+    answered_stops, box_bounds_trees, box_has_nodes, one_tree_end, stop_is_exact, verdict_is_exact,
+};
 pub use paths::go_on;

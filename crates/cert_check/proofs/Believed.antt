@@ -36,7 +36,7 @@ use Rattle.report_text.specs.contracts.report.RefusalPartialEq.TheImpl.{ghosts a
 use Rattle.report_text.specs.declared.report.Refusal.{Refusal}
 use Rattle.report_text.specs.Turns.{after, answer_after}
 use Rattle.report_text.specs.Form.{IsAnswerFor, IsCommand, AreEntriesFor}
-use Rattle.model_session.proofs.Standing.{after_well_formed}
+use Rattle.report_text.proofs.Standing.{after_well_formed}
 use Rattle.report_text.specs.Grammar.{proof_phrases, rounds_phrases, witness_phrases}
 use Rattle.cert_check.specs.Trials.{said, paired_trials, same_note, is_use_of, judged_trials, proof_members, proof_trials, refuted_trials, rigid_active, others, witness_trials, witnesses_of, rounds_trials, price_trials, answer_trials, linear_trials, claim_trials, same_reply, reply_trials, entry_trials, entries_trials, Trial, trials, unless_failed, outcome_of, IsAccepted}
 use Rattle.cert_check.specs.Stops.{first_stop, stop_or}

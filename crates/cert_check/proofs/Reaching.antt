@@ -8,7 +8,7 @@ use Rattle.certs.specs.declared.evidence.Point.{Point}
 use Rattle.certs.specs.Checks.{outcome, point_steps}
 use Rattle.certs.specs.Violation.{weighted_violation, IsLeastDual}
 use Rattle.certs.proofs.Passed.{point_check_law}
-use Rattle.bound_checks.specs.declared.bounds.Dual.{Dual}
+use Rattle.certs.specs.declared.evidence.Dual.{Dual}
 use Rattle.least_checks.specs.Least.{IsLeastBy, ReachedLaw}
 use Rattle.least_checks.specs.Parts.{PartsLaw, ViolationLaw, total_steps, violation_steps, weight_steps}
 use Rattle.report_text.specs.Form.{IsLeastFor}

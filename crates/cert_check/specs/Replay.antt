@@ -1,8 +1,8 @@
 -- What a check makes of a session at an entry.
 use Rattle.std.specs.Prelude.{◌≡◌, List, [], ◌∷◌, ◌++◌, Result, OnOk}
 use Rattle.lp_model.specs.Program.{Program}
-use Rattle.model_history.specs.History.{HistoryValue}
-use Rattle.model_session.specs.Session.{session_at}
+use Rattle.report_text.specs.History.{HistoryValue}
+use Rattle.report_text.specs.Session.{session_at}
 use Rattle.report_text.specs.declared.report.Command.{Command}
 use Rattle.report_text.specs.declared.report.Entry.{Entry}
 use Rattle.cert_check.specs.declared.outcome.Stop.{Stop}

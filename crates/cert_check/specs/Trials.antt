@@ -23,7 +23,7 @@ use Rattle.certs.specs.Checks.{outcome, point_steps, price_steps, ray_steps}
 use Rattle.certs.specs.Named.{used_members}
 use Rattle.certs.specs.Trees.{has_mark}
 use Rattle.certs.specs.Violation.{rigid_members}
-use Rattle.bound_checks.specs.declared.bounds.Dual.{Dual}
+use Rattle.certs.specs.declared.evidence.Dual.{Dual}
 use Rattle.bound_checks.specs.Parts.{value_steps, right_steps, factor_steps}
 use Rattle.least_checks.specs.Parts.{total_steps, violation_steps, weight_steps}
 use Rattle.price_checks.specs.Costs.{cost_steps}

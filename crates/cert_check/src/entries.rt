@@ -2,7 +2,7 @@
 ghost use Rattle.std.specs.Prelude.{◌≡◌, ◌+◌, ◌<◌, [], MatchResult, None, length, flat_map};
 ghost use Rattle.lp_model.specs.Members.{active_members};
 ghost use Rattle.certs.specs.Checks.{IsSetOf};
-ghost use Rattle.model_history.specs.History.{history_of};
+ghost use Rattle.report_text.specs.History.{history_of};
 ghost use Rattle.report_text.specs.declared.report.Answer.TheVariants.{Refused as RefusedBy};
 ghost use Rattle.report_text.specs.Form.{IsProofFor, IsPointFor, IsListed, IsCoreFor, IsAnswerFor, IsEntryFor, AreEntriesFor};
 ghost use Rattle.report_text.specs.Grammar.{answer_phrases, node_phrases, rounds_phrases, witness_phrases};
@@ -22,8 +22,9 @@ use bound_checks::has_mark;
 use certs::{Point, Proof, check_point};
 use least_checks::rigid_set;
 use lp_model::{MemberSet, Model};
-use model_session::Session;
-use report_text::{Answer, Command, Core, Entry, Method, OPENING_LINES, PROOF_LINES, Refusal};
+use report_text::{
+    Answer, Command, Core, Entry, Method, OPENING_LINES, PROOF_LINES, Refusal, Session,
+};
 use std::alloc::Global;
 
 /// Checks the entries, in order, from a program of which nothing was edited yet.

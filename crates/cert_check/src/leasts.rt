@@ -7,9 +7,9 @@ ghost use Rattle.cert_check.specs.Trials.{least_trials, total_trials};
 ghost use Rattle.cert_check.specs.Stops.{first_stop, Says};
 
 use crate::outcome::{Stop, settle};
-use certs::{Point, check_point};
+use certs::{Dual, Point, check_point};
 use frac128::Frac;
-use least_checks::{Dual, check_total, check_violation, check_weights, rigid_set};
+use least_checks::{check_total, check_violation, check_weights, rigid_set};
 use lp_model::{MemberSet, Model};
 use report_text::{LEAST_LINES, OPENING_LINES, point_length};
 use std::alloc::Global;

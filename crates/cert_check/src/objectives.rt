@@ -10,9 +10,9 @@ ghost use Rattle.cert_check.specs.Stops.{first_stop, IsStop, Says};
 
 use crate::outcome::{Stop, settle};
 use bound_checks::{
-    Dual, check_columns, check_ray, check_right_side, check_value, has_mark, objective_value,
+    check_columns, check_ray, check_right_side, check_value, has_mark, objective_value,
 };
-use certs::{Point, Ray, check_point};
+use certs::{Dual, Point, Ray, check_point};
 use frac128::Frac;
 use lp_model::{MemberSet, Model};
 use report_text::{BOUND_LINES, Bounded, OPENING_LINES, point_length};

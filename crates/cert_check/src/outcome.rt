@@ -12,7 +12,7 @@ use frac128::Wide;
 /// reduced, or that a column is to be whole where it may not be. `Rejected` has the number of the first line that fails, and
 /// `Wide` of the first line on which an operation is too wide, with that operation, where no line before it fails. The first
 /// line of a report has number 1. `Memory` comes where memory was refused.
-#[derive(Clone, Copy, PartialEq, Eq, Debug)]
+#[derive(Clone, Copy)]
 pub enum Outcome {
     Accepted { settled: u64, unsettled: u64 },
     Rejected { line: u32 },

@@ -1,5 +1,5 @@
 //! Whether totals and prices hold.
-ghost use Rattle.std.specs.Prelude.{◌≡◌, ◌+◌, ◌<◌, ◌∷◌, []};
+ghost use Rattle.std.specs.Prelude.{◌+◌, ◌<◌, ◌∷◌, []};
 ghost use Rattle.certs.specs.Checks.{outcome};
 ghost use Rattle.price_checks.specs.Costs.{cost_steps};
 ghost use Rattle.report_text.specs.Form.{IsCoreFor};

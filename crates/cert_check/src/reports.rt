@@ -1,6 +1,6 @@
 //! Whether a report holds of a program.
 ghost use Rattle.std.specs.Prelude.{◌≡◌, ◌⊎◌, ◌<◌, [], length};
-ghost use Rattle.model_history.specs.History.{history_of};
+ghost use Rattle.report_text.specs.History.{history_of};
 ghost use Rattle.report_text.specs.Form.{IsReportFor};
 ghost use Rattle.report_text.specs.Grammar.{report_lines};
 ghost use Rattle.cert_check.specs.Trials.{trials, settled_count, unsettled_count, outcome_of, IsAccepted};
@@ -13,9 +13,8 @@ use crate::outcome::{Outcome, Stop};
 use evidence_laws::{bound_is_valid, ray_is_unbounded};
 use least_checks::{checked_violation, parts_show_least, reached_is_least};
 use lp_model::Model;
-use model_session::Session;
 use price_checks::{checked_cost, price_shows_cheapest};
-use report_text::{Entry, Report};
+use report_text::{Entry, Report, Session};
 use std::alloc::Global;
 
 /// Checks a report against a program, line by line, and answers with the first line that fails or has an operation that

@@ -1,5 +1,5 @@
 //! Whether the proofs of a report hold.
-ghost use Rattle.std.specs.Prelude.{◌≡◌, ◌+◌, ◌≤◌, ◌<◌, length, flat_map, take};
+ghost use Rattle.std.specs.Prelude.{◌≡◌, ◌+◌, ◌≤◌, ◌<◌, length, flat_map};
 ghost use Rattle.certs.specs.Checks.{IsSetOf};
 ghost use Rattle.report_text.specs.Form.{IsProofFor};
 ghost use Rattle.report_text.specs.Grammar.{node_phrases};

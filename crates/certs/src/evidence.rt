@@ -21,7 +21,7 @@ pub struct Ray {
 }
 
 /// Where a share comes from: a member, or the path's branches on a column that say at most, or at least.
-#[derive(Clone, Copy, PartialEq, Eq, Debug)]
+#[derive(Clone, Copy, PartialEq, Eq)]
 pub enum Source {
     Member(Member),
     Below(u32),
@@ -42,7 +42,7 @@ impl Source {
 }
 
 /// A source, so many times. In a combination the weight is above 0.
-#[derive(Clone, Copy, PartialEq, Eq, Debug)]
+#[derive(Clone, Copy)]
 pub struct Share {
     pub source: Source,
     pub weight: Frac,
@@ -55,6 +55,14 @@ pub type Shares = Items<Share>;
 #[derive(Drop)]
 pub struct Combo {
     pub shares: Shares,
+}
+
+/// Weights on row sides and bounds of which the columns add up to the objective, and the bound that they show; or weights that
+/// show how little must give way, and that total.
+#[derive(Drop)]
+pub struct Dual {
+    pub combo: Combo,
+    pub bound: Frac,
 }
 
 /// A node of a proof: column number `column` is at most `at` or at least `at + 1`, or the combination of a leaf.
@@ -74,7 +82,7 @@ pub struct Proof {
 }
 
 /// A bound that a path puts on a column: at most `at` where `upper` is true, and else at least `at`.
-#[derive(Clone, Copy, PartialEq, Eq, Debug)]
+#[derive(Clone, Copy)]
 pub struct Branch {
     pub column: u32,
     pub upper: bool,
@@ -82,7 +90,7 @@ pub struct Branch {
 }
 
 /// What a check answers: it holds, it does not, or the first operation that is too wide before that is known.
-#[derive(Clone, Copy, PartialEq, Eq, Debug)]
+#[derive(Clone, Copy)]
 pub enum Checked {
     Yes,
     No,

@@ -16,7 +16,7 @@ mod tales;
 
 pub use combinations::check_combo;
 pub use evidence::{
-    Branch, Checked, Combo, Node, Nodes, Point, Proof, Ray, Share, Shares, Source, Values,
+    Branch, Checked, Combo, Dual, Node, Nodes, Point, Proof, Ray, Share, Shares, Source, Values,
 };
 pub use lp_model::{Member, MemberSet, Side};
 pub use naming::{members_used, named_combo};

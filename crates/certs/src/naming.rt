@@ -1,5 +1,5 @@
 //! Combinations of a plain system as combinations of the program, and the members that a proof uses.
-ghost use Rattle.std.specs.Prelude.{◌≡◌, ◌<◌, ◌++◌, ◌||◌, Bool, true, false, not, All, IfOk, filter, flat_map, length, map};
+ghost use Rattle.std.specs.Prelude.{◌≡◌, ◌<◌, ◌++◌, ◌||◌, Bool, All, IfOk, filter, length};
 ghost use Rattle.std.specs.List.{list_any};
 ghost use Rattle.lp_model.specs.declared.members.Member.{Member as OneMember};
 ghost use Rattle.lp_model.specs.Members.{is_same};

@@ -1,5 +1,5 @@
 //! Solvers as filters and searches see them.
-ghost use Rattle.std.specs.Prelude.{◌≡◌, ◌<◌, [], false, true, All, IfErr, IfOk, List, ℕ, Ok, Err, Result as Outcome, length};
+ghost use Rattle.std.specs.Prelude.{◌≡◌, ◌<◌, false, true, All, List, ℕ, Ok, Err, Result as Outcome, length};
 ghost use Rattle.lp_model.specs.declared.members.Member.{Member as OneMember};
 ghost use Rattle.lp_model.specs.Members.{is_mark};
 ghost use Rattle.lp_model.specs.Program.{Program};

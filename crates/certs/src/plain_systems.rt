@@ -1,13 +1,11 @@
 //! The plain system of a set of members on a path.
-ghost use Rattle.std.specs.Prelude.{◌≡◌, ◌++◌, ◌<◌, All, IfOk, None, Some, cond, length, map, take};
-ghost use Rattle.rational.specs.Rational.{neg_ℚ};
-ghost use Rattle.lp_model.specs.Program.{row_at};
+ghost use Rattle.std.specs.Prelude.{◌≡◌, ◌<◌, All, IfOk, None, Some, cond, length, map};
 ghost use Rattle.certs.specs.Checks.{IsSetOf};
 ghost use Rattle.certs.specs.Combination.{IsFitting};
 ghost use Rattle.certs.specs.Ended.{numbers_from};
 ghost use Rattle.certs.specs.Rows.{row_of};
 ghost use Rattle.lp_model.specs.MemberSets.{IsPossibleIn};
-ghost use Rattle.certs.specs.Plain.{column_limits, greatest_objective as objective_of, has_row as has_side, is_lowered as allows_less, is_raised as asks_more, limit_number as number_of, limit_of as limit_on, limit_source as source_of, negated as opposite, number_in as number_within, plain_row as row_of_program, plain_system as system_of, rows_in};
+ghost use Rattle.certs.specs.Plain.{column_limits, greatest_objective as objective_of, has_row as has_side, is_lowered as allows_less, is_raised as asks_more, limit_of as limit_on, limit_source as source_of, negated as opposite, number_in as number_within, plain_row as row_of_program, plain_system as system_of, rows_in};
 
 use crate::evidence::{Branch, Source};
 use crate::numbers::{is_less, source_number};

@@ -5,7 +5,7 @@ use frac128::Wide;
 use lp_model::{Items, MemberSet};
 
 /// Which system a run is of, and whether it goes on to improve the objective.
-#[derive(Clone, Copy, PartialEq, Eq, Debug)]
+#[derive(Clone, Copy, PartialEq, Eq)]
 pub enum SiteKind {
     /// The plain system of the set on the path, settled.
     Settle,

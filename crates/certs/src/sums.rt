@@ -1,5 +1,5 @@
 //! Sums of shares: those of the columns, and the right side.
-ghost use Rattle.std.specs.Prelude.{◌≡◌, ◌<◌, ◌↔◌, ◌∷◌, [], MatchResult, Some, None, All, IsTrue, true, false, ℕ, length};
+ghost use Rattle.std.specs.Prelude.{◌≡◌, ◌<◌, MatchResult, Some, None, All, true, false, ℕ, length};
 ghost use Rattle.rational.specs.Rational.{◌+ℚ◌, ◌*ℚ◌, zero_ℚ, eq_ℚ};
 ghost use Rattle.frac128.specs.Limit.{limit};
 ghost use Rattle.frac128.specs.Width.{operation, is_wide};

@@ -162,10 +162,9 @@ fn core_record(alloc: Global, set: &MemberSet, proof: &Proof) -> Result<CoreReco
     requires { All (IsKnownNode set.now) proof.now.nodes }
     ensures { IfOk result (λ kept. kept ≡ record { core = used_members set.now.members proof.now.nodes; asked = set.now.members }) }
 {
-    Ok(CoreRecord {
-        core: members_used(alloc, set, proof)?,
-        asked: set.copy(alloc)?,
-    })
+    let core = members_used(alloc, set, proof)?;
+    let asked = set.copy(alloc)?;
+    Ok(CoreRecord { core, asked })
 }
 
 // The stop that is answered to an ask with no enforced part.
@@ -213,13 +212,29 @@ fn list_stop(
     if matches!(stop, Stop::Memory) {
         return Ok(());
     }
-    let record = StopRecord {
-        stop: copied(alloc, stop)?,
-        set: set.copy(alloc)?,
-        enforced: enforced.copy(alloc)?,
-    };
+    let record = stop_record(alloc, set, enforced, stop)?;
     stops.push(record)?;
     Ok(())
+}
+
+// The record of a stop.
+fn stop_record(
+    alloc: Global,
+    set: &MemberSet,
+    enforced: &MemberSet,
+    stop: &Stop,
+) -> Result<StopRecord, AllocError>
+    ensures { IfOk result (λ made. made
+        ≡ record { stop = stop.now; set = set.now.members; enforced = enforced.now.members }) }
+{
+    let stop = copied(alloc, stop)?;
+    let set = set.copy(alloc)?;
+    let enforced = enforced.copy(alloc)?;
+    Ok(StopRecord {
+        stop,
+        set,
+        enforced,
+    })
 }
 
 // The same stop once more.
@@ -241,10 +256,13 @@ fn copied(alloc: Global, stop: &Stop) -> Result<Stop, AllocError>
 fn copied_site(alloc: Global, site: &Site) -> Result<Site, AllocError>
     ensures { IfOk result (λ copy. copy ≡ site.now) }
 {
+    let set = site.set.copy(alloc)?;
+    let enforced = site.enforced.copy(alloc)?;
+    let path = Path::new(Vec::from_slice(alloc, site.path.as_slice())?);
     Ok(Site {
         kind: site.kind,
-        set: site.set.copy(alloc)?,
-        enforced: site.enforced.copy(alloc)?,
-        path: Path::new(Vec::from_slice(alloc, site.path.as_slice())?),
+        set,
+        enforced,
+        path,
     })
 }

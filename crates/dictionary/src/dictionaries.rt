@@ -1,5 +1,5 @@
 //! The dictionary.
-ghost use Rattle.std.specs.Prelude.{◌≡◌, ◌≢◌, ℕ, ◌+◌, ◌<◌, MatchResult, IfOk, Some, None, IsSome, IsTrue, true, false, cond, ◌-◌, length};
+ghost use Rattle.std.specs.Prelude.{◌≡◌, ◌+◌, ◌<◌, MatchResult, IfOk, Some, None, IsSome, true, false, cond, ◌-◌, length};
 ghost use Rattle.std.specs.Option.{option_map};
 ghost use Rattle.frac128.specs.Calculation.{first_wide};
 ghost use Rattle.certs.specs.System.{LinearSystem, is_basic};
@@ -223,7 +223,7 @@ impl<N: Exact> Dictionary<N> {
 }
 
 /// Why a pivot stops.
-#[derive(Clone, Copy, Debug)]
+#[derive(Clone, Copy)]
 pub enum PivotStop {
     /// This operation is too wide, and it is the first of the pivot's that is.
     Wide(Wide),

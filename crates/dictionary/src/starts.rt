@@ -1,5 +1,5 @@
 //! What a dictionary starts from.
-ghost use Rattle.std.specs.Prelude.{◌≡◌, ◌≢◌, ℕ, ◌+◌, ◌-◌, ◌*◌, ◌<◌, ◌≤◌, ◌^◌, [], ◌∷◌, ◌++◌, cond, nat_lt, is_some, IfOk, IfSome, All, map, length, slice_index, slice_index_or, slice_set, take, replicate};
+ghost use Rattle.std.specs.Prelude.{◌≡◌, ℕ, ◌+◌, ◌-◌, ◌*◌, ◌<◌, ◌≤◌, ◌^◌, [], ◌∷◌, ◌++◌, cond, nat_lt, is_some, IfOk, IfSome, All, map, length, slice_index, slice_index_or, slice_set, take, replicate};
 ghost use Rattle.std.specs.Option.{option_map};
 ghost use Rattle.rational.specs.Rational.{zero_ℚ};
 ghost use Rattle.rational.specs.Linear.{factor_of};

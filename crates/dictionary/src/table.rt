@@ -1,5 +1,5 @@
 //! The change that a pivot makes to a whole table.
-ghost use Rattle.std.specs.Prelude.{◌≡◌, ◌≢◌, ℕ, ◌+◌, ◌*◌, ◌<◌, ◌≤◌, MatchResult, Some, None, Contains, map, length, slice_index};
+ghost use Rattle.std.specs.Prelude.{◌≡◌, ◌≢◌, ◌+◌, ◌*◌, ◌<◌, ◌≤◌, MatchResult, Some, None, Contains, map, length, slice_index};
 ghost use Rattle.rational.specs.Rational.{zero_ℚ};
 ghost use Rattle.frac128.specs.Calculation.{first_wide};
 ghost use Rattle.dictionary.specs.Cells.{at, cell, IsGrid, AreRowsChanged, IsExchanged, rows_operations, table_operations};

@@ -9,4 +9,15 @@ pub mod ShownBytes
 pub mod LpNames
 pub mod MpsNames
 pub mod Named
-pub mod Completed
+mod Passing
+mod Used
+mod Unfailed
+mod Outcome
+mod Shown
+mod Isolated
+mod Diagnosed
+mod Relaxed
+mod Replied
+mod Answered
+mod Entries
+mod Examples

@@ -1,8 +1,6 @@
 -- The names of an LP text are words.
 use Rattle.std.proofs.Common.{◌≡◌, ℕ, zero, suc, ◌+◌, ◌-◌, ◌<◌, ◌==◌, ltb, ◌||◌, Bool, true, false, cond, List, [], ◌∷◌, ◌++◌, length, take, get_or, Option, Some, None, is_some, refl, sym, ap, subst, ◌∙◌, arith, true≢false, All}
-use Rattle.std.specs.Option.{option_map}
-use Rattle.std.specs.List.{prefix_len, list_all, filter_map, cons_option}
-use Rattle.std.proofs.lemmas.List.{length-take}
+use Rattle.std.specs.List.{prefix_len}
 use Rattle.std.proofs.lemmas.List.Elements.{All-nil, All-cons, All-map}
 use Rattle.text_fields.specs.declared.pieces.TokenKind.{TokenKind}
 use Rattle.text_fields.specs.declared.faults.TextFault.{TextFault}

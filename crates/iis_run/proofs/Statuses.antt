@@ -17,7 +17,7 @@ use Rattle.report_reader.specs.Reading.{Reads}
 use Rattle.report_text.specs.Form.{IsReportFor}
 use Rattle.cert_check.specs.Trials.{trials, outcome_of, IsAccepted as IsPassed}
 use Rattle.cert_check.specs.Truth.{AcceptedLaw}
-use Rattle.again_laws.specs.Again.{AcceptedAgainLaw, IsAcceptedOrWide}
+use Rattle.iis_run.specs.Again.{AcceptedAgainLaw, IsAcceptedOrWide}
 use Rattle.model_files.proofs.Meaning.{meaning}
 use Rattle.iis_run.specs.declared.endings.Which.{Which}
 use Rattle.iis_run.specs.declared.endings.Which.TheVariants.{Model, Report, Script}
@@ -36,7 +36,6 @@ use Rattle.iis_run.specs.declared.plans.Plan.{Plan}
 use Rattle.iis_run.specs.declared.plans.Plan.TheVariants.{Say, Answer, Make}
 use Rattle.iis_run.specs.Plans.{IsPlanTold}
 use Rattle.iis_run.specs.Steps.{IsPlanned, IsReady, Follows}
-use Rattle.iis_run.proofs.Completed.{complete}
 use Rattle.iis_run.proofs.Summaries.{no_made, made_summarised, made_stopped, made_cut, made_within, made_told}
 use Rattle.iis_run.proofs.Unambiguous.{one_ending, none_called, none_called_as_told, one_session, the_report}
 
@@ -324,7 +323,7 @@ module _ {K : Type 0} (faults : K → ℕ) (taken : K → Option (List ℕ)) (ol
   answer_status p commands status words a = by a.written
     where
       by : IsWhole faults taken old new p commands a.entries status ⊎ (IsCut faults taken old new p commands a.entries status ⊎ IsWant faults taken old new p a.entries status) → AnswerStatus p commands status
-      by (inl whole) = inl (list_any (λ e. is_unmet e.answer) a.entries, (whole.status_is, record { entries = a.entries; right = a.right; form = a.form words; all = whole.all; stops = refl; complete = complete p commands a.entries a.right; put = whole.put }))
+      by (inl whole) = inl (list_any (λ e. is_unmet e.answer) a.entries, (whole.status_is, record { entries = a.entries; right = a.right; form = a.form words; all = whole.all; stops = refl; put = whole.put }))
       by (inr (inl cut)) = inr (inl (cut.status_is, cut.put.rose))
       by (inr (inr want)) = inr (inr want.status_is)
 

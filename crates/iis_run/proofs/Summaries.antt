@@ -7,7 +7,7 @@ use Rattle.report_text.specs.declared.report.Core.{Core}
 use Rattle.report_text.specs.declared.report.Answer.{Answer}
 use Rattle.report_text.specs.declared.report.Answer.TheVariants.{Feasible, Irreducible, Stopped}
 use Rattle.model_maker.specs.PlanProgram.{plan_program}
-use Rattle.plan_refutation.specs.Laws.{CannotBeMet}
+use Rattle.model_maker.specs.Refutation.{CannotBeMet}
 use Rattle.analysis.specs.Puts.{PutWhole, PutFailed}
 use Rattle.iis_run.specs.Plans.{told_text, told_status, IsPlanAnswer, IsPlanFound, IsSummarised, IsPlanStopped, IsPlanTold, IsMade}
 use Rattle.iis_run.specs.Steps.{IsTold}

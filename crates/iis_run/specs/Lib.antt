@@ -6,7 +6,7 @@ pub mod Fetches
 pub mod Causes
 pub mod Scripts
 pub mod Said
-pub mod Complete
 pub mod Plans
 pub mod Run
 pub mod Steps
+pub mod Again

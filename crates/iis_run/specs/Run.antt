@@ -12,13 +12,12 @@ use Rattle.report_reader.specs.Reading.{Reads}
 use Rattle.report_text.specs.Form.{IsReportFor}
 use Rattle.cert_check.specs.declared.outcome.Outcome.{Outcome}
 use Rattle.cert_check.specs.declared.outcome.Outcome.TheVariants.{Accepted, Rejected, Wide}
-use Rattle.again_laws.specs.Again.{IsAcceptedOrWide}
+use Rattle.iis_run.specs.Again.{IsAcceptedOrWide}
 use Rattle.iis_edge.specs.Causes.{Rose, KeepsCounts}
 use Rattle.analysis.specs.Puts.{PutWhole}
 use Rattle.analysis.specs.NamesAreWords.{HasWords}
 use Rattle.analysis.specs.Right.{AreRight}
 use Rattle.analysis.specs.Written.{IsAnalysis, is_unmet, report_of, whole_text}
-use Rattle.iis_run.specs.Complete.{IsComplete}
 use Rattle.iis_run.specs.Words.{Request}
 use Rattle.iis_run.specs.Limits.{limit_of}
 use Rattle.iis_run.specs.Causes.{IsModel, IsModelOf, IsTrueReport, CallsFor, IsToldFor}
@@ -145,14 +144,13 @@ pub record IsTextRefused (file : List ℕ → Option (List ℕ)) (request : Opti
   pub refused : (ending ≡ CutReport) ⊎ (((n : ℕ) × (ending ≡ BadReport n)) ⊎ ((n : ℕ) × (ending ≡ BadScript n)))
   pub asked : AskedFor file request ending
 
--- All commands are answered rightly, by a report that stands in the grammar, and the whole text is written; some answer is a stop, a refusal or `not linear`, or none is; and none is a stop where nothing keeps the commands from an answer.
+-- All commands are answered rightly, by a report that stands in the grammar, and the whole text is written; some answer is a stop, a refusal or `not linear`, or none is.
 pub record IsAnswered {K : Type 0} (put_faults : K → ℕ) (taken : K → Option (List ℕ)) (out_old out_new : K) (program : Program) (commands : List Command) (stopped : Bool) : Type 0 where
   pub entries : List Entry
   pub right : AreRight program commands entries
   pub form : IsReportFor program (report_of program entries)
   pub all : length entries ≡ length commands
   pub stops : list_any (λ e. is_unmet e.answer) entries ≡ stopped
-  pub complete : IsComplete program commands entries
   pub put : PutWhole put_faults taken out_old out_new (whole_text program entries)
 
 -- the same of the program and the commands that the files are

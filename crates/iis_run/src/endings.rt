@@ -4,7 +4,7 @@ use cert_check::Outcome;
 use text_fields::ReadStop;
 
 /// The file that a refusal names.
-#[derive(Clone, Copy, Debug, PartialEq, Eq)]
+#[derive(Clone, Copy, PartialEq, Eq)]
 pub enum Which {
     Model,
     Report,
@@ -12,7 +12,7 @@ pub enum Which {
 }
 
 /// How a run ends, before anything is written.
-#[derive(Clone, Copy, Debug, PartialEq, Eq)]
+#[derive(Clone, Copy)]
 pub enum Ending {
     Usage,
     ReadFault(Which),

@@ -1,6 +1,7 @@
 //! The top call: words, files, a check and its line, the answers to a script, or the summary of a production plan.
 #![tactic(auto)]
 
+mod again;
 mod endings;
 mod fetching;
 mod laws;
@@ -12,6 +13,7 @@ mod running;
 mod saying;
 mod words;
 
+pub use again::right_reports_are_accepted;
 pub use endings::{Ending, Which};
 pub use fetching::fetch_file;
 pub use laws::one_ending;

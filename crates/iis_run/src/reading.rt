@@ -14,9 +14,8 @@ use iis_edge::Shelf;
 use iis_session::{ScriptStop, read_script};
 use lp_model::Model;
 use model_files::read_model;
-use model_session::Session;
 use report_reader::{ReportStop, read_report};
-use report_text::Script;
+use report_text::{Script, Session};
 use std::alloc::Global;
 use text_fields::ReadFault;
 

@@ -2,7 +2,7 @@
 ghost use Rattle.std.specs.Prelude.{◌≡◌, ◌==◌, cond, MatchResult};
 ghost use Rattle.cert_check.specs.declared.outcome.Outcome.TheVariants.{Accepted, Rejected, Wide as TooWide};
 ghost use Rattle.analysis.specs.Puts.{PutWhole, PutFailed};
-ghost use Rattle.iis_run.specs.Said.{Puts, IsSaid, EndsInWant, Ends};
+ghost use Rattle.iis_run.specs.Said.{Puts, Ends};
 
 use crate::endings::Ending;
 use crate::printing::{

@@ -1,5 +1,5 @@
 //! The words of the command line.
-ghost use Rattle.std.specs.Prelude.{◌≡◌, List, ℕ, IfSome, option_map};
+ghost use Rattle.std.specs.Prelude.{◌≡◌, IfSome, option_map};
 ghost use Rattle.iis_run.specs.Words.{names_file, files_request, periods_in, plan_request, request_of};
 ghost use Rattle.model_maker.specs.PlanText.{IsPlanSize};
 ghost use Rattle.iis_run.specs.Asked.{IsAskedSize, IsVerb, request_asked};
@@ -8,7 +8,7 @@ use itoa::Buffer;
 use model_maker::{LEAST_PERIODS, MOST_PERIODS};
 
 /// What is done with the two files.
-#[derive(Clone, Copy, PartialEq, Eq, Debug)]
+#[derive(Clone, Copy, PartialEq, Eq)]
 pub enum Verb {
     Verify,
     Analyse,

@@ -1,6 +1,5 @@
 //! Scripts: a command a line.
 ghost use Rattle.std.specs.Prelude.{◌≡◌, ◌<◌, ◌==◌, ◌||◌, All, List, ℕ, length, IfOk, IfErr, None};
-ghost use Rattle.std.specs.List.{list_all};
 ghost use Rattle.text_fields.specs.Lines.{lines_of};
 ghost use Rattle.report_text.specs.Form.{IsCommand};
 ghost use Rattle.phrase_reader.specs.Commands.{command_of, IsCommandStop};
@@ -28,7 +27,7 @@ pub(crate) enum Saying {
 }
 
 /// Why a text was not read as a script: its first bad line, by its number from 1, or want of memory.
-#[derive(Clone, Copy, PartialEq, Eq, Debug, Error)]
+#[derive(Clone, Copy, Debug, Error)]
 pub enum ScriptStop {
     #[error("bad line {0}")]
     BadLine(u32),

@@ -7,9 +7,8 @@ use Rattle.cert_check.specs.declared.outcome.Outcome.{Outcome}
 use Rattle.cert_check.specs.declared.outcome.Outcome.TheVariants.{Accepted, Memory as Want}
 use Rattle.cert_check.specs.Trials.{trials, outcome_of, IsAccepted}
 use Rattle.cert_check.specs.Truth.{AreTrue}
-use Rattle.iis_run.specs.Causes.{IsTrueReport}
 use Rattle.report_page.specs.Page.{page_of}
-use Rattle.iisan_page.specs.Paged.{PageValue, IsAcceptedPage, IsPageOf}
+use Rattle.iisan_page.specs.Paged.{PageValue, IsPageOf}
 
 -- an accepted outcome is that of the trials
 of_trials : (o x : Outcome) (settled unsettled : ℕ) → o ≡ Accepted settled unsettled → (o ≡ Want) ⊎ (o ≡ x) → x ≡ Accepted settled unsettled

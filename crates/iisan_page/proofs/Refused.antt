@@ -2,11 +2,9 @@
 use Rattle.std.proofs.Common.{◌≡◌, ◌≤◌, ℕ, List, length, Option, Some, None, Result, Ok, Err, subst}
 use Rattle.std.specs.Prelude.{IfSome, IfOk, IfErr}
 use Rattle.lp_model.specs.Program.{Program}
-use Rattle.cert_check.specs.declared.outcome.Outcome.{Outcome}
 use Rattle.report_reader.specs.declared.reader.ReportStop.{ReportStop}
 use Rattle.report_reader.specs.declared.reader.ReportStop.TheVariants.{BadLine, Truncated, Memory as NoMemory}
 use Rattle.report_reader.specs.Reading.{Reads}
-use Rattle.iis_edge.specs.Causes.{KeepsCounts}
 use Rattle.iis_run.specs.Causes.{IsModelOf, ComesTo, refused_ending}
 use Rattle.iis_run.specs.Fetches.{IsFetchStop}
 use Rattle.iis_run.specs.Limits.{limit_of}

@@ -1,5 +1,5 @@
 -- The status of an ending in which a report is not accepted.
-use Rattle.std.proofs.Common.{◌≡◌, ◌<◌, sym, subst, ℕ, List, Option, inl, inr, arith}
+use Rattle.std.proofs.Common.{◌<◌, sym, subst, ℕ, List, Option, inl, inr, arith}
 use Rattle.cert_check.specs.declared.outcome.Outcome.TheVariants.{Accepted, Rejected, Wide, Memory as Want}
 use Rattle.iis_run.specs.Said.{IsSaid, EndsInWant, Ends, status_of, status_after_fault}
 use Rattle.iis_run.specs.declared.endings.Ending.{Ending}

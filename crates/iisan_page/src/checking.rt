@@ -8,9 +8,9 @@ use cert_check::{Outcome, verify};
 use iis_edge::Shelf;
 use iis_run::{Ending, Which, fetch_file, fetch_model, outcome_ending, stop_ending};
 use lp_model::Model;
-use model_session::Session;
 use report_page::page;
 use report_reader::read_report;
+use report_text::Session;
 use std::alloc::Global;
 
 /// The page of a report that was accepted, and how many entries of the report are settled, and how many are not.

@@ -9,7 +9,7 @@ use Rattle.certs.specs.declared.evidence.Point.{Point}
 use Rattle.certs.specs.declared.evidence.Share.{Share}
 use Rattle.certs.specs.Order.{AreSharesInOrder}
 use Rattle.certs.specs.Violation.{rigid_members, weighted_violation, IsLeastDual}
-use Rattle.bound_checks.specs.declared.bounds.Dual.{Dual}
+use Rattle.certs.specs.declared.evidence.Dual.{Dual}
 
 -- The rigid members of the set hold at these values, and nowhere where they do is the weighted violation less.
 pub record IsLeastAt (model : Program) (set : List Member) (x : Assignment) : Type 0 where

@@ -9,8 +9,8 @@ ghost use Rattle.least_checks.specs.Least.{ReachedLaw};
 
 use crate::outcomes::checked;
 use crate::weights::{are_weights, is_right};
-use bound_checks::{Dual, are_usable};
-use certs::{Checked, Share};
+use bound_checks::are_usable;
+use certs::{Checked, Dual, Share};
 use evidence_laws::{checked_least, least_is_bounded, refused_least};
 use frac128::{Frac, Wide};
 use lp_model::{MemberSet, Model};

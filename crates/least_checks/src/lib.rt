@@ -7,8 +7,6 @@ mod parts;
 mod violations;
 mod weights;
 
-pub use bound_checks::Dual;
-pub use certs::{Checked, Combo};
 pub use least::{check_least, reached_is_least};
 pub use parts::{check_total, check_weights, parts_show_least};
 pub use violations::{check_violation, checked_violation, member_violation, rigid_set};

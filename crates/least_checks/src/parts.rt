@@ -6,8 +6,8 @@ ghost use Rattle.least_checks.specs.Parts.{PartsLaw, total_steps, weight_steps};
 
 use crate::outcomes::checked;
 use crate::weights::{are_weights, is_right};
-use bound_checks::{Dual, are_usable};
-use certs::{Checked, Combo, Share};
+use bound_checks::are_usable;
+use certs::{Checked, Combo, Dual, Share};
 use frac128::{Frac, Wide};
 use lp_model::{MemberSet, Model};
 

@@ -1,16 +1,16 @@
 -- What an oracle answers, by the ends of its runs.
-use Rattle.std.proofs.Common.{◌≡◌, ℕ, sym, subst, true, false, List, filter, Ok, Err, inl, inr}
+use Rattle.std.proofs.Common.{◌≡◌, ℕ, sym, subst, List, filter, Ok, Err, inl, inr}
 use Rattle.std.specs.Prelude.{IfOk, Result, ◌⊎◌}
 use Rattle.lp_model.specs.declared.members.Member.{Member}
-use Rattle.lp_model.specs.Members.{has, is_mark}
-use Rattle.lp_model.specs.MemberSets.{SetValue, possible_in, set_with}
+use Rattle.lp_model.specs.Members.{has}
+use Rattle.lp_model.specs.MemberSets.{SetValue, possible_in}
 use Rattle.lp_model.specs.Program.{Program}
 use Rattle.certs.specs.declared.solving.Stop.{Stop}
 use Rattle.certs.specs.declared.solving.Stop.TheVariants.{Memory}
 use Rattle.certs.specs.declared.solving.Verdict.{Verdict}
-use Rattle.certs.specs.Answers.{IsPlainAnswer, IsPlainSet, IsPlainVerdict, is_linear}
+use Rattle.certs.specs.Answers.{IsPlainAnswer, IsPlainSet, IsPlainVerdict}
 use Rattle.certs.specs.Tales.{IsKnownVerdict}
-use Rattle.certs.proofs.PlainAnswers.{linear_of, plain_holds, unmarked}
+use Rattle.certs.proofs.PlainAnswers.{plain_holds}
 use Rattle.certs.proofs.Possible.{known_verdict}
 
 -- a proof that is answered names members that the set may have

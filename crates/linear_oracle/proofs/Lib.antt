@@ -2,3 +2,4 @@ pub mod Firsts
 pub mod Shares
 pub mod Runs
 mod Answering
+pub mod Placed

@@ -1,5 +1,5 @@
 //! Ends of runs, as a node has them.
-ghost use Rattle.std.specs.Prelude.{◌≡◌, ◌≤◌, ◌<◌, ℕ, [], false, true, None, Some, Err, All, IfOk, List, length, map};
+ghost use Rattle.std.specs.Prelude.{◌≡◌, ◌≤◌, ◌<◌, ℕ, false, true, None, Some, Err, All, IfOk, List, length, map};
 ghost use Rattle.frac128.specs.Calculation.{first_wide};
 ghost use Rattle.frac128.specs.Limit.{limit};
 ghost use Rattle.lp_model.specs.Program.{Program};
@@ -131,10 +131,13 @@ pub fn stop_end(alloc: Global, set: &MemberSet, path: &[Branch], stop: RunStop) 
 pub fn settle_site(alloc: Global, set: &MemberSet, path: &[Branch]) -> Result<Site, AllocError>
     ensures { (model : Program) → IsSetOf model set.now → IfOk result (IsNodeSite model set.now.members path.now) }
 {
+    let set = set.copy(alloc)?;
+    let enforced = set.emptied(alloc)?;
+    let path = Path::new(Vec::from_slice(alloc, path)?);
     Ok(Site {
         kind: SiteKind::Settle,
-        set: set.copy(alloc)?,
-        enforced: set.emptied(alloc)?,
-        path: Path::new(Vec::from_slice(alloc, path)?),
+        set,
+        enforced,
+        path,
     })
 }

@@ -1,5 +1,5 @@
 //! The oracle.
-ghost use Rattle.std.specs.Prelude.{◌≡◌, ◌≤◌, ◌<◌, ◌^◌, [], ◌∷◌, true, Ok, All, IfErr, IfOk, List, ℕ, Result as Outcome, length};
+ghost use Rattle.std.specs.Prelude.{◌≡◌, ◌≤◌, ◌<◌, ◌^◌, [], ◌∷◌, true, Ok, IfOk, List, ℕ};
 ghost use Rattle.lp_model.specs.declared.members.Member.{Member as OneMember};
 ghost use Rattle.lp_model.specs.Program.{Program};
 ghost use Rattle.certs.specs.Answers.{IsPlainAnswer, IsPlainVerdict, is_linear};

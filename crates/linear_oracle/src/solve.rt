@@ -1,7 +1,5 @@
 //! The run of the plain system of a set on a path.
 ghost use Rattle.std.specs.Prelude.{◌≡◌, ◌<◌, ◌≤◌, ◌^◌, false, true, All, IfOk, None, length};
-ghost use Rattle.lp_model.specs.Program.{IsWellFormed};
-ghost use Rattle.lp_model.specs.Shown.{most_columns, most_rows};
 ghost use Rattle.certs.specs.Checks.{IsSetOf};
 ghost use Rattle.certs.specs.Combination.{IsFitting};
 ghost use Rattle.certs.specs.Plain.{first_crossing as least_crossing, plain_system as system_of};

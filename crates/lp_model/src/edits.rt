@@ -11,7 +11,7 @@ use crate::parts::{Column, Row, Weight};
 use frac128::Frac;
 
 /// What an edit acts on: one constraint, or those sides that a row has.
-#[derive(Clone, Copy, PartialEq, Eq, Debug)]
+#[derive(Clone, Copy)]
 pub enum Target {
     OneMember(Member),
     BothSides(u32),
@@ -21,7 +21,7 @@ pub enum Target {
 ///
 /// A side or a bound that is set is kept, and keeps its weight; one that is taken away weighs 1 again. What is not there is
 /// neither dropped nor kept nor weighed, and a mark has no weight.
-#[derive(Clone, Copy, PartialEq, Eq, Debug)]
+#[derive(Clone, Copy)]
 pub enum Edit {
     Drop(Target),
     Keep(Target),
@@ -32,7 +32,7 @@ pub enum Edit {
 }
 
 /// A side of a row or a bound of a column: its number where it is there, whether it is kept, and its weight.
-#[derive(Clone, Copy, PartialEq, Eq, Debug)]
+#[derive(Clone, Copy, PartialEq, Eq)]
 pub struct Part {
     pub number: Option<Frac>,
     pub active: bool,
@@ -40,14 +40,14 @@ pub struct Part {
 }
 
 /// What an edit changes, as it stands before: the sides of a row, the lower one first, or a column.
-#[derive(Clone, Copy, PartialEq, Eq, Debug)]
+#[derive(Clone, Copy)]
 pub enum Former {
     Sides(u32, Part, Part),
     Bounds(u32, Column),
 }
 
 /// What is done to such a part.
-#[derive(Clone, Copy, PartialEq, Eq, Debug)]
+#[derive(Clone, Copy)]
 pub(crate) enum Change {
     Nothing,
     Flag(bool),

@@ -5,7 +5,7 @@ ghost use Rattle.lp_model.specs.Members.{kind, place, side as side_of};
 use std::cmp::Ordering;
 
 /// A side of a constraint: it is at least its `Lo`, and at most its `Up`. The lower side comes first.
-#[derive(Clone, Copy, PartialEq, Eq, PartialOrd, Ord, Debug)]
+#[derive(Clone, Copy, PartialEq, Eq, PartialOrd, Ord)]
 pub enum Side {
     Lo,
     Up,
@@ -14,7 +14,7 @@ pub enum Side {
 /// One constraint: a row's lower side, its upper side, a column's lower bound, its upper bound, or its integrality mark.
 ///
 /// Rows and columns are numbered from 0, in file order.
-#[derive(Clone, Copy, PartialEq, Eq, Debug)]
+#[derive(Clone, Copy, PartialEq, Eq)]
 pub enum Member {
     RowLo(u32),
     RowUp(u32),

@@ -24,7 +24,7 @@ use name_map::NameMap;
 use std::alloc::{AllocError, Global};
 
 /// Why a part was not added or not found.
-#[derive(Clone, Copy, PartialEq, Eq, Debug)]
+#[derive(Clone, Copy, PartialEq, Eq)]
 pub enum ModelStop {
     UnknownName,
     DuplicateName,

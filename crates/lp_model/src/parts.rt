@@ -7,14 +7,14 @@ use frac128::Frac;
 use std::marker::Model;
 
 /// What it costs to miss a constraint by one. A rigid one may not be missed.
-#[derive(Clone, Copy, PartialEq, Eq, Debug)]
+#[derive(Clone, Copy, PartialEq, Eq)]
 pub enum Weight {
     Soft(Frac),
     Rigid,
 }
 
 /// What a reader did to the lower bound of a column, by the column's number.
-#[derive(Clone, Copy, PartialEq, Eq, Debug)]
+#[derive(Clone, Copy)]
 pub enum Note {
     LowerRemoved(u32),
     LowerKept(u32),
@@ -74,7 +74,7 @@ impl Row {
 /// A column without its name: its bounds, its integrality mark, and their flags and weights.
 ///
 /// An absent bound or mark has the flag `true` and the weight 1.
-#[derive(Clone, Copy, PartialEq, Eq, Debug)]
+#[derive(Clone, Copy, PartialEq, Eq)]
 pub struct Column {
     pub lo: Option<Frac>,
     pub up: Option<Frac>,

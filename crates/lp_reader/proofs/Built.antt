@@ -12,7 +12,6 @@ use Rattle.rational.specs.Linear.{Term as LinearTerm}
 use Rattle.rational.proofs.Compare.{eq-Decides}
 use Rattle.name_map.specs.Names.{names_of, name_at}
 use Rattle.name_map.proofs.NameLists.{length_map}
-use Rattle.lp_model.specs.declared.parts.Row.{Row}
 use Rattle.lp_model.specs.declared.parts.Note.TheVariants.{LowerKept}
 use Rattle.lp_model.specs.Program.{Program, IsForm, IsWellFormedRow, empty_row}
 use Rattle.lp_model.proofs.New.{as_new_row_formed}

@@ -1,11 +1,10 @@
 //! Statements of bounds and marks.
-ghost use Rattle.std.specs.Prelude.{◌≡◌, ◌<◌, ◌||◌, None, length, slice_index_or, slice_set, MatchResult};
+ghost use Rattle.std.specs.Prelude.{◌≡◌, ◌<◌, ◌||◌, None, length, MatchResult};
 ghost use Rattle.name_map.specs.Names.{names_of, StandsAt};
 ghost use Rattle.lp_statements.specs.Statements.{shown_text};
 ghost use Rattle.lp_reader.specs.Faults.{unknown_fault};
 ghost use Rattle.lp_reader.specs.Bounds.{said_of, is_said, said_first, bound_after};
 ghost use Rattle.lp_reader.specs.Said.{lower_by, upper_by, changed, SetsBounds};
-ghost use Rattle.lp_reader.specs.State.{plain};
 ghost use Rattle.text_fields.specs.Faults.{IsFaultOf};
 
 use crate::columns::{Bounds, Columns, place_of};

@@ -1,9 +1,9 @@
 //! Columns: their names, their bounds, and how many terms name them.
-ghost use Rattle.std.specs.Prelude.{◌≡◌, ℕ, ◌<◌, ◌≤◌, ◌^◌, ◌+◌, nat_eq, Bool, true, false, cond, List, [], ◌∷◌, ◌++◌, map, Some, None, length, unwrap_or, MatchResult, MatchOption, OnOk, IfOk};
+ghost use Rattle.std.specs.Prelude.{◌≡◌, ℕ, ◌<◌, ◌≤◌, ◌^◌, ◌+◌, nat_eq, false, cond, List, [], ◌++◌, map, Some, None, length, unwrap_or, MatchResult, MatchOption, OnOk, IfOk};
 ghost use Rattle.std.specs.List.{All, list_any};
 ghost use Rattle.std.specs.Str.{bytes_eq};
 ghost use Rattle.std.specs.Map.{lookup};
-ghost use Rattle.rational.specs.Rational.{ℚ, zero_ℚ, ◌+ℚ◌};
+ghost use Rattle.rational.specs.Rational.{zero_ℚ};
 ghost use Rattle.frac128.specs.Limit.{limit};
 ghost use Rattle.frac128.specs.Width.{operation, is_wide};
 ghost use Rattle.frac128.specs.declared.Op.TheVariants.{Plus};

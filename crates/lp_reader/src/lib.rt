@@ -1,7 +1,7 @@
 //! The reader of the LP format: the program that a text declares, or its first fault.
 #![tactic(auto)]
 
-ghost use Rattle.std.specs.Prelude.{◌≡◌, ◌<◌, ◌^◌, length, MatchResult};
+ghost use Rattle.std.specs.Prelude.{◌<◌, ◌^◌, length, MatchResult};
 ghost use Rattle.lp_reader.specs.Meaning.{DeclaresLp, IsLpStop};
 
 mod bounds;

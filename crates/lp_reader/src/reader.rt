@@ -1,12 +1,10 @@
 //! Statements, taken in one after another.
-ghost use Rattle.std.specs.Prelude.{◌≡◌, ◌<◌, ◌^◌, true, false, List, [], ◌∷◌, ◌++◌, map, Some, None, length, MatchResult, IfOk};
+ghost use Rattle.std.specs.Prelude.{◌≡◌, ◌<◌, ◌^◌, true, false, [], map, Some, None, length, MatchResult};
 ghost use Rattle.std.specs.Option.{option_map};
-ghost use Rattle.lp_statements.specs.Statements.{Statement as StatementOf, Objective as ObjectiveOf, Heading as HeadingOf, Row as RowOf, Free as FreeOf, Bound as BoundOf, Listed as ListedOf, shown, shown_text, shown_constant, shown_term};
-ghost use Rattle.lp_statements.specs.Script.{section_after as section_after_by, script_of};
-ghost use Rattle.lp_reader.specs.Faults.{statement_fault, first_fault};
+ghost use Rattle.lp_statements.specs.Statements.{Objective as ObjectiveOf, Heading as HeadingOf, Row as RowOf, Free as FreeOf, Bound as BoundOf, Listed as ListedOf, shown, shown_text, shown_constant, shown_term};
+ghost use Rattle.lp_statements.specs.Script.{section_after as section_after_by};
 ghost use Rattle.lp_reader.specs.Held.{Holds, HasRoom, IsEven, TakesStatement, HasRead};
 ghost use Rattle.lp_reader.specs.Meaning.{IsLpStop};
-ghost use Rattle.text_fields.specs.Faults.{IsFaultOf};
 
 use crate::bounds::{Said, known_column, lower_said, set_bounds, upper_said};
 use crate::columns::{Columns, MOST_TERMS, take_terms};

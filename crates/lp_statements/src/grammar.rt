@@ -1,9 +1,9 @@
 //! What statements are made of: labels, terms, constants and relations.
-ghost use Rattle.std.specs.Prelude.{◌≡◌, Bool, false, ◌≤◌, ◌++◌, ◌∷◌, [], Some, None, length, map, take, OnOk, IfErr, MatchOption, MatchResult};
+ghost use Rattle.std.specs.Prelude.{◌≡◌, false, ◌≤◌, ◌++◌, ◌∷◌, [], Some, None, length, map, take, OnOk, IfErr, MatchOption, MatchResult};
 ghost use Rattle.std.specs.Option.{option_map};
 ghost use Rattle.lp_statements.specs.Items.{Written, Seen};
 ghost use Rattle.lp_statements.specs.Statements.{Term as TermOf, shown_text, shown_constant, shown_term};
-ghost use Rattle.lp_statements.specs.Grammar.{Element as ElementOf, OfTerm, OfConstant, Opening as OpeningOf, Parsed, Whole, wrong as wrong_at, is_name as is_name_by, is_colon as is_colon_by, minus_of as minus_by, infinite_of as infinite_by, relation_in as relation_by, inequality_in as inequality_by, begins_part as begins_by, is_sign as is_sign_by, is_relation as is_relation_by, is_first, text_first, label as label_by, turned, signs as signs_by, constant as constant_at, factor_or_constant, amount as amount_by, term_in, element as element_at, term as term_at, more_terms as more_terms_at, part as part_at, more_parts as more_parts_at, parts as parts_at, terms_in, opening_from, relation as relation_at, inequality as inequality_at, agreed as agreed_by, agreed_with as agreed_with_by, agreeing as agreeing_at, opening as opening_at, name as name_at};
+ghost use Rattle.lp_statements.specs.Grammar.{OfTerm, OfConstant, Whole, wrong as wrong_at, is_name as is_name_by, is_colon as is_colon_by, minus_of as minus_by, infinite_of as infinite_by, relation_in as relation_by, inequality_in as inequality_by, begins_part as begins_by, is_sign as is_sign_by, is_relation as is_relation_by, is_first, text_first, label as label_by, signs as signs_by, constant as constant_at, factor_or_constant, amount as amount_by, term_in, element as element_at, term as term_at, more_terms as more_terms_at, part as part_at, more_parts as more_parts_at, parts as parts_at, terms_in, opening_from, relation as relation_at, inequality as inequality_at, agreed as agreed_by, agreed_with as agreed_with_by, agreeing as agreeing_at, opening as opening_at, name as name_at};
 ghost use Rattle.lp_statements.specs.Cursor.{Gives, IsRefusal};
 ghost use Rattle.lp_statements.specs.Shapes.{shown_element, shown_opening, AddsTerms};
 

@@ -9,7 +9,7 @@ pub struct Text<'a> {
 }
 
 /// How a form is compared with a constant.
-#[derive(Clone, Copy, PartialEq, Eq, Debug)]
+#[derive(Clone, Copy, PartialEq, Eq)]
 pub enum Relation {
     AtMost,
     AtLeast,
@@ -17,7 +17,7 @@ pub enum Relation {
 }
 
 /// A keyword of the format, in any of its spellings.
-#[derive(Clone, Copy, PartialEq, Eq, Debug)]
+#[derive(Clone, Copy, PartialEq, Eq)]
 pub enum Keyword {
     Minimise,
     Maximise,
@@ -29,14 +29,14 @@ pub enum Keyword {
 }
 
 /// What the first word of a line may be: a keyword, or the begin of a part that is not read.
-#[derive(Clone, Copy, PartialEq, Eq, Debug)]
+#[derive(Clone, Copy)]
 pub enum Heading {
     Keyword(Keyword),
     Unsupported,
 }
 
 /// What a token is to a statement.
-#[derive(Clone, Copy, PartialEq, Eq, Debug)]
+#[derive(Clone, Copy)]
 pub enum Item {
     Keyword(Keyword),
     Name,
@@ -52,7 +52,7 @@ pub enum Item {
 }
 
 /// The part of a text that the next statement belongs to.
-#[derive(Clone, Copy, PartialEq, Eq, Debug)]
+#[derive(Clone, Copy, PartialEq, Eq)]
 pub enum Section {
     /// Before the objective.
     Begin,

@@ -2,8 +2,8 @@
 ghost use Rattle.std.specs.Prelude.{◌≡◌, List, ◌≤◌, Some, None, cond, length, MatchOption, MatchResult};
 ghost use Rattle.std.specs.Option.{option_map};
 ghost use Rattle.lp_statements.specs.Items.{Piece};
-ghost use Rattle.lp_statements.specs.Statements.{shown, shown_text, shown_constant, shown_term};
-ghost use Rattle.lp_statements.specs.Grammar.{Whole, sense_of as sense_by, keyword_in as keyword_by, form as form_at, objective as objective_at, begin as begin_at, subject_to as subject_to_at, closing as closing_at, row_after as row_after_at, row as row_at, free_in, text_first, is_name as is_name_by, bound_after as bound_after_at, bound_end as bound_end_at, bound_from_constant as bound_from_constant_at, bound as bound_at, listed as listed_at, later_heading as later_heading_by, keyword_first as keyword_first_of, body as body_at, heading_or_body as heading_or_body_at, statement_of};
+ghost use Rattle.lp_statements.specs.Statements.{shown, shown_text, shown_constant};
+ghost use Rattle.lp_statements.specs.Grammar.{sense_of as sense_by, keyword_in as keyword_by, form as form_at, objective as objective_at, begin as begin_at, subject_to as subject_to_at, closing as closing_at, row_after as row_after_at, row as row_at, free_in, text_first, is_name as is_name_by, bound_after as bound_after_at, bound_end as bound_end_at, bound_from_constant as bound_from_constant_at, bound as bound_at, listed as listed_at, later_heading as later_heading_by, keyword_first as keyword_first_of, body as body_at, heading_or_body as heading_or_body_at, statement_of};
 ghost use Rattle.lp_statements.specs.Cursor.{Gives, GivesStatement, IsRefusal, after_first};
 ghost use Rattle.lp_statements.specs.Shapes.{AddsTerms};
 

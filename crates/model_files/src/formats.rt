@@ -11,7 +11,7 @@ use std::alloc::Global;
 use text_fields::ReadFault;
 
 /// A format of models.
-#[derive(Clone, Copy, PartialEq, Eq, Debug)]
+#[derive(Clone, Copy, PartialEq, Eq)]
 pub enum Format {
     Mps,
     Lp,

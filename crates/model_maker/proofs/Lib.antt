@@ -1,1 +1,5 @@
 pub mod Joined
+pub mod Evaluated
+pub mod Declared
+pub mod Parts
+pub mod Stocks

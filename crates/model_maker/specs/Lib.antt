@@ -1,3 +1,5 @@
 pub mod PlanText
 pub mod PlanProgram
 pub mod Making
+pub mod PlanLaws
+pub mod Refutation

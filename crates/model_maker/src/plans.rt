@@ -14,7 +14,7 @@ pub const LEAST_PERIODS: u32 = 2;
 pub const MOST_PERIODS: u32 = 60;
 
 /// Why no text is made.
-#[derive(Clone, Copy, Debug, PartialEq, Eq)]
+#[derive(Clone, Copy, PartialEq, Eq)]
 pub enum MakeStop {
     /// There are less than 2 or more than 60 periods.
     OutOfRange,

@@ -7,7 +7,7 @@ ghost use Rattle.mps_lines.specs.Said.{AreFields, bound_line_shown, columns_show
 
 use crate::fielding::Fields;
 use crate::shapes::{BoundKind, Bounded, Figure, bound_kind, marker_named, takes_number};
-use text_fields::ReadKind;
+use text_fields::{ReadKind, is_word};
 
 /// A line of COLUMNS.
 #[derive(Clone, Copy)]
@@ -47,7 +47,7 @@ pub(crate) fn columns_read(fields: Fields<'_>) -> Option<ColumnsRead<'_>>
 {
     match fields {
         Fields::Three(first, second, third) => {
-            if second == b"'MARKER'".as_slice() {
+            if is_word(second, b"'MARKER'") {
                 return marker_line(third);
             }
             let figure = Figure {
@@ -164,7 +164,7 @@ pub(crate) fn first_field(fields: Fields<'_>) -> Option<&[u8]>
 fn not_a_bound(word: &[u8]) -> ReadKind
     ensures { result ≡ no_bound word.now }
 {
-    if word == b"SC".as_slice() {
+    if is_word(word, b"SC") {
         return ReadKind::Unsupported;
     }
     ReadKind::BadField

@@ -1,17 +1,14 @@
 //! What a line says.
-ghost use Rattle.std.specs.Prelude.{◌≡◌, ◌≤◌, ◌<◌, ◌++◌, ◌∷◌, [], ℕ, List, Some, drop, length, MatchOption, MatchResult};
-ghost use Rattle.std.specs.Option.{option_map};
+ghost use Rattle.std.specs.Prelude.{◌≡◌, ◌≤◌, ◌<◌, ℕ, List, Some, drop, length, MatchResult};
 ghost use Rattle.text_fields.specs.Fields.{fields_of};
-ghost use Rattle.text_fields.specs.Lines.{line_text};
-ghost use Rattle.mps_lines.specs.Sections.{heading_word};
 ghost use Rattle.mps_lines.specs.Records.{Record};
 ghost use Rattle.mps_lines.specs.Shapes.{sense_word};
 ghost use Rattle.mps_lines.specs.Contexts.{context_of};
-ghost use Rattle.mps_lines.specs.Steps.{bare_further, further_steps, row_data, sense_data, sense_further, sense_steps, whole_steps};
+ghost use Rattle.mps_lines.specs.Steps.{bare_further, further_steps, row_data, sense_data, sense_further, sense_steps};
 ghost use Rattle.mps_lines.specs.Said.{AreFields, Gives, HasShape, IsRefusal, Leads, LeadsHeading, LeadsLine, Says, context_shown, record_at, steps_said};
 
 use crate::contexts::{Context, first_set, is_set_used};
-use crate::data::{ColumnsRead, SetRead, bound_read, columns_read, first_field, set_read};
+use crate::data::{ColumnsRead, bound_read, columns_read, first_field, set_read};
 use crate::fielding::{Fields, counted};
 use crate::sections::{Section, follows, section_named};
 use crate::shapes::{Bounded, Figure, RowKind, row_kind, sense_named};
@@ -218,7 +215,7 @@ fn data<'a>(context: Context<'a>, fields: Fields<'a>) -> Result<(Said<'a>, Conte
 // ---- lines
 
 // How a line is to be looked at.
-#[derive(Clone, Copy, PartialEq, Eq, Debug)]
+#[derive(Clone, Copy, PartialEq, Eq)]
 enum Shape {
     PassedOver,
     Header,

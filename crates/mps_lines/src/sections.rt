@@ -2,8 +2,10 @@
 ghost use Rattle.std.specs.Prelude.{◌≡◌};
 ghost use Rattle.mps_lines.specs.Sections.{heading_word, may_follow};
 
+use text_fields::is_word;
+
 /// Where a reader is: before the first header, or in the section of the last header.
-#[derive(Clone, Copy, PartialEq, Eq, Debug)]
+#[derive(Clone, Copy, PartialEq, Eq)]
 pub enum Section {
     Start,
     Name,
@@ -20,28 +22,28 @@ pub enum Section {
 pub(crate) fn section_named(word: &[u8]) -> Option<Section>
     ensures { result ≡ heading_word word.now }
 {
-    if word == b"NAME".as_slice() {
+    if is_word(word, b"NAME") {
         return Some(Section::Name);
     }
-    if word == b"OBJSENSE".as_slice() {
+    if is_word(word, b"OBJSENSE") {
         return Some(Section::Sense);
     }
-    if word == b"ROWS".as_slice() {
+    if is_word(word, b"ROWS") {
         return Some(Section::Rows);
     }
-    if word == b"COLUMNS".as_slice() {
+    if is_word(word, b"COLUMNS") {
         return Some(Section::Columns);
     }
-    if word == b"RHS".as_slice() {
+    if is_word(word, b"RHS") {
         return Some(Section::Sides);
     }
-    if word == b"RANGES".as_slice() {
+    if is_word(word, b"RANGES") {
         return Some(Section::Ranges);
     }
-    if word == b"BOUNDS".as_slice() {
+    if is_word(word, b"BOUNDS") {
         return Some(Section::Bounds);
     }
-    if word == b"ENDATA".as_slice() {
+    if is_word(word, b"ENDATA") {
         return Some(Section::End);
     }
     None

@@ -2,8 +2,10 @@
 ghost use Rattle.std.specs.Prelude.{◌≡◌};
 ghost use Rattle.mps_lines.specs.Shapes.{bound_word, marker_word, row_word, sense_word, takes_number as has_number};
 
+use text_fields::is_word;
+
 /// The kind of a row: free, or the side on which its right side stands.
-#[derive(Clone, Copy, PartialEq, Eq, Debug)]
+#[derive(Clone, Copy, PartialEq, Eq)]
 pub enum RowKind {
     /// `N`: the objective, if it is the first of them; the others are dropped.
     Free,
@@ -16,7 +18,7 @@ pub enum RowKind {
 }
 
 /// The kind of a bound.
-#[derive(Clone, Copy, PartialEq, Eq, Debug)]
+#[derive(Clone, Copy, PartialEq, Eq)]
 pub enum BoundKind {
     /// `UP`.
     Upper,
@@ -70,16 +72,16 @@ pub(crate) fn sense_named(word: &[u8]) -> Option<bool>
 pub(crate) fn row_kind(word: &[u8]) -> Option<RowKind>
     ensures { result ≡ row_word word.now }
 {
-    if word == b"N".as_slice() {
+    if is_word(word, b"N") {
         return Some(RowKind::Free);
     }
-    if word == b"L".as_slice() {
+    if is_word(word, b"L") {
         return Some(RowKind::AtMost);
     }
-    if word == b"G".as_slice() {
+    if is_word(word, b"G") {
         return Some(RowKind::AtLeast);
     }
-    if word == b"E".as_slice() {
+    if is_word(word, b"E") {
         return Some(RowKind::Equal);
     }
     None
@@ -89,10 +91,10 @@ pub(crate) fn row_kind(word: &[u8]) -> Option<RowKind>
 pub(crate) fn marker_named(word: &[u8]) -> Option<bool>
     ensures { result ≡ marker_word word.now }
 {
-    if word == b"'INTORG'".as_slice() {
+    if is_word(word, b"'INTORG'") {
         return Some(true);
     }
-    if word == b"'INTEND'".as_slice() {
+    if is_word(word, b"'INTEND'") {
         return Some(false);
     }
     None
@@ -102,31 +104,31 @@ pub(crate) fn marker_named(word: &[u8]) -> Option<bool>
 pub(crate) fn bound_kind(word: &[u8]) -> Option<BoundKind>
     ensures { result ≡ bound_word word.now }
 {
-    if word == b"UP".as_slice() {
+    if is_word(word, b"UP") {
         return Some(BoundKind::Upper);
     }
-    if word == b"LO".as_slice() {
+    if is_word(word, b"LO") {
         return Some(BoundKind::Lower);
     }
-    if word == b"FX".as_slice() {
+    if is_word(word, b"FX") {
         return Some(BoundKind::Fixed);
     }
-    if word == b"LI".as_slice() {
+    if is_word(word, b"LI") {
         return Some(BoundKind::WholeLower);
     }
-    if word == b"UI".as_slice() {
+    if is_word(word, b"UI") {
         return Some(BoundKind::WholeUpper);
     }
-    if word == b"FR".as_slice() {
+    if is_word(word, b"FR") {
         return Some(BoundKind::Unbounded);
     }
-    if word == b"MI".as_slice() {
+    if is_word(word, b"MI") {
         return Some(BoundKind::NoLower);
     }
-    if word == b"PL".as_slice() {
+    if is_word(word, b"PL") {
         return Some(BoundKind::NoUpper);
     }
-    if word == b"BV".as_slice() {
+    if is_word(word, b"BV") {
         return Some(BoundKind::Binary);
     }
     None

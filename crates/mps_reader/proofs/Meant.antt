@@ -18,7 +18,7 @@ use Rattle.name_map.specs.Names.{StandsAt, name_at, names_of}
 use Rattle.name_map.proofs.NameLists.{length_map, map_push, place_is}
 use Rattle.lp_model.specs.declared.parts.Note.{Note}
 use Rattle.lp_model.specs.declared.parts.Note.TheVariants.{LowerRemoved}
-use Rattle.lp_model.specs.Program.{Program, NamedRow, NamedColumn}
+use Rattle.lp_model.specs.Program.{Program}
 use Rattle.lp_model.specs.Shown.{most_rows, named_row, named_column, new_row, new_column}
 use Rattle.mps_lines.specs.declared.shapes.RowKind.{RowKind}
 use Rattle.mps_lines.specs.declared.shapes.RowKind.TheVariants.{Free}

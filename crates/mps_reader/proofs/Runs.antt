@@ -93,6 +93,13 @@ refused_is : (steps : List Step) (kind : ReadKind) → fault steps (Refused kind
 unfolding fault
 refused_is steps kind = refl
 
+-- and is the first fault
+pub refused_first : (front : List Record) (r : Record) (steps : List Step) (found : ReadFault) → IsRefusal front r found → IsFaultOf (first_fault steps (map (placed r.number) (steps_of front r))) found
+refused_first front r steps (Stop stop) h =
+    ap (λ ss. first_fault steps (map (placed r.number) ss)) h.0 ∙ step_stops steps r.number (Refused stop.kind) [] stop.kind (refused_is steps stop.kind)
+    ∙ ap (λ (n : ℕ). Some (let t : ReadStop = record { line = n; kind = stop.kind } in t)) (sym h.1)
+refused_first front r steps Memory h = tt
+
 -- ---- one line
 module _ (bytes : List ℕ) (at number : ℕ) (reader : Reader) (context : ContextRead) (so_far : Reading bytes at number reader context) (line : Line) (here : IsLineAt bytes at number line) where
   abbrev r : Record
@@ -108,87 +115,77 @@ module _ (bytes : List ℕ) (at number : ℕ) (reader : Reader) (context : Conte
   record_is : record_after so_far.front number (line_text bytes line) ≡ r
   record_is = λ i. let q : Record = record { number = sym here.number_is i; section = (sym (section_of_context so_far.front) ∙ ap (λ (c : Context). c.section) (sym so_far.context_is)) i; text = line_text bytes line } in q
 
-  left_is : left bytes so_far.front at number ≡ map (placed number) (steps_of so_far.front r) ++ (steps_after more rest ++ ending (lines_of bytes))
+  abbrev ss : List Step
+  ss = steps_of so_far.front r
+
+  left_is : left bytes so_far.front at number ≡ map (placed line.number) ss ++ (steps_after more rest ++ ending (lines_of bytes))
   unfolding records_after steps_after
   left_is =
       ap (λ ls. steps_after so_far.front (records_after so_far.front number ls) ++ ending (lines_of bytes)) here.first
       ∙ ap (λ (q : Record). steps_after so_far.front (q ∷ cond (is_last (line_text bytes line)) [] (records_after (so_far.front ++ q ∷ []) (number + 1) (lines_of (drop (after bytes line) bytes)))) ++ ending (lines_of bytes)) record_is
-      ∙ ap (λ (n : ℕ). (map (placed n) (steps_of so_far.front r) ++ steps_after more rest) ++ ending (lines_of bytes)) here.number_is
-      ∙ append_assoc (map (placed number) (steps_of so_far.front r)) (steps_after more rest) (ending (lines_of bytes))
+      ∙ append_assoc (map (placed line.number) ss) (steps_after more rest) (ending (lines_of bytes))
 
-  -- a line that is refused
-  pub refused_stop : (found : ReadFault) → IsRefusal so_far.front r found → IsFaultOf (mps_fault bytes) found
-  refused_stop (Stop stop) h =
-      so_far.fault_is ∙ ap (first_fault so_far.steps) (left_is ∙ ap (λ ss. map (placed number) ss ++ (steps_after more rest ++ ending (lines_of bytes))) h.0)
-      ∙ step_stops so_far.steps number (Refused stop.kind) (steps_after more rest ++ ending (lines_of bytes)) stop.kind (refused_is so_far.steps stop.kind)
-      ∙ ap (λ (n : ℕ). Some (let t : ReadStop = record { line = n; kind = stop.kind } in t)) (sym here.number_is ∙ sym h.1)
-  refused_stop Memory h = tt
+  -- a line with a step that has a fault
+  pub step_stop : (found : ReadFault) → IsFaultOf (first_fault so_far.steps (map (placed line.number) ss)) found → IsFaultOf (mps_fault bytes) found
+  step_stop (Stop stop) h =
+      so_far.fault_is ∙ ap (first_fault so_far.steps) left_is ∙ first_append so_far.steps (map (placed line.number) ss) (steps_after more rest ++ ending (lines_of bytes))
+      ∙ ap (λ o. option_or o (first_fault (so_far.steps ++ map (λ (p : Placed). p.step) (map (placed line.number) ss)) (steps_after more rest ++ ending (lines_of bytes)))) h
+  step_stop Memory h = tt
 
-  module _ (ss : List Step) (said : steps_of so_far.front r ≡ ss) where
-    left_said : left bytes so_far.front at number ≡ map (placed number) ss ++ (steps_after more rest ++ ending (lines_of bytes))
-    left_said = left_is ∙ ap (λ ss. map (placed number) ss ++ (steps_after more rest ++ ending (lines_of bytes))) said
+  module _ (none : first_fault so_far.steps (map (placed line.number) ss) ≡ None) where
+    fault_after : mps_fault bytes ≡ first_fault (so_far.steps ++ ss) (steps_after more rest ++ ending (lines_of bytes))
+    fault_after =
+        so_far.fault_is ∙ ap (first_fault so_far.steps) left_is ∙ first_append so_far.steps (map (placed line.number) ss) (steps_after more rest ++ ending (lines_of bytes))
+        ∙ ap (λ o. option_or o (first_fault (so_far.steps ++ map (λ (p : Placed). p.step) (map (placed line.number) ss)) (steps_after more rest ++ ending (lines_of bytes)))) none
+        ∙ ap (λ s. first_fault (so_far.steps ++ s) (steps_after more rest ++ ending (lines_of bytes))) (steps_placed line.number ss)
 
-    -- a line with a step that has a fault
-    pub step_stop : (found : ReadFault) → IsFaultOf (first_fault so_far.steps (map (placed number) ss)) found → IsFaultOf (mps_fault bytes) found
-    step_stop (Stop stop) h =
-        so_far.fault_is ∙ ap (first_fault so_far.steps) left_said ∙ first_append so_far.steps (map (placed number) ss) (steps_after more rest ++ ending (lines_of bytes))
-        ∙ ap (λ o. option_or o (first_fault (so_far.steps ++ map (λ (p : Placed). p.step) (map (placed number) ss)) (steps_after more rest ++ ending (lines_of bytes)))) h
-    step_stop Memory h = tt
+    steps_then : map (λ (p : Placed). p.step) (all_steps bytes) ≡ (so_far.steps ++ ss) ++ map (λ (p : Placed). p.step) (steps_after more rest ++ ending (lines_of bytes))
+    steps_then =
+        so_far.steps_are ∙ ap (λ l. so_far.steps ++ l) (ap (map (λ (p : Placed). p.step)) left_is ∙ map-append (λ (p : Placed). p.step) (map (placed line.number) ss) (steps_after more rest ++ ending (lines_of bytes))
+        ∙ ap (λ s. s ++ map (λ (p : Placed). p.step) (steps_after more rest ++ ending (lines_of bytes))) (steps_placed line.number ss))
+        ∙ sym (append_assoc so_far.steps ss (map (λ (p : Placed). p.step) (steps_after more rest ++ ending (lines_of bytes))))
 
-    module _ (none : first_fault so_far.steps (map (placed number) ss) ≡ None) where
-      fault_after : mps_fault bytes ≡ first_fault (so_far.steps ++ ss) (steps_after more rest ++ ending (lines_of bytes))
-      fault_after =
-          so_far.fault_is ∙ ap (first_fault so_far.steps) left_said ∙ first_append so_far.steps (map (placed number) ss) (steps_after more rest ++ ending (lines_of bytes))
-          ∙ ap (λ o. option_or o (first_fault (so_far.steps ++ map (λ (p : Placed). p.step) (map (placed number) ss)) (steps_after more rest ++ ending (lines_of bytes)))) none
-          ∙ ap (λ s. first_fault (so_far.steps ++ s) (steps_after more rest ++ ending (lines_of bytes))) (steps_placed number ss)
+    any_here : list_any is_last (lines_of bytes) ≡ (is_last r.text || list_any is_last (lines_of (drop (after bytes line) bytes)))
+    any_here = so_far.ends_are ∙ ap (list_any is_last) here.first
 
-      steps_then : map (λ (p : Placed). p.step) (all_steps bytes) ≡ (so_far.steps ++ ss) ++ map (λ (p : Placed). p.step) (steps_after more rest ++ ending (lines_of bytes))
-      steps_then =
-          so_far.steps_are ∙ ap (λ l. so_far.steps ++ l) (ap (map (λ (p : Placed). p.step)) left_said ∙ map-append (λ (p : Placed). p.step) (map (placed number) ss) (steps_after more rest ++ ending (lines_of bytes))
-          ∙ ap (λ s. s ++ map (λ (p : Placed). p.step) (steps_after more rest ++ ending (lines_of bytes))) (steps_placed number ss))
-          ∙ sym (append_assoc so_far.steps ss (map (λ (p : Placed). p.step) (steps_after more rest ++ ending (lines_of bytes))))
+    module _ (new : Reader) (next : ContextRead) (holds : Holds new (so_far.steps ++ ss)) (next_is : context_shown next ≡ context_of more) where
+      last_is : is_section End next.section ≡ is_last r.text
+      last_is = ap (λ (c : Context). is_section End c.section) next_is ∙ ap (is_section End) (section_of_context more) ∙ end_is so_far.front r so_far.open_is
 
-      any_here : list_any is_last (lines_of bytes) ≡ (is_last r.text || list_any is_last (lines_of (drop (after bytes line) bytes)))
-      any_here = so_far.ends_are ∙ ap (list_any is_last) here.first
+      -- the last line of a model
+      pub ended : is_section End next.section ≡ true → (mps_fault bytes ≡ None) × Holds new (map (λ (p : Placed). p.step) (all_steps bytes))
+      unfolding steps_after
+      ended e =
+          let l : is_last r.text ≡ true = sym last_is ∙ e in
+          let none_left : steps_after more rest ++ ending (lines_of bytes) ≡ [] =
+          (λ i. steps_after more (cond (l i) [] (records_after more (number + 1) (lines_of (drop (after bytes line) bytes)))) ++ cond ((any_here ∙ ap (λ b. b || list_any is_last (lines_of (drop (after bytes line) bytes))) l) i) [] (placed (max 1 (length (lines_of bytes))) (Refused Truncated) ∷ [])) in (
+            fault_after ∙ ap (first_fault (so_far.steps ++ ss)) none_left ∙ no_more (so_far.steps ++ ss),
+            subst (Holds new) (sym (steps_then ∙ ap (λ l. (so_far.steps ++ ss) ++ map (λ (p : Placed). p.step) l) none_left ∙ append-nil (so_far.steps ++ ss))) holds,
+          )
 
-      module _ (new : Reader) (next : ContextRead) (holds : Holds new (so_far.steps ++ ss)) (next_is : context_shown next ≡ context_of more) where
-        last_is : is_section End next.section ≡ is_last r.text
-        last_is = ap (λ (c : Context). is_section End c.section) next_is ∙ ap (is_section End) (section_of_context more) ∙ end_is so_far.front r so_far.open_is
-
-        -- the last line of a model
-        pub ended : is_section End next.section ≡ true → (mps_fault bytes ≡ None) × Holds new (map (λ (p : Placed). p.step) (all_steps bytes))
-        unfolding steps_after
-        ended e =
-            let l : is_last r.text ≡ true = sym last_is ∙ e in
-            let none_left : steps_after more rest ++ ending (lines_of bytes) ≡ [] =
-            (λ i. steps_after more (cond (l i) [] (records_after more (number + 1) (lines_of (drop (after bytes line) bytes)))) ++ cond ((any_here ∙ ap (λ b. b || list_any is_last (lines_of (drop (after bytes line) bytes))) l) i) [] (placed (max 1 (length (lines_of bytes))) (Refused Truncated) ∷ [])) in (
-              fault_after ∙ ap (first_fault (so_far.steps ++ ss)) none_left ∙ no_more (so_far.steps ++ ss),
-              subst (Holds new) (sym (steps_then ∙ ap (λ l. (so_far.steps ++ ss) ++ map (λ (p : Placed). p.step) l) none_left ∙ append-nil (so_far.steps ++ ss))) holds,
-            )
-
-        -- a line that is not the last
-        pub goes_on : (at' : ℕ) → is_section End next.section ≡ false → at' ≡ after bytes line → Reading bytes at' (number + 1) new next
-        goes_on at' e place =
-            let l : is_last r.text ≡ false = sym last_is ∙ e in
-            let here_left : steps_after more rest ++ ending (lines_of bytes) ≡ left bytes more at' (number + 1) =
-            (λ i. steps_after more (cond (l i) [] (records_after more (number + 1) (lines_of (drop (sym place i) bytes)))) ++ ending (lines_of bytes)) in
-            record {
-              front = more;
-              steps = so_far.steps ++ ss;
-              context_is = next_is;
-              open_is = end_is so_far.front r so_far.open_is ∙ l;
-              holds = holds;
-              within = omega arith;
-              fault_is = fault_after ∙ ap (first_fault (so_far.steps ++ ss)) here_left;
-              steps_are = steps_then ∙ ap (λ l. (so_far.steps ++ ss) ++ map (λ (p : Placed). p.step) l) here_left;
-              ends_are = any_here ∙ (λ i. l i || list_any is_last (lines_of (drop (sym place i) bytes)));
-              counted = so_far.counted ∙ ap (λ ls. number + length ls) here.first ∙ longer (lines_of (drop (after bytes line) bytes)) ∙ ap (λ (n : ℕ). (number + 1) + length (lines_of (drop n bytes))) (sym place);
-              some = let s = so_far.some in omega arith;
-              few = let f = so_far.few in let a = here.some in let b = here.in_order in let d = here.from_is in omega arith;
-            }
-          where
-            longer : (ls : List (List ℕ)) → number + length (line_text bytes line ∷ ls) ≡ (number + 1) + length ls
-            longer ls = omega arith
+      -- a line that is not the last
+      pub goes_on : (at' : ℕ) → is_section End next.section ≡ false → at' ≡ after bytes line → Reading bytes at' (number + 1) new next
+      goes_on at' e place =
+          let l : is_last r.text ≡ false = sym last_is ∙ e in
+          let here_left : steps_after more rest ++ ending (lines_of bytes) ≡ left bytes more at' (number + 1) =
+          (λ i. steps_after more (cond (l i) [] (records_after more (number + 1) (lines_of (drop (sym place i) bytes)))) ++ ending (lines_of bytes)) in
+          record {
+            front = more;
+            steps = so_far.steps ++ ss;
+            context_is = next_is;
+            open_is = end_is so_far.front r so_far.open_is ∙ l;
+            holds = holds;
+            within = omega arith;
+            fault_is = fault_after ∙ ap (first_fault (so_far.steps ++ ss)) here_left;
+            steps_are = steps_then ∙ ap (λ l. (so_far.steps ++ ss) ++ map (λ (p : Placed). p.step) l) here_left;
+            ends_are = any_here ∙ (λ i. l i || list_any is_last (lines_of (drop (sym place i) bytes)));
+            counted = so_far.counted ∙ ap (λ ls. number + length ls) here.first ∙ longer (lines_of (drop (after bytes line) bytes)) ∙ ap (λ (n : ℕ). (number + 1) + length (lines_of (drop n bytes))) (sym place);
+            some = let s = so_far.some in omega arith;
+            few = let f = so_far.few in let a = here.some in let b = here.in_order in let d = here.from_is in omega arith;
+          }
+        where
+          longer : (ls : List (List ℕ)) → number + length (line_text bytes line ∷ ls) ≡ (number + 1) + length ls
+          longer ls = omega arith
 
 -- ---- the end of the text
 pub cut_off : (bytes : List ℕ) (at number : ℕ) (reader : Reader) (context : ContextRead) (line : ℕ) (found : ReadFault) → Reading bytes at number reader context → at ≡ length bytes → line ≡ max 1 (number - 1)

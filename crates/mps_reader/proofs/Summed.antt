@@ -2,7 +2,7 @@
 use Rattle.std.proofs.Common.{◌≡◌, ℕ, ◌+◌, Bool, true, false, cond, not, max, ◌&&◌, ◌||◌, is_some, unwrap_or, nat_eq, ◌<◌, List, [], ◌∷◌, ◌++◌, length, map, filter, drop, get_or, Option, Some, None, IfSome, Result, Ok, Err, refl, sym, ap, ◌∙◌, subst, true≢false, append_assoc, append-nil}
 use Rattle.std.specs.List.{find, list_any, IsDistinct}
 use Rattle.std.specs.Map.{lookup}
-use Rattle.std.specs.Option.{option_map, option_map_or, option_or}
+use Rattle.std.specs.Option.{option_map, option_map_or}
 use Rattle.std.specs.Str.{bytes_eq}
 use Rattle.std.proofs.lemmas.Bool.{or_parts, and_parts, not-true}
 use Rattle.std.proofs.lemmas.List.{map-append}
@@ -27,7 +27,7 @@ use Rattle.mps_lines.specs.Shapes.ColumnsLine.{Marker, Entries}
 use Rattle.mps_lines.specs.Contexts.{Context, context_of, is_used}
 use Rattle.mps_lines.specs.Steps.{Step, Refused, ToSense, ToRow, ToColumn, ToEntry, ToSide, ToRange, ToBound, refused, sense_steps, sense_further, bare_further, further_steps, heading_steps, row_steps, row_data, columns_steps, set_steps, bound_steps, sense_data, data_steps, whole_steps, steps_unless, steps_of, Placed, placed, steps_after, ending, all_steps}
 use Rattle.mps_lines.proofs.Ends.{section-next}
-use Rattle.mps_reader.specs.Tables.{RowRecord, is_free, is_free_row, rows_of, sides_of, ranges_of, columns_of, figure_of, right_side, row_names}
+use Rattle.mps_reader.specs.Tables.{RowRecord, is_free, is_free_row, rows_of, sides_of, ranges_of, figure_of, right_side}
 use Rattle.mps_reader.specs.Sides.{is_range_wide}
 use Rattle.mps_reader.specs.Faults.{fault, first_true, first_fault, stop_or, mps_fault, figure_tests, is_sum_wide}
 use Rattle.mps_reader.specs.declared.tables.Reader.{Reader}

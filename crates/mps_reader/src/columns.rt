@@ -1,19 +1,17 @@
 //! The columns and their entries.
-ghost use Rattle.std.specs.Prelude.{◌≡◌, ◌<◌, ◌≤◌, ◌+◌, ◌++◌, ◌∷◌, [], ℕ, List, MatchResult, OnOk, IfOk, Some, None, length, false};
-ghost use Rattle.std.specs.List.{list_any};
-ghost use Rattle.std.specs.Str.{bytes_eq};
-ghost use Rattle.name_map.specs.Names.{StandsAt, name_at, names_of};
+ghost use Rattle.std.specs.Prelude.{◌≡◌, ◌<◌, ◌+◌, ◌++◌, ◌∷◌, [], List, MatchResult, IfOk, Some, None};
+ghost use Rattle.name_map.specs.Names.{StandsAt, name_at};
 ghost use Rattle.mps_lines.specs.Steps.{Step, ToColumn, ToEntry};
 ghost use Rattle.mps_lines.specs.Said.{figure_shown};
 ghost use Rattle.mps_reader.specs.Faults.{fault};
-ghost use Rattle.mps_reader.specs.Held.{Holds, Takes, IsStepStop, value_fitting, row_names_held, column_names_held};
+ghost use Rattle.mps_reader.specs.Held.{Holds, Takes, IsStepStop, value_fitting, column_names_held};
 
 use crate::rows::is_long;
 use crate::tables::{Reader, is_dropped_at, literal_of, place_of, refusal};
 use frac128::{Frac, Literal};
 use lp_model::{MOST_COLUMNS, MOST_ENTRIES};
 use mps_lines::Figure;
-use std::alloc::{AllocError, Global};
+use std::alloc::Global;
 use text_fields::{ReadFault, ReadKind, TextKind};
 
 /// Takes a column in, which is put last if it is new, and gives its place.

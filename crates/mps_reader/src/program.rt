@@ -1,5 +1,5 @@
 //! The program that a reader's tables declare.
-ghost use Rattle.std.specs.Prelude.{◌≡◌, ◌≢◌, ℕ, ◌<◌, ◌≤◌, ◌+◌, ◌++◌, ◌∷◌, [], List, IfOk, OnOk, MatchOption, All, IfSome, true, false, cond, is_some, unwrap_or, length, map, slice_index_or};
+ghost use Rattle.std.specs.Prelude.{◌≡◌, ◌≢◌, ℕ, ◌<◌, ◌+◌, ◌++◌, ◌∷◌, [], List, IfOk, OnOk, IfSome, cond, false, length, slice_index_or};
 ghost use Rattle.std.specs.Option.{option_map_or};
 ghost use Rattle.lp_model.specs.Shown.{named_column};
 ghost use Rattle.name_map.specs.Names.{name_at};
@@ -8,7 +8,7 @@ ghost use Rattle.mps_reader.specs.Meaning.{program_of};
 ghost use Rattle.mps_reader.specs.Tables.{is_free};
 ghost use Rattle.mps_reader.specs.Held.{Holds, kind_held, column_names_held};
 ghost use Rattle.mps_reader.specs.Gathered.{terms_shown};
-ghost use Rattle.mps_reader.specs.Built.{AreTermsFrom, IsRead, IsSound, HasSides, upper_held, is_negative_bound, is_removed_held, lower_held, whole_held, column_held, columns_to, terms_held, sides_held, rows_to, is_kept_held, objective_held, program_held};
+ghost use Rattle.mps_reader.specs.Built.{AreTermsFrom, IsRead, IsSound, HasSides, upper_held, is_negative_bound, is_removed_held, lower_held, whole_held, column_held, columns_to, terms_held, sides_held, rows_to, program_held};
 
 use crate::numbers::is_less;
 use crate::sides::{Sides, right_at, sides_of, sides_with};
@@ -179,6 +179,24 @@ fn objective_terms(
     }
 }
 
+// Puts the objective.
+fn put_objective(
+    alloc: Global,
+    model: &mut Model,
+    reader: &Reader,
+    terms: &[Vec<Term>],
+) -> Result<(), AllocError>
+    requires len { length terms.now ≡ length reader.now.rows }
+    requires terms { AreTermsFrom reader.now 0 (terms_shown terms.now) }
+    requires before { model.old ≡ columns_to reader.now (length reader.now.columns) }
+    requires sound { IsSound reader.now }
+    ensures { OnOk result (model.new ≡ rows_to reader.now 0) }
+{
+    let form = objective_terms(alloc, reader.objective, terms)?;
+    model.set_objective(form, reader.sense.unwrap_or(false));
+    Ok(())
+}
+
 // Takes the terms at a place out, and leaves none there.
 fn taken(alloc: Global, lists: &mut Vec<Vec<Term>>, place: usize) -> Vec<Term>
     requires { place < length lists.old.items }
@@ -187,16 +205,6 @@ fn taken(alloc: Global, lists: &mut Vec<Vec<Term>>, place: usize) -> Vec<Term>
     ensures others { (i : ℕ) → i ≢ place → slice_index_or (terms_shown lists.new.items) i [] ≡ slice_index_or (terms_shown lists.old.items) i [] }
 {
     mem::replace(&mut lists[place], Vec::new(alloc))
-}
-
-// The sense: to minimise unless a line has said otherwise.
-fn is_greatest(sense: Option<bool>) -> bool
-    ensures { result ≡ unwrap_or sense false }
-{
-    match sense {
-        Some(greatest) => greatest,
-        None => false,
-    }
 }
 
 // Puts all columns.
@@ -230,33 +238,28 @@ fn put_rows(
     Ok(())
 }
 
-// The program, by places.
-fn build(alloc: Global, reader: &Reader) -> Result<Model, AllocError>
-    requires { IsSound reader.now }
-    ensures { IfOk result (λ model. model ≡ program_held reader.now) }
+// Puts all columns, the objective and all rows.
+fn put_all(alloc: Global, model: &mut Model, reader: &Reader) -> Result<(), AllocError>
+    requires before { model.old ≡ columns_to reader.now 0 }
+    requires sound { IsSound reader.now }
+    ensures { OnOk result (model.new ≡ program_held reader.now) }
 {
-    let greatest = is_greatest(reader.sense);
-    let terms = terms_by_row(
-        alloc,
-        reader.rows.len(),
-        reader.columns.len(),
-        &reader.entries,
-    )?;
-    let mut model = Model::new(alloc, greatest);
-    put_columns(alloc, &mut model, reader)?;
-    let objective = objective_terms(alloc, reader.objective, terms.as_slice())?;
-    model.set_objective(objective, greatest);
-    put_rows(alloc, &mut model, reader, terms)?;
-    Ok(model)
+    put_columns(alloc, model, reader)?;
+    let rows = reader.rows.len();
+    let columns = reader.columns.len();
+    let terms = terms_by_row(alloc, rows, columns, &reader.entries)?;
+    put_objective(alloc, model, reader, terms.as_slice())?;
+    put_rows(alloc, model, reader, terms)
 }
 
 /// The program that the steps declare which the tables keep.
-pub fn make_program(alloc: Global, reader: Reader) -> Result<Model, AllocError>
-    requires { IsRead reader }
-    ensures { IfOk result (λ model. (steps : List Step) → Holds reader steps → model ≡ program_of steps) }
+pub fn make_program(alloc: Global, reader: &Reader) -> Result<Model, AllocError>
+    requires { IsRead reader.now }
+    ensures { IfOk result (λ model. (steps : List Step) → Holds reader.now steps → model ≡ program_of steps) }
 {
     names_differ(&reader.rows);
     names_differ(&reader.columns);
-    let model = build(alloc, &reader)?;
+    let mut model = Model::new(alloc, reader.sense.unwrap_or(false));
+    put_all(alloc, &mut model, reader)?;
     Ok(model)
 }

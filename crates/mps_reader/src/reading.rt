@@ -1,8 +1,10 @@
 //! A text, line by line.
-ghost use Rattle.std.specs.Prelude.{◌≡◌, ◌<◌, ◌^◌, ◌-◌, ◌∷◌, max, map, length, None, Some, MatchResult};
+ghost use Rattle.std.specs.Prelude.{◌≡◌, ◌<◌, ◌≤◌, ◌^◌, ◌-◌, ◌++◌, ◌∷◌, [], List, max, map, length, None, Some, MatchResult, OnOk};
 ghost use Rattle.mps_lines.specs.Sections.{is_section};
-ghost use Rattle.mps_lines.specs.Steps.{ToColumn, ToEntry, ToSide, ToRange, all_steps};
-ghost use Rattle.mps_lines.specs.Said.{figures_said, steps_said};
+ghost use Rattle.mps_lines.specs.Records.{Record};
+ghost use Rattle.mps_lines.specs.Contexts.{context_of};
+ghost use Rattle.mps_lines.specs.Steps.{ToColumn, ToEntry, ToSide, ToRange, all_steps, steps_of};
+ghost use Rattle.mps_lines.specs.Said.{context_shown, figures_said, record_at, steps_said};
 ghost use Rattle.text_fields.specs.Faults.{IsFaultOf};
 ghost use Rattle.mps_reader.specs.Faults.{mps_fault};
 ghost use Rattle.mps_reader.specs.Held.{Holds};
@@ -12,10 +14,10 @@ use crate::bounds::take_bound;
 use crate::columns::{take_column, take_entry};
 use crate::rows::{take_row, take_sense};
 use crate::sides::{take_range, take_side};
-use crate::tables::{Reader, refusal, start};
+use crate::tables::{Reader, refusal};
 use mps_lines::{Context, Figure, Said, Section, read_line};
 use std::alloc::Global;
-use text_fields::{ReadFault, ReadKind, after_line, next_line};
+use text_fields::{Line, ReadFault, ReadKind, Span, after_line, next_line};
 
 // Takes a column and its entries in.
 fn take_entries(
@@ -89,6 +91,24 @@ fn take_said(alloc: Global, reader: &mut Reader, line: u32, said: Said) -> Resul
     }
 }
 
+// Reads a line and takes it in.
+fn take_line<'a>(
+    alloc: Global,
+    reader: &mut Reader,
+    bytes: &'a [u8],
+    line: &Line,
+    spans: &mut Vec<Span>,
+    context: &mut Context<'a>,
+) -> Result<(), ReadFault>
+    requires in_order { line.now.from ≤ line.now.to }
+    requires within { line.now.to ≤ length bytes.now }
+    ensures takes { (front : List Record) → context_shown context.old ≡ context_of front → TakesAll reader.old reader.new line.now.number (steps_of front (record_at bytes.now line.now context.old)) result }
+    ensures context { OnOk result ((front : List Record) → context_shown context.old ≡ context_of front → context_shown context.new ≡ context_of (front ++ record_at bytes.now line.now context.old ∷ [])) }
+{
+    let said = read_line(bytes, line, spans, context)?;
+    take_said(alloc, reader, line.number, said)
+}
+
 // The number of the last line, or 1 where there is none, by that of the line after it.
 fn last_line(next: u32) -> u32
     ensures { result ≡ max 1 (next - 1) }
@@ -106,23 +126,22 @@ fn is_end(section: Section) -> bool
     matches!(section, Section::End)
 }
 
-/// Reads the lines of a text up to the end of its model.
-pub fn read_lines(alloc: Global, bytes: &[u8]) -> Result<Reader, ReadFault>
-    requires { length bytes.now < 2 ^ 31 }
+/// Reads the lines of a text up to the end of its model, into a reader that has read nothing.
+pub fn read_lines(alloc: Global, reader: &mut Reader, bytes: &[u8]) -> Result<(), ReadFault>
+    requires short { length bytes.now < 2 ^ 31 }
+    requires new { Holds reader.old [] }
     ensures { MatchResult result
-        (λ reader. (mps_fault bytes.now ≡ None) × Holds reader (map (λ p. p.step) (all_steps bytes.now)))
+        (λ _. (mps_fault bytes.now ≡ None) × Holds reader.new (map (λ p. p.step) (all_steps bytes.now)))
         (IsFaultOf (mps_fault bytes.now)) }
 {
-    let mut reader = start(alloc);
     let mut context = Context::start();
     let mut spans = Vec::new(alloc);
     let mut at = 0;
     let mut number = 1;
     while let Some(line) = next_line(bytes, at, number) {
-        let said = read_line(bytes, &line, &mut spans, &mut context)?;
-        take_said(alloc, &mut reader, number, said)?;
+        take_line(alloc, reader, bytes, &line, &mut spans, &mut context)?;
         if is_end(context.section) {
-            return Ok(reader);
+            return Ok(());
         }
         at = after_line(bytes, &line);
         number += 1;

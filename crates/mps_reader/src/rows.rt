@@ -1,10 +1,9 @@
 //! The sense and the rows, as they are declared.
-ghost use Rattle.std.specs.Prelude.{◌≡◌, ◌<◌, ◌≤◌, ◌+◌, ◌++◌, ◌∷◌, [], ℕ, List, nat_le, nat_lt, cond, false, unwrap_or, OnOk, Some, None, length};
+ghost use Rattle.std.specs.Prelude.{◌≡◌, ◌<◌, ◌+◌, ◌++◌, ◌∷◌, [], List, nat_le, nat_lt, cond, false, OnOk, Some, None, length};
 ghost use Rattle.std.specs.List.{list_any};
 ghost use Rattle.std.specs.Str.{bytes_eq};
 ghost use Rattle.mps_lines.specs.Steps.{Step, ToSense, ToRow};
 ghost use Rattle.mps_reader.specs.Tables.{is_free};
-ghost use Rattle.mps_reader.specs.Faults.{fault};
 ghost use Rattle.name_map.specs.Names.{names_of};
 ghost use Rattle.mps_reader.specs.Held.{Holds, Takes};
 
@@ -83,16 +82,6 @@ fn put_row(alloc: Global, reader: &mut Reader, kind: RowKind, name: &[u8]) -> Re
         return Ok(());
     }
     reader.free += 1;
-    reader.objective = Some(place_or(reader.objective, place));
+    reader.objective = Some(reader.objective.unwrap_or(place));
     Ok(())
-}
-
-// The first of two places.
-fn place_or(first: Option<usize>, second: usize) -> usize
-    ensures { result ≡ unwrap_or first second }
-{
-    match first {
-        Some(place) => place,
-        None => second,
-    }
 }

@@ -1,5 +1,5 @@
 //! The terms of rows, from entries in any order.
-ghost use Rattle.std.specs.Prelude.{◌≡◌, ℕ, ◌<◌, ◌^◌, ◌++◌, ◌∷◌, List, [], IfOk, OnOk, length, map, slice_index_or};
+ghost use Rattle.std.specs.Prelude.{◌≡◌, ℕ, ◌<◌, ◌^◌, ◌++◌, ◌∷◌, [], IfOk, OnOk, length, map, slice_index_or};
 ghost use Rattle.std.specs.List.{All, IsDistinct};
 ghost use Rattle.mps_reader.specs.Gathered.{is_same_pair, cell_shown, cells_shown, cells_in, terms_shown, terms_at, terms_to, factor_kept};
 

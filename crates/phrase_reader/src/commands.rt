@@ -1,5 +1,5 @@
 //! The commands of scripts and of reports.
-ghost use Rattle.std.specs.Prelude.{◌≡◌, ◌≤◌, All, [], length, map, IfOk, IfErr, IfSome, MatchOption, Some};
+ghost use Rattle.std.specs.Prelude.{◌≡◌, All, [], map, IfOk, IfErr, MatchOption, Some};
 ghost use Rattle.text_fields.specs.Lines.{text_of};
 ghost use Rattle.text_fields.specs.Fields.{IsInside};
 ghost use Rattle.phrase_reader.specs.Parts.{AreWords};
@@ -14,7 +14,7 @@ use crate::parts::Words;
 use lp_model::Name;
 use report_text::{Command, EditKind, Method, NamedEdit};
 use std::alloc::{AllocError, Global};
-use text_fields::{FieldStop, Line, Span, fields};
+use text_fields::{FieldStop, Line, Span, fields, is_word};
 use thiserror::Error;
 
 /// Why a line was not read as a command: it is none, or memory was refused.
@@ -42,11 +42,11 @@ fn read_lone(word: &[u8]) -> Option<Command>
     ensures { result ≡ lone_command word.now }
 {
     match word {
-        _ if word == b"check".as_slice() => Some(Command::Check),
-        _ if word == b"unbounded".as_slice() => Some(Command::Unbounded),
-        _ if word == b"relax".as_slice() => Some(Command::Relax),
-        _ if word == b"reduce".as_slice() => Some(Command::Reduce),
-        _ if word == b"undo".as_slice() => Some(Command::Undo),
+        _ if is_word(word, b"check") => Some(Command::Check),
+        _ if is_word(word, b"unbounded") => Some(Command::Unbounded),
+        _ if is_word(word, b"relax") => Some(Command::Relax),
+        _ if is_word(word, b"reduce") => Some(Command::Reduce),
+        _ if is_word(word, b"undo") => Some(Command::Undo),
         _ => None,
     }
 }
@@ -56,11 +56,11 @@ fn read_method(word: &[u8]) -> Option<Method>
     ensures { result ≡ method_of word.now }
 {
     match word {
-        _ if word == b"deletion".as_slice() => Some(Method::Deletion),
-        _ if word == b"additive".as_slice() => Some(Method::Additive),
-        _ if word == b"sensitivity".as_slice() => Some(Method::Sensitivity),
-        _ if word == b"elastic".as_slice() => Some(Method::Elastic),
-        _ if word == b"alternative".as_slice() => Some(Method::Alternative),
+        _ if is_word(word, b"deletion") => Some(Method::Deletion),
+        _ if is_word(word, b"additive") => Some(Method::Additive),
+        _ if is_word(word, b"sensitivity") => Some(Method::Sensitivity),
+        _ if is_word(word, b"elastic") => Some(Method::Elastic),
+        _ if is_word(word, b"alternative") => Some(Method::Alternative),
         _ => None,
     }
 }
@@ -79,10 +79,10 @@ fn read_search(first: &[u8], second: &[u8]) -> Option<Command>
 fn read_budget(second: &[u8], third: &[u8]) -> Option<Command>
     ensures { result ≡ budget_behind second.now third.now }
 {
-    if second == b"pivots".as_slice() {
+    if is_word(second, b"pivots") {
         return Some(Command::Pivots(budget_in(third)?));
     }
-    if second == b"nodes".as_slice() {
+    if is_word(second, b"nodes") {
         return Some(Command::Nodes(budget_in(third)?));
     }
     None
@@ -115,10 +115,10 @@ fn read_three(
 ) -> Result<Option<Command>, AllocError>
     ensures { IfOk result (λ found. found ≡ three_command first.now second.now third.now) }
 {
-    if first == b"budget".as_slice() {
+    if is_word(first, b"budget") {
         return Ok(read_budget(second, third));
     }
-    if first == b"mark".as_slice() {
+    if is_word(first, b"mark") {
         return named_edit(alloc, read_marking(third), second);
     }
     named_edit(alloc, read_moving(first, second), third)

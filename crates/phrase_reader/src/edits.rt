@@ -7,17 +7,18 @@ use crate::numerals::{read_limit, read_weight};
 use frac128::Frac;
 use lp_model::Side;
 use report_text::{EditKind, TargetKind};
+use text_fields::is_word;
 
 // What has a weight.
 fn read_weighed(word: &[u8]) -> Option<TargetKind>
     ensures { result ≡ weighed_target word.now }
 {
     match word {
-        _ if word == b"row".as_slice() => Some(TargetKind::Row),
-        _ if word == b"rowlo".as_slice() => Some(TargetKind::RowLo),
-        _ if word == b"rowup".as_slice() => Some(TargetKind::RowUp),
-        _ if word == b"lower".as_slice() => Some(TargetKind::Lower),
-        _ if word == b"upper".as_slice() => Some(TargetKind::Upper),
+        _ if is_word(word, b"row") => Some(TargetKind::Row),
+        _ if is_word(word, b"rowlo") => Some(TargetKind::RowLo),
+        _ if is_word(word, b"rowup") => Some(TargetKind::RowUp),
+        _ if is_word(word, b"lower") => Some(TargetKind::Lower),
+        _ if is_word(word, b"upper") => Some(TargetKind::Upper),
         _ => None,
     }
 }
@@ -27,12 +28,12 @@ fn read_target(word: &[u8]) -> Option<TargetKind>
     ensures { result ≡ target_in word.now }
 {
     match word {
-        _ if word == b"row".as_slice() => Some(TargetKind::Row),
-        _ if word == b"rowlo".as_slice() => Some(TargetKind::RowLo),
-        _ if word == b"rowup".as_slice() => Some(TargetKind::RowUp),
-        _ if word == b"lower".as_slice() => Some(TargetKind::Lower),
-        _ if word == b"upper".as_slice() => Some(TargetKind::Upper),
-        _ if word == b"whole".as_slice() => Some(TargetKind::Whole),
+        _ if is_word(word, b"row") => Some(TargetKind::Row),
+        _ if is_word(word, b"rowlo") => Some(TargetKind::RowLo),
+        _ if is_word(word, b"rowup") => Some(TargetKind::RowUp),
+        _ if is_word(word, b"lower") => Some(TargetKind::Lower),
+        _ if is_word(word, b"upper") => Some(TargetKind::Upper),
+        _ if is_word(word, b"whole") => Some(TargetKind::Whole),
         _ => None,
     }
 }
@@ -42,8 +43,8 @@ fn read_side(word: &[u8]) -> Option<Side>
     ensures { result ≡ side_in word.now }
 {
     match word {
-        _ if word == b"lower".as_slice() => Some(Side::Lo),
-        _ if word == b"upper".as_slice() => Some(Side::Up),
+        _ if is_word(word, b"lower") => Some(Side::Lo),
+        _ if is_word(word, b"upper") => Some(Side::Up),
         _ => None,
     }
 }
@@ -53,8 +54,8 @@ fn read_mark(word: &[u8]) -> Option<bool>
     ensures { result ≡ mark_in word.now }
 {
     match word {
-        _ if word == b"whole".as_slice() => Some(true),
-        _ if word == b"plain".as_slice() => Some(false),
+        _ if is_word(word, b"whole") => Some(true),
+        _ if is_word(word, b"plain") => Some(false),
         _ => None,
     }
 }
@@ -70,10 +71,10 @@ pub(crate) fn read_marking(word: &[u8]) -> Option<EditKind>
 pub(crate) fn read_moving(first: &[u8], second: &[u8]) -> Option<EditKind>
     ensures { result ≡ moving first.now second.now }
 {
-    if first == b"drop".as_slice() {
+    if is_word(first, b"drop") {
         return Some(EditKind::Drop(read_target(second)?));
     }
-    if first == b"keep".as_slice() {
+    if is_word(first, b"keep") {
         return Some(EditKind::Keep(read_target(second)?));
     }
     None
@@ -95,10 +96,10 @@ pub(crate) fn read_weighing(first: &[u8], second: &[u8], last: &[u8]) -> Option<
 fn set_in(word: &[u8], side: Side, limit: Option<Frac>) -> Option<EditKind>
     ensures { result ≡ set_of word.now side limit }
 {
-    if word == b"row".as_slice() {
+    if is_word(word, b"row") {
         return Some(EditKind::SetSide(side, limit));
     }
-    if word == b"column".as_slice() {
+    if is_word(word, b"column") {
         return Some(EditKind::SetBound(side, limit));
     }
     None

@@ -1,6 +1,6 @@
 //! What a line says.
-ghost use Rattle.std.specs.Prelude.{◌≡◌, ◌≢◌, IfOk, List, [], ◌∷◌, ℕ, pos, ◌<ℤ◌};
-ghost use Rattle.phrase_reader.specs.Parts.{parts, IsLast};
+ghost use Rattle.std.specs.Prelude.{◌≢◌, IfOk, [], ◌∷◌, pos, ◌<ℤ◌};
+ghost use Rattle.phrase_reader.specs.Parts.{IsLast};
 ghost use Rattle.rational.specs.Rational.{zero_ℚ, ◌<ℚ◌};
 ghost use Rattle.frac128.specs.Limit.{limit};
 ghost use Rattle.lp_model.specs.Program.{Program};
@@ -25,12 +25,13 @@ use frac128::Frac;
 use lp_model::{Model, Note};
 use report_text::{Keyword, Phrase};
 use std::alloc::{AllocError, Global};
+use text_fields::is_word;
 
 // `report end`.
 fn read_foot(word: &[u8]) -> Option<Phrase>
     ensures { (model : Program) → Finds (IsSpelled model Keyword.Report (word.now ∷ [])) result }
 {
-    if word == b"end".as_slice() {
+    if is_word(word, b"end") {
         return Some(Phrase::Foot);
     }
     None
@@ -68,7 +69,7 @@ fn read_rounds(number: &[u8]) -> Option<Phrase>
 fn read_rigid(word: &[u8]) -> Option<Phrase>
     ensures { (model : Program) → Finds (IsSpelled model Keyword.Rigid (word.now ∷ [])) result }
 {
-    if word == b"infeasible".as_slice() {
+    if is_word(word, b"infeasible") {
         return Some(Phrase::RigidInfeasible);
     }
     None
@@ -104,7 +105,7 @@ fn read_one(model: &Model, keyword: Keyword, word: &[u8]) -> Option<Phrase>
 fn read_head(first: &[u8], second: &[u8]) -> Option<Phrase>
     ensures { (model : Program) → Finds (IsSpelled model Keyword.Iisan (first.now ∷ second.now ∷ [])) result }
 {
-    if first == b"report".as_slice() && second == b"2".as_slice() {
+    if is_word(first, b"report") && is_word(second, b"2") {
         return Some(Phrase::Head);
     }
     None
@@ -191,10 +192,10 @@ fn read_note(model: &Model, name: &[u8], lower: &[u8], done: &[u8]) -> Option<Ph
     if lower != b"lower".as_slice() {
         return None;
     }
-    if done == b"removed".as_slice() {
+    if is_word(done, b"removed") {
         return Some(Phrase::Note(Note::LowerRemoved(column)));
     }
-    if done == b"kept".as_slice() {
+    if is_word(done, b"kept") {
         return Some(Phrase::Note(Note::LowerKept(column)));
     }
     None

@@ -9,6 +9,7 @@ use certs::Source;
 use frac128::{Exact, Frac, read_fraction};
 use itoa::Buffer;
 use lp_model::{Member, Model};
+use text_fields::is_word;
 
 // Whether each byte may stand in a name.
 fn all_shown(word: &[u8]) -> bool
@@ -57,20 +58,20 @@ pub(crate) fn row_of(model: &Model, name: &[u8]) -> Option<u32>
 pub(crate) fn member_of(model: &Model, kind: &[u8], name: &[u8]) -> Option<Member>
     ensures { Finds (IsMemberSaid model.now kind.now name.now) result }
 {
-    if kind == b"rowlo".as_slice() {
+    if is_word(kind, b"rowlo") {
         return Some(Member::RowLo(row_of(model, name)?));
     }
-    if kind == b"rowup".as_slice() {
+    if is_word(kind, b"rowup") {
         return Some(Member::RowUp(row_of(model, name)?));
     }
     let column = column_of(model, name)?;
-    if kind == b"lower".as_slice() {
+    if is_word(kind, b"lower") {
         return Some(Member::Lower(column));
     }
-    if kind == b"upper".as_slice() {
+    if is_word(kind, b"upper") {
         return Some(Member::Upper(column));
     }
-    if kind == b"whole".as_slice() {
+    if is_word(kind, b"whole") {
         return Some(Member::Whole(column));
     }
     None
@@ -80,10 +81,10 @@ pub(crate) fn member_of(model: &Model, kind: &[u8], name: &[u8]) -> Option<Membe
 pub(crate) fn source_of(model: &Model, word: &[u8], name: &[u8]) -> Option<Source>
     ensures { Finds (IsSourceSaid model.now word.now name.now) result }
 {
-    if word == b"below".as_slice() {
+    if is_word(word, b"below") {
         return Some(Source::Below(column_of(model, name)?));
     }
-    if word == b"above".as_slice() {
+    if is_word(word, b"above") {
         return Some(Source::Above(column_of(model, name)?));
     }
     Some(Source::Member(member_of(model, word, name)?))

@@ -1,5 +1,5 @@
 //! The numbers that words of a script write.
-ghost use Rattle.std.specs.Prelude.{◌≡◌, ◌≤◌, None, Some};
+ghost use Rattle.std.specs.Prelude.{◌≡◌, None, Some};
 ghost use Rattle.std.specs.List.{list_all};
 ghost use Rattle.frac128.specs.Literal.{is_dec};
 ghost use Rattle.phrase_reader.specs.Numerals.{budget_of, fraction_in, limit_in, limit_of, number_limit, soft_weight, value_in, value_of, weight_in};
@@ -7,7 +7,7 @@ ghost use Rattle.phrase_reader.specs.Numerals.{budget_of, fraction_in, limit_in,
 use crate::naming::fraction_of;
 use frac128::{Frac, Literal, read_decimal};
 use lp_model::Weight;
-use text_fields::{bound, is_wide_limit};
+use text_fields::{bound, is_wide_limit, is_word};
 
 // The most that a budget may be.
 const MOST_BUDGET: u64 = 1_000_000;
@@ -89,7 +89,7 @@ fn read_number_limit(word: &[u8]) -> Option<Option<Frac>>
 pub(crate) fn read_limit(word: &[u8]) -> Option<Option<Frac>>
     ensures { result ≡ limit_in word.now }
 {
-    if word == b"none".as_slice() {
+    if is_word(word, b"none") {
         return Some(None);
     }
     read_number_limit(word)
@@ -109,7 +109,7 @@ fn soft(value: Frac) -> Option<Weight>
 pub(crate) fn read_weight(word: &[u8]) -> Option<Weight>
     ensures { result ≡ weight_in word.now }
 {
-    if word == b"rigid".as_slice() {
+    if is_word(word, b"rigid") {
         return Some(Weight::Rigid);
     }
     soft(written_value(word)?)

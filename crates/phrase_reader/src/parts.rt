@@ -1,5 +1,5 @@
 //! The parts and the words of a line.
-ghost use Rattle.std.specs.Prelude.{◌≡◌, ◌<◌, ◌==◌, List, [], ◌∷◌, MatchOption, IfSome, length, position};
+ghost use Rattle.std.specs.Prelude.{◌≡◌, ◌<◌, ◌==◌, [], ◌∷◌, MatchOption, IfSome, length, position};
 ghost use Rattle.phrase_reader.specs.Parts.{parts, AreMany, AreWords, IsLast};
 
 /// At most five words, or that there are more.

@@ -10,6 +10,7 @@ use frac128::{Exact, Frac};
 use itoa::Buffer;
 use lp_model::Weight;
 use report_text::{Command, EditKind};
+use text_fields::is_word;
 
 // Whether the count is printed so.
 fn is_count(word: &[u8], count: u64) -> bool
@@ -37,7 +38,7 @@ fn is_limit(word: &[u8], limit: Option<Frac>) -> bool
 {
     match limit {
         Some(value) => is_fraction(word, value),
-        None => word == b"none".as_slice(),
+        None => is_word(word, b"none"),
     }
 }
 
@@ -47,7 +48,7 @@ fn is_weight(word: &[u8], weight: Weight) -> bool
 {
     match weight {
         Weight::Soft(value) => is_fraction(word, value),
-        Weight::Rigid => word == b"rigid".as_slice(),
+        Weight::Rigid => is_word(word, b"rigid"),
     }
 }
 

@@ -8,14 +8,15 @@ use crate::naming::{column_of, count_of, fraction_of, row_of};
 use lp_model::{Model, Side};
 use reductions::ReduceStep;
 use report_text::{Keyword, Phrase};
+use text_fields::is_word;
 
 // The side of a row that is met.
 fn met_of(word: &[u8]) -> Option<Side>
     ensures { Finds (λ s. word.now ≡ met_word s) result }
 {
     match word {
-        _ if word == b"lo".as_slice() => Some(Side::Lo),
-        _ if word == b"up".as_slice() => Some(Side::Up),
+        _ if is_word(word, b"lo") => Some(Side::Lo),
+        _ if is_word(word, b"up") => Some(Side::Up),
         _ => None,
     }
 }

@@ -9,17 +9,18 @@ use certs::{Branch, SiteKind};
 use frac128::{Op, Wide};
 use lp_model::Model;
 use report_text::{Keyword, Phrase, StopPhrase};
+use text_fields::is_word;
 
 // The kind of a site.
 fn kind_of(word: &[u8]) -> Option<SiteKind>
     ensures { Finds (λ k. word.now ≡ site_word k) result }
 {
     match word {
-        _ if word == b"settle".as_slice() => Some(SiteKind::Settle),
-        _ if word == b"improve".as_slice() => Some(SiteKind::Improve),
-        _ if word == b"stretch".as_slice() => Some(SiteKind::Stretch),
-        _ if word == b"relax".as_slice() => Some(SiteKind::Relax),
-        _ if word == b"alternative".as_slice() => Some(SiteKind::Alternative),
+        _ if is_word(word, b"settle") => Some(SiteKind::Settle),
+        _ if is_word(word, b"improve") => Some(SiteKind::Improve),
+        _ if is_word(word, b"stretch") => Some(SiteKind::Stretch),
+        _ if is_word(word, b"relax") => Some(SiteKind::Relax),
+        _ if is_word(word, b"alternative") => Some(SiteKind::Alternative),
         _ => None,
     }
 }
@@ -29,10 +30,10 @@ fn op_of(word: &[u8]) -> Option<Op>
     ensures { Finds (λ o. word.now ≡ op_word o) result }
 {
     match word {
-        _ if word == b"plus".as_slice() => Some(Op::Plus),
-        _ if word == b"minus".as_slice() => Some(Op::Minus),
-        _ if word == b"times".as_slice() => Some(Op::Times),
-        _ if word == b"over".as_slice() => Some(Op::Over),
+        _ if is_word(word, b"plus") => Some(Op::Plus),
+        _ if is_word(word, b"minus") => Some(Op::Minus),
+        _ if is_word(word, b"times") => Some(Op::Times),
+        _ if is_word(word, b"over") => Some(Op::Over),
         _ => None,
     }
 }
@@ -41,21 +42,21 @@ fn op_of(word: &[u8]) -> Option<Op>
 pub(crate) fn read_too(word: &[u8]) -> Option<Phrase>
     ensures { (model : Program) → Finds (IsSpelled model Keyword.Too (word.now ∷ [])) result }
 {
-    (word == b"wide".as_slice()).then_some(Phrase::Stop(StopPhrase::Wide))
+    (is_word(word, b"wide")).then_some(Phrase::Stop(StopPhrase::Wide))
 }
 
 /// `pivots spent`.
 pub(crate) fn read_pivots(word: &[u8]) -> Option<Phrase>
     ensures { (model : Program) → Finds (IsSpelled model Keyword.Pivots (word.now ∷ [])) result }
 {
-    (word == b"spent".as_slice()).then_some(Phrase::Stop(StopPhrase::Spent))
+    (is_word(word, b"spent")).then_some(Phrase::Stop(StopPhrase::Spent))
 }
 
 /// `nodes spent`.
 pub(crate) fn read_nodes(word: &[u8]) -> Option<Phrase>
     ensures { (model : Program) → Finds (IsSpelled model Keyword.Nodes (word.now ∷ [])) result }
 {
-    (word == b"spent".as_slice()).then_some(Phrase::Stop(StopPhrase::Nodes))
+    (is_word(word, b"spent")).then_some(Phrase::Stop(StopPhrase::Nodes))
 }
 
 /// `too large`, and a size.

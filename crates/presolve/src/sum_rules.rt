@@ -7,7 +7,6 @@ ghost use Rattle.reductions.specs.Laws.{IsFormed};
 ghost use Rattle.reductions.specs.Limited.{is_side as is_side_of};
 ghost use Rattle.reductions.specs.Rules.{forcing_at as forcing_found, forcing_step, impossible_at as impossible_found, impossible_shares as shares_of_impossible, is_forcing as does_force, is_impossible as can_not_be_met, is_kept as does_keep, is_past as goes_past, redundant_at as redundant_found, side_of_row, sum_of_row, taken_shares};
 ghost use Rattle.reductions.specs.Rules.Found.{Goes};
-ghost use Rattle.reductions.specs.Stage.{row_in};
 ghost use Rattle.presolve.specs.Next.{IsNext};
 ghost use Rattle.presolve.specs.Forced.{forced_columns};
 

@@ -11,7 +11,7 @@ use Rattle.certs.specs.Runs.{End}
 use Rattle.certs.specs.Runs.End.{Feasible, Infeasible, TooWide, Spent}
 use Rattle.certs.specs.Solves.{BlocksWith, RunEnds, SettlesAt}
 use Rattle.certs.specs.System.{LinearSystem, VariableShare}
-use Rattle.tree_laws.proofs.Cuts.{blocks_same, one_run, values_same}
+use Rattle.branch_proof.proofs.Cuts.{blocks_same, one_run, values_same}
 use Rattle.reductions.specs.declared.steps.Step.{Step}
 use Rattle.reductions.specs.Back.{point_work, weights_of, weights_work}
 use Rattle.reductions.specs.Laws.{IsFormed, TraceLaws}

@@ -1,5 +1,4 @@
 pub mod Systems
 pub mod Meeting
 pub mod Ends
-pub mod Placed
 pub mod PresolveAnswers

@@ -42,7 +42,7 @@ use Rattle.presolve_laws.specs.Answers.{IsEasedVerdict, IsLeafOf, IsPresolvedAns
 use Rattle.presolve_laws.specs.Eased.{CutsBy, EasesAt}
 use Rattle.presolve_laws.proofs.Ends.{start_trace}
 use Rattle.presolve_laws.proofs.Meeting.{meeting_same, meeting_solution, solution_meets, with_rows}
-use Rattle.presolve_laws.proofs.Placed.{placed_in_order}
+use Rattle.linear_oracle.proofs.Placed.{placed_in_order}
 use Rattle.presolve_laws.proofs.Systems.{apart_formed, set_formed}
 
 -- ---- the ends of runs of formed systems

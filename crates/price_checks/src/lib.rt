@@ -7,6 +7,5 @@ mod outcomes;
 mod prices;
 mod sums;
 
-pub use certs::{Checked, Combo, Point};
 pub use costs::{check_cost, checked_cost, price_shows_cheapest, refused_cost};
 pub use prices::check_price;

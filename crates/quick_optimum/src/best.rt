@@ -6,10 +6,8 @@ ghost use Rattle.quick_oracle.specs.Alone.{stands_alone as is_alone};
 ghost use Rattle.quick_optimum.specs.Best.{IsBestOf};
 
 use crate::spending::left;
-use bound_checks::{
-    Dual, Ray, check_bound, check_ray, check_value, checked_value, directed, right_side,
-};
-use certs::{Combo, Point, are_in_order};
+use bound_checks::{check_bound, check_ray, check_value, checked_value, directed, right_side};
+use certs::{Combo, Dual, Point, Ray, are_in_order};
 use frac128::Frac;
 use lp_model::{MemberSet, Model};
 use quick_oracle::{Kept, is_point, is_yes, stands_alone};

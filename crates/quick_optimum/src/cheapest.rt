@@ -12,7 +12,7 @@ ghost use Rattle.quick_optimum.specs.Cores.{IsListed, IsQuickCore, IsWeighed};
 
 use crate::spending::left;
 use crate::witnesses::witnesses;
-use certs::{Combo, Node, Point, Proof, Share, Source, are_in_order, members_used};
+use certs::{Combo, Node, Point, Proof, Share, Source, members_used};
 use evidence_laws::combination_refutes;
 use frac128::Frac;
 use linear_oracle::leaf_proof;

@@ -7,8 +7,8 @@ ghost use Rattle.quick_oracle.specs.Alone.{stands_alone as is_alone};
 ghost use Rattle.relaxation.specs.Relaxed.{IsRelaxed};
 
 use crate::spending::left;
-use bound_checks::{Dual, right_side};
-use certs::{Combo, are_in_order};
+use bound_checks::right_side;
+use certs::{Combo, Dual, are_in_order};
 use frac128::Frac;
 use least_checks::{check_least, check_violation, checked_violation, reached_is_least, rigid_set};
 use lp_model::{MemberSet, Model};
@@ -19,8 +19,9 @@ use std::alloc::Global;
 
 /// How little of a set's members must give way, where quick runs of at most so many pivots suggest it and the checks of
 /// `least_checks` confirm it: the point satisfies the rigid members, and its weighted violation is the total that the dual
-/// shows; or a combination of the rigid members. Where what was kept gives nothing, it is tried once more from nothing. None
-/// where nothing was confirmed, and where the set stands alone: it is small, limits cross, or it has a mark.
+/// shows; or a combination of the rigid members. Where some members are rigid the run goes on from where the whole set was
+/// settled. Where what was kept gives nothing, it is tried once more from nothing. None where nothing was confirmed, and where
+/// the set stands alone: it is small, limits cross, or it has a mark.
 pub fn quick_least<S: Suggest>(
     alloc: Global,
     model: &Model,
@@ -39,14 +40,19 @@ pub fn quick_least<S: Suggest>(
     }
     let rigid = rigid_set(alloc, model, set).ok()?;
     let before = kept.pivots_made();
-    if let Some(found) = least_once(alloc, model, set, &rigid, kept, pivots) {
+    if rigid.count() > 0 {
+        // The table of the whole set stands nearer to what is least than that of the rigid members alone.
+        let _settled = kept.suggest(alloc, model, set, pivots);
+    }
+    let rest = left(kept, before, pivots);
+    if let Some(found) = least_once(alloc, model, set, &rigid, kept, rest) {
         return Some(found);
     }
     if !kept.restart() {
         return None;
     }
-    let pivots = left(kept, before, pivots);
-    least_once(alloc, model, set, &rigid, kept, pivots)
+    let rest = left(kept, before, pivots);
+    least_once(alloc, model, set, &rigid, kept, rest)
 }
 
 // The same by what is kept: the rigid members are settled, or where there are none the set, and then the violation is made least.

@@ -1,5 +1,5 @@
 //! Witnesses of members, by quick runs.
-ghost use Rattle.std.specs.Prelude.{◌≡◌, ◌+◌, ◌≤◌, IfSome};
+ghost use Rattle.std.specs.Prelude.{◌+◌, ◌≤◌, IfSome};
 ghost use Rattle.certs.specs.Checks.{IsSetOf};
 ghost use Rattle.certs.specs.Tales.{IsPointOf};
 ghost use Rattle.filter_steps.specs.Isolated.{AreWitnesses};

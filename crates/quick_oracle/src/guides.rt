@@ -1,5 +1,5 @@
 //! Proofs that are followed: the nodes of one for another set, where they serve for this one.
-ghost use Rattle.std.specs.Prelude.{◌≡◌, IfSome};
+ghost use Rattle.std.specs.Prelude.{IfSome};
 ghost use Rattle.certs.specs.Checks.{IsSetOf};
 ghost use Rattle.quick_oracle.specs.Walks.{IsWalkNode, IsWalkPath};
 

@@ -1,5 +1,5 @@
 //! The oracle.
-ghost use Rattle.std.specs.Prelude.{◌≡◌, ◌+◌, ◌≤◌, true, IfOk};
+ghost use Rattle.std.specs.Prelude.{◌≡◌, ◌+◌, ◌≤◌, true};
 ghost use Rattle.certs.specs.Checks.{IsSetOf};
 ghost use Rattle.certs.specs.Tales.{asked_after, no_tale};
 ghost use Rattle.quick_oracle.specs.Alone.{stands_alone};

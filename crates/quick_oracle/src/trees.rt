@@ -1,5 +1,5 @@
 //! Trees of sets with marks, whose nodes are quick runs.
-ghost use Rattle.std.specs.Prelude.{◌≡◌, ◌+◌, ◌*◌, ◌≤◌, All, IfSome, length};
+ghost use Rattle.std.specs.Prelude.{◌+◌, ◌*◌, ◌≤◌, All, IfSome, length};
 ghost use Rattle.certs.specs.Checks.{IsSetOf};
 ghost use Rattle.certs.specs.Proof.{IsFittingNode};
 ghost use Rattle.quick_oracle.specs.Answers.{IsConfirmed};

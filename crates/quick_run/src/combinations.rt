@@ -11,7 +11,7 @@ ghost use Rattle.quick_run.specs.Shape.{IsLimitOf, IsShareOf, IsSourceOf, has_le
 use certs::{Branch, Combo, Share, Shares, Side, Source, stands_before};
 use frac128::Frac;
 use lp_model::{Member, MemberSet, Model};
-use quick_table::{Blocked, Table, TableRow, opposite, side_of, variable_of};
+use quick_table::{Blocked, Table, TableRow, side_of, variable_of};
 use std::alloc::{AllocError, Global};
 
 // A limit of a variable, so many times, and whether a branch gives it.

@@ -1,5 +1,5 @@
 //! The limits of the variables, as a set of members gives them.
-ghost use Rattle.std.specs.Prelude.{◌≡◌, ◌<◌, length};
+ghost use Rattle.std.specs.Prelude.{◌<◌, length};
 ghost use Rattle.certs.specs.Checks.{IsSetOf};
 ghost use Rattle.lp_model.specs.MemberSets.{IsPossibleIn};
 

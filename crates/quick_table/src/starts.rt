@@ -1,5 +1,4 @@
 //! The table at the start: the rows are basic, and each column stands at its lower limit, else at its upper one, else at 0.
-ghost use Rattle.std.specs.Prelude.{◌≡◌};
 ghost use Rattle.certs.specs.Checks.{IsSetOf};
 
 use crate::arithmetic::{common_multiple, product, quotient};

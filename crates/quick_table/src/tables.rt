@@ -1,5 +1,4 @@
 //! The table: all rows of a program, with what is known of each variable.
-ghost use Rattle.std.specs.Prelude.{◌≡◌};
 ghost use Rattle.certs.specs.Checks.{IsSetOf};
 
 use crate::columns::Columns;

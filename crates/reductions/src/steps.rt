@@ -3,7 +3,7 @@ use frac128::Frac;
 use lp_model::{Items, Side, Terms};
 
 /// A row that a step changed, and how many times the step took from it what stands for the removed column.
-#[derive(Clone, Copy, PartialEq, Eq, Debug)]
+#[derive(Clone, Copy)]
 pub struct Change {
     pub row: u32,
     pub factor: Frac,
@@ -83,7 +83,7 @@ pub struct Trace {
 
 /// A step of a reduction, told in short: the numbers of what it removes. A fixed column has its value, a forcing row the side
 /// that is met, and a doubleton its row and the column that is removed with it.
-#[derive(Clone, Copy, PartialEq, Eq, Debug)]
+#[derive(Clone, Copy)]
 pub enum ReduceStep {
     Empty(u32),
     Singleton(u32),

@@ -10,10 +10,10 @@ use Rattle.certs.specs.Order.{AreSharesInOrder}
 use Rattle.certs.specs.System.{LinearSystem}
 use Rattle.certs.specs.Tableau.{IsWellFormedSystem, value_of}
 use Rattle.certs.proofs.Feasible.{feasible_law}
-use Rattle.bound_checks.specs.declared.bounds.Dual.{Dual}
+use Rattle.certs.specs.declared.evidence.Dual.{Dual}
 use Rattle.dictionary.specs.Value.{DictionaryValue, tableau_of}
-use Rattle.improve_ends.specs.Duals.{IsNamedDual, optimal_shares}
-use Rattle.improve_ends.proofs.Optimal.{objective_value_law}
+use Rattle.simplex.specs.Duals.{IsNamedDual, optimal_shares}
+use Rattle.simplex.proofs.Optimal.{objective_value_law}
 use Rattle.unbounded.proofs.Ordered.{optimal_in_order}
 use Rattle.relaxation.specs.Runs.{IsBest, StandsBest}
 use Rattle.unbounded.proofs.Settled.{settled}

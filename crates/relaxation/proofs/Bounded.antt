@@ -16,9 +16,9 @@ use Rattle.lp_model.proofs.New.{one_positive}
 use Rattle.certs.specs.Alternative.{cost_of}
 use Rattle.certs.specs.Elastic.{soft_members}
 use Rattle.certs.specs.System.{Limits, LinearSystem}
-use Rattle.elastic_systems.specs.declared.systems.Costs.{Costs}
-use Rattle.elastic_systems.specs.declared.systems.Costs.TheVariants.{Ones, Weights}
-use Rattle.elastic_systems.specs.Costs.{cost_by, objective_by, system_by}
+use Rattle.relaxation.specs.declared.systems.Costs.{Costs}
+use Rattle.relaxation.specs.declared.systems.Costs.TheVariants.{Ones, Weights}
+use Rattle.relaxation.specs.Costs.{cost_by, objective_by, system_by}
 use Rattle.relaxation.specs.Runs.{HasNoRay}
 use Rattle.relaxation.proofs.Eased.{columns_are, elastic_column}
 use Rattle.relaxation.proofs.Least.{no_ray}

@@ -9,7 +9,7 @@ use Rattle.lp_model.specs.Satisfaction.{IsPart}
 use Rattle.certs.specs.Checks.{IsSetOf}
 use Rattle.certs.specs.Violation.{is_rigid, rigid_members}
 use Rattle.certs.proofs.Possible.{members_for_model}
-use Rattle.elastic_systems.specs.Laws.{IsElastic}
+use Rattle.relaxation.specs.Laws.{IsElastic}
 
 pub part_elastic : (model : Program) (set enforced : SetValue) → IsSetOf model set → All (λ m. is_mark m ≡ false) set.members → IsPart enforced.members set.members
     → set.members ≡ filter (has set.members) (possible_in set) → IsInOrder set.members → IsInOrder enforced.members → IsElastic model set.members enforced.members

@@ -25,12 +25,12 @@ use Rattle.certs.specs.Violation.{IsLeastDual, is_violated, rigid_members, total
 use Rattle.certs.proofs.HasLists.{agree_on}
 use Rattle.certs.proofs.Lists.{All-passed}
 use Rattle.certs.proofs.Parted.{filter_both}
-use Rattle.bound_checks.specs.declared.bounds.Dual.{Dual}
-use Rattle.improve_ends.proofs.Meaning.{dual_bound_law}
-use Rattle.elastic_systems.specs.declared.systems.Costs.{Costs}
-use Rattle.elastic_systems.specs.declared.systems.Costs.TheVariants.{Ones, Weights}
-use Rattle.elastic_systems.specs.Costs.{cost_by, objective_by, system_by}
-use Rattle.elastic_systems.specs.Laws.{IsElastic, ShowsLeast}
+use Rattle.certs.specs.declared.evidence.Dual.{Dual}
+use Rattle.simplex.proofs.Meaning.{dual_bound_law}
+use Rattle.relaxation.specs.declared.systems.Costs.{Costs}
+use Rattle.relaxation.specs.declared.systems.Costs.TheVariants.{Ones, Weights}
+use Rattle.relaxation.specs.Costs.{cost_by, objective_by, system_by}
+use Rattle.relaxation.specs.Laws.{IsElastic, ShowsLeast}
 use Rattle.least_checks.specs.Least.{IsLeastBy}
 use Rattle.relaxation.specs.Runs.{IsBest}
 use Rattle.relaxation.specs.Stretching.{IsTestOf}

@@ -12,7 +12,7 @@ use Rattle.certs.specs.Plain.{crossing_shares}
 use Rattle.certs.specs.System.{LinearSystem}
 use Rattle.certs.specs.Tableau.{Tableau}
 use Rattle.certs.proofs.PlainOrder.{in_order_by_test}
-use Rattle.improve_ends.specs.Duals.{IsNamedDual}
+use Rattle.simplex.specs.Duals.{IsNamedDual}
 use Rattle.linear_oracle.proofs.Shares.{all_known}
 use Rattle.rational.specs.Linear.{Term}
 use Rattle.std.specs.Prelude.{All}

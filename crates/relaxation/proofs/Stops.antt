@@ -13,7 +13,7 @@ use Rattle.dictionary.specs.Value.{DictionaryValue}
 use Rattle.simplex.specs.Ends.{HasRun}
 use Rattle.simplex.specs.declared.settling.RunStop.{RunStop}
 use Rattle.simplex.specs.declared.settling.RunStop.TheVariants.{Wide, Pivots}
-use Rattle.improve_run.specs.Ends.{HasImproved, end_of as improve_end}
+use Rattle.simplex.specs.ImproveEnds.{HasImproved, end_of as improve_end}
 use Rattle.unbounded.specs.Runs.{StopsSo}
 
 module _ (system : LinearSystem) (start middle now : DictionaryValue) (pivots left turns left_at turns_at : ℕ) (apart : first_crossing system ≡ None) (e : start.basis ≡ start_basis system) (usable : middle.usable ≡ true)

@@ -9,7 +9,7 @@ use Rattle.certs.specs.declared.solving.Stop.TheVariants.{Wide, Pivots, Nodes, L
 use Rattle.certs.specs.Checks.{IsSetOf}
 use Rattle.certs.specs.Sites.{IsStopped}
 use Rattle.certs.specs.Violation.{rigid_members}
-use Rattle.elastic_systems.specs.Laws.{RefutesEnforced}
+use Rattle.relaxation.specs.Laws.{RefutesEnforced}
 use Rattle.least_checks.specs.Least.{IsLeastBy}
 use Rattle.relaxation.specs.declared.relaxing.Relaxed.{Relaxed}
 use Rattle.relaxation.specs.declared.relaxing.Relaxed.TheVariants.{Least, RigidInfeasible}

@@ -20,19 +20,19 @@ use Rattle.certs.specs.Sites.{IsStopped}
 use Rattle.certs.specs.System.{LinearSystem}
 use Rattle.certs.specs.Tableau.{IsTableauOf, IsWellFormedSystem}
 use Rattle.certs.specs.Turns.{settle_choice, settle_values}
-use Rattle.bound_checks.specs.declared.bounds.Dual.{Dual}
+use Rattle.certs.specs.declared.evidence.Dual.{Dual}
 use Rattle.dictionary.specs.Value.{DictionaryValue, tableau_of}
 use Rattle.simplex.specs.Ends.{IsEnd}
 use Rattle.simplex.specs.declared.settling.Settled.TheVariants.{Infeasible as SettlesInfeasible}
-use Rattle.improve_run.specs.Ends.{EndsAt, KeepsLimits}
-use Rattle.improve_run.specs.declared.improving.Improved.TheVariants.{Optimal as ImprovesOptimal}
-use Rattle.improve_ends.specs.Duals.{IsNamedDual}
-use Rattle.improve_ends.specs.Rays.{IsVariableRay}
+use Rattle.simplex.specs.ImproveEnds.{EndsAt, KeepsLimits}
+use Rattle.simplex.specs.declared.improving.Improved.TheVariants.{Optimal as ImprovesOptimal}
+use Rattle.simplex.specs.Duals.{IsNamedDual}
+use Rattle.simplex.specs.Rays.{IsVariableRay}
 use Rattle.unbounded.specs.Runs.{StopsSo}
-use Rattle.elastic_systems.specs.declared.systems.Costs.{Costs}
-use Rattle.elastic_systems.specs.declared.systems.Costs.TheVariants.{Ones, Weights}
-use Rattle.elastic_systems.specs.Costs.{system_by}
-use Rattle.elastic_systems.specs.Laws.{RefutesEnforced}
+use Rattle.relaxation.specs.declared.systems.Costs.{Costs}
+use Rattle.relaxation.specs.declared.systems.Costs.TheVariants.{Ones, Weights}
+use Rattle.relaxation.specs.Costs.{system_by}
+use Rattle.relaxation.specs.Laws.{RefutesEnforced}
 use Rattle.relaxation.specs.declared.running.Reached.{Reached}
 use Rattle.relaxation.specs.declared.running.Reached.TheVariants.{Blocked, Best}
 use Rattle.relaxation.specs.declared.solving.Solved.{Solved}

@@ -2,15 +2,15 @@
 ghost use Rattle.std.specs.Prelude.{◌≡◌, ◌≤◌, ◌<◌, ◌^◌, ℕ, IfErr, IfOk, length, take};
 ghost use Rattle.lp_model.specs.Program.{Program};
 ghost use Rattle.certs.specs.Checks.{IsSetOf};
-ghost use Rattle.elastic_systems.specs.Costs.{system_by};
-ghost use Rattle.elastic_systems.specs.Laws.{IsElastic};
+ghost use Rattle.relaxation.specs.Costs.{system_by};
+ghost use Rattle.relaxation.specs.Laws.{IsElastic};
 ghost use Rattle.relaxation.specs.Runs.{IsEased, IsFailure, IsSiteBy, IsStopBy, kind_by};
 
 use crate::solving::{Failure, Solved, solve};
-use certs::{MemberSet, Path, Point, Site, SiteKind, Stop, Values};
-use elastic_systems::{
+use crate::{
     Costs, elastic_system, elastic_systems_are_few, elastic_systems_are_formed, named_shares,
 };
+use certs::{MemberSet, Path, Point, Site, SiteKind, Stop, Values};
 use lp_model::Model;
 use simplex::RunStop;
 use std::alloc::{AllocError, Global};
@@ -99,10 +99,12 @@ fn site_of(
         (model : Program) → IsSetOf model set → IsSetOf model enforced
         → IfOk result (IsSiteBy model set.members enforced.members costs) }
 {
+    let set = set.copy(alloc)?;
+    let enforced = enforced.copy(alloc)?;
     Ok(Site {
         kind: kind_of(costs),
-        set: set.copy(alloc)?,
-        enforced: enforced.copy(alloc)?,
+        set,
+        enforced,
         path: Path::new(Vec::new(alloc)),
     })
 }

@@ -9,11 +9,10 @@ ghost use Rattle.relaxation.specs.Runs.{HasNoRay, IsReached};
 use certs::System;
 use dictionary::Dictionary;
 use frac128::Frac;
-use improve_run::{Improved, improve};
-use simplex::{RunStop, Settled, settle};
+use simplex::{Improved, RunStop, Settled, improve, settle};
 
 /// Where the runs end: nothing helps this variable, which is outside its limits; or nothing raises the objective.
-#[derive(Clone, Copy, Debug)]
+#[derive(Clone, Copy)]
 pub enum Reached {
     Blocked(u32),
     Best,

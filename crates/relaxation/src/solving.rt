@@ -6,12 +6,10 @@ ghost use Rattle.certs.specs.Tableau.{IsWellFormedSystem, variables};
 ghost use Rattle.relaxation.specs.Runs.{HasNoRay, IsFailure, IsSolved};
 
 use crate::running::{Reached, run};
-use bound_checks::Dual;
-use certs::{Combo, Point, Shares, Side, System};
+use certs::{Combo, Dual, Point, Shares, Side, System};
 use frac128::Frac;
-use improve_ends::dual_of;
 use linear_oracle::{first_crossing, started};
-use simplex::{RunStop, combo_of, limit_share, point_of};
+use simplex::{RunStop, combo_of, dual_of, limit_share, point_of};
 use std::alloc::{AllocError, Global};
 
 /// What a system's runs show: a combination, which nothing satisfies; or values of its columns at which the objective is

@@ -7,7 +7,7 @@ use Rattle.lp_model.specs.Program.{Program}
 use Rattle.certs.specs.declared.evidence.Point.{Point}
 use Rattle.certs.specs.declared.evidence.Node.{Node}
 use Rattle.certs.specs.declared.solving.Stop.{Stop}
-use Rattle.model_history.specs.History.{HistoryValue}
+use Rattle.report_text.specs.History.{HistoryValue}
 use Rattle.report_text.specs.declared.report.Method.{Method}
 use Rattle.report_text.specs.declared.report.Method.TheVariants.{Deletion, Additive, Sensitivity, Elastic, Alternative}
 use Rattle.report_text.specs.declared.report.Command.{Command}
@@ -19,7 +19,7 @@ use Rattle.report_text.specs.declared.report.Entry.{Entry}
 use Rattle.report_text.specs.declared.report.Report.{Report}
 use Rattle.report_text.specs.Grammar.{column_name}
 use Rattle.report_text.specs.Turns.{after, gathered}
-use Rattle.model_session.specs.Session.{session_at}
+use Rattle.report_text.specs.Session.{session_at}
 use Rattle.cert_check.specs.Trials.{settled_count, unsettled_count}
 use Rattle.report_page.specs.declared.markup.Tag.{Tag}
 use Rattle.report_page.specs.declared.markup.Sign.{Sign}

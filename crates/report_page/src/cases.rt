@@ -1,9 +1,9 @@
 //! The cases of a proof: nested lists of two cases each, with a sum in each case that is not split again.
 #![tactic(auto, using(crate::proofs::Pieced::more))]
 
-ghost use Rattle.std.specs.Prelude.{◌≡◌, ◌∷◌, [], OnOk, IfOk, flat_map, reverse, MatchResult};
+ghost use Rattle.std.specs.Prelude.{◌≡◌, ◌∷◌, [], OnOk, flat_map, reverse};
 ghost use Rattle.report_text.specs.Grammar.{column_name as column_named};
-ghost use Rattle.report_page.specs.Pieces.{Piece as Shown, Writes, piece_shown};
+ghost use Rattle.report_page.specs.Pieces.{Piece as Shown, Writes};
 ghost use Rattle.report_page.specs.Cases.{source_pieces, share_pieces, sum_pieces, case_pieces, first_case, second_case, case_end, next_case, left_open, nodes_pieces, cases_pieces as all_cases};
 
 use crate::demands::write_title;

@@ -4,7 +4,7 @@
 ghost use Rattle.std.specs.Prelude.{◌≡◌, ◌==◌, ◌<◌, ◌≤◌, ◌+◌, [], OnOk, IfOk, cond, length};
 ghost use Rattle.std.specs.List.{list_any};
 ghost use Rattle.report_page.specs.Pieces.{Writes};
-ghost use Rattle.report_page.specs.Drawing.{is_in_form, is_shared as is_shared_by, shared_count, numbered, member_pieces, column_pieces, line_pieces, tie_pieces, tied_pieces, shared_pieces, figure_pieces, few_pieces, drawing_pieces};
+ghost use Rattle.report_page.specs.Drawing.{is_in_form, is_shared as is_shared_by, shared_count, numbered, member_pieces, column_pieces, tie_pieces, tied_pieces, shared_pieces, figure_pieces, drawing_pieces};
 
 use crate::markup::{Sign, Tag, Words};
 use crate::members::fold_tag;

@@ -3,7 +3,7 @@ ghost use Rattle.std.specs.Prelude.{◌≡◌};
 ghost use Rattle.report_page.specs.Markup.{tag_text, sign_text, words_text, account_text, change_text, removal_text, reach_text, giving_text, pricing_text};
 
 /// What marks up a page.
-#[derive(Clone, Copy, PartialEq, Eq, Debug)]
+#[derive(Clone, Copy, PartialEq, Eq)]
 pub enum Tag {
     Head,
     Style,
@@ -115,7 +115,7 @@ impl Tag {
 }
 
 /// What stands between numbers and names.
-#[derive(Clone, Copy, PartialEq, Eq, Debug)]
+#[derive(Clone, Copy, PartialEq, Eq)]
 pub enum Sign {
     Nothing,
     Negative,
@@ -161,7 +161,7 @@ impl Sign {
 }
 
 /// What a page says of answers.
-#[derive(Clone, Copy, PartialEq, Eq, Debug)]
+#[derive(Clone, Copy, PartialEq, Eq)]
 pub enum Words {
     Settled,
     Unsettled,
@@ -255,7 +255,7 @@ impl Words {
 }
 
 /// What a page says of cases, and of calculations that stopped.
-#[derive(Clone, Copy, PartialEq, Eq, Debug)]
+#[derive(Clone, Copy, PartialEq, Eq)]
 pub enum Account {
     Cases,
     CasesFold,
@@ -329,7 +329,7 @@ impl Account {
 }
 
 /// What a page says of edits, and of why they are refused.
-#[derive(Clone, Copy, PartialEq, Eq, Debug)]
+#[derive(Clone, Copy, PartialEq, Eq)]
 pub enum Change {
     Drop,
     Keep,
@@ -373,7 +373,7 @@ impl Change {
 }
 
 /// What a page says of how far a program is reduced.
-#[derive(Clone, Copy, PartialEq, Eq, Debug)]
+#[derive(Clone, Copy, PartialEq, Eq)]
 pub enum Removal {
     Asked,
     Told,
@@ -423,7 +423,7 @@ impl Removal {
 }
 
 /// What a page says of whether the objective runs away, and of how far it can go.
-#[derive(Clone, Copy, PartialEq, Eq, Debug)]
+#[derive(Clone, Copy, PartialEq, Eq)]
 pub enum Reach {
     Asked,
     RunsAway,
@@ -473,7 +473,7 @@ impl Reach {
 }
 
 /// What a page says of what has to give way.
-#[derive(Clone, Copy, PartialEq, Eq, Debug)]
+#[derive(Clone, Copy, PartialEq, Eq)]
 pub enum Giving {
     Asked,
     NoneGives,
@@ -518,7 +518,7 @@ impl Giving {
 }
 
 /// What a page says of what a contradiction costs.
-#[derive(Clone, Copy, PartialEq, Eq, Debug)]
+#[derive(Clone, Copy, PartialEq, Eq)]
 pub enum Pricing {
     NoneCheaper,
     Shown,

@@ -1,8 +1,7 @@
 //! Members that no point satisfies, one after another.
 #![tactic(auto, using(crate::proofs::Pieced::more))]
 
-ghost use Rattle.std.specs.Prelude.{◌≡◌, OnOk, drop, length};
-ghost use Rattle.rational.specs.Rational.{ℚ};
+ghost use Rattle.std.specs.Prelude.{◌≡◌, OnOk, drop};
 ghost use Rattle.certs.specs.Violation.{is_of};
 ghost use Rattle.report_page.specs.Pieces.{piece_shown, Writes};
 ghost use Rattle.report_page.specs.Members.{weight_of as weight_among, times_pieces, taken_pieces, witness_pieces, asking_pieces, member_pieces, members_pieces, one_piece, some_piece, cannot_pieces, fold_tag as tag_of_fold, lead_pieces, list_pieces};
@@ -19,7 +18,7 @@ use std::alloc::AllocError;
 const MOST_OPEN: u64 = 20;
 
 /// Which members cannot all be met: any, or rigid ones alone.
-#[derive(Clone, Copy, PartialEq, Eq, Debug)]
+#[derive(Clone, Copy, PartialEq, Eq)]
 pub enum Among {
     Any,
     Rigid,

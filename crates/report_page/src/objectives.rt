@@ -17,7 +17,7 @@ use report_text::Bounded;
 use std::alloc::AllocError;
 
 /// What shares show: how far the objective can go, or how little must give way.
-#[derive(Clone, Copy, PartialEq, Eq, Debug)]
+#[derive(Clone, Copy, PartialEq, Eq)]
 pub enum Support {
     Bound,
     Total,

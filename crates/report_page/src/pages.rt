@@ -13,8 +13,7 @@ use crate::parts::column_name;
 use crate::pieces::{Piece, write};
 use cert_check::settles;
 use lp_model::{Model, Note};
-use model_session::Session;
-use report_text::{Entry, Report};
+use report_text::{Entry, Report, Session};
 use std::alloc::AllocError;
 
 // How many entries are settled.

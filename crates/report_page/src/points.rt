@@ -16,7 +16,7 @@ use lp_model::Model;
 use std::alloc::AllocError;
 
 /// What the number of a column tells: its value, also at a point of least violation or in a price, or how it changes.
-#[derive(Clone, Copy, PartialEq, Eq, Debug)]
+#[derive(Clone, Copy, PartialEq, Eq)]
 pub enum Told {
     Value,
     LeastValue,

@@ -1,7 +1,7 @@
 //! What a cheapest way to show a contradiction costs, and the price that shows that none costs less.
 #![tactic(auto, using(crate::proofs::Pieced::more))]
 
-ghost use Rattle.std.specs.Prelude.{◌≡◌, OnOk};
+ghost use Rattle.std.specs.Prelude.{OnOk};
 ghost use Rattle.report_page.specs.Pieces.{Writes};
 ghost use Rattle.report_page.specs.Prices.{cost_pieces, no_cheaper_pieces, priced_pieces, price_pieces};
 

@@ -1,2 +1,3 @@
-pub mod Kept
 pub mod Printed
+pub mod EvidencePrinted
+pub mod Within

@@ -8,7 +8,7 @@ use Rattle.report_text.specs.declared.report.Command.{Command}
 use Rattle.report_text.specs.Turns.{after, gathered}
 use Rattle.report_text.specs.declared.phrases.Phrase.{Phrase}
 use Rattle.report_text.specs.Grammar.{phrase_line, entry_phrases, entries_phrases, phrases_text}
-pub use Rattle.evidence_printer.proofs.Printed.{text_both}
+pub use Rattle.report_printer.proofs.EvidencePrinted.{text_both}
 use Rattle.report_printer.specs.Printing.{ended, head_phrases, PartsLaw}
 
 -- the text of entries, one after another

@@ -1,2 +1,4 @@
 pub mod Printing
 pub mod Numbers
+pub mod Evidence
+pub mod EvidenceNumbers

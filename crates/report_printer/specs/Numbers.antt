@@ -1,5 +1,5 @@
 -- Answers whose numbers are those of the code: fractions within the limit, and counts of 64 bits.
-pub use Rattle.evidence_printer.specs.Numbers.{HasValuesWithin, HasWitnessesWithin, HasWeightsWithin, IsProofWithin, IsStopWithin, IsRayWithin, IsDualWithin, IsBoundedWithin, IsLeastWithin, HasPriceWithin, IsReducedWithin}
+pub use Rattle.report_printer.specs.EvidenceNumbers.{HasValuesWithin, HasWitnessesWithin, HasWeightsWithin, IsProofWithin, IsStopWithin, IsRayWithin, IsDualWithin, IsBoundedWithin, IsLeastWithin, HasPriceWithin, IsReducedWithin}
 use Rattle.report_text.specs.Form.{IsCountWithin}
 use Rattle.report_text.specs.declared.report.Core.{Core}
 use Rattle.report_text.specs.declared.report.Answer.{Answer}

@@ -5,7 +5,7 @@ use Rattle.lp_model.specs.Program.{Program}
 use Rattle.rational.specs.Rational.{ℚ}
 use Rattle.lp_model.specs.declared.members.Side.{Side}
 use Rattle.certs.specs.Checks.{IsSetOf}
-pub use Rattle.evidence_printer.specs.Printing.{ended, Keeps, IsKnownMember, IsKnownSource, IsKnownNode, IsKnownProof, IsKnownPoint, IsKnownRay, IsKnownBounded, IsKnownLeast, IsKnownPrice, IsKnownSite, IsKnownStop, IsKnownStep}
+pub use Rattle.report_printer.specs.Evidence.{ended, IsKnownMember, IsKnownSource, IsKnownNode, IsKnownProof, IsKnownPoint, IsKnownRay, IsKnownBounded, IsKnownLeast, IsKnownPrice, IsKnownSite, IsKnownStop, IsKnownStep}
 use Rattle.report_text.specs.declared.report.Core.{Core}
 use Rattle.report_text.specs.declared.report.Answer.{Answer}
 use Rattle.report_text.specs.declared.report.Answer.TheVariants.{Feasible, Infeasible, Irreducible, Unbounded as RunsAway, Bounded as BoundedBy, Least as LeastBy, RigidInfeasible as RigidRefuted, Reduced as ReducedTo, Done, Refused, NotLinear, Stopped}

@@ -1,21 +1,24 @@
 //! The printed lines of answers.
-#![tactic(auto, using(crate::proofs::Kept::keeps_on, crate::proofs::Kept::keeps_more, crate::proofs::Kept::keeps_same))]
 
 ghost use Rattle.std.specs.Prelude.{◌≡◌, ◌≢◌, ◌++◌, ℕ, OnErr, OnOk};
 ghost use Rattle.certs.specs.Checks.{IsSetOf};
 ghost use Rattle.lp_model.specs.Program.{Program};
 ghost use Rattle.report_text.specs.Grammar.{phrase_line, answer_front, answer_end, answer_phrases, phrases_text};
-ghost use Rattle.evidence_printer.specs.Numbers.{HasValuesWithin, IsProofWithin};
-ghost use Rattle.evidence_printer.specs.Printing.{ended, Keeps, IsKnownProof, IsKnownPoint};
+ghost use Rattle.report_printer.specs.EvidenceNumbers.{HasValuesWithin, IsProofWithin};
+ghost use Rattle.report_printer.specs.Evidence.{ended, IsKnownProof, IsKnownPoint};
 ghost use Rattle.report_printer.specs.Numbers.{HasNumbersWithin, IsCoreWithin};
 ghost use Rattle.report_printer.specs.Printing.{CanPrintLaw, IsKnownCore, IsKnownAnswer};
 
-use crate::back::take_back;
+use crate::least::{print_least, print_rounds};
+use crate::members::{print_column, print_members};
+use crate::nodes::print_proof;
+use crate::objectives::{print_bounded, print_unbounded};
+use crate::points::{print_point, print_witnesses};
+use crate::prices::print_price;
+use crate::steps::print_reduced;
+use crate::stops::print_stop;
+use crate::words::{append, push_line};
 use certs::{Point, Proof};
-use evidence_printer::{
-    print_bounded, print_column, print_least, print_members, print_point, print_price, print_proof,
-    print_reduced, print_rounds, print_stop, print_unbounded, print_witnesses, push_line,
-};
 use lp_model::{MemberSet, Model};
 use report_text::{Answer, Command, Core, Phrase, Refusal};
 use std::alloc::AllocError;
@@ -24,7 +27,6 @@ use std::alloc::AllocError;
 fn print_feasible(model: &Model, point: &Point, into: &mut Vec<u8>) -> Result<(), AllocError>
     requires { IsKnownPoint model.now point.now }
     ensures text { OnOk result (into.new.items ≡ into.old.items ++ phrases_text model.now (answer_front model.now (Answer.Feasible point.now))) }
-    ensures front { Keeps into.old.items into.new.items }
     ensures within { OnOk result (HasValuesWithin point.now) }
 {
     push_line(b"feasible", into)?;
@@ -41,7 +43,6 @@ fn print_infeasible(
     requires set { IsSetOf model.now set.now }
     requires proof { IsKnownProof model.now proof.now }
     ensures text { OnOk result (into.new.items ≡ into.old.items ++ phrases_text model.now (answer_front model.now (Answer.Infeasible set.now proof.now))) }
-    ensures front { Keeps into.old.items into.new.items }
     ensures within { OnOk result (IsProofWithin proof.now) }
 {
     push_line(b"infeasible", into)?;
@@ -54,7 +55,6 @@ fn print_infeasible(
 fn print_irreducible(model: &Model, core: &Core, into: &mut Vec<u8>) -> Result<(), AllocError>
     requires { IsKnownCore model.now core.now }
     ensures text { OnOk result (into.new.items ≡ into.old.items ++ phrases_text model.now (answer_front model.now (Answer.Irreducible core.now))) }
-    ensures front { Keeps into.old.items into.new.items }
     ensures within { OnOk result (IsCoreWithin core.now) }
 {
     push_line(b"irreducible", into)?;
@@ -75,7 +75,6 @@ fn print_rigid(
     requires set { IsSetOf model.now set.now }
     requires proof { IsKnownProof model.now proof.now }
     ensures text { OnOk result (into.new.items ≡ into.old.items ++ phrases_text model.now (answer_front model.now (Answer.RigidInfeasible set.now proof.now))) }
-    ensures front { Keeps into.old.items into.new.items }
     ensures within { OnOk result (IsProofWithin proof.now) }
 {
     push_line(b"rigid infeasible", into)?;
@@ -88,7 +87,6 @@ fn print_rigid(
 fn print_front(model: &Model, answer: &Answer, into: &mut Vec<u8>) -> Result<(), AllocError>
     requires { IsKnownAnswer model.now answer.now }
     ensures text { OnOk result (into.new.items ≡ into.old.items ++ phrases_text model.now (answer_front model.now answer.now)) }
-    ensures front { Keeps into.old.items into.new.items }
     ensures within { OnOk result (HasNumbersWithin answer.now) }
 {
     match answer {
@@ -131,8 +129,7 @@ fn last_word(answer: &Answer) -> &'static str
 // Appends the last line of an answer.
 fn print_last(model: &Model, answer: &Answer, into: &mut Vec<u8>) -> Result<(), AllocError>
     requires { IsKnownAnswer model.now answer.now }
-    ensures text { OnOk result (into.new.items ≡ into.old.items ++ ended (phrase_line model.now (answer_end answer.now))) }
-    ensures front { Keeps into.old.items into.new.items }
+    ensures { OnOk result (into.new.items ≡ into.old.items ++ ended (phrase_line model.now (answer_end answer.now))) }
 {
     if let Answer::NotLinear(column) = answer {
         return print_column(b"not linear", model, *column, into);
@@ -148,7 +145,6 @@ pub(crate) fn put_answer(
 ) -> Result<(), AllocError>
     requires { IsKnownAnswer model.now answer.now }
     ensures text { OnOk result (into.new.items ≡ into.old.items ++ phrases_text model.now (answer_phrases model.now answer.now)) }
-    ensures front { Keeps into.old.items into.new.items }
     ensures within { OnOk result (HasNumbersWithin answer.now) }
 {
     print_front(model, answer, into)?;
@@ -170,9 +166,9 @@ pub fn print_answer(
     ensures kept { OnErr result (into.new.items ≡ into.old.items) }
     ensures within { OnOk result (HasNumbersWithin answer.now) }
 {
-    let start = into.len();
-    let printed = put_answer(model, answer, into);
-    take_back(printed, start, into)
+    let mut lines = Vec::new(*into.allocator());
+    put_answer(model, answer, &mut lines)?;
+    append(lines.as_slice(), into)
 }
 
 /// What is in the form of an answer can be printed.

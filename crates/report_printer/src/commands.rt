@@ -1,13 +1,10 @@
 //! The printed text of commands and edits.
-#![tactic(auto, using(crate::proofs::Kept::keeps_on, crate::proofs::Kept::keeps_more, crate::proofs::Kept::keeps_same))]
 
 ghost use Rattle.std.specs.Prelude.{◌≡◌, ◌++◌, ◌∷◌, [], OnErr, OnOk, decimal};
 ghost use Rattle.report_text.specs.Grammar.{◌then◌, method_word, target_word, side_word, limit_word, weight_word, mark_word, edit_words, command_text};
-ghost use Rattle.evidence_printer.specs.Printing.{Keeps};
 ghost use Rattle.report_printer.specs.Printing.{set_words, Adds};
 
-use crate::back::take_back;
-use evidence_printer::{push_decimal, push_word};
+use crate::words::{append, push_decimal, push_word};
 use frac128::Frac;
 use lp_model::{Side, Weight};
 use report_text::{Command, EditKind, Method, NamedEdit, TargetKind};
@@ -27,8 +24,7 @@ fn method_name(method: Method) -> &'static str
 
 // Appends a command that looks for an irreducible set.
 fn print_iis(method: Method, into: &mut Vec<u8>) -> Result<(), AllocError>
-    ensures text { OnOk result (into.new.items ≡ into.old.items ++ command_text (Command.Iis method)) }
-    ensures front { Keeps into.old.items into.new.items }
+    ensures { OnOk result (into.new.items ≡ into.old.items ++ command_text (Command.Iis method)) }
 {
     push_word(b"iis", into)?;
     into.extend_from_slice(method_name(method).as_bytes())
@@ -36,8 +32,7 @@ fn print_iis(method: Method, into: &mut Vec<u8>) -> Result<(), AllocError>
 
 // Appends words, and how many of what they name a budget has.
 fn print_budget(what: &[u8], most: u64, into: &mut Vec<u8>) -> Result<(), AllocError>
-    ensures text { OnOk result (into.new.items ≡ into.old.items ++ (what.now then decimal most)) }
-    ensures front { Keeps into.old.items into.new.items }
+    ensures { OnOk result (into.new.items ≡ into.old.items ++ (what.now then decimal most)) }
 {
     push_word(what, into)?;
     push_decimal(most, into)?;
@@ -77,8 +72,7 @@ fn mark_name(whole: bool) -> &'static str
 
 // Appends the number that a side or a bound is set to.
 fn print_limit(limit: Option<Frac>, into: &mut Vec<u8>) -> Result<(), AllocError>
-    ensures text { OnOk result (into.new.items ≡ into.old.items ++ limit_word limit) }
-    ensures front { Keeps into.old.items into.new.items }
+    ensures { OnOk result (into.new.items ≡ into.old.items ++ limit_word limit) }
 {
     match limit {
         Some(value) => value.print(into),
@@ -88,8 +82,7 @@ fn print_limit(limit: Option<Frac>, into: &mut Vec<u8>) -> Result<(), AllocError
 
 // Appends a weight.
 fn print_weight(weight: Weight, into: &mut Vec<u8>) -> Result<(), AllocError>
-    ensures text { OnOk result (into.new.items ≡ into.old.items ++ weight_word weight) }
-    ensures front { Keeps into.old.items into.new.items }
+    ensures { OnOk result (into.new.items ≡ into.old.items ++ weight_word weight) }
 {
     match weight {
         Weight::Soft(value) => value.print(into),
@@ -104,8 +97,7 @@ fn print_targeted(
     name: &[u8],
     into: &mut Vec<u8>,
 ) -> Result<(), AllocError>
-    ensures text { OnOk result (Adds into.old.items (verb.now ∷ target_word target ∷ name.now ∷ []) into.new.items) }
-    ensures front { Keeps into.old.items into.new.items }
+    ensures { OnOk result (Adds into.old.items (verb.now ∷ target_word target ∷ name.now ∷ []) into.new.items) }
 {
     push_word(verb, into)?;
     push_word(target_name(target).as_bytes(), into)?;
@@ -119,8 +111,7 @@ fn print_weighed(
     name: &[u8],
     into: &mut Vec<u8>,
 ) -> Result<(), AllocError>
-    ensures text { OnOk result (Adds into.old.items (edit_words name.now (EditKind.Weigh target weight)) into.new.items) }
-    ensures front { Keeps into.old.items into.new.items }
+    ensures { OnOk result (Adds into.old.items (edit_words name.now (EditKind.Weigh target weight)) into.new.items) }
 {
     push_word(b"weight", into)?;
     push_word(target_name(target).as_bytes(), into)?;
@@ -137,8 +128,7 @@ fn print_set(
     name: &[u8],
     into: &mut Vec<u8>,
 ) -> Result<(), AllocError>
-    ensures text { OnOk result (Adds into.old.items (set_words place.now side limit name.now) into.new.items) }
-    ensures front { Keeps into.old.items into.new.items }
+    ensures { OnOk result (Adds into.old.items (set_words place.now side limit name.now) into.new.items) }
 {
     push_word(b"set", into)?;
     push_word(place, into)?;
@@ -150,8 +140,7 @@ fn print_set(
 
 // Appends an edit that marks.
 fn print_mark(whole: bool, name: &[u8], into: &mut Vec<u8>) -> Result<(), AllocError>
-    ensures text { OnOk result (Adds into.old.items (edit_words name.now (EditKind.SetMark whole)) into.new.items) }
-    ensures front { Keeps into.old.items into.new.items }
+    ensures { OnOk result (Adds into.old.items (edit_words name.now (EditKind.SetMark whole)) into.new.items) }
 {
     push_word(b"mark", into)?;
     push_word(name, into)?;
@@ -160,8 +149,7 @@ fn print_mark(whole: bool, name: &[u8], into: &mut Vec<u8>) -> Result<(), AllocE
 
 // Appends an edit.
 fn print_edit(edit: &NamedEdit, into: &mut Vec<u8>) -> Result<(), AllocError>
-    ensures text { OnOk result (Adds into.old.items (edit_words edit.now.name edit.now.kind) into.new.items) }
-    ensures front { Keeps into.old.items into.new.items }
+    ensures { OnOk result (Adds into.old.items (edit_words edit.now.name edit.now.kind) into.new.items) }
 {
     let name = edit.name.bytes();
     match edit.kind {
@@ -176,8 +164,7 @@ fn print_edit(edit: &NamedEdit, into: &mut Vec<u8>) -> Result<(), AllocError>
 
 /// Appends a command.
 pub(crate) fn put_command(command: &Command, into: &mut Vec<u8>) -> Result<(), AllocError>
-    ensures text { OnOk result (into.new.items ≡ into.old.items ++ command_text command.now) }
-    ensures front { Keeps into.old.items into.new.items }
+    ensures { OnOk result (into.new.items ≡ into.old.items ++ command_text command.now) }
 {
     match command {
         Command::Check => into.extend_from_slice(b"check"),
@@ -197,7 +184,7 @@ pub fn print_command(command: &Command, into: &mut Vec<u8>) -> Result<(), AllocE
     ensures text { OnOk result (into.new.items ≡ into.old.items ++ command_text command.now) }
     ensures kept { OnErr result (into.new.items ≡ into.old.items) }
 {
-    let start = into.len();
-    let printed = put_command(command, into);
-    take_back(printed, start, into)
+    let mut lines = Vec::new(*into.allocator());
+    put_command(command, &mut lines)?;
+    append(lines.as_slice(), into)
 }

@@ -1,16 +1,13 @@
 //! The printed lines of a command with its answer.
-#![tactic(auto, using(crate::proofs::Kept::keeps_on, crate::proofs::Kept::keeps_more, crate::proofs::Kept::keeps_same))]
 
 ghost use Rattle.std.specs.Prelude.{◌≡◌, ◌++◌, OnErr, OnOk, ℕ};
 ghost use Rattle.report_text.specs.Grammar.{entry_phrases, phrases_text};
-ghost use Rattle.evidence_printer.specs.Printing.{Keeps};
 ghost use Rattle.report_printer.specs.Numbers.{HasNumbersWithin};
 ghost use Rattle.report_printer.specs.Printing.{IsKnownAnswer};
 
 use crate::answers::put_answer;
-use crate::back::take_back;
 use crate::commands::put_command;
-use evidence_printer::push_word;
+use crate::words::{append, push_word};
 use lp_model::Model;
 use report_text::{Answer, Command};
 use std::alloc::AllocError;
@@ -24,7 +21,6 @@ fn put_entry(
 ) -> Result<(), AllocError>
     requires { IsKnownAnswer model.now answer.now }
     ensures text { (line : ℕ) → OnOk result (into.new.items ≡ into.old.items ++ phrases_text model.now (entry_phrases model.now (record { command = command.now; answer = answer.now; line = line }))) }
-    ensures front { Keeps into.old.items into.new.items }
     ensures within { OnOk result (HasNumbersWithin answer.now) }
 {
     push_word(b"command", into)?;
@@ -46,7 +42,7 @@ pub fn print_entry(
     ensures kept { OnErr result (into.new.items ≡ into.old.items) }
     ensures within { OnOk result (HasNumbersWithin answer.now) }
 {
-    let start = into.len();
-    let printed = put_entry(model, command, answer, into);
-    take_back(printed, start, into)
+    let mut lines = Vec::new(*into.allocator());
+    put_entry(model, command, answer, &mut lines)?;
+    append(lines.as_slice(), into)
 }

@@ -1,14 +1,12 @@
 //! What stands before the entries of a report, and behind them.
-#![tactic(auto, using(crate::proofs::Kept::keeps_on, crate::proofs::Kept::keeps_more, crate::proofs::Kept::keeps_same))]
 
 ghost use Rattle.std.specs.Prelude.{◌≡◌, ◌++◌, ◌∷◌, [], ◌<◌, OnErr, OnOk, codes, length};
 ghost use Rattle.lp_model.specs.Program.{Program, noted_column};
 ghost use Rattle.report_text.specs.Grammar.{◌then◌, column_name, phrase_line, phrases_text};
-ghost use Rattle.evidence_printer.specs.Printing.{ended, Keeps};
+ghost use Rattle.report_printer.specs.Evidence.{ended};
 ghost use Rattle.report_printer.specs.Printing.{PartsLaw, head_phrases};
 
-use crate::back::take_back;
-use evidence_printer::{push_line, push_word};
+use crate::words::{append, push_line, push_word};
 use lp_model::{Model, Note};
 use report_text::Phrase;
 use std::alloc::AllocError;
@@ -21,8 +19,7 @@ fn print_noted(
     into: &mut Vec<u8>,
 ) -> Result<(), AllocError>
     requires { column < length model.now.columns }
-    ensures text { OnOk result (into.new.items ≡ into.old.items ++ ended (codes "note" then column_name model.now column then what.now)) }
-    ensures front { Keeps into.old.items into.new.items }
+    ensures { OnOk result (into.new.items ≡ into.old.items ++ ended (codes "note" then column_name model.now column then what.now)) }
 {
     push_word(b"note", into)?;
     push_word(model.column_name(column), into)?;
@@ -32,8 +29,7 @@ fn print_noted(
 // Appends the line of a note.
 fn print_note(model: &Model, note: Note, into: &mut Vec<u8>) -> Result<(), AllocError>
     requires { noted_column note < length model.now.columns }
-    ensures text { OnOk result (into.new.items ≡ into.old.items ++ ended (phrase_line model.now (Phrase.Note note))) }
-    ensures front { Keeps into.old.items into.new.items }
+    ensures { OnOk result (into.new.items ≡ into.old.items ++ ended (phrase_line model.now (Phrase.Note note))) }
 {
     match note {
         Note::LowerRemoved(column) => print_noted(model, column, b"lower removed", into),
@@ -43,8 +39,7 @@ fn print_note(model: &Model, note: Note, into: &mut Vec<u8>) -> Result<(), Alloc
 
 // Appends the lines of a report that stand before its entries.
 fn put_head(model: &Model, into: &mut Vec<u8>) -> Result<(), AllocError>
-    ensures text { OnOk result (into.new.items ≡ into.old.items ++ phrases_text model.now (head_phrases model.now.notes)) }
-    ensures front { Keeps into.old.items into.new.items }
+    ensures { OnOk result (into.new.items ≡ into.old.items ++ phrases_text model.now (head_phrases model.now.notes)) }
 {
     // That the notes name columns that there are is told with the count.
     let _rows = model.row_count();
@@ -61,9 +56,9 @@ pub fn print_head(model: &Model, into: &mut Vec<u8>) -> Result<(), AllocError>
     ensures text { OnOk result (into.new.items ≡ into.old.items ++ phrases_text model.now (head_phrases model.now.notes)) }
     ensures kept { OnErr result (into.new.items ≡ into.old.items) }
 {
-    let start = into.len();
-    let printed = put_head(model, into);
-    take_back(printed, start, into)
+    let mut lines = Vec::new(*into.allocator());
+    put_head(model, &mut lines)?;
+    append(lines.as_slice(), into)
 }
 
 /// Appends the last line of a report. Where memory is refused, the bytes are those that were there.
@@ -71,9 +66,7 @@ pub fn print_foot(into: &mut Vec<u8>) -> Result<(), AllocError>
     ensures text { (model : Program) → OnOk result (into.new.items ≡ into.old.items ++ phrases_text model (Phrase.Foot ∷ [])) }
     ensures kept { OnErr result (into.new.items ≡ into.old.items) }
 {
-    let start = into.len();
-    let printed = push_line(b"report end", into);
-    take_back(printed, start, into)
+    into.extend_from_slice(b"report end\n")
 }
 
 /// The text of a report is its head, its entries and its foot.

@@ -2,10 +2,19 @@
 #![tactic(auto)]
 
 mod answers;
-mod back;
 mod commands;
 mod entries;
 mod heads;
+mod least;
+mod members;
+mod nodes;
+mod objectives;
+mod points;
+mod prices;
+mod sites;
+mod steps;
+mod stops;
+mod words;
 
 pub use answers::{answers_can_be_printed, print_answer};
 pub use commands::print_command;

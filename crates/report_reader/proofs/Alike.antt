@@ -15,7 +15,7 @@ use Rattle.report_text.specs.Turns.{after}
 use Rattle.report_text.specs.Grammar.{Line, column_name, name_of, phrase_line}
 use Rattle.report_text.specs.Form.{is_word, IsNamedRow, IsNamedColumn, IsNamedMember, IsNamedSource, IsStepFor}
 use Rattle.phrase_reader.specs.Phrases.{IsStopPhrase, IsPhraseFor, Says}
-use Rattle.model_session.proofs.Unchanged.{same_names, rows_same, columns_same, row_name_same, column_name_same, phrase_line_same}
+use Rattle.report_text.proofs.Unchanged.{same_names, rows_same, columns_same, row_name_same, column_name_same, phrase_line_same}
 
 -- as many rows and columns, of the same names
 record HasNamesOf (a b : Program) : Type 0 where

@@ -4,14 +4,14 @@ use Rattle.std.specs.Prelude.{IfOk}
 use Rattle.std.specs.declared.alloc.AllocError.{AllocError}
 use Rattle.lp_model.specs.Program.{Program}
 use Rattle.lp_model.specs.declared.parts.Note.{Note}
-use Rattle.model_history.specs.History.{HistoryValue}
+use Rattle.report_text.specs.History.{HistoryValue}
 use Rattle.report_text.specs.declared.report.Command.{Command}
 use Rattle.report_text.specs.declared.report.Entry.{Entry}
 use Rattle.report_text.specs.declared.phrases.Phrase.{Phrase}
 use Rattle.report_text.specs.Turns.{after, entry_commands}
 use Rattle.report_text.proofs.InTurn.{commands_push}
-use Rattle.model_session.specs.Session.{session_at, first_of, IsSessionAt, Rewinds}
-use Rattle.model_session.proofs.Standing.{first_of_session}
+use Rattle.report_text.specs.Session.{session_at, first_of, IsSessionAt, Rewinds}
+use Rattle.report_text.proofs.Standing.{first_of_session}
 use Rattle.report_reader.specs.declared.drafts.Stage.{Stage}
 use Rattle.report_reader.specs.declared.drafts.Draft.{Draft}
 use Rattle.report_reader.specs.Drafts.{between, advanced, entries_now, IsTaken, Replays, StaysOn}

@@ -8,8 +8,8 @@ use Rattle.lp_model.specs.Members.{comes_before, has, is_active, IsInOrder}
 use Rattle.lp_model.specs.MemberSets.{SetValue}
 use Rattle.lp_model.specs.Satisfaction.{values_at}
 use Rattle.lp_model.specs.declared.parts.Note.{Note}
-use Rattle.model_history.specs.History.{HistoryValue}
-use Rattle.model_session.specs.Session.{session_at, Takes as TakesCommand}
+use Rattle.report_text.specs.History.{HistoryValue}
+use Rattle.report_text.specs.Session.{session_at, Takes as TakesCommand}
 use Rattle.certs.specs.declared.evidence.Branch.{Branch}
 use Rattle.certs.specs.declared.evidence.Share.{Share}
 use Rattle.certs.specs.declared.evidence.Point.{Point}

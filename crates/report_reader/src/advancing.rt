@@ -1,7 +1,7 @@
 //! What a phrase makes of a draft.
 ghost use Rattle.std.specs.Prelude.{◌≡◌, ℕ, IfOk, OnErr, OnOk, option_map};
 ghost use Rattle.lp_model.specs.Program.{Program};
-ghost use Rattle.model_session.specs.Session.{first_of, IsSessionAt};
+ghost use Rattle.report_text.specs.Session.{first_of, IsSessionAt};
 ghost use Rattle.report_text.specs.Form.{IsCommand};
 ghost use Rattle.report_text.specs.Turns.{entry_commands};
 ghost use Rattle.phrase_reader.specs.Phrases.{IsPhraseFor};
@@ -10,8 +10,7 @@ ghost use Rattle.report_reader.specs.Drafts.{between as between_drafts, placed, 
 use crate::drafts::{Draft, Next, Part, Question, Stage};
 use crate::following::follow;
 use lp_model::Note;
-use model_session::Session;
-use report_text::{Answer, Command, Entries, Entry, Notes, Phrase};
+use report_text::{Answer, Command, Entries, Entry, Notes, Phrase, Session};
 use std::alloc::{AllocError, Global};
 
 /// Nothing read.

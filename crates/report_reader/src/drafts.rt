@@ -61,7 +61,7 @@ pub(crate) struct Question {
 }
 
 /// What the first line of a stop tells: `too wide`, `pivots spent` or `nodes spent`.
-#[derive(Clone, Copy, PartialEq, Eq, Debug)]
+#[derive(Clone, Copy, PartialEq, Eq)]
 pub(crate) enum StopCause {
     Wide,
     Spent,
@@ -94,7 +94,7 @@ pub(crate) enum StopPart {
 }
 
 /// What a point is to show, by the line before it: `feasible`, `unbounded` or `bounded`.
-#[derive(Clone, Copy, PartialEq, Eq, Debug)]
+#[derive(Clone, Copy, PartialEq, Eq)]
 pub(crate) enum Claim {
     Feasible,
     Unbounded,

@@ -5,7 +5,6 @@ ghost use Rattle.lp_model.specs.Members.{IsInOrder};
 ghost use Rattle.phrase_reader.specs.Phrases.{IsPhraseFor};
 ghost use Rattle.report_reader.specs.Drafts.{members_of, point_of, may_split, counts_rounds, has_tail, not_linear_said, proof_begun, proof_with, witnessed_with, extended, IsFound, IsPartFor};
 ghost use Rattle.lp_model.specs.Program.{Program};
-ghost use Rattle.report_text.specs.declared.report.Method.{Method as OneMethod};
 ghost use Rattle.report_text.specs.declared.report.Command.TheVariants.{Check, Iis, Edit, Undo, Pivots, Nodes};
 ghost use Rattle.report_text.specs.declared.report.NamedEdit.{NamedEdit as OneEdit};
 

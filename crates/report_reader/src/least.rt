@@ -9,11 +9,10 @@ ghost use Rattle.report_reader.specs.declared.drafts.LeastPart.{LeastPart as One
 use crate::building::{add_share, add_value, make_point};
 use crate::drafts::{Found, LeastPart, Members, Next, Part};
 use crate::stopping::begin_stop;
-use bound_checks::Dual;
-use certs::{Combo, Point, Shares, Values};
+use certs::{Combo, Dual, Point, Shares, Values};
 use frac128::Frac;
 use lp_model::Model;
-use report_text::{Answer, Command, Phrase};
+use report_text::{Answer, Phrase};
 use std::alloc::{AllocError, Global};
 
 /// What may follow `command relax`.

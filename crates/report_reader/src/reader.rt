@@ -5,13 +5,12 @@ ghost use Rattle.report_text.specs.declared.report.Report.{Report};
 ghost use Rattle.report_reader.specs.Reading.{Reads, IsReportStop};
 ghost use Rattle.report_reader.specs.Drafts.{Takes, IsLineStop, Replays, StaysOn, ended, IsDraftFor};
 ghost use Rattle.report_text.specs.Turns.{entry_commands};
-ghost use Rattle.model_session.specs.Session.{first_of, IsSessionAt};
+ghost use Rattle.report_text.specs.Session.{first_of, IsSessionAt};
 
 use crate::advancing::{advance, nothing};
 use crate::drafts::{Draft, Stage};
-use model_session::Session;
 use phrase_reader::read_phrase;
-use report_text::Report;
+use report_text::{Report, Session};
 use std::alloc::Global;
 use text_fields::next_line;
 use thiserror::Error;
@@ -20,7 +19,7 @@ use thiserror::Error;
 ///
 /// `BadLine` has the number of the first whole line with which no report goes on. `Truncated` comes where every whole
 /// line is right and the bytes end before the report does. `Memory` comes where memory was refused.
-#[derive(Clone, Copy, PartialEq, Eq, Debug, Error)]
+#[derive(Clone, Copy, Debug, Error)]
 pub enum ReportStop {
     #[error("bad line {0}")]
     BadLine(u32),

@@ -2,3 +2,8 @@ pub mod Lengths
 pub mod Filters
 pub mod InTurn
 pub mod Passed
+pub mod Changing
+pub mod Histories
+pub mod Unchanged
+pub mod Standing
+pub mod Taken

@@ -1,5 +1,5 @@
 -- What is behind the point of an answer.
-use Rattle.std.proofs.Common.{◌≡◌, ◌+◌, refl, ◌∙◌, ap, subst, sym, ℕ, suc, List, [], ◌∷◌, ◌++◌, append_assoc, length, length-append, drop, arith}
+use Rattle.std.proofs.Common.{◌≡◌, ◌+◌, ◌∙◌, ap, sym, suc, List, ◌∷◌, ◌++◌, append_assoc, length, length-append, drop, arith}
 use Rattle.std.proofs.Math.Seq.{drop-append_seam}
 
 -- two lines, then a first part, a second one, and the end

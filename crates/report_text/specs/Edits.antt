@@ -6,7 +6,7 @@ use Rattle.lp_model.specs.declared.members.Member.TheVariants.{RowLo, RowUp, Low
 use Rattle.lp_model.specs.declared.edits.Target.{Target}
 use Rattle.lp_model.specs.declared.edits.Target.TheVariants.{OneMember, BothSides}
 use Rattle.lp_model.specs.declared.edits.Edit.{Edit}
-use Rattle.model_history.specs.History.{changes}
+use Rattle.report_text.specs.History.{changes}
 use Rattle.report_text.specs.declared.report.TargetKind.{TargetKind}
 use Rattle.report_text.specs.declared.report.EditKind.{EditKind}
 use Rattle.report_text.specs.declared.report.NamedEdit.{NamedEdit}

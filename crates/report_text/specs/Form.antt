@@ -21,7 +21,7 @@ use Rattle.certs.specs.declared.evidence.Node.{Node}
 use Rattle.certs.specs.declared.evidence.Node.TheVariants.{Split, Leaf}
 use Rattle.certs.specs.declared.evidence.Proof.{Proof}
 use Rattle.certs.specs.declared.evidence.Ray.{Ray}
-use Rattle.bound_checks.specs.declared.bounds.Dual.{Dual}
+use Rattle.certs.specs.declared.evidence.Dual.{Dual}
 use Rattle.certs.specs.Checks.{IsSetOf}
 use Rattle.certs.specs.Combination.{IsFitting}
 use Rattle.certs.specs.Proof.{Tree, preorder, IsFittingNode}

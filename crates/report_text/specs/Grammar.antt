@@ -25,13 +25,12 @@ use Rattle.lp_model.specs.MemberSets.{SetValue}
 use Rattle.certs.specs.declared.evidence.Branch.{Branch}
 use Rattle.certs.specs.declared.evidence.Source.{Source}
 use Rattle.certs.specs.declared.evidence.Source.TheVariants.{Member as Of, Below, Above}
-use Rattle.certs.specs.declared.evidence.Share.{Share}
 use Rattle.certs.specs.declared.evidence.Point.{Point}
 use Rattle.certs.specs.declared.evidence.Node.{Node}
 use Rattle.certs.specs.declared.evidence.Node.TheVariants.{Split, Leaf}
 use Rattle.certs.specs.declared.evidence.Proof.{Proof}
 use Rattle.certs.specs.declared.evidence.Ray.{Ray}
-use Rattle.bound_checks.specs.declared.bounds.Dual.{Dual}
+use Rattle.certs.specs.declared.evidence.Dual.{Dual}
 use Rattle.reductions.specs.declared.steps.ReduceStep.{ReduceStep}
 use Rattle.reductions.specs.declared.steps.ReduceStep.TheVariants.{Empty, Singleton, Fixed, Redundant, Forcing, Doubleton}
 use Rattle.report_text.specs.declared.report.Method.{Method}

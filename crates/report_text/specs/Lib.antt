@@ -4,3 +4,5 @@ pub mod Turns
 pub mod Grammar
 pub mod Form
 pub mod Places
+pub mod History
+pub mod Session

@@ -6,7 +6,7 @@ use Rattle.lp_model.specs.MemberSets.{SetValue}
 use Rattle.certs.specs.declared.evidence.Point.{Point}
 use Rattle.certs.specs.declared.evidence.Proof.{Proof}
 use Rattle.certs.specs.declared.evidence.Ray.{Ray}
-use Rattle.bound_checks.specs.declared.bounds.Dual.{Dual}
+use Rattle.certs.specs.declared.evidence.Dual.{Dual}
 use Rattle.report_text.specs.declared.report.Core.{Core}
 use Rattle.report_text.specs.declared.report.Bounded.{Bounded as Reached}
 use Rattle.report_text.specs.declared.report.Answer.TheVariants.{Feasible, Infeasible, Irreducible, Unbounded, Bounded, Least, RigidInfeasible}

@@ -2,7 +2,7 @@
 use Rattle.std.specs.Prelude.{List, [], ◌∷◌, ◌++◌, map, flat_map, Option, Some, None, option_map, option_to_list}
 use Rattle.lp_model.specs.Program.{Program}
 use Rattle.lp_model.specs.declared.edits.Edit.{Edit as OneEdit}
-use Rattle.model_history.specs.History.{Action, Make, standing, after_edits}
+use Rattle.report_text.specs.History.{Action, Make, standing, after_edits}
 use Rattle.report_text.specs.declared.report.Command.{Command}
 use Rattle.report_text.specs.declared.report.Command.TheVariants.{Edit, Undo}
 use Rattle.report_text.specs.declared.report.Entry.{Entry}

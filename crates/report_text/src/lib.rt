@@ -1,10 +1,13 @@
 //! Scripts and reports: their commands, answers and entries, and the grammar of a report's text.
 #![tactic(auto)]
 
+mod history;
 mod layout;
 mod phrases;
 mod report;
+mod session;
 
+pub use history::{History, changes_law, history_law};
 pub use layout::{
     BOUND_LINES, HEAD_LINES, LEAST_LINES, MEMBER_LINES, OPENING_LINES, PROOF_LINES, TOTAL_LINES,
     places_law, point_length, witness_length,
@@ -14,3 +17,4 @@ pub use report::{
     Answer, Bounded, Command, Core, EditKind, Entries, Entry, Method, NamedEdit, Notes,
     ReduceSteps, Reduced, Refusal, Report, Script, TargetKind, Witnesses,
 };
+pub use session::{EditStop, Session, UndoStop, names_stand};

@@ -7,7 +7,7 @@ use lp_model::{Member, Note};
 use reductions::ReduceStep;
 
 /// The word that a line begins with.
-#[derive(Clone, Copy, PartialEq, Eq, Debug)]
+#[derive(Clone, Copy, PartialEq, Eq)]
 pub enum Keyword {
     Iisan,
     Note,
@@ -61,7 +61,7 @@ pub enum Keyword {
 }
 
 /// What a line of a stop says: why a solve stopped, and where.
-#[derive(Clone, Copy, PartialEq, Eq, Debug)]
+#[derive(Clone, Copy)]
 pub enum StopPhrase {
     Wide,
     Spent,

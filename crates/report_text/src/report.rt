@@ -1,15 +1,13 @@
 //! What a script asks, and what a report says: notes, and for each command its answer.
-ghost use Rattle.std.specs.Prelude.{◌≡◌};
 
-use bound_checks::Dual;
-use certs::{Point, Proof, Ray, Stop};
+use certs::{Dual, Point, Proof, Ray, Stop};
 use frac128::Frac;
 use lp_model::{Items, MemberSet, Name, Note, Side, Weight};
 use reductions::ReduceStep;
 use std::marker::Model;
 
 /// How an irreducible set of members is looked for.
-#[derive(Clone, Copy, PartialEq, Eq, Debug)]
+#[derive(Clone, Copy, PartialEq, Eq)]
 pub enum Method {
     Deletion,
     Additive,
@@ -19,7 +17,7 @@ pub enum Method {
 }
 
 /// What an edit is of: a row with those sides that it has, one side of a row, a bound of a column, or its mark.
-#[derive(Clone, Copy, PartialEq, Eq, Debug)]
+#[derive(Clone, Copy, PartialEq, Eq)]
 pub enum TargetKind {
     Row,
     RowLo,
@@ -31,7 +29,7 @@ pub enum TargetKind {
 
 /// What an edit asks for: members are dropped, kept, or weighed; a side of a row or a bound of a column is set to a number,
 /// or taken away; or a column is marked as whole, or not.
-#[derive(Clone, Copy, PartialEq, Eq, Debug)]
+#[derive(Clone, Copy)]
 pub enum EditKind {
     Drop(TargetKind),
     Keep(TargetKind),
@@ -118,7 +116,7 @@ pub struct Reduced {
 
 /// Why an edit is refused, or an undo: the program has no row or column of the name; the program would stay as it is; or no
 /// edit stands.
-#[derive(Clone, Copy, PartialEq, Eq, Debug)]
+#[derive(Clone, Copy, PartialEq, Eq)]
 pub enum Refusal {
     UnknownName,
     NoChange,

@@ -1,10 +1,9 @@
 //! What a settle turn chooses.
-ghost use Rattle.std.specs.Prelude.{◌≡◌, ℕ, ◌<◌, ◌||◌, cond, MatchResult, MatchOption, Some, None, true, false, find, length};
+ghost use Rattle.std.specs.Prelude.{◌≡◌, ◌<◌, ◌||◌, MatchResult, MatchOption, Some, None, true, false, find, length};
 ghost use Rattle.std.specs.Option.{option_map};
-ghost use Rattle.rational.specs.Rational.{zero_ℚ, lt_q, eq_ℚ};
+ghost use Rattle.rational.specs.Rational.{lt_q};
 ghost use Rattle.frac128.specs.Calculation.{first_wide};
 ghost use Rattle.certs.specs.System.{is_basic};
-ghost use Rattle.certs.specs.Tableau.{nonbasics, place_value};
 ghost use Rattle.certs.specs.Turns.{can_fall as can_it_fall, can_rise as can_it_rise, entering as entering_one, helps as does_help, is_outside, is_over, is_under, limited, limited_basics, meets as does_meet, missed_by, settle_choice, settle_values, exchange_or_blocked};
 ghost use Rattle.dictionary.specs.Layouts.{side_of};
 ghost use Rattle.dictionary.specs.Value.{tableau_of};

@@ -9,7 +9,7 @@ ghost use Rattle.certs.specs.Ended.{blocked_multiple, blocked_shares, share_for}
 ghost use Rattle.certs.specs.Named.{IsNamedCombination, member_of, named};
 ghost use Rattle.certs.specs.System.{LinearSystem, is_basic};
 ghost use Rattle.certs.specs.Tableau.{IsTableauOf, IsWellFormedSystem};
-ghost use Rattle.certs.specs.Turns.{Choice, limited, settle_choice, settle_values};
+ghost use Rattle.certs.specs.Turns.{limited, settle_choice, settle_values};
 ghost use Rattle.certs.specs.Turns.Choice.{Blocked};
 ghost use Rattle.dictionary.specs.Layouts.{side_of};
 ghost use Rattle.dictionary.specs.Value.{tableau_of};

@@ -3,10 +3,9 @@ ghost use Rattle.std.specs.Prelude.{◌≡◌, ◌≤◌, ◌<◌, ℕ, IfOk, No
 ghost use Rattle.frac128.specs.Limit.{limit};
 ghost use Rattle.frac128.specs.Calculation.{first_wide};
 ghost use Rattle.lp_model.specs.Satisfaction.{values_at};
-ghost use Rattle.certs.specs.Ended.{IsSolution};
 ghost use Rattle.certs.specs.System.{LinearSystem};
 ghost use Rattle.certs.specs.Tableau.{IsTableauOf, IsWellFormedSystem, value_of};
-ghost use Rattle.certs.specs.Turns.{Choice, limited, operations_of, settle_choice, settle_values};
+ghost use Rattle.certs.specs.Turns.{limited, operations_of, settle_choice, settle_values};
 ghost use Rattle.dictionary.specs.Value.{tableau_of};
 ghost use Rattle.simplex.specs.Ends.{IsEnd};
 ghost use Rattle.simplex.specs.Points.{IsFeasiblePoint};

@@ -3,8 +3,7 @@ ghost use Rattle.std.specs.Prelude.{◌≡◌, ◌+◌, ◌<◌, ◌≤◌, ◌^
 ghost use Rattle.frac128.specs.Calculation.{first_wide};
 ghost use Rattle.certs.specs.System.{LinearSystem};
 ghost use Rattle.certs.specs.Tableau.{IsTableauOf};
-ghost use Rattle.certs.specs.Turns.{CanPivot, settle_choice, settle_values};
-ghost use Rattle.dictionary.specs.Layouts.{side_of};
+ghost use Rattle.certs.specs.Turns.{settle_choice, settle_values};
 ghost use Rattle.dictionary.specs.Value.{tableau_of};
 ghost use Rattle.simplex.specs.Ends.{end_of, HasRun, IsEnd, IsSpent, NeverSpent};
 
@@ -14,14 +13,14 @@ use frac128::{Exact, Wide};
 
 /// How a settle run ends: every variable is within its limits, or no choice of the columns within theirs brings this one
 /// within its own.
-#[derive(Clone, Copy, Debug)]
+#[derive(Clone, Copy)]
 pub enum Settled {
     Feasible,
     Infeasible(u32),
 }
 
 /// Why a run stops.
-#[derive(Clone, Copy, Debug)]
+#[derive(Clone, Copy)]
 pub enum RunStop {
     /// In the turn with this number this operation is the first that is too wide.
     Wide(u64, Wide),

@@ -10,7 +10,7 @@ pub struct LeastSuggestion {
 }
 
 /// What it counts to miss a member that is not rigid by one: its own weight in the program, or 1.
-#[derive(Clone, Copy, PartialEq, Eq, Debug)]
+#[derive(Clone, Copy, PartialEq, Eq)]
 pub enum Costs {
     Weights,
     Ones,

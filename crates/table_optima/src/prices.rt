@@ -1,5 +1,5 @@
 //! What it costs to miss the limits of variables.
-ghost use Rattle.std.specs.Prelude.{◌≡◌, ◌<◌, length};
+ghost use Rattle.std.specs.Prelude.{◌<◌};
 ghost use Rattle.certs.specs.Checks.{IsSetOf};
 ghost use Rattle.lp_model.specs.MemberSets.{IsPossibleIn};
 

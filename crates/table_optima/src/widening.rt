@@ -1,5 +1,5 @@
 //! The run that makes a vertex of the alternative polyhedron cheaper: limits grow wider until no variable is outside them.
-ghost use Rattle.std.specs.Prelude.{◌≡◌, ◌+◌, ◌≤◌};
+ghost use Rattle.std.specs.Prelude.{◌+◌, ◌≤◌};
 
 use crate::extents::Extents;
 use frac128::Frac;

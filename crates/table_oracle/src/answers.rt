@@ -1,5 +1,5 @@
 //! The answers, and whether they are right.
-ghost use Rattle.std.specs.Prelude.{◌≡◌, ◌∷◌, [], IfOk, length};
+ghost use Rattle.std.specs.Prelude.{◌≡◌, ◌∷◌, [], IfOk};
 ghost use Rattle.certs.specs.Checks.{IsSetOf};
 ghost use Rattle.table_oracle.specs.Value.{is_leaf as leaf_is_right, is_point as point_is_right, is_yes as check_says_yes};
 

@@ -1,5 +1,5 @@
 //! The oracle.
-ghost use Rattle.std.specs.Prelude.{◌≡◌, ◌++◌, [], ◌∷◌, ◌⊎◌, true, IfOk, List, drop};
+ghost use Rattle.std.specs.Prelude.{◌≡◌, ◌++◌, ◌∷◌, ◌⊎◌, true, IfOk, List, drop};
 ghost use Rattle.std.specs.Option.{option_to_list};
 ghost use Rattle.certs.specs.Checks.{IsSetOf};
 ghost use Rattle.certs.specs.Tales.{asked_after, no_tale};

@@ -25,7 +25,7 @@ pub enum TextKind {
 }
 
 /// A fault and the number of its line, from 1.
-#[derive(Clone, Copy, PartialEq, Eq, Debug, Error)]
+#[derive(Clone, Copy, Debug, Error)]
 #[error("line {line}: {kind}")]
 pub struct TextFault {
     pub line: u32,
@@ -33,7 +33,7 @@ pub struct TextFault {
 }
 
 /// Why the fields of a line are not there.
-#[derive(Clone, Copy, PartialEq, Eq, Debug, Error)]
+#[derive(Clone, Copy, Debug, Error)]
 pub enum FieldStop {
     #[error("{0}")]
     Text(TextFault),
@@ -42,7 +42,7 @@ pub enum FieldStop {
 }
 
 /// A fault of a text that is to declare a model.
-#[derive(Clone, Copy, PartialEq, Eq, Debug, Error)]
+#[derive(Clone, Copy, Debug, Error)]
 pub enum ReadKind {
     #[error("{0}")]
     Text(TextKind),
@@ -76,7 +76,7 @@ pub enum ReadKind {
 }
 
 /// A reader's fault and the number of its line, from 1.
-#[derive(Clone, Copy, PartialEq, Eq, Debug, Error)]
+#[derive(Clone, Copy, Debug, Error)]
 #[error("line {line}: {kind}")]
 pub struct ReadStop {
     pub line: u32,
@@ -84,7 +84,7 @@ pub struct ReadStop {
 }
 
 /// Why a text was not read: its first fault, or want of memory.
-#[derive(Clone, Copy, PartialEq, Eq, Debug, Error)]
+#[derive(Clone, Copy, Debug, Error)]
 pub enum ReadFault {
     #[error("{0}")]
     Stop(ReadStop),

@@ -12,7 +12,7 @@ mod tokens;
 
 pub use faults::{FieldStop, ReadFault, ReadKind, ReadStop, TextFault, TextKind};
 pub use laws::{field_law, token_laws};
-pub use line_fields::fields;
+pub use line_fields::{fields, is_word};
 pub use numbers::{bound, fitting, is_huge, is_wide_limit, number};
 pub use pieces::TokenKind;
 pub use spans::{Line, Span, after_line, next_line};

@@ -1,5 +1,6 @@
 //! The fields of a line.
 ghost use Rattle.std.specs.Prelude.{◌≡◌, ◌≤◌, Option, length, MatchResult};
+ghost use Rattle.std.specs.Str.{bytes_eq};
 ghost use Rattle.text_fields.specs.Lines.{line_text};
 ghost use Rattle.text_fields.specs.Fields.{field_fault, AddsFields, StopsFields};
 
@@ -50,4 +51,11 @@ pub fn fields(bytes: &[u8], line: &Line, into: &mut Vec<Span>) -> Result<(), Fie
         at = next_nonblank(bytes, end, line.to);
     }
     Ok(())
+}
+
+/// Whether a word is this one.
+pub fn is_word(word: &[u8], other: &[u8]) -> bool
+    ensures { result ≡ bytes_eq word.now other.now }
+{
+    word == other
 }

@@ -1,5 +1,5 @@
 //! The pieces of a line in the LP format: words, numbers and marks.
-ghost use Rattle.std.specs.Prelude.{◌≡◌, ◌≢◌, ◌≤◌, ◌<◌, not, length, slice_index};
+ghost use Rattle.std.specs.Prelude.{◌≡◌, ◌≤◌, ◌<◌, not, length, slice_index};
 ghost use Rattle.std.specs.List.{prefix_len};
 ghost use Rattle.frac128.specs.Literal.{is_dec};
 ghost use Rattle.text_fields.specs.Pieces.{is_letter, is_name_sign, is_word_start, is_word_byte, point_len, sign_len, exponent_len, number_len, relation_len, mark_of, piece_at, Is};
@@ -8,7 +8,7 @@ use lane_scan::{Kind, first_of, lowest_bit};
 use std::simd::prelude::*;
 
 /// A kind of token.
-#[derive(Clone, Copy, PartialEq, Eq, Debug)]
+#[derive(Clone, Copy, PartialEq, Eq)]
 pub enum TokenKind {
     /// A letter or one of ``! " # $ % & ' ( ) , / ; ? @ _ ` { | } ~``, and then these, digits and points.
     Word,

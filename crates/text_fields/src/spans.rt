@@ -8,7 +8,7 @@ use lane_scan::next_end;
 pub const MOST_BYTES: usize = 65_536;
 
 /// A part of a text: the bytes from `from` on and before `to`.
-#[derive(Clone, Copy, PartialEq, Eq, Debug)]
+#[derive(Clone, Copy)]
 pub struct Span {
     pub from: usize,
     pub to: usize,
@@ -26,7 +26,7 @@ impl Span {
 }
 
 /// A line of a text, without its end: its number, from 1, and where its bytes stand.
-#[derive(Clone, Copy, PartialEq, Eq, Debug)]
+#[derive(Clone, Copy)]
 pub struct Line {
     pub number: u32,
     pub from: usize,

@@ -1,10 +1,9 @@
 //! The tokens of the LP format.
-ghost use Rattle.std.specs.Prelude.{◌≡◌, ◌≤◌, ◌<◌, ◌+◌, ◌^◌, ◌∷◌, [], Option, Some, None, MatchResult, MatchOption, length, drop, slice_index, true, false};
+ghost use Rattle.std.specs.Prelude.{◌≡◌, ◌≤◌, ◌<◌, ◌+◌, ◌^◌, Option, Some, None, MatchResult, MatchOption, length, drop, true, false};
 ghost use Rattle.std.specs.List.{before_first, after_first};
-ghost use Rattle.lane_scan.specs.Bytes.{is_end, is_blank};
-ghost use Rattle.text_fields.specs.Tokens.{stops_look, token_fault, only_blanks, is_line_start, rest_scan, scan_lines, scan_at, before, IsNext, IsFaultOf, IsTokenAt};
+ghost use Rattle.lane_scan.specs.Bytes.{is_end};
+ghost use Rattle.text_fields.specs.Tokens.{stops_look, token_fault, only_blanks, is_line_start, rest_scan, scan_lines, scan_at, IsNext, IsFaultOf, IsTokenAt};
 ghost use Rattle.text_fields.specs.Lines.{lines_of};
-ghost use Rattle.text_fields.specs.Pieces.{piece_at};
 
 use crate::pieces::piece;
 use crate::spans::MOST_BYTES;
@@ -13,14 +12,14 @@ use lane_scan::{Byte, Kind, first_of, is_blank_byte, lowest_bit, next_end, next_
 use std::simd::prelude::*;
 
 /// A place in a text, and the number of its line, from 1.
-#[derive(Clone, Copy, PartialEq, Eq, Debug)]
+#[derive(Clone, Copy)]
 pub struct Place {
     pub at: usize,
     pub line: u32,
 }
 
 /// A token: its kind, where its bytes stand, its line, and whether it is the first of its line.
-#[derive(Clone, Copy, PartialEq, Eq, Debug)]
+#[derive(Clone, Copy)]
 pub struct Token {
     pub kind: TokenKind,
     pub span: Span,

@@ -10,3 +10,14 @@ pub mod Sums
 pub mod Values
 pub mod Works
 pub mod Writes
+pub mod Shifted
+pub mod Forms
+pub mod DualSteps
+pub mod Directions
+pub mod RaySteps
+pub mod Traces
+pub mod DualShares
+pub mod Twice
+pub mod Whole
+pub mod Operations
+pub mod LastOnes

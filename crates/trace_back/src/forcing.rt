@@ -1,5 +1,5 @@
 //! The way back of a forcing row.
-ghost use Rattle.std.specs.Prelude.{◌≡◌, ◌<◌, ℕ, MatchResult, Some, None, All, flat_map, map};
+ghost use Rattle.std.specs.Prelude.{◌≡◌, ◌<◌, MatchResult, Some, None, All, flat_map, map};
 ghost use Rattle.rational.specs.Rational.{zero_ℚ};
 ghost use Rattle.frac128.specs.Calculation.{first_wide};
 ghost use Rattle.frac128.specs.Limit.{limit};

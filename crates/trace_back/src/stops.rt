@@ -4,14 +4,11 @@ ghost use Rattle.trace_back.specs.declared.stops.BackStop.TheVariants.{Wide as S
 
 use frac128::Wide;
 use std::alloc::{AllocError, AllocFailed};
-use thiserror::Error;
 
 /// Why evidence does not come back: the first operation that is too wide, or want of memory.
-#[derive(Clone, Copy, PartialEq, Eq, Debug, Error)]
+#[derive(Clone, Copy)]
 pub enum BackStop {
-    #[error("too wide")]
     Wide(Wide),
-    #[error("want of memory")]
     Memory,
 }
 

@@ -1,5 +1,5 @@
 //! Weights of the limits of all variables.
-ghost use Rattle.std.specs.Prelude.{◌≡◌, ◌+◌, ◌<◌, ◌^◌, IfOk, [], ℕ};
+ghost use Rattle.std.specs.Prelude.{◌≡◌, ◌+◌, ◌<◌, ◌^◌, IfOk, []};
 ghost use Rattle.reductions.specs.Back as back;
 ghost use Rattle.trace_back.specs.Held.{IsHeld, IsNow, of_side, on_side, unmade, weights_in, with_limit, with_sides};
 

@@ -25,7 +25,7 @@ use Rattle.certs.specs.Plain.{greatest_objective, plain_row, plain_system, rows_
 use Rattle.certs.specs.Named.{named, translated, is_member, is_below, is_above, on_column, arranged, program_shares, IsOfSystem}
 use Rattle.certs.proofs.Further.{factor_past, further_columns_law}
 use Rattle.linear_oracle.proofs.Shares.{all_known}
-use Rattle.improve_ends.specs.Duals.{IsNamedDual, IsVariableDual}
+use Rattle.simplex.specs.Duals.{IsNamedDual, IsVariableDual}
 use Rattle.unbounded.specs.Programs.{ProgramDualLaw}
 use Rattle.unbounded.proofs.Directed.{directed_nothing, directed_twice, greatest_factor}
 use Rattle.unbounded.proofs.Systems.{columns_are, stands_as, StandsAs}

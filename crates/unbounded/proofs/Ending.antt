@@ -28,7 +28,7 @@ use Rattle.certs.proofs.PlainPoints.{member_holds}
 use Rattle.dictionary.specs.Value.{DictionaryValue, tableau_of}
 use Rattle.certs.proofs.Feasible.{feasible_law}
 use Rattle.linear_oracle.proofs.Runs.{columns_within}
-use Rattle.improve_ends.proofs.Optimal.{objective_value_law}
+use Rattle.simplex.proofs.Optimal.{objective_value_law}
 use Rattle.unbounded.specs.Runs.{IsEndOf}
 use Rattle.unbounded.proofs.Directed.{directed_twice, greatest_value}
 use Rattle.unbounded.proofs.Settled.{settled}

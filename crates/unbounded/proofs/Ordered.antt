@@ -16,7 +16,7 @@ use Rattle.certs.specs.Tableau.{Tableau}
 use Rattle.reductions.specs.Back.{part_on, share_of, shares_of}
 use Rattle.reductions.specs.Rules.{share_on}
 use Rattle.reductions.proofs.WeightOrder.{shares_in_order}
-use Rattle.improve_ends.specs.Duals.{objective_multiple, optimal_shares}
+use Rattle.simplex.specs.Duals.{objective_multiple, optimal_shares}
 
 -- ---- of one variable
 -- the share on a side of a number

@@ -21,7 +21,7 @@ use Rattle.certs.specs.Ended.{numbers_from}
 use Rattle.certs.specs.Plain.{greatest_objective, has_row, number_in, plain_row, plain_system, rows_in}
 use Rattle.certs.proofs.PlainForms.{row_form}
 use Rattle.certs.proofs.Translated.{length_numbers, number_at}
-use Rattle.improve_ends.specs.Rays.{IsSystemRay}
+use Rattle.simplex.specs.Rays.{IsSystemRay}
 use Rattle.unbounded.specs.Programs.{ProgramRayLaw}
 use Rattle.unbounded.proofs.Directed.{directed_nothing, greatest_value}
 use Rattle.unbounded.proofs.Systems.{column_limit, columns_are}

@@ -29,8 +29,8 @@ use Rattle.simplex.specs.Ends.{HasRun, end_of as settle_end}
 use Rattle.simplex.specs.declared.settling.RunStop.{RunStop}
 use Rattle.simplex.specs.declared.settling.RunStop.TheVariants.{Wide, Pivots}
 use Rattle.linear_oracle.proofs.Runs.{run_ends}
-use Rattle.improve_run.specs.Ends.{EndsAt, HasImproved, end_of as improve_end}
-use Rattle.improve_run.specs.declared.improving.Improved.{Improved}
+use Rattle.simplex.specs.ImproveEnds.{EndsAt, HasImproved, end_of as improve_end}
+use Rattle.simplex.specs.declared.improving.Improved.{Improved}
 use Rattle.unbounded.specs.Runs.{EndsSo, HasNoCombination, StopsSo}
 use Rattle.unbounded.proofs.Systems.{columns_are}
 

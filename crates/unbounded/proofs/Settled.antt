@@ -17,7 +17,7 @@ use Rattle.certs.specs.Ended.{IsWithin}
 use Rattle.certs.proofs.Choices.{below_all}
 use Rattle.certs.proofs.Feasible.{limited_is}
 use Rattle.simplex.proofs.Firsts.{find-none}
-use Rattle.improve_run.specs.Ends.{KeepsLimits}
+use Rattle.simplex.specs.ImproveEnds.{KeepsLimits}
 
 -- ---- within limits
 above : (o : Option ℚ) (v : ℚ) → IfSome o (λ l. l ≤ℚ v) → is_under o v ≡ false

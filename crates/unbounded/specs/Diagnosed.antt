@@ -25,7 +25,7 @@ use Rattle.certs.specs.Proof.{IsProof}
 use Rattle.certs.specs.Sites.{IsStopped}
 use Rattle.certs.specs.Tales.{IsPointOf, OracleState, asked_after}
 use Rattle.certs.specs.Trees.{has_mark}
-use Rattle.bound_checks.specs.declared.bounds.Dual.{Dual}
+use Rattle.certs.specs.declared.evidence.Dual.{Dual}
 use Rattle.unbounded.specs.Runs.{IsLastPoint}
 use Rattle.unbounded.specs.declared.diagnosing.Diagnosis.{Diagnosis}
 use Rattle.unbounded.specs.declared.diagnosing.Diagnosis.TheVariants.{Unbounded, Bounded, Infeasible}

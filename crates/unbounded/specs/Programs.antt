@@ -8,8 +8,8 @@ use Rattle.certs.specs.declared.evidence.Share.{Share}
 use Rattle.certs.specs.Bound.{directed, without_marks, IsBoundDual, IsImproving}
 use Rattle.certs.specs.Named.{program_shares}
 use Rattle.certs.specs.Plain.{greatest_objective, plain_system}
-use Rattle.improve_ends.specs.Duals.{IsNamedDual}
-use Rattle.improve_ends.specs.Rays.{IsSystemRay}
+use Rattle.simplex.specs.Duals.{IsNamedDual}
+use Rattle.simplex.specs.Rays.{IsSystemRay}
 
 -- A dual of the system, its shares named in the program, is a dual of the set without its marks; its bound is negated when minimising.
 abbrev pub ProgramDualLaw : Type 0

@@ -17,7 +17,7 @@ use Rattle.certs.specs.Tableau.{IsTableauOf, IsWellFormedSystem, value_of}
 use Rattle.dictionary.specs.Value.{DictionaryValue, tableau_of}
 use Rattle.simplex.specs.declared.settling.RunStop.{RunStop}
 use Rattle.simplex.specs.declared.settling.RunStop.TheVariants.{Wide, Pivots}
-use Rattle.improve_run.specs.Ends.{KeepsLimits}
+use Rattle.simplex.specs.ImproveEnds.{KeepsLimits}
 
 -- nothing contradicts the system
 abbrev pub HasNoCombination : LinearSystem → Type 0

@@ -10,8 +10,7 @@ ghost use Rattle.unbounded.specs.Diagnosed.{AsksOnce, HasLastPoint, IsDiagnosis,
 
 use crate::ends::{diagnosis_at, stop_at};
 use crate::runs::run;
-use bound_checks::{Dual, Ray};
-use certs::{MemberSet, Oracle, Point, Proof, Stop, Verdict, plain_system};
+use certs::{Dual, MemberSet, Oracle, Point, Proof, Ray, Stop, Verdict, plain_system};
 use frac128::Frac;
 use linear_oracle::started;
 use lp_model::Model;

@@ -13,21 +13,19 @@ ghost use Rattle.certs.specs.Tableau.{value_of};
 ghost use Rattle.certs.specs.Tales.{IsPointOf};
 ghost use Rattle.certs.specs.Trees.{has_mark as some_mark};
 ghost use Rattle.dictionary.specs.Value.{tableau_of};
-ghost use Rattle.improve_run.specs.Ends.{EndsAt, end_of};
-ghost use Rattle.improve_run.specs.declared.improving.Improved.TheVariants.{Optimal, Unbounded};
+ghost use Rattle.simplex.specs.ImproveEnds.{EndsAt, end_of};
+ghost use Rattle.simplex.specs.declared.improving.Improved.TheVariants.{Optimal, Unbounded};
 ghost use Rattle.unbounded.specs.Diagnosed.{HasLastPoint, IsDiagnosis, IsImproveSite, IsOwnStop, PassesOn};
 ghost use Rattle.unbounded.specs.Runs.{EndsSo, IsEndOf, StopsSo};
 
 use crate::diagnosing::Diagnosis;
 use crate::values::value_told;
-use bound_checks::{Dual, directed, has_mark};
-use certs::{MemberSet, Path, Point, Site, SiteKind, Stop, named_combo};
+use bound_checks::{directed, has_mark};
+use certs::{Dual, MemberSet, Path, Point, Site, SiteKind, Stop, named_combo};
 use dictionary::Dictionary;
 use frac128::Frac;
-use improve_ends::{dual_of, ray_of};
-use improve_run::Improved;
 use lp_model::Model;
-use simplex::{RunStop, point_of};
+use simplex::{Improved, RunStop, dual_of, point_of, ray_of};
 use std::alloc::{AllocError, Global};
 
 /// What the end of the improve run of a set shows. With a mark in the set the point is the one that was answered.
@@ -154,10 +152,12 @@ fn improve_site(alloc: Global, set: &MemberSet) -> Result<Site, AllocError>
     ensures { (model : Program) → IsSetOf model set.now
         → IfOk result (IsImproveSite model set.now.members) }
 {
+    let set = set.copy(alloc)?;
+    let enforced = set.emptied(alloc)?;
     Ok(Site {
         kind: SiteKind::Improve,
-        set: set.copy(alloc)?,
-        enforced: set.emptied(alloc)?,
+        set,
+        enforced,
         path: Path::new(Vec::new(alloc)),
     })
 }

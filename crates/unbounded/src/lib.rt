@@ -7,6 +7,5 @@ mod laws;
 mod runs;
 mod values;
 
-pub use bound_checks::{Combo, Dual, Ray};
 pub use diagnosing::{Diagnosis, diagnose};
 pub use laws::{dual_of_program, ray_of_program};

@@ -4,14 +4,13 @@ ghost use Rattle.frac128.specs.Limit.{limit};
 ghost use Rattle.certs.specs.Plain.{first_crossing};
 ghost use Rattle.certs.specs.Tableau.{IsTableauOf, IsWellFormedSystem, start_basis};
 ghost use Rattle.dictionary.specs.Value.{tableau_of};
-ghost use Rattle.improve_run.specs.Ends.{EndsAt, KeepsLimits, end_of};
+ghost use Rattle.simplex.specs.ImproveEnds.{EndsAt, KeepsLimits, end_of};
 ghost use Rattle.unbounded.specs.Runs.{EndsSo, HasNoCombination, StopsSo};
 
 use certs::System;
 use dictionary::Dictionary;
 use frac128::Frac;
-use improve_run::{Improved, improve};
-use simplex::{RunStop, Settled, settle};
+use simplex::{Improved, RunStop, Settled, improve, settle};
 
 /// Settles and improves from the start of a system that nothing contradicts, with so many pivots for both together.
 ///

@@ -181,12 +181,11 @@ fn parts_at(left: Frac, right: Frac) -> bool {
     let (Some(narrow), Some(other)) = (Frac64::narrow(left), Frac64::narrow(right)) else {
         return false;
     };
-    let wide = Wide {
-        op: Op::Minus,
-        left,
-        right,
+    let Err(wide) = narrow.minus(other) else {
+        return false;
     };
-    left.minus(right).is_ok() && narrow.minus(other) == Err(wide)
+    let told = wide.op == Op::Minus && wide.left == left && wide.right == right;
+    told && left.minus(right).is_ok()
 }
 
 // The first line of the table that is not so.

@@ -5,7 +5,7 @@ use Rattle.certs.specs.System.{LinearSystem, alternative_system}
 use Rattle.certs.specs.Tableau.{IsWellFormedSystem, variables}
 use Rattle.certs.proofs.Blocked.{blocked_law}
 use Rattle.certs.proofs.Possible.{members_for_model}
-use Rattle.alternative_systems.proofs.Variables.{system_columns}
+use Rattle.alt_polyhedron.proofs.Variables.{system_columns}
 use Rattle.dictionary.specs.Value.{tableau_of}
 use Rattle.relaxation.specs.Runs.{HasNoRay, IsReached, StandsBest, StandsBlocked}
 use Rattle.unbounded.specs.Runs.{StopsSo}

@@ -5,9 +5,9 @@ use Rattle.certs.specs.declared.evidence.Share.{Share}
 use Rattle.certs.specs.Combination.{IsFrom}
 use Rattle.certs.specs.System.{LinearSystem, alternative_system, bounding}
 use Rattle.certs.proofs.Feasible.{limited_is}
-use Rattle.alternative_systems.proofs.Variables.{system_columns}
+use Rattle.alt_polyhedron.proofs.Variables.{system_columns}
 use Rattle.dictionary.specs.Value.{tableau_of}
-use Rattle.improve_ends.specs.Duals.{objective_multiple}
+use Rattle.simplex.specs.Duals.{objective_multiple}
 use Rattle.unbounded.proofs.Settled.{narrow_values, settled}
 use Rattle.alt_polyhedron.specs.Reading.{IsPriceRead}
 use Rattle.alt_polyhedron.proofs.Least.{TableLaws, cheapest_set, shares_are, shares_of_set}

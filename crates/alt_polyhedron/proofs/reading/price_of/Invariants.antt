@@ -2,7 +2,7 @@ use Rattle.std.proofs.Common.{◌≡◌, ◌+◌, ◌<◌, ℕ, length}
 use Rattle.rational.specs.Rational.{neg_ℚ}
 use Rattle.lp_model.specs.Satisfaction.{values_at}
 use Rattle.dictionary.specs.Value.{tableau_of}
-use Rattle.improve_ends.specs.Duals.{objective_multiple}
+use Rattle.simplex.specs.Duals.{objective_multiple}
 use Rattle.alt_polyhedron.proofs.reading.price_of.Given as goal
 
 -- the prices of the columns passed are there

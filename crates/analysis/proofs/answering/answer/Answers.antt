@@ -1,8 +1,11 @@
 use Rattle.std.proofs.Common.{sym, subst}
 use Rattle.std.specs.Prelude.{IfOk}
+use Rattle.lp_model.specs.Program.{Program}
 use Rattle.report_text.specs.declared.report.Command.{Command}
+use Rattle.report_printer.specs.Printing.{IsKnownAnswer}
 use Rattle.analysis.specs.Answers.{IsNext, budgets_of}
 use Rattle.analysis.proofs.Nexts.{check_nexts, diagnosis_nexts, reduce_nexts, relaxation_nexts, search_nexts, budget_next, edit_nexts, undo_next, known_reply, known_replies}
+use Rattle.analysis.proofs.Known.{known_check, known_diagnosis, known_relaxation, known_search}
 use Rattle.analysis.proofs.answering.answer.Goals as goal
 
 pub returns-in-Edit-clause-next : goal.returns-in-Edit-clause-next
@@ -24,12 +27,12 @@ returns-in-Undo-clause-known c = known_reply c.take_undo.new.self.model c.take_u
 pub returns-in-Check-clause-next : goal.returns-in-Check-clause-next
 returns-in-Check-clause-next c =
     subst (λ (command : Command). IfOk c.check.result (IsNext c.args.session.now c.args.session.now (budgets_of c.args.budgets) command)) (sym c.in-Check.is)
-    (check_nexts c.args.session.now (budgets_of c.args.budgets) c.model.result.now c.check.result c.model.ensures c.check.ensures.right)
+    (check_nexts c.args.session.now (budgets_of c.args.budgets) c.model.result.now c.check.result c.model.ensures c.check.ensures)
 
 pub returns-in-Iis-clause-next : goal.returns-in-Iis-clause-next
 returns-in-Iis-clause-next c =
     subst (λ (command : Command). IfOk c.search.result (IsNext c.args.session.now c.args.session.now (budgets_of c.args.budgets) command)) (sym c.in-Iis.is)
-    (search_nexts c.args.session.now (budgets_of c.args.budgets) c.in-Iis.method c.model-in-Iis.result.now c.search.result c.model-in-Iis.ensures c.search.ensures.right)
+    (search_nexts c.args.session.now (budgets_of c.args.budgets) c.in-Iis.method c.model-in-Iis.result.now c.search.result c.model-in-Iis.ensures c.search.ensures)
 
 pub returns-in-Pivots-clause-next : goal.returns-in-Pivots-clause-next
 returns-in-Pivots-clause-next c = budget_next c.args.session.now (budgets_of c.args.budgets) c.args.command.now c.in-Pivots.is
@@ -42,9 +45,21 @@ returns-in-Reduce-clause-next c =
 pub returns-in-Unbounded-clause-next : goal.returns-in-Unbounded-clause-next
 returns-in-Unbounded-clause-next c =
     subst (λ (command : Command). IfOk c.diagnosis.result (IsNext c.args.session.now c.args.session.now (budgets_of c.args.budgets) command)) (sym c.in-Unbounded.is)
-    (diagnosis_nexts c.args.session.now (budgets_of c.args.budgets) c.model-in-Unbounded.result.now c.diagnosis.result c.model-in-Unbounded.ensures c.diagnosis.ensures.right)
+    (diagnosis_nexts c.args.session.now (budgets_of c.args.budgets) c.model-in-Unbounded.result.now c.diagnosis.result c.model-in-Unbounded.ensures c.diagnosis.ensures)
 
 pub returns-in-Relax-clause-next : goal.returns-in-Relax-clause-next
 returns-in-Relax-clause-next c =
     subst (λ (command : Command). IfOk c.relaxation.result (IsNext c.args.session.now c.args.session.now (budgets_of c.args.budgets) command)) (sym c.in-Relax.is)
-    (relaxation_nexts c.args.session.now (budgets_of c.args.budgets) c.model-in-Relax.result.now c.relaxation.result c.model-in-Relax.ensures c.relaxation.ensures.right)
+    (relaxation_nexts c.args.session.now (budgets_of c.args.budgets) c.model-in-Relax.result.now c.relaxation.result c.model-in-Relax.ensures c.relaxation.ensures)
+
+pub returns-in-Check-clause-known : goal.returns-in-Check-clause-known
+returns-in-Check-clause-known c = subst (λ (p : Program). IfOk c.check.result (IsKnownAnswer p)) c.model.ensures (known_check c.model.result.now (budgets_of c.args.budgets) c.check.result c.check.ensures)
+
+pub returns-in-Iis-clause-known : goal.returns-in-Iis-clause-known
+returns-in-Iis-clause-known c = subst (λ (p : Program). IfOk c.search.result (IsKnownAnswer p)) c.model-in-Iis.ensures (known_search c.in-Iis.method c.model-in-Iis.result.now (budgets_of c.args.budgets) c.search.result c.search.ensures)
+
+pub returns-in-Unbounded-clause-known : goal.returns-in-Unbounded-clause-known
+returns-in-Unbounded-clause-known c = subst (λ (p : Program). IfOk c.diagnosis.result (IsKnownAnswer p)) c.model-in-Unbounded.ensures (known_diagnosis c.model-in-Unbounded.result.now (budgets_of c.args.budgets) c.diagnosis.result c.diagnosis.ensures)
+
+pub returns-in-Relax-clause-known : goal.returns-in-Relax-clause-known
+returns-in-Relax-clause-known c = subst (λ (p : Program). IfOk c.relaxation.result (IsKnownAnswer p)) c.model-in-Relax.ensures (known_relaxation c.model-in-Relax.result.now (budgets_of c.args.budgets) c.relaxation.result c.relaxation.ensures)

@@ -8,7 +8,7 @@ use Rattle.analysis.specs.Right.{IsWhole}
 use Rattle.analysis.proofs.Asked.{InnerAnswers, QuickAnswers, all_served, asked_holds, asked_run, proof_fits, proof_ordered}
 use Rattle.analysis.proofs.Refuting.{checked_refuted}
 use Rattle.analysis.proofs.Searched.{fresh_answer, fresh_tree}
-use Rattle.analysis.proofs.Stopping.{checked_stop, known_stopped, run_answer}
+use Rattle.analysis.proofs.Stopping.{checked_stop, run_answer}
 use Rattle.analysis.proofs.answering.check_by.Goals as goal
 
 pub ask-requires-clause-served : goal.ask-requires-clause-served
@@ -37,8 +37,8 @@ refuted-requires-clause-fits c =
     let answered = subst (λ (v : Verdict). QuickAnswers (oracle_state inner).model (oracle_state inner).budgets set.members (Ok v)) c.in-Ok-Infeasible.field-0-is c.in-Ok-Infeasible.ensures.answered in
     proof_fits (oracle_state inner).model (oracle_state inner).budgets set.members c.in-Ok-Infeasible.proof answered
 
-pub returns-in-Ok-Feasible-clause-right : goal.returns-in-Ok-Feasible-clause-right
-returns-in-Ok-Feasible-clause-right c =
+pub returns-in-Ok-Feasible : goal.returns-in-Ok-Feasible
+returns-in-Ok-Feasible c =
     let model = c.args.model.now in
     let budgets = budgets_of c.args.budgets in
     let inner = c.args.oracle.now.inner in
@@ -51,18 +51,8 @@ returns-in-Ok-Feasible-clause-right c =
       λ marked. (fresh_tree model budgets inner c.requires.fresh set c.args.oracle.now.nodes verdict after c.requires.no_trees c.requires.whole marked alone).ends,
     )
 
-pub returns-in-Ok-Feasible-clause-known : goal.returns-in-Ok-Feasible-clause-known
-returns-in-Ok-Feasible-clause-known c =
-    let model = c.args.model.now in
-    let budgets = budgets_of c.args.budgets in
-    let inner = c.args.oracle.now.inner in
-    let set = c.args.set.now in
-    let verdict = Feasible c.in-Ok-Feasible.point in
-    let answered = subst (λ (v : Verdict). QuickAnswers (oracle_state inner).model (oracle_state inner).budgets set.members (Ok v)) c.in-Ok-Feasible.field-0-is c.in-Ok-Feasible.ensures.answered in
-    (asked_holds model budgets set verdict c.requires.whole (fresh_answer model budgets inner c.requires.fresh set (Ok verdict) answered)).each_column
-
-pub returns-in-Ok-Infeasible-clause-right : goal.returns-in-Ok-Infeasible-clause-right
-returns-in-Ok-Infeasible-clause-right c =
+pub returns-in-Ok-Infeasible : goal.returns-in-Ok-Infeasible
+returns-in-Ok-Infeasible c =
     let model = c.args.model.now in
     let budgets = budgets_of c.args.budgets in
     let inner = c.args.oracle.now.inner in
@@ -70,18 +60,11 @@ returns-in-Ok-Infeasible-clause-right c =
     let set = c.args.set.now in
     let verdict = Infeasible c.in-Ok-Infeasible.proof in
     let alone = subst (λ (v : Verdict). stands_alone (oracle_state inner).model set.members c.args.oracle.now.nodes ≡ true → IsAsked InnerAnswers (oracle_state inner) after set.members (Ok v)) c.in-Ok-Infeasible.field-0-is c.in-Ok-Infeasible.ensures.alone in
-    checked_refuted model budgets c.in-Ok-Infeasible.proof c.refuted.result c.refuted.ensures.refutes (λ marked. (fresh_tree model budgets inner c.requires.fresh set c.args.oracle.now.nodes verdict after c.requires.no_trees c.requires.whole marked alone).ends.0)
+    checked_refuted model budgets c.in-Ok-Infeasible.proof c.refuted.result c.refuted.ensures (λ marked. (fresh_tree model budgets inner c.requires.fresh set c.args.oracle.now.nodes verdict after c.requires.no_trees c.requires.whole marked alone).ends.0)
 
-pub returns-in-Err-clause-right : goal.returns-in-Err-clause-right
-returns-in-Err-clause-right c =
+pub returns-in-Err : goal.returns-in-Err
+returns-in-Err c =
     let model = c.args.model.now in
     let budgets = budgets_of c.args.budgets in
     let run = asked_run model budgets c.args.set.now c.in-Err.stop c.requires.whole (fresh_answer model budgets c.args.oracle.now.inner c.requires.fresh c.args.set.now (Err c.in-Err.stop) c.in-Err.ensures.answered) in
     checked_stop model budgets c.stopped.result (run_answer (IsWhole model) model budgets c.in-Err.stop c.stopped.result run c.stopped.ensures)
-
-pub returns-in-Err-clause-known : goal.returns-in-Err-clause-known
-returns-in-Err-clause-known c =
-    let model = c.args.model.now in
-    let budgets = budgets_of c.args.budgets in
-    let run = asked_run model budgets c.args.set.now c.in-Err.stop c.requires.whole (fresh_answer model budgets c.args.oracle.now.inner c.requires.fresh c.args.set.now (Err c.in-Err.stop) c.in-Err.ensures.answered) in
-    known_stopped (IsWhole model) model budgets c.stopped.result (run_answer (IsWhole model) model budgets c.in-Err.stop c.stopped.result run c.stopped.ensures)

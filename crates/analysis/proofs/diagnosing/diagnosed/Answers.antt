@@ -1,7 +1,6 @@
-use Rattle.std.proofs.Common.{◌≡◌, true, sym, subst}
+use Rattle.std.proofs.Common.{subst}
 use Rattle.lp_model.specs.Members.{active_members}
 use Rattle.lp_model.specs.MemberSets.{SetValue}
-use Rattle.quick_oracle.specs.Alone.{stands_alone}
 use Rattle.quick_optimum.specs.Best.{IsBestOf}
 use Rattle.analysis.specs.Answers.{budgets_of}
 use Rattle.analysis.proofs.Asked.{all_served}
@@ -15,17 +14,9 @@ pub told-requires-clause-found : goal.told-requires-clause-found
 told-requires-clause-found c =
     let model = c.args.model.now in
     let found = c.in-Some.found in
-    let whole = c.requires.whole in
-    best_found model (budgets_of c.args.budgets) found
-    (λ alone. (
-    let none = c.quick_best.ensures.alone (subst (λ (s : SetValue). stands_alone model s.members 0 ≡ true) (sym whole) alone) in
-    let some = c.in-Some.is in
-    let impossible : ⊥ = cc in
-    impossible
-    ))
-    (subst (λ (s : SetValue). IsBestOf model s.members found) whole c.in-Some.ensures.found)
+    best_found model (budgets_of c.args.budgets) found (subst (λ (s : SetValue). IsBestOf model s.members found) c.requires.whole c.in-Some.ensures.found)
 
 pub told-requires-2-clause-found : goal.told-requires-2-clause-found
 told-requires-2-clause-found c =
     let e = c.diagnose-found.ensures in
-    found_at c.args.model.now (budgets_of c.args.budgets) c.quick_oracle-oracle.result.inner _ _ c.diagnose-found.result c.quick_oracle-oracle.ensures.inner e.found e.stop e.last e.asked
+    found_at c.args.model.now (budgets_of c.args.budgets) c.quick_oracle-oracle.result.inner _ _ c.diagnose-found.result c.quick_oracle-oracle.ensures.inner e.found e.stop e.asked

@@ -3,19 +3,12 @@ use Rattle.certs.specs.declared.solving.Stop.{Stop}
 use Rattle.unbounded.specs.declared.diagnosing.Diagnosis.{Diagnosis}
 use Rattle.analysis.specs.Answers.{budgets_of}
 use Rattle.analysis.specs.Objectives.{IsFoundBy}
-use Rattle.analysis.proofs.Objectives.{first_of, second_of, stop_told}
+use Rattle.analysis.proofs.Objectives.{stop_told}
 use Rattle.analysis.proofs.diagnosing.told.Goals as goal
 
-pub returns-in-Err-clause-right : goal.returns-in-Err-clause-right
-returns-in-Err-clause-right c =
+pub returns-in-Err : goal.returns-in-Err
+returns-in-Err c =
     let model = c.args.model.now in
     let budgets = budgets_of c.args.budgets in
     let found = subst (λ (r : Result Diagnosis Stop). IsFoundBy model budgets r) c.in-Err.is c.requires.found in
-    first_of model budgets c.stopped.result (stop_told model budgets c.in-Err.stop c.stopped.result found c.stopped.ensures)
-
-pub returns-in-Err-clause-known : goal.returns-in-Err-clause-known
-returns-in-Err-clause-known c =
-    let model = c.args.model.now in
-    let budgets = budgets_of c.args.budgets in
-    let found = subst (λ (r : Result Diagnosis Stop). IsFoundBy model budgets r) c.in-Err.is c.requires.found in
-    second_of model budgets c.stopped.result (stop_told model budgets c.in-Err.stop c.stopped.result found c.stopped.ensures)
+    stop_told model budgets c.in-Err.stop c.stopped.result found c.stopped.ensures

@@ -19,8 +19,8 @@ enforce-ended-requires-clause-linear c = subst (λ (s : SetValue). All (λ m. is
 pub isolate-given-requires-clause-served : goal.isolate-given-requires-clause-served
 isolate-given-requires-clause-served c = all_served c.in-Ok-Set.members.members
 
-pub returns-in-Ok-Set-clause-right : goal.returns-in-Ok-Set-clause-right
-returns-in-Ok-Set-clause-right c =
+pub returns-in-Ok-Set : goal.returns-in-Ok-Set
+returns-in-Ok-Set c =
     let model = c.args.model.now in
     let budgets = budgets_of c.args.budgets in
     let old = c.quick_oracle-oracle.result in
@@ -31,24 +31,10 @@ returns-in-Ok-Set-clause-right c =
     subst (λ (s : SetValue). IsEnforced model s.members (Enforced.Set members c.in-Ok-Set.field-0-1 c.in-Ok-Set.rounds)) c.requires.whole
     (subst (λ (v : QuickStretcherValue). IsEnforced v.inner.model c.args.set.now.members (Enforced.Set members c.in-Ok-Set.field-0-1 c.in-Ok-Set.rounds)) c.new-stretcher.ensures
     (subst (λ (e : Enforced). IsEnforced c.new-stretcher.result.inner.model c.args.set.now.members e) c.in-Ok-Set.field-0-is c.in-Ok-Set.ensures.found)) in
-    (enforced_answer model budgets old.inner old.tale members c.in-Ok-Set.field-0-1 c.in-Ok-Set.rounds (state_with (oracle_state new.inner) new.tale) call.result c.concluded.result c.quick_oracle-oracle.ensures.inner found call.ensures.found call.ensures.stop c.concluded.ensures).0
+    (enforced_answer model budgets old.inner old.tale members c.in-Ok-Set.field-0-1 c.in-Ok-Set.rounds (state_with (oracle_state new.inner) new.tale) call.result c.concluded.result c.quick_oracle-oracle.ensures.inner found call.ensures.found call.ensures.stop c.concluded.ensures)
 
-pub returns-in-Ok-Set-clause-known : goal.returns-in-Ok-Set-clause-known
-returns-in-Ok-Set-clause-known c =
-    let model = c.args.model.now in
-    let budgets = budgets_of c.args.budgets in
-    let old = c.quick_oracle-oracle.result in
-    let call = c.isolate-given in
-    let new = call.new.oracle in
-    let members = c.in-Ok-Set.members in
-    let found =
-    subst (λ (s : SetValue). IsEnforced model s.members (Enforced.Set members c.in-Ok-Set.field-0-1 c.in-Ok-Set.rounds)) c.requires.whole
-    (subst (λ (v : QuickStretcherValue). IsEnforced v.inner.model c.args.set.now.members (Enforced.Set members c.in-Ok-Set.field-0-1 c.in-Ok-Set.rounds)) c.new-stretcher.ensures
-    (subst (λ (e : Enforced). IsEnforced c.new-stretcher.result.inner.model c.args.set.now.members e) c.in-Ok-Set.field-0-is c.in-Ok-Set.ensures.found)) in
-    (enforced_answer model budgets old.inner old.tale members c.in-Ok-Set.field-0-1 c.in-Ok-Set.rounds (state_with (oracle_state new.inner) new.tale) call.result c.concluded.result c.quick_oracle-oracle.ensures.inner found call.ensures.found call.ensures.stop c.concluded.ensures).1
-
-pub returns-clause-right : goal.returns-clause-right
-returns-clause-right c =
+pub returns : goal.returns
+returns c =
     let model = c.args.model.now in
     let budgets = budgets_of c.args.budgets in
     let stop = c.in-Err.stop in

@@ -1,6 +1,4 @@
 use Rattle.std.proofs.Common.{◌≡◌}
-use Rattle.std.specs.Prelude.{All}
-use Rattle.lp_model.specs.MemberSets.{IsPossibleIn}
 use Rattle.analysis.specs.Linear.{first_mark as first_mark_of}
 use Rattle.analysis.proofs.linear.first_mark.Given as goal
 
@@ -8,5 +6,4 @@ use Rattle.analysis.proofs.linear.first_mark.Given as goal
 abbrev pub invariant-loop-member : goal.invariant-loop-member
 invariant-loop-member l = record {
   same : first_mark_of l.member-iterator ≡ first_mark_of l.set.members;
-  known : All (IsPossibleIn l.set) l.member-iterator;
 }

@@ -3,7 +3,7 @@ use Rattle.std.proofs.lemmas.Result.{err_from_is_err_and}
 use Rattle.std.proofs.lemmas.List.Elements.{All-get_or}
 use Rattle.certs.specs.Sites.{Budgets}
 use Rattle.report_text.specs.Form.{IsCommand}
-use Rattle.model_session.specs.Session.{session_at}
+use Rattle.report_text.specs.Session.{session_at}
 use Rattle.analysis.specs.Answers.{budgets_of}
 use Rattle.analysis.proofs.Sofar.{HasPut, has_more, has_stopped, has_all, few_after, next_front}
 use Rattle.analysis.proofs.pieces.put_entries.Goals as goal

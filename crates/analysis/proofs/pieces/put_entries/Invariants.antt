@@ -1,5 +1,5 @@
 use Rattle.std.proofs.Common.{◌≡◌, ◌<◌, ◌^◌, take}
-use Rattle.model_session.specs.Session.{session_at}
+use Rattle.report_text.specs.Session.{session_at}
 use Rattle.analysis.specs.Answers.{budgets_of}
 use Rattle.analysis.proofs.Sofar.{HasPut}
 use Rattle.analysis.proofs.pieces.put_entries.Given as goal

@@ -1,6 +1,6 @@
 use Rattle.std.proofs.Common.{ℕ, ap, ◌∙◌, subst, List, ◌++◌}
 use Rattle.std.proofs.lemmas.Result.{err_from_is_err_and}
-use Rattle.model_history.specs.History.{HistoryValue}
+use Rattle.report_text.specs.History.{HistoryValue}
 use Rattle.report_text.specs.Grammar.{entry_phrases, phrases_text}
 use Rattle.analysis.specs.Puts.{PutWhole}
 use Rattle.analysis.proofs.Nexts.{printed_entry}

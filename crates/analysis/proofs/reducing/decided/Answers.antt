@@ -38,10 +38,10 @@ left_by-requires-clause-ends c =
     let trace = c.args.trace.now in
     decided_ends model set c.args.combo.now trace c.requires.formed c.requires.whole c.requires.decided (λ of h. subst (IsCutBack model set.members trace.steps of) c.in-None.is (c.in_ok-proof.ensures of h))
 
-pub returns-in-Some-clause-right : goal.returns-in-Some-clause-right
-returns-in-Some-clause-right c =
+pub returns-in-Some : goal.returns-in-Some
+returns-in-Some c =
     let model = c.args.model.now in
     let set = c.args.set.now in
     let trace = c.args.trace.now in
     let leaf = decided_leaf model set c.args.combo.now trace c.requires.formed c.requires.whole c.requires.decided c.in-Some.proof (λ of h. subst (IsCutBack model set.members trace.steps of) c.in-Some.is (c.in_ok-proof.ensures of h)) in
-    decided_refuted model c.in-Some.proof leaf.of leaf.decides leaf.leaf c.refuted.result c.refuted.ensures.refutes
+    decided_refuted model c.in-Some.proof leaf.of leaf.decides leaf.leaf c.refuted.result c.refuted.ensures

@@ -17,14 +17,14 @@ told-requires-clause-found c = subst (λ (s : SetValue). IsRelaxed c.args.model.
 pub told-requires-in-Ok-clause-found : goal.told-requires-in-Ok-clause-found
 told-requires-in-Ok-clause-found c = subst (λ (s : SetValue). IsRelaxed c.args.model.now s.members c.in-Ok.found) c.requires.whole c.in-Ok.ensures.found
 
-pub returns-in-Some-clause-right : goal.returns-in-Some-clause-right
-returns-in-Some-clause-right c = c.told.ensures.right (budgets_of c.args.budgets)
+pub returns-in-Some : goal.returns-in-Some
+returns-in-Some c = c.told.ensures (budgets_of c.args.budgets)
 
-pub returns-in-Ok-clause-right : goal.returns-in-Ok-clause-right
-returns-in-Ok-clause-right c = c.told-in-Ok.ensures.right (budgets_of c.args.budgets)
+pub returns-in-Ok : goal.returns-in-Ok
+returns-in-Ok c = c.told-in-Ok.ensures (budgets_of c.args.budgets)
 
-pub returns-in-Err-clause-right : goal.returns-in-Err-clause-right
-returns-in-Err-clause-right c =
+pub returns-in-Err : goal.returns-in-Err
+returns-in-Err c =
     let model = c.args.model.now in
     let budgets = budgets_of c.args.budgets in
     let stop = c.in-Err.stop in

@@ -1,13 +1,9 @@
 use Rattle.std.proofs.Common.{◌≡◌, sym, subst}
-use Rattle.lp_model.specs.Members.{active_members}
 use Rattle.lp_model.specs.MemberSets.{SetValue}
 use Rattle.certs.specs.Named.{used_set}
 use Rattle.certs.specs.Proof.{IsProof}
 use Rattle.certs.proofs.Possible.{known_nodes}
-use Rattle.std.proofs.lemmas.List.Elements.{All-contains_itself}
 use Rattle.analysis.proofs.Easing.{rigid_proves, rigid_told}
-use Rattle.analysis.proofs.Found.{known_proof}
-use Rattle.analysis.proofs.Refuting.{used_of_model}
 use Rattle.analysis.proofs.relaxing.rigid_refuted.Goals as goal
 
 pub members_used-requires : goal.members_used-requires
@@ -17,17 +13,8 @@ members_used-requires c =
     known_nodes model c.args.set.now proof.nodes c.stands_in_order.ensures.possible
     (subst (λ (s : SetValue). IsProof model s.members proof.nodes) (sym c.requires.whole) (rigid_proves model c.args.combo c.requires.refutes proof c.in_ok-proof.ensures))
 
-pub returns-clause-right : goal.returns-clause-right
-returns-clause-right c budgets =
+pub returns : goal.returns
+returns c budgets =
     let used = c.in_ok-used.used in
     let proof = c.in_ok-proof.proof in
     rigid_told c.args.model.now c.args.combo c.requires.refutes proof c.in_ok-proof.ensures used (subst (λ (s : SetValue). used ≡ used_set s proof.nodes) c.requires.whole c.in_ok-used.ensures) budgets
-
-pub returns-clause-known : goal.returns-clause-known
-returns-clause-known c =
-    let model = c.args.model.now in
-    let active = active_members model in
-    let proof = c.in_ok-proof.proof in (
-      used_of_model model c.args.set.now proof.nodes c.in_ok-used.used c.requires.whole c.in_ok-used.ensures,
-      known_proof model active proof (All-contains_itself active) (rigid_proves model c.args.combo c.requires.refutes proof c.in_ok-proof.ensures),
-    )

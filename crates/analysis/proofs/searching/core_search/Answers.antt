@@ -10,22 +10,12 @@ isolate_with-given-requires-clause-served c = all_served c.args.set.now.members
 pub isolate_with-given-requires-clause-served_later : goal.isolate_with-given-requires-clause-served_later
 isolate_with-given-requires-clause-served_later c = all_served c.args.set.now.members
 
-pub returns-clause-right : goal.returns-clause-right
-returns-clause-right c =
+pub returns : goal.returns
+returns c =
     let model = c.args.model.now in
     let budgets = budgets_of c.args.budgets in
     let old = c.quick_oracle-oracle.result in
     let call = c.isolate_with-given in
     let new = call.new.later in
     (core_answer model c.args.set.now budgets c.reference_oracle-first.result old.inner old.tale (oracle_state call.new.first) (state_with (oracle_state new.inner) new.tale) call.result c.concluded.result c.reference_oracle-first.ensures c.quick_oracle-oracle.ensures.inner c.requires.whole
-    call.ensures.found call.ensures.stop c.concluded.ensures).0
-
-pub returns-clause-known : goal.returns-clause-known
-returns-clause-known c =
-    let model = c.args.model.now in
-    let budgets = budgets_of c.args.budgets in
-    let old = c.quick_oracle-oracle.result in
-    let call = c.isolate_with-given in
-    let new = call.new.later in
-    (core_answer model c.args.set.now budgets c.reference_oracle-first.result old.inner old.tale (oracle_state call.new.first) (state_with (oracle_state new.inner) new.tale) call.result c.concluded.result c.reference_oracle-first.ensures c.quick_oracle-oracle.ensures.inner c.requires.whole
-    call.ensures.found call.ensures.stop c.concluded.ensures).1
+    call.ensures.found call.ensures.stop c.concluded.ensures)

@@ -10,8 +10,8 @@ use Rattle.analysis.proofs.searching.early_search.Goals as goal
 pub isolate-given-requires-clause-served : goal.isolate-given-requires-clause-served
 isolate-given-requires-clause-served c = all_served c.args.set.now.members
 
-pub returns-clause-right : goal.returns-clause-right
-returns-clause-right c =
+pub returns : goal.returns
+returns c =
     let model = c.args.model.now in
     let active = active_members model in
     let budgets = budgets_of c.args.budgets in
@@ -19,15 +19,4 @@ returns-clause-right c =
     let call = c.isolate-given in
     let new = call.new.oracle in
     (search_answer Early IsEarlyTest (Early model active) (IsEarlyTest model active) model c.args.set.now budgets old.inner old.tale (state_with (oracle_state new.inner) new.tale) call.result c.concluded.result c.quick_oracle-oracle.ensures.inner c.requires.whole
-    (λ k l. l) (early_is_part model active) (λ t l. l) (early_test_is_part model active) call.ensures.found call.ensures.stop c.concluded.ensures).0
-
-pub returns-clause-known : goal.returns-clause-known
-returns-clause-known c =
-    let model = c.args.model.now in
-    let active = active_members model in
-    let budgets = budgets_of c.args.budgets in
-    let old = c.quick_oracle-oracle.result in
-    let call = c.isolate-given in
-    let new = call.new.oracle in
-    (search_answer Early IsEarlyTest (Early model active) (IsEarlyTest model active) model c.args.set.now budgets old.inner old.tale (state_with (oracle_state new.inner) new.tale) call.result c.concluded.result c.quick_oracle-oracle.ensures.inner c.requires.whole
-    (λ k l. l) (early_is_part model active) (λ t l. l) (early_test_is_part model active) call.ensures.found call.ensures.stop c.concluded.ensures).1
+    (λ k l. l) (early_is_part model active) (λ t l. l) (early_test_is_part model active) call.ensures.found call.ensures.stop c.concluded.ensures)

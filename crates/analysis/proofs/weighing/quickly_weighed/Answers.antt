@@ -2,23 +2,14 @@ use Rattle.std.proofs.Common.{sym, subst}
 use Rattle.lp_model.specs.Members.{active_members}
 use Rattle.quick_optimum.specs.declared.cheapest.Weighed.{Weighed}
 use Rattle.quick_optimum.specs.Cores.{IsQuickCore, IsWeighed}
-use Rattle.report_printer.specs.Printing.{IsKnownAnswer}
 use Rattle.analysis.specs.Right.{IsWeighedTold}
 use Rattle.analysis.proofs.Weighed.{weighed_right}
 use Rattle.analysis.proofs.weighing.quickly_weighed.Goals as goal
 
-pub returns-in-Core-clause-right : goal.returns-in-Core-clause-right
-returns-in-Core-clause-right c budgets =
+pub returns-in-Core : goal.returns-in-Core
+returns-in-Core c budgets =
     let model = c.args.model.now in
     let core = c.in-Core.core in
     let h : IsQuickCore model (active_members model) core = subst (λ (w : Weighed). IsWeighed model (active_members model) w) c.in-Core.is c.requires.found in
     subst (IsWeighedTold model budgets) (sym c.weighed_core.ensures)
-    (weighed_right model core.members h.combo core.total core.price h.cheapest budgets core.witnesses.items core.proof c.stands_in_order.ensures.in_order h.leaf h.witnesses).0
-
-pub returns-in-Core-clause-known : goal.returns-in-Core-clause-known
-returns-in-Core-clause-known c =
-    let model = c.args.model.now in
-    let core = c.in-Core.core in
-    let h : IsQuickCore model (active_members model) core = subst (λ (w : Weighed). IsWeighed model (active_members model) w) c.in-Core.is c.requires.found in
-    subst (IsKnownAnswer model) (sym c.weighed_core.ensures)
-    (weighed_right model core.members h.combo core.total core.price h.cheapest (record { pivots = 0; nodes = 0 }) core.witnesses.items core.proof c.stands_in_order.ensures.in_order h.leaf h.witnesses).1
+    (weighed_right model core.members h.combo core.total core.price h.cheapest budgets core.witnesses.items core.proof c.stands_in_order.ensures.in_order h.leaf h.witnesses)

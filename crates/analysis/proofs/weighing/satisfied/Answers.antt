@@ -16,22 +16,12 @@ witness-requires-clause-can c = subst (λ (s : SetValue). IsSatisfiable c.args.m
 pub witness-requires-clause-of : goal.witness-requires-clause-of
 witness-requires-clause-of c = fresh_is_of c.args.model.now (budgets_of c.args.budgets) c.args.oracle.now.inner c.requires.inner
 
-pub returns-in-Ok-clause-right : goal.returns-in-Ok-clause-right
-returns-in-Ok-clause-right c = inl (subst (λ (s : SetValue). IsPointOf c.args.model.now s.members c.in-Ok.point) c.requires.whole c.in-Ok.ensures.found)
+pub returns-in-Ok : goal.returns-in-Ok
+returns-in-Ok c = inl (subst (λ (s : SetValue). IsPointOf c.args.model.now s.members c.in-Ok.point) c.requires.whole c.in-Ok.ensures.found)
 
-pub returns-in-Ok-clause-known : goal.returns-in-Ok-clause-known
-returns-in-Ok-clause-known c = c.in-Ok.ensures.found.each_column
-
-pub returns-in-Err-clause-right : goal.returns-in-Err-clause-right
-returns-in-Err-clause-right c =
+pub returns-in-Err : goal.returns-in-Err
+returns-in-Err c =
     let model = c.args.model.now in
     let budgets = budgets_of c.args.budgets in
     let answered = subst (λ (s : SetValue). IsAnsweredStop (IsPresolvedReference model budgets) s.members c.in-Err.stop) c.requires.whole c.in-Err.ensures.stop in
-    (whole_stopped model budgets c.in-Err.stop c.stopped.result (record { asked = active_members model; answered = answered; part = All-contains_itself (active_members model); test = refl }) c.stopped.ensures).0
-
-pub returns-in-Err-clause-known : goal.returns-in-Err-clause-known
-returns-in-Err-clause-known c =
-    let model = c.args.model.now in
-    let budgets = budgets_of c.args.budgets in
-    let answered = subst (λ (s : SetValue). IsAnsweredStop (IsPresolvedReference model budgets) s.members c.in-Err.stop) c.requires.whole c.in-Err.ensures.stop in
-    (whole_stopped model budgets c.in-Err.stop c.stopped.result (record { asked = active_members model; answered = answered; part = All-contains_itself (active_members model); test = refl }) c.stopped.ensures).1
+    (whole_stopped model budgets c.in-Err.stop c.stopped.result (record { asked = active_members model; answered = answered; part = All-contains_itself (active_members model); test = refl }) c.stopped.ensures)

@@ -5,7 +5,6 @@ use Rattle.lp_model.specs.MemberSets.{SetValue}
 use Rattle.lp_model.specs.Satisfaction.{IsSatisfiable}
 use Rattle.alt_polyhedron.specs.declared.pricing.Priced.{Priced}
 use Rattle.alt_polyhedron.specs.Pricing.{IsPricing, IsPricingStop}
-use Rattle.report_printer.specs.Printing.{IsKnownAnswer}
 use Rattle.analysis.specs.Answers.{budgets_of}
 use Rattle.analysis.specs.Right.{IsWeighedTold}
 use Rattle.analysis.proofs.Marks.{no_mark}
@@ -33,44 +32,26 @@ witnesses-requires-clause-same c =
 pub witnesses-requires-clause-of : goal.witnesses-requires-clause-of
 witnesses-requires-clause-of c = fresh_is_of c.args.model.now (budgets_of c.args.budgets) c.args.oracle.now.inner c.requires.inner
 
-pub returns-in_ok-proof-in-Ok-clause-right : goal.returns-in_ok-proof-in-Ok-clause-right
-returns-in_ok-proof-in-Ok-clause-right c =
+pub returns-in_ok-proof-in-Ok : goal.returns-in_ok-proof-in-Ok
+returns-in_ok-proof-in-Ok c =
     let model = c.args.model.now in
     let budgets = budgets_of c.args.budgets in
     let s = c.in-Ok-Set in
     let cheapest = priced_set model c.args.set.now s.field-0 s.members s.combo s.total s.price c.requires.whole s.field-0-is s.ensures.priced in
     let proof = c.in_ok-proof-in-Ok.proof in
     subst (IsWeighedTold model budgets) (sym c.weighed_core.ensures)
-    (weighed_right model s.members s.combo s.total s.price cheapest budgets c.in-Ok.points.items proof c.stands_in_order-in-Ok.ensures.in_order c.in_ok-proof-in-Ok.ensures c.in-Ok.ensures.found).0
+    (weighed_right model s.members s.combo s.total s.price cheapest budgets c.in-Ok.points.items proof c.stands_in_order-in-Ok.ensures.in_order c.in_ok-proof-in-Ok.ensures c.in-Ok.ensures.found)
 
-pub returns-in_ok-proof-in-Ok-clause-known : goal.returns-in_ok-proof-in-Ok-clause-known
-returns-in_ok-proof-in-Ok-clause-known c =
+pub returns-in-Err-witnesses : goal.returns-in-Err-witnesses
+returns-in-Err-witnesses c =
     let model = c.args.model.now in
     let budgets = budgets_of c.args.budgets in
     let s = c.in-Ok-Set in
     let cheapest = priced_set model c.args.set.now s.field-0 s.members s.combo s.total s.price c.requires.whole s.field-0-is s.ensures.priced in
-    let proof = c.in_ok-proof-in-Ok.proof in
-    subst (IsKnownAnswer model) (sym c.weighed_core.ensures)
-    (weighed_right model s.members s.combo s.total s.price cheapest budgets c.in-Ok.points.items proof c.stands_in_order-in-Ok.ensures.in_order c.in_ok-proof-in-Ok.ensures c.in-Ok.ensures.found).1
+    (witness_stopped model s.members s.combo s.total s.price cheapest budgets c.in-Err-witnesses.stop c.stopped.result c.in-Err-witnesses.ensures.stop c.stopped.ensures)
 
-pub returns-in-Err-witnesses-clause-right : goal.returns-in-Err-witnesses-clause-right
-returns-in-Err-witnesses-clause-right c =
-    let model = c.args.model.now in
-    let budgets = budgets_of c.args.budgets in
-    let s = c.in-Ok-Set in
-    let cheapest = priced_set model c.args.set.now s.field-0 s.members s.combo s.total s.price c.requires.whole s.field-0-is s.ensures.priced in
-    (witness_stopped model s.members s.combo s.total s.price cheapest budgets c.in-Err-witnesses.stop c.stopped.result c.in-Err-witnesses.ensures.stop c.stopped.ensures).0
-
-pub returns-in-Err-witnesses-clause-known : goal.returns-in-Err-witnesses-clause-known
-returns-in-Err-witnesses-clause-known c =
-    let model = c.args.model.now in
-    let budgets = budgets_of c.args.budgets in
-    let s = c.in-Ok-Set in
-    let cheapest = priced_set model c.args.set.now s.field-0 s.members s.combo s.total s.price c.requires.whole s.field-0-is s.ensures.priced in
-    (witness_stopped model s.members s.combo s.total s.price cheapest budgets c.in-Err-witnesses.stop c.stopped.result c.in-Err-witnesses.ensures.stop c.stopped.ensures).1
-
-pub returns-in-Err-clause-right : goal.returns-in-Err-clause-right
-returns-in-Err-clause-right c =
+pub returns-in-Err : goal.returns-in-Err
+returns-in-Err c =
     let model = c.args.model.now in
     let budgets = budgets_of c.args.budgets in
     let stop = c.in-Err.stop in

@@ -1,8 +1,8 @@
 use Rattle.std.proofs.Common.{sym, ◌∙◌, ap, subst, [], take}
 use Rattle.std.proofs.lemmas.Result.{err_from_is_err_and}
 use Rattle.lp_model.specs.Program.{Program}
-use Rattle.model_history.specs.History.{HistoryValue}
-use Rattle.model_session.specs.Session.{session_at}
+use Rattle.report_text.specs.History.{HistoryValue}
+use Rattle.report_text.specs.Session.{session_at}
 use Rattle.report_text.specs.Form.{IsEntryFor}
 use Rattle.report_text.specs.Turns.{after, entry_commands}
 use Rattle.report_text.proofs.InTurn.{AllEntries-at}

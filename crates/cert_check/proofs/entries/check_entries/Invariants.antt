@@ -1,6 +1,6 @@
 use Rattle.std.proofs.Common.{◌≡◌, [], take}
 use Rattle.report_text.specs.Turns.{entry_commands}
-use Rattle.model_session.specs.Session.{session_at}
+use Rattle.report_text.specs.Session.{session_at}
 use Rattle.cert_check.specs.Trials.{entries_trials}
 use Rattle.cert_check.specs.Stops.{first_stop}
 use Rattle.cert_check.proofs.Entered.{left}

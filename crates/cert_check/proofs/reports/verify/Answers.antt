@@ -1,6 +1,6 @@
 use Rattle.std.proofs.Common.{◌≡◌, ◌⊎◌, sym, ◌∙◌, ap, subst, inr, List, [], None}
 use Rattle.lp_model.specs.Program.{Program}
-use Rattle.model_history.specs.History.{HistoryValue, history_of}
+use Rattle.report_text.specs.History.{HistoryValue, history_of}
 use Rattle.report_text.specs.declared.report.Entry.{Entry}
 use Rattle.report_text.specs.declared.report.Report.{Report}
 use Rattle.cert_check.specs.declared.outcome.Stop.{Stop}

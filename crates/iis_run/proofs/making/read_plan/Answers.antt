@@ -3,7 +3,7 @@ use Rattle.text_fields.specs.declared.faults.ReadFault.{ReadFault}
 use Rattle.text_fields.specs.declared.faults.ReadFault.TheVariants.{Stop, Memory}
 use Rattle.model_maker.specs.Making.{IsPlanText}
 use Rattle.model_maker.specs.PlanProgram.{plan_program}
-use Rattle.plan_laws.specs.Laws.{IsReadAs}
+use Rattle.model_maker.specs.PlanLaws.{IsReadAs}
 use Rattle.iis_run.proofs.making.read_plan.Goals as goal
 
 pub read_lp-requires : goal.read_lp-requires

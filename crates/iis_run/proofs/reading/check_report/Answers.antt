@@ -1,6 +1,6 @@
 use Rattle.std.proofs.Common.{◌≡◌, ◌⊎◌, ◌<◌, sym, ◌∙◌, ap, subst, length, arith}
 use Rattle.lp_model.specs.Program.{Program}
-use Rattle.model_history.specs.History.{HistoryValue}
+use Rattle.report_text.specs.History.{HistoryValue}
 use Rattle.report_text.specs.Form.{IsReportFor}
 use Rattle.report_text.specs.Grammar.{report_lines}
 use Rattle.report_reader.specs.Reading.{Reads, IsReportStop}

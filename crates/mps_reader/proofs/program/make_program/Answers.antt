@@ -3,9 +3,9 @@ use Rattle.mps_reader.proofs.Meant.{program_is, places_within, few_are}
 use Rattle.mps_reader.proofs.Summed.{sides_fit}
 use Rattle.mps_reader.proofs.program.make_program.Goals as goal
 
-pub build-requires : goal.build-requires
-build-requires c =
-    let reader = c.args.reader in
+pub put_all-requires-clause-sound : goal.put_all-requires-clause-sound
+put_all-requires-clause-sound c =
+    let reader = c.args.reader.now in
     let h = c.requires.holds in
     record {
       few = h.columns.few;
@@ -18,4 +18,4 @@ build-requires c =
     }
 
 pub returns : goal.returns
-returns c = λ steps h. c.in_ok-model.ensures ∙ program_is c.args.reader steps h c.names_differ.ensures c.names_differ-2.ensures
+returns c = λ steps h. c.in_ok-put_all.ensures ∙ program_is c.args.reader.now steps h c.names_differ.ensures c.names_differ-2.ensures

@@ -1,4 +1,4 @@
-use Rattle.std.proofs.Common.{sym, ap, not, length, subst, ◌∙◌}
+use Rattle.std.proofs.Common.{sym, ap, not, length, ◌∙◌}
 use Rattle.mps_reader.specs.Tables.{is_free}
 use Rattle.mps_reader.specs.Held.{row_names_held}
 use Rattle.lp_model.specs.Shown.{row_names, most_rows, named_row, new_row}

@@ -8,4 +8,4 @@ returns-then-not-is_free_kind c = λ steps h.
 
 pub returns : goal.returns
 returns c = λ steps h.
-    free_taken c.args.reader.now steps c.args.kind c.args.name.now h c.push.new.self c.place_or.result c.in_ok-push.ensures.ok (c.place_or.ensures ∙ ap (unwrap_or c.args.reader.now.objective) c.len-place.ensures.len) c.requires.short (sym c.is_free_kind.ensures ∙ c.if-not-is_free_kind.false)
+    free_taken c.args.reader.now steps c.args.kind c.args.name.now h c.push.new.self c.unwrap_or.result c.in_ok-push.ensures.ok (c.unwrap_or.ensures ∙ ap (unwrap_or c.args.reader.now.objective) c.len-place.ensures.len) c.requires.short (sym c.is_free_kind.ensures ∙ c.if-not-is_free_kind.false)

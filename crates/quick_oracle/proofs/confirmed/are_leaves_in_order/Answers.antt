@@ -1,6 +1,5 @@
-use Rattle.std.proofs.Common.{subst, List}
+use Rattle.std.proofs.Common.{subst}
 use Rattle.std.proofs.lemmas.List.{take_all}
-use Rattle.certs.specs.declared.evidence.Node.{Node}
 use Rattle.certs.specs.Order.{AreLeavesInOrder}
 use Rattle.quick_oracle.proofs.Confirming.{leaves_more}
 use Rattle.quick_oracle.proofs.confirmed.are_leaves_in_order.Goals as goal

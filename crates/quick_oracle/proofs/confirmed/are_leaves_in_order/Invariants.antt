@@ -1,5 +1,4 @@
 use Rattle.std.proofs.Common.{take}
-use Rattle.std.specs.Prelude.{All}
 use Rattle.certs.specs.Order.{AreLeavesInOrder}
 use Rattle.quick_oracle.proofs.confirmed.are_leaves_in_order.Given as goal
 

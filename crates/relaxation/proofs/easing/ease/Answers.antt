@@ -3,7 +3,7 @@ use Rattle.certs.specs.Plain.{first_crossing}
 use Rattle.certs.specs.System.{LinearSystem}
 use Rattle.certs.specs.Tableau.{IsWellFormedSystem, variables}
 use Rattle.relaxation.specs.Runs.{HasNoRay, IsFailure, IsSolved}
-use Rattle.elastic_systems.specs.Costs.{system_by}
+use Rattle.relaxation.specs.Costs.{system_by}
 use Rattle.relaxation.proofs.Bounded.{elastic_bounded}
 use Rattle.relaxation.proofs.Shares.{of_system}
 use Rattle.relaxation.proofs.easing.ease.Goals as goal

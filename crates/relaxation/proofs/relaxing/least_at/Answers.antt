@@ -1,6 +1,6 @@
 use Rattle.std.proofs.Common.{◌∙◌, ap, take, arith}
-use Rattle.elastic_systems.specs.declared.systems.Costs.TheVariants.{Weights}
-use Rattle.elastic_systems.specs.Costs.{objective_by, system_by}
+use Rattle.relaxation.specs.declared.systems.Costs.TheVariants.{Weights}
+use Rattle.relaxation.specs.Costs.{objective_by, system_by}
 use Rattle.relaxation.proofs.Reaching.{best_count, least_by}
 use Rattle.relaxation.proofs.Shares.{dual_of_system}
 use Rattle.relaxation.proofs.relaxing.least_at.Goals as goal

@@ -1,5 +1,5 @@
 use Rattle.std.proofs.Common.{subst}
-use Rattle.elastic_systems.specs.declared.systems.Costs.TheVariants.{Ones}
+use Rattle.relaxation.specs.declared.systems.Costs.TheVariants.{Ones}
 use Rattle.relaxation.specs.Runs.{IsEased}
 use Rattle.relaxation.proofs.Parts.{part_elastic}
 use Rattle.relaxation.proofs.Reaching.{best_count}

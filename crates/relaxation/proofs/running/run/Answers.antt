@@ -6,10 +6,10 @@ use Rattle.frac128.specs.Limit.{limit}
 use Rattle.simplex.specs.Ends.{HasRun, end_of}
 use Rattle.simplex.specs.declared.settling.Settled.{Settled}
 use Rattle.simplex.specs.declared.settling.Settled.TheVariants.{Feasible}
-use Rattle.improve_run.specs.Ends.{EndsAt}
-use Rattle.improve_run.specs.declared.improving.Improved.TheVariants.{Unbounded}
-use Rattle.improve_ends.specs.Rays.{change_along}
-use Rattle.improve_ends.proofs.Free.{free_ray_law}
+use Rattle.simplex.specs.ImproveEnds.{EndsAt}
+use Rattle.simplex.specs.declared.improving.Improved.TheVariants.{Unbounded}
+use Rattle.simplex.specs.Rays.{change_along}
+use Rattle.simplex.proofs.Free.{free_ray_law}
 use Rattle.unbounded.specs.Runs.{StopsSo}
 use Rattle.relaxation.proofs.Stops.{improve_stops}
 use Rattle.relaxation.proofs.running.run.Goals as goal

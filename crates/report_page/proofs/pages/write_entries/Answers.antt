@@ -1,7 +1,7 @@
 use Rattle.std.proofs.Common.{◌∙◌, ap, subst, take}
 use Rattle.lp_model.specs.Program.{Program}
-use Rattle.model_history.specs.History.{HistoryValue}
-use Rattle.model_session.specs.Session.{session_at}
+use Rattle.report_text.specs.History.{HistoryValue}
+use Rattle.report_text.specs.Session.{session_at}
 use Rattle.report_text.specs.Turns.{entry_commands}
 use Rattle.report_page.specs.Pieces.{Writes}
 use Rattle.report_page.specs.Page.{entry_pieces}

@@ -1,6 +1,6 @@
 use Rattle.std.proofs.Common.{◌≡◌, ◌++◌, [], take}
 use Rattle.report_text.specs.Turns.{entry_commands}
-use Rattle.model_session.specs.Session.{session_at}
+use Rattle.report_text.specs.Session.{session_at}
 use Rattle.report_page.specs.Pieces.{bytes_of}
 use Rattle.report_page.specs.Page.{entries_pieces}
 use Rattle.report_page.proofs.Turned.{left}

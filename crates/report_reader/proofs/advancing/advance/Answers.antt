@@ -1,7 +1,7 @@
 use Rattle.std.proofs.Common.{◌≡◌, refl, sym, ap, ◌∙◌, subst}
 use Rattle.std.specs.Prelude.{IfOk, option_map}
 use Rattle.lp_model.specs.Program.{Program}
-use Rattle.model_session.specs.Session.{first_of}
+use Rattle.report_text.specs.Session.{first_of}
 use Rattle.report_text.specs.Turns.{entry_commands}
 use Rattle.report_reader.specs.declared.drafts.Stage.{Stage}
 use Rattle.report_reader.specs.Drafts.{extended, placed, advanced, IsStageFor, IsPartFor}

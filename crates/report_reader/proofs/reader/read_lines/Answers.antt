@@ -4,7 +4,7 @@ use Rattle.std.proofs.lemmas.Result.{err_from_is_err_and}
 use Rattle.lp_model.specs.Program.{Program}
 use Rattle.report_text.specs.declared.report.Report.{Report}
 use Rattle.report_text.specs.Turns.{entry_commands}
-use Rattle.model_session.specs.Session.{session_at}
+use Rattle.report_text.specs.Session.{session_at}
 use Rattle.report_reader.specs.declared.reader.ReportStop.{ReportStop}
 use Rattle.report_reader.specs.declared.drafts.Draft.{Draft}
 use Rattle.report_reader.specs.Reading.{Reads, IsReportStop}

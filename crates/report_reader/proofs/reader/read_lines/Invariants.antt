@@ -1,6 +1,6 @@
 use Rattle.std.proofs.Common.{◌≡◌, length}
 use Rattle.report_text.specs.Turns.{entry_commands}
-use Rattle.model_session.specs.Session.{session_at}
+use Rattle.report_text.specs.Session.{session_at}
 use Rattle.report_reader.proofs.Progress.{HasCome}
 use Rattle.report_reader.proofs.reader.read_lines.Given as goal
 

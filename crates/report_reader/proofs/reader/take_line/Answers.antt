@@ -1,5 +1,5 @@
 use Rattle.std.proofs.Common.{◌∙◌, subst, Option}
-use Rattle.model_session.specs.Session.{first_of}
+use Rattle.report_text.specs.Session.{first_of}
 use Rattle.report_text.specs.Turns.{entry_commands}
 use Rattle.report_reader.specs.declared.drafts.Draft.{Draft}
 use Rattle.report_reader.specs.Drafts.{entries_now, Replays}

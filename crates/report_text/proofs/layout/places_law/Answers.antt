@@ -1,7 +1,6 @@
 use Rattle.std.proofs.Common.{refl, [], ◌∷◌, ◌++◌, map, flat_map, zip}
 use Rattle.report_text.specs.declared.phrases.Phrase.{Phrase}
 use Rattle.report_text.specs.Grammar.{point_phrases, value_phrases, objective_phrases, dual_phrases, price_phrases, proof_phrases, rounds_phrases, witness_phrases}
-use Rattle.report_text.specs.Places.{PlacesLaw}
 use Rattle.report_text.proofs.Passed.{past_one, past_two, past_three, past_third}
 use Rattle.report_text.proofs.layout.places_law.Goals as goal
 

@@ -6,7 +6,7 @@ use Rattle.certs.specs.System.{LinearSystem}
 use Rattle.certs.specs.Tableau.{IsTableauOf, IsWellFormedSystem, variables}
 use Rattle.certs.proofs.Possible.{members_for_model}
 use Rattle.dictionary.specs.Value.{tableau_of}
-use Rattle.improve_run.specs.Ends.{KeepsLimits, end_of}
+use Rattle.simplex.specs.ImproveEnds.{KeepsLimits, end_of}
 use Rattle.unbounded.specs.Runs.{EndsSo, HasNoCombination, StopsSo}
 use Rattle.unbounded.proofs.Running.{few_variables, formed_system, no_combination, none_cross}
 use Rattle.unbounded.proofs.Systems.{columns_are}

@@ -5,8 +5,8 @@ use Rattle.certs.specs.Named.{named}
 use Rattle.certs.specs.Order.{AreSharesInOrder}
 use Rattle.certs.specs.Plain.{greatest_objective}
 use Rattle.certs.specs.Tableau.{value_of}
-use Rattle.improve_ends.specs.Duals.{IsNamedDual, optimal_shares}
-use Rattle.presolve_laws.proofs.Placed.{placed_in_order}
+use Rattle.simplex.specs.Duals.{IsNamedDual, optimal_shares}
+use Rattle.linear_oracle.proofs.Placed.{placed_in_order}
 use Rattle.dictionary.specs.Value.{tableau_of}
 use Rattle.unbounded.proofs.Ending.{count, reaches, satisfies_relaxed, system, within}
 use Rattle.unbounded.proofs.Ordered.{optimal_in_order}

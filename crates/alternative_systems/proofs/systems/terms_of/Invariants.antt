@@ -1,8 +1,0 @@
-use Rattle.std.proofs.Common.{◌≡◌, take}
-use Rattle.certs.specs.System.{terms_from}
-use Rattle.alternative_systems.specs.Forms.{count_by}
-use Rattle.alternative_systems.proofs.systems.terms_of.Given as goal
-
--- the terms of the members passed are there
-abbrev pub invariant-loop-variable : goal.invariant-loop-variable
-invariant-loop-variable l = l.terms.items ≡ terms_from 0 (count_by l.model l.form) (take l.variable l.members)

@@ -1,5 +1,0 @@
-use Rattle.elastic_systems.proofs.Few.{few_law}
-use Rattle.elastic_systems.proofs.laws.elastic_systems_are_few.Goals as goal
-
-pub returns : goal.returns
-returns c = few_law

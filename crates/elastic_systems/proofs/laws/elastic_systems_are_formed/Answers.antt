@@ -1,5 +1,0 @@
-use Rattle.elastic_systems.proofs.Formed.{formed_law}
-use Rattle.elastic_systems.proofs.laws.elastic_systems_are_formed.Goals as goal
-
-pub returns : goal.returns
-returns c = formed_law

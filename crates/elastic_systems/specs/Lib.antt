@@ -1,4 +1,0 @@
-pub mod Costs
-pub mod Origins
-pub mod Shares
-pub mod Laws

@@ -1,5 +1,0 @@
-use Rattle.improve_ends.proofs.Meaning.{dual_bound_law}
-use Rattle.improve_ends.proofs.laws.dual_bounds.Goals as goal
-
-pub returns : goal.returns
-returns c = dual_bound_law

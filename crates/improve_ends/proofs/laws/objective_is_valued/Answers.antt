@@ -1,5 +1,0 @@
-use Rattle.improve_ends.proofs.Optimal.{objective_value_law}
-use Rattle.improve_ends.proofs.laws.objective_is_valued.Goals as goal
-
-pub returns : goal.returns
-returns c = objective_value_law

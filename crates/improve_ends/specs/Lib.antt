@@ -1,2 +1,0 @@
-pub mod Duals
-pub mod Rays

@@ -1,4 +1,0 @@
-pub mod Nearer
-pub mod Walks
-pub mod Steps
-pub mod Turned

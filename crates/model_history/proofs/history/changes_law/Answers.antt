@@ -1,5 +1,0 @@
-use Rattle.model_history.proofs.Changing.{changes_law_by}
-use Rattle.model_history.proofs.history.changes_law.Goals as goal
-
-pub returns : goal.returns
-returns c = changes_law_by c.edit_goes_back.ensures

@@ -1,5 +1,0 @@
-use Rattle.model_history.proofs.Histories.{history_law_by}
-use Rattle.model_history.proofs.history.history_law.Goals as goal
-
-pub returns : goal.returns
-returns c = history_law_by c.edit_goes_back.ensures

@@ -1,3 +1,0 @@
-pub mod Unchanged
-pub mod Standing
-pub mod Taken

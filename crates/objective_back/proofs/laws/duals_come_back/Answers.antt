@@ -1,5 +1,0 @@
-use Rattle.objective_back.proofs.Whole.{dual_back_law}
-use Rattle.objective_back.proofs.laws.duals_come_back.Goals as goal
-
-pub returns : goal.returns
-returns c = dual_back_law

@@ -1,5 +1,0 @@
-use Rattle.objective_back.proofs.Whole.{objective_stays_law}
-use Rattle.objective_back.proofs.laws.objective_stays.Goals as goal
-
-pub returns : goal.returns
-returns c = objective_stays_law

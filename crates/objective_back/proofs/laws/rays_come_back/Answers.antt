@@ -1,5 +1,0 @@
-use Rattle.objective_back.proofs.Whole.{ray_back_law}
-use Rattle.objective_back.proofs.laws.rays_come_back.Goals as goal
-
-pub returns : goal.returns
-returns c = ray_back_law

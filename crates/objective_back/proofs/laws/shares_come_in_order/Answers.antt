@@ -1,5 +1,0 @@
-use Rattle.objective_back.proofs.Whole.{order_law}
-use Rattle.objective_back.proofs.laws.shares_come_in_order.Goals as goal
-
-pub returns : goal.returns
-returns c = order_law

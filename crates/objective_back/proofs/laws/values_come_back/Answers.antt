@@ -1,5 +1,0 @@
-use Rattle.objective_back.proofs.Whole.{point_value_law}
-use Rattle.objective_back.proofs.laws.values_come_back.Goals as goal
-
-pub returns : goal.returns
-returns c = point_value_law

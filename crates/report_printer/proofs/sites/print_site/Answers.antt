@@ -1,0 +1,17 @@
+use Rattle.std.proofs.Common.{◌++◌, ◌∙◌, ap, map}
+use Rattle.report_text.specs.declared.phrases.Phrase.{Phrase}
+use Rattle.report_text.specs.declared.phrases.StopPhrase.{StopPhrase}
+use Rattle.report_text.specs.Grammar.{without_phrase, enforced_phrase, branch_phrase, left_out, phrases_text}
+use Rattle.report_printer.proofs.EvidencePrinted.{in_parts, lines_more}
+use Rattle.report_printer.proofs.sites.print_site.Goals as goal
+
+pub returns : goal.returns
+returns c =
+    let model = c.args.model.now in
+    let site = c.args.site.now in
+    let third = c.print_enforced.new.into.items in
+    in_parts model (Phrase.Stop (StopPhrase.Site site.kind)) (map without_phrase (left_out model site.set.members)) (map enforced_phrase site.enforced.members ++ map branch_phrase site.path) _ _ _ _
+    (c.in_ok-print_kind.ensures model)
+    c.in_ok-print_left_out.ensures
+    (lines_more model _ third _ (map enforced_phrase site.enforced.members) (map branch_phrase site.path) c.in_ok-print_enforced.ensures
+    (c.in_ok-print_path.ensures ∙ ap (λ path. third ++ phrases_text model (map branch_phrase path)) c.as_slice.ensures))

@@ -1,4 +1,0 @@
-pub mod Cuts
-mod Outcomes
-mod Ends
-pub mod Boxes
