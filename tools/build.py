@@ -130,6 +130,13 @@ def weights(known, due):
     return found
 
 
+def list_parts(place, order, folders):
+    """Lists in PLACE/parts what a program was made from: these folders of its crates."""
+    parts = ["crates.txt", *[f"crates/{name}/{part}" for name in order for part in folders]]
+    with open(f"{place}/parts", "w", encoding="utf-8") as out:
+        out.writelines(f"{it}\n" for it in parts if os.path.exists(f"{TOP}/{it}"))
+
+
 class Build:
     """A build of a program in a place: what is due, what is proved, and what is being proved with how many processors."""
 
@@ -196,17 +203,17 @@ class Build:
         """Puts the program in its place, and lists what it was made from."""
         made = f"{ROOMS}/{self.program}/crates/{self.program}/out/{self.program}"
         shutil.copy(made, f"{self.place}/{self.program}")
-        parts = ["crates.txt", *[f"crates/{name}/{part}" for name in self.order for part in PARTS]]
-        with open(f"{self.place}/parts", "w", encoding="utf-8") as out:
-            out.writelines(f"{it}\n" for it in parts if os.path.exists(f"{TOP}/{it}"))
+        list_parts(self.place, self.order, PARTS)
 
 
 def main(place, program):
     os.makedirs(place, exist_ok=True)
     build = Build(place, program)
     if build.due:
-        count = len(build.due)
-        say(f"proves and builds {count} crates, on first use or after a change; later runs start at once")
+        say(f"proves {len(build.due)} of {len(build.order)} crates and builds the program; later runs start at once")
+    if len(build.due) == len(build.order):
+        say("that takes about an hour on four processors; Ctrl-C stops it, and the next run goes on from there")
+        say("for an answer in a few minutes, from the same program not proved: ./iis MODEL, or ./iisan-try MODEL SCRIPT")
     if not build.run():
         return 1
     build.finish()
