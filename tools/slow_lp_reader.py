@@ -2,7 +2,7 @@
 """A slow and plain reader of models in the LP format, to try the proved reader beside it.
 
 It follows the rules of docs/LP.md; which numbers fit is said in docs/MPS.md, which sums are too wide in
-docs/DEFINITIONS.md. A text is first the whole list of its tokens. Its statements are then taken in order: each is gone
+crates/frac128/CLAUSES.md. A text is first the whole list of its tokens. Its statements are then taken in order: each is gone
 through for its form, and then for what it means after the statements before it. The model is what is found in the
 whole list of statements by look-ups. No table is kept, so large models take long.
 

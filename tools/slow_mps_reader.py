@@ -1,9 +1,9 @@
 #!/usr/bin/env python3
 """A slow and plain reader of models in the MPS format, to try the proved reader beside it.
 
-It follows the rules of docs/MPS.md; which sums are too wide is said in docs/DEFINITIONS.md. What a text says is a list
-of facts, line by line. The first fault is that of the first fact that is refused after the facts before it, and the
-model is what is found in the whole list by look-ups. No table is kept, so large models take long.
+It follows the rules of docs/MPS.md; which sums are too wide is said in crates/frac128/CLAUSES.md. What a text says is a
+list of facts, line by line. The first fault is that of the first fact that is refused after the facts before it, and
+the model is what is found in the whole list by look-ups. No table is kept, so large models take long.
 
     tools/slow_mps_reader.py check FILE
 
