@@ -1,4 +1,4 @@
-//! Settle runs over a dictionary.
+//! Settle runs and improve runs over a dictionary.
 #![tactic(auto)]
 
 mod blocks;
