@@ -24,12 +24,9 @@ trap 'rm -rf "$work"' EXIT
 . "$top/bench/others.sh"
 # shellcheck source=bench/entries.sh
 . "$top/bench/entries.sh"
-program=${IISAN:-}
-if [ -z "$program" ]; then
-    "$top/iisan" >/dev/null 2>&1 </dev/null || true
-    program=$top/.build/iisan
-fi
-program=$(realpath "$program")
+# shellcheck source=bench/building.sh
+. "$top/bench/building.sh"
+find_program
 cd "$work"
 limit=30 other_system=alternative.lp other_format=lp
 

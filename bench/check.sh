@@ -14,6 +14,9 @@ trap 'rm -rf "$work"' EXIT
 . "$top/bench/models.sh"
 # shellcheck source=bench/timing.sh
 . "$top/bench/timing.sh"
+# shellcheck source=bench/building.sh
+. "$top/bench/building.sh"
+find_program
 cd "$work"
 limit=120 limit_of_others=30
 echo check >script
@@ -40,8 +43,6 @@ measure() {
     echo "| $line | $glpsol | $esolver |"
 }
 
-"$top/iisan" >/dev/null 2>&1 || true
-program=$top/.build/iisan
 echo "| model | answer | seconds | megabytes | \`glpsol --exact\` | \`esolver\` |"
 echo "|---|---|---|---|---|---|"
 each_model measure "$@"

@@ -1,12 +1,11 @@
 #!/bin/sh
-# Looks for irreducible sets by each of the three filters, on the models of `bench/models.sh`: plans of 10 to 1,000 periods,
-# random sparse systems of up to 2,000 rows and 4,000 columns, some of them feasible, transports, flows, and a system of rows of
-# all kinds. Prints for each the asks, how many of these the reference run was asked, where the program tells it, the pivots of all
-# runs, the seconds of processor time, the peak of memory, and the size of the set. Beside them stand the seconds of `z3` and
-# `cvc5`, where these are installed, and the size of the unsatisfiable core that they find and minimise, on the same systems in
-# SMT-LIB, where both sides of a row are one assertion. A filter is cut off after 120 seconds by the clock, another solver after
-# 30. With words, only the models whose names have one of them are gone through: `bench/iis.sh plan` or `bench/iis.sh "plan of
-# 200"`. It wants GNU time (Debian's package `time`). A benchmark, no test.
+# Asks `iis` by each method of the models of `bench/models.sh` that nothing satisfies. Prints for each method the processor seconds
+# of a run from start to end, and in brackets how many members its irreducible set has, or what is answered else; then how many
+# sets the chain of rounds of `elastic` has. Behind them stand the same of `z3` and `cvc5`, where these are installed, for the
+# unsatisfiable core that they find and minimise, on the same systems in SMT-LIB, where both sides of a row are one assertion. A
+# method is cut off after 60 seconds by the clock, another solver after 30. The program is the one that the variable IISAN names, or
+# else the one that ./iisan builds. With words, only the models whose names have one of them are gone through: `bench/iis.sh plan`
+# or `bench/iis.sh "plan of 200"`. It wants GNU time (Debian's package `time`). A benchmark, no test.
 set -eu
 
 top=$(CDPATH='' cd -- "$(dirname -- "$0")/.." && pwd)
@@ -20,8 +19,17 @@ trap 'rm -rf "$work"' EXIT
 . "$top/bench/timing.sh"
 # shellcheck source=bench/building.sh
 . "$top/bench/building.sh"
+find_program
 cd "$work"
-limit=120 limit_of_others=30
+limit=60 limit_of_others=30
+
+# The cell of a method.
+method() {
+    printf 'budget pivots 1000000\niis %s\n' "$1" >script
+    timed "$limit" "$program" analyse "$2" script
+    found=$(awk '$1 == "member" { n++ } END { if (n) print n }' said)
+    echo "$(cat seconds) (${found:-$(awk '$1 == "command" && $2 == "iis" { getline; print; exit }' said)})"
+}
 
 # The text of a model in SMT-LIB: options of one solver's own, and the assertions.
 smt() {
@@ -33,49 +41,30 @@ smt() {
     echo "(get-unsat-core)"
 }
 
-# One line of the table for a filter.
-filter() {
-    timed "$limit" "$bench" ask "$2" "$3"
-    awk -v name="$1" -v filter="$3" -v seconds="$(cat seconds)" -v megabytes="$(cat megabytes)" '
-        { for (k = 1; k < NF; k += 2) told[$k] = $(k + 1) }
-        function of(word) { return word in told ? told[word] : "-" }
-        END {
-            found = of("end") == "set" ? of("size") : of("end")
-            print "| " name " | " filter " | " of("asks") " | " of("reference") " | " of("pivots") " | " seconds " | " megabytes " | " found " |"
-        }' said
-}
-
-# One line of the table for another solver: the file is named by its last word.
+# The cell of another solver, or a dash.
 solver() {
-    name=$1 solver=$2
-    shift 2
-    command -v "$solver" >/dev/null 2>&1 || return 0
-    timed "$limit_of_others" "$solver" "$@"
-    found=-
-    if [ "$(cat seconds)" = "cut off" ]; then
-        : # What it said until then is no core.
-    elif grep -qx sat said; then
-        found=feasible
-    elif grep -qx unsat said; then
-        found=$(tr -s '() ' '\n' <said | grep -cE '^(row|lower|upper)_' || true)
-    fi
-    echo "| $name | \`$solver\` | | | | $(cat seconds) | $(cat megabytes) | $found |"
+    command -v "$1" >/dev/null 2>&1 || { echo - && return; }
+    timed "$limit_of_others" "$@"
+    # What it said until it was cut off is no core.
+    ! grep -q cut seconds || { cat seconds && return; }
+    echo "$(cat seconds) ($(tr -s '() ' '\n' <said | grep -cE '^(row|lower|upper)_' || true))"
 }
 
-# The lines of the table for a model in a file.
+# One line of the table; none of a model that a point satisfies.
 measure() {
+    case $1 in *" feasible") return 0 ;; esac
+    line=$1
+    for method in deletion additive sensitivity alternative elastic; do
+        line="$line | $(method "$method" "$2")"
+    done
+    line="$line | $(awk '$1 == "rounds" { print $2 }' said)"
     plain "$2" >model.plain
     assertions model.plain >terms
-    for filter in deletion additive sensitivity; do
-        filter "$1" "$2" "$filter"
-    done
     smt "(set-option :smt.core.minimize true)" >z3.smt2
     smt "" >cvc5.smt2
-    solver "$1" z3 z3.smt2
-    solver "$1" cvc5 --minimal-unsat-cores cvc5.smt2
+    echo "| $line | $(solver z3 z3.smt2) | $(solver cvc5 --minimal-unsat-cores cvc5.smt2) |"
 }
 
-build
-echo "| model | by | asks | of the reference run | pivots | seconds | megabytes | members |"
-echo "|---|---|---|---|---|---|---|---|"
+echo "| model | deletion | additive | sensitivity | alternative | elastic | rounds | \`z3\` | \`cvc5\` |"
+echo "|---|---|---|---|---|---|---|---|---|"
 each_model measure "$@"

@@ -1,26 +1,22 @@
 #!/bin/sh
 # Makes models that only the marks of their columns contradict: boxes and knapsacks whose even weights are to come to an odd
-# total, and shift plans of growing size. For each it prints the nodes of the proof that `check` gives, its processor
-# seconds and megabytes, the bytes of the report, and the seconds of `verify` of it; besides those of `glpsol` and `cbc`,
-# where they are there. Then it runs the deletion filter on some of these models and on odd cycles, with quick trees and by
-# the reference trees alone, and prints for each the asks, those of them that the reference was asked, the nodes and pivots of all
-# trees, the seconds, and the size of the set or how it ended. It wants GNU time (Debian's package `time`). A word is taken as
-# the program; without one it is the one that ./iisan proves and builds. A benchmark, no test.
+# total, and shift plans. For each it prints the nodes of the proof that `check` gives, its processor seconds and megabytes, the
+# bytes of the report, and the seconds of `verify` of it; besides those of `glpsol` and `cbc`, where they are there. Then it runs
+# the deletion filter on odd cycles, with quick trees and by the reference trees alone, and prints for each the asks, those of them
+# that the reference was asked, the nodes and pivots of all trees, the seconds, and the size of the set or how it ended. It wants
+# GNU time (Debian's package `time`). The program is the one that the variable IISAN names, or else the one that ./iisan builds. A
+# benchmark, no test.
 set -eu
 
 top=$(CDPATH='' cd -- "$(dirname -- "$0")/.." && pwd)
-program=${1:-}
-if [ -z "$program" ]; then
-    "$top/iisan" >/dev/null 2>&1 || true
-    program=$top/.build/iisan
-fi
 work=$(mktemp -d)
 trap 'rm -rf "$work"' EXIT
-cd "$work"
 # shellcheck source=bench/timing.sh
 . "$top/bench/timing.sh"
 # shellcheck source=bench/building.sh
 . "$top/bench/building.sh"
+find_program
+cd "$work"
 
 # So many columns from 0 to 1, each twice, come to an odd number.
 box() {
@@ -90,7 +86,7 @@ shifts() {
 
 printf 'budget pivots 1000000\nbudget nodes 100000\ncheck\n' >script
 echo "model nodes seconds megabytes bytes verify glpsol cbc"
-for model in "box 5" "box 9" "box 11" "box 13" "knapsack 3" "knapsack 5" "knapsack 6" "shifts 1" "shifts 2"; do
+for model in "box 9" "box 13" "knapsack 6" "shifts 2"; do
     # The two words are the kind and the size.
     # shellcheck disable=SC2086
     $model >model.lp
@@ -132,7 +128,7 @@ filter() {
 
 echo
 echo "model trees asks reference nodes pivots seconds found"
-for model in "box 9" "knapsack 5" "shifts 2" "shifts 12" "cycles 3 11" "cycles 5 7" "cycles 6 7" "cycles 8 5" "cycles 9 5"; do
+for model in "cycles 3 11" "cycles 6 7" "cycles 9 5"; do
     # The words are the kind and the sizes.
     # shellcheck disable=SC2086
     $model >model.lp

@@ -3,9 +3,8 @@
 # sparse systems of up to 2,000 rows and 4,000 columns, transports and flows. Prints for each the steps and what is left, the
 # seconds of processor time, those for each step in microseconds, and the peak of memory; then the seconds of `check` by the
 # reference with the reduction before its run and without (program bench), and those of `glpsol --exact` and of `esolver`
-# (QSopt_ex) on the same files, where these are installed. A run is cut off after 120 seconds by the clock, that of another
-# solver after 30. With words, only the models whose names have one of them are gone through. It wants GNU time (Debian's
-# package `time`). A benchmark, no test.
+# (QSopt_ex) on the same files, where these are installed. A run is cut off after 30 seconds by the clock. With words, only the
+# models whose names have one of them are gone through. It wants GNU time (Debian's package `time`). A benchmark, no test.
 set -eu
 
 top=$(CDPATH='' cd -- "$(dirname -- "$0")/.." && pwd)
@@ -17,9 +16,9 @@ trap 'rm -rf "$work"' EXIT
 . "$top/bench/timing.sh"
 # shellcheck source=bench/building.sh
 . "$top/bench/building.sh"
+find_program
 cd "$work"
-program=${IISAN:-$top/.build/iisan}
-limit=120 limit_of_others=30
+limit=30
 echo reduce >script
 
 # A chain of so many columns, each one more than the one before, of which the last is to be at most 1.
@@ -34,7 +33,7 @@ chain() {
 # The seconds of another solver, or a dash.
 other() {
     if command -v "$1" >/dev/null 2>&1; then
-        timed "$limit_of_others" "$@"
+        timed "$limit" "$@"
         cat seconds
     else
         echo -

@@ -6,6 +6,8 @@ set -eu
 top=$(CDPATH='' cd -- "$(dirname -- "$0")/.." && pwd)
 work=$(mktemp -d)
 trap 'rm -rf "$work"' EXIT
+# shellcheck source=bench/building.sh
+. "$top/bench/building.sh"
 
 # A model of so many rows, twice as many columns and 25 entries a column.
 model() {
@@ -30,8 +32,7 @@ report() {
     }'
 }
 
-"$top/iisan" >/dev/null 2>&1 || true
-program=$top/.build/iisan
+find_program
 echo "rows columns entries bytes seconds megabytes"
 for rows in 250 1000 2000; do
     model "$rows" >"$work/model.mps"
