@@ -91,6 +91,15 @@ def report_of(line: str) -> tuple:
     return "\n".join(["iisan report 2", *lines, "report end", ""]).encode(), sum(it.startswith("command ") for it in lines)
 
 
+def reading(name: str, text: bytes, expected: str) -> tuple:
+    """A run that reads a model of which this is expected: its words, the files by name, the status, and what is written."""
+    if expected.startswith("line "):
+        at, _, kind = expected[5:].partition(": ")
+        return ["analyse", name, "s"], {name: text, "s": ""}, 5, f"model refused line {at} {kind}\n"
+    report, entries = report_of(expected)
+    return ["verify", name, "r"], {name: text, "r": report}, 1, f"accepted settled {entries - 1} unsettled 1\n"
+
+
 def check(path: str, mark: bytes, answer: Answer) -> int:
     """Says for how many cases of a file the answer differs, and which these are."""
     with open(path, "rb") as file:
