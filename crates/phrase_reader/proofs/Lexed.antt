@@ -1,5 +1,5 @@
 -- What the words of a value are, and what the words of a line are.
-use Rattle.std.proofs.Common.{◌≡◌, ◌≢◌, refl, sym, ap, ◌∙◌, ℕ, Bool, true, false, List, [], ◌∷◌, Option, Some, None}
+use Rattle.std.proofs.Common.{◌≡◌, ◌≢◌, refl, sym, ap, ◌∙◌, ℕ, ◌<◌, ltb, ltb-false, Bool, true, false, List, [], ◌∷◌, length, Option, Some, None, arith}
 use Rattle.std.specs.Prelude.{IfSome, IfOk, All, Result, Ok, Err}
 use Rattle.std.specs.Str.{bytes_eq}
 use Rattle.std.proofs.lemmas.List.Elements.{All-nil, All-cons}
@@ -80,6 +80,20 @@ leads model (Phrase.Reduction (Doubleton i j)) h = refl
 leads model (Phrase.Left rows columns) h = refl
 leads model Phrase.Foot h = refl
 leads model _ h = absurd (h refl)
+
+-- ---- many words
+-- but for a command, four words at most stand behind a keyword
+few : (model : Program) (p : Phrase) → keyword_of p ≢ Keyword.Command → ltb 4 (length (details model p)) ≡ false
+few model (Phrase.Command c) h = absurd (h refl)
+few model (Phrase.Note (LowerRemoved j)) h = refl
+few model (Phrase.Refused Refusal.UnknownName) h = refl
+few model (Phrase.Stop StopPhrase.Wide) h = refl
+few model (Phrase.Reduction (Empty i)) h = refl
+few model p h = refl
+
+-- so more say nothing there
+pub none_said : (model : Program) (k : Keyword) (given : Words) → k ≢ Keyword.Command → ((ws : List (List ℕ)) → AreWords given ws → 4 < length ws) → SaysBehind model k given None
+none_said model k given other many ws w = record { found = tt; all = λ p h. absurd (let m = ltb-false 4 (length (details model p)) (few model p (λ e. other (sym h.keyword ∙ e))) in let e : length ws ≡ length (details model p) = ap length h.behind in let l = many ws w in omega arith) }
 
 -- ---- lines of one word
 -- an edit has words, and so has each command

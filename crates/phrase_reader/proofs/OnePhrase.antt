@@ -35,19 +35,18 @@ use Rattle.frac128.specs.declared.Op.TheVariants.{Plus, Minus, Times, Over}
 use Rattle.frac128.specs.declared.Wide.{Wide as Operation}
 use Rattle.lp_model.specs.declared.members.Side.{Side}
 use Rattle.lp_model.specs.declared.members.Side.TheVariants.{Lo, Up}
-use Rattle.reductions.specs.declared.steps.ReduceStep.{ReduceStep}
 use Rattle.reductions.specs.declared.steps.ReduceStep.TheVariants.{Empty, Singleton, Fixed, Redundant, Forcing, Doubleton}
 use Rattle.report_text.specs.declared.report.Command.{Command}
 use Rattle.report_text.specs.declared.report.Refusal.{Refusal}
 use Rattle.report_text.specs.declared.phrases.Keyword.{Keyword}
 use Rattle.report_text.specs.declared.phrases.Phrase.{Phrase}
 use Rattle.report_text.specs.declared.phrases.StopPhrase.{StopPhrase}
-use Rattle.report_text.specs.Form.{IsNamedColumn, IsNamedMember, IsNamedSource, IsWithinLimit, IsUse, IsStepFor, IsCommand, IsOperation}
-use Rattle.report_text.specs.Grammar.{Line, column_name, name_of, kind_word, source_word, source_name, site_word, op_word, met_word, keyword_text, keyword_of, branch_keyword, refusal_keyword, step_keyword, stop_keyword, step_details, stop_details, details, phrase_line}
+use Rattle.report_text.specs.Form.{IsNamedColumn, IsNamedMember, IsNamedSource, IsWithinLimit, IsUse, IsCommand, IsOperation}
+use Rattle.report_text.specs.Grammar.{Line, column_name, name_of, kind_word, source_word, source_name, site_word, op_word, met_word, keyword_text, keyword_of, branch_keyword, stop_details, details, phrase_line}
 use Rattle.phrase_reader.specs.Commands.{command_said}
-use Rattle.phrase_reader.specs.Phrases.{IsNamedBranch, IsStopPhrase, IsPhraseFor, Says}
+use Rattle.phrase_reader.specs.Phrases.{IsNamedBranch, IsPhraseFor, Says}
 use Rattle.phrase_reader.specs.Words.{leading_said, lone_said}
-use Rattle.phrase_reader.proofs.Spelling.{no_side, no_refusal, no_step, split_fits, words_of_line}
+use Rattle.phrase_reader.proofs.Spelling.{split_fits, words_of_line}
 use Rattle.phrase_reader.proofs.Named.{one_place}
 use Rattle.phrase_reader.proofs.Asked.{own_words}
 
@@ -124,34 +123,103 @@ operation_one model a b h k d =
     let rights : printed a.right ≡ printed b.right = cc in
     operation_is a.op b.op a.left b.left a.right b.right (op_one a.op b.op ops) (fraction_one a.left b.left h.left k.left lefts) (fraction_one a.right b.right h.right k.right rights)
 
--- ---- refusals
-refusal_one : (a b : Refusal) → refusal_keyword a ≡ refusal_keyword b → a ≡ b
-refusal_one Refusal.UnknownName Refusal.UnknownName e = refl
-refusal_one Refusal.NoChange Refusal.NoChange e = refl
-refusal_one Refusal.NothingToUndo Refusal.NothingToUndo e = refl
-refusal_one Refusal.UnknownName b e = absurd (cc)
-refusal_one a b e = absurd (cc)
-
--- no branch has the keyword of one
-no_branch_refused : (r : Refusal) (upper : Bool) → refusal_keyword r ≡ branch_keyword upper → ⊥
-no_branch_refused r true e = no_refusal r Keyword.BranchBelow e refl
-no_branch_refused r false e = no_refusal r Keyword.BranchAbove e refl
-
 -- ---- steps
 met_one : (a b : Side) → met_word a ≡ met_word b → a ≡ b
 met_one Lo Lo e = refl
 met_one Up Up e = refl
 met_one a b e = absurd (apart (met_word a) (met_word b) refl e)
 
--- no branch has the keyword of one, and no refusal
-no_branch_step : (s : ReduceStep) (upper : Bool) → step_keyword s ≡ branch_keyword upper → ⊥
-no_branch_step s true e = no_step s Keyword.BranchBelow e refl
-no_branch_step s false e = no_step s Keyword.BranchAbove e refl
+-- ---- keywords
+-- what is said of each phrase with the keyword
+abbrev Each : (Phrase → Type 0) → Keyword → Type 0
+Each P Keyword.Iisan = P Phrase.Head
+Each P Keyword.Note = (n : Note) → P (Phrase.Note n)
+Each P Keyword.Command = (c : Command) → P (Phrase.Command c)
+Each P Keyword.Rigid = P Phrase.RigidInfeasible
+Each P Keyword.Unknown = P (Phrase.Refused Refusal.UnknownName)
+Each P Keyword.No = P (Phrase.Refused Refusal.NoChange)
+Each P Keyword.Nothing = P (Phrase.Refused Refusal.NothingToUndo)
+Each P Keyword.Not = (j : ℕ) → P (Phrase.NotLinear j)
+Each P Keyword.Value = (j : ℕ) (v : ℚ) → P (Phrase.Value j v)
+Each P Keyword.Objective = (v : ℚ) → P (Phrase.Objective v)
+Each P Keyword.Bound = (v : ℚ) → P (Phrase.Bound v)
+Each P Keyword.Total = (v : ℚ) → P (Phrase.Total v)
+Each P Keyword.Rounds = (n : ℕ) → P (Phrase.Rounds n)
+Each P Keyword.Member = (m : Member) → P (Phrase.Member m)
+Each P Keyword.Split = (j : ℕ) (k : ℤ) → P (Phrase.Split j k)
+Each P Keyword.Use = (s : Share) → P (Phrase.Use s)
+Each P Keyword.Empty = (i : ℕ) → P (Phrase.Reduction (Empty i))
+Each P Keyword.Singleton = (i : ℕ) → P (Phrase.Reduction (Singleton i))
+Each P Keyword.Fixed = (j : ℕ) (v : ℚ) → P (Phrase.Reduction (Fixed j v))
+Each P Keyword.Redundant = (i : ℕ) → P (Phrase.Reduction (Redundant i))
+Each P Keyword.Forcing = (i : ℕ) (s : Side) → P (Phrase.Reduction (Forcing i s))
+Each P Keyword.Doubleton = (i j : ℕ) → P (Phrase.Reduction (Doubleton i j))
+Each P Keyword.Left = (m n : ℕ) → P (Phrase.Left m n)
+Each P Keyword.Too = P (Phrase.Stop StopPhrase.Wide) × ((n : ℕ) → P (Phrase.Stop (StopPhrase.Large n)))
+Each P Keyword.Pivots = P (Phrase.Stop StopPhrase.Spent)
+Each P Keyword.Nodes = P (Phrase.Stop StopPhrase.Nodes)
+Each P Keyword.Site = (k : SiteKind) → P (Phrase.Stop (StopPhrase.Site k))
+Each P Keyword.Without = (m : Member) → P (Phrase.Stop (StopPhrase.Without m))
+Each P Keyword.Enforced = (m : Member) → P (Phrase.Stop (StopPhrase.Enforced m))
+Each P Keyword.BranchBelow = (b : Branch) → b.upper ≡ true → P (Phrase.Stop (StopPhrase.Branch b))
+Each P Keyword.BranchAbove = (b : Branch) → b.upper ≡ false → P (Phrase.Stop (StopPhrase.Branch b))
+Each P Keyword.Step = (n : ℕ) → P (Phrase.Stop (StopPhrase.Step n))
+Each P Keyword.Operation = (o : Operation) → P (Phrase.Stop (StopPhrase.Operation o))
+Each P Keyword.Report = P Phrase.Foot
+Each P Keyword.Feasible = P Phrase.Feasible
+Each P Keyword.Infeasible = P Phrase.Infeasible
+Each P Keyword.Irreducible = P Phrase.Irreducible
+Each P Keyword.Unbounded = P Phrase.Unbounded
+Each P Keyword.Bounded = P Phrase.Bounded
+Each P Keyword.Least = P Phrase.Least
+Each P Keyword.Reduced = P Phrase.Reduced
+Each P Keyword.Done = P Phrase.Done
+Each P Keyword.Point = P Phrase.Point
+Each P Keyword.Ray = P Phrase.Ray
+Each P Keyword.Dual = P Phrase.Dual
+Each P Keyword.Price = P Phrase.Price
+Each P Keyword.Proof = P Phrase.Proof
+Each P Keyword.Leaf = P Phrase.Leaf
+Each P Keyword.End = P Phrase.End
 
-no_refusal_step : (s : ReduceStep) (r : Refusal) → step_keyword s ≡ refusal_keyword r → ⊥
-no_refusal_step s Refusal.UnknownName e = no_step s Keyword.Unknown e refl
-no_refusal_step s Refusal.NoChange e = no_step s Keyword.No e refl
-no_refusal_step s Refusal.NothingToUndo e = no_step s Keyword.Nothing e refl
+-- it is said of the phrase
+side_has : (P : Phrase → Type 0) (b : Branch) (upper : Bool) → b.upper ≡ upper → Each P (branch_keyword upper) → P (Phrase.Stop (StopPhrase.Branch b))
+side_has P b true e h = h b e
+side_has P b false e h = h b e
+
+phrase_has : (P : Phrase → Type 0) (p : Phrase) → Each P (keyword_of p) → P p
+phrase_has P (Phrase.Note n) h = h n
+phrase_has P (Phrase.Command c) h = h c
+phrase_has P (Phrase.Refused Refusal.UnknownName) h = h
+phrase_has P (Phrase.Refused Refusal.NoChange) h = h
+phrase_has P (Phrase.Refused Refusal.NothingToUndo) h = h
+phrase_has P (Phrase.NotLinear j) h = h j
+phrase_has P (Phrase.Value j v) h = h j v
+phrase_has P (Phrase.Objective v) h = h v
+phrase_has P (Phrase.Bound v) h = h v
+phrase_has P (Phrase.Total v) h = h v
+phrase_has P (Phrase.Rounds n) h = h n
+phrase_has P (Phrase.Member m) h = h m
+phrase_has P (Phrase.Split j k) h = h j k
+phrase_has P (Phrase.Use s) h = h s
+phrase_has P (Phrase.Reduction (Empty i)) h = h i
+phrase_has P (Phrase.Reduction (Singleton i)) h = h i
+phrase_has P (Phrase.Reduction (Fixed j v)) h = h j v
+phrase_has P (Phrase.Reduction (Redundant i)) h = h i
+phrase_has P (Phrase.Reduction (Forcing i s)) h = h i s
+phrase_has P (Phrase.Reduction (Doubleton i j)) h = h i j
+phrase_has P (Phrase.Left m n) h = h m n
+phrase_has P (Phrase.Stop StopPhrase.Wide) h = h.0
+phrase_has P (Phrase.Stop StopPhrase.Spent) h = h
+phrase_has P (Phrase.Stop StopPhrase.Nodes) h = h
+phrase_has P (Phrase.Stop (StopPhrase.Large n)) h = h.1 n
+phrase_has P (Phrase.Stop (StopPhrase.Site k)) h = h k
+phrase_has P (Phrase.Stop (StopPhrase.Without m)) h = h m
+phrase_has P (Phrase.Stop (StopPhrase.Enforced m)) h = h m
+phrase_has P (Phrase.Stop (StopPhrase.Branch b)) h = side_has P b b.upper refl h
+phrase_has P (Phrase.Stop (StopPhrase.Step n)) h = h n
+phrase_has P (Phrase.Stop (StopPhrase.Operation o)) h = h o
+phrase_has P p h = h
 
 -- ---- names
 module _ (model : Program) (f : IsWellFormed model) where
@@ -173,52 +241,11 @@ module _ (model : Program) (f : IsWellFormed model) where
   branch_is : (a b : Branch) → a.column ≡ b.column → a.upper ≡ b.upper → a.at ≡ b.at → a ≡ b
   branch_is a b e f g = ap (λ j. record { column = j; upper = a.upper; at = a.at }) e ∙ ap (λ u. record { column = b.column; upper = u; at = a.at }) f ∙ ap (λ k. record { column = b.column; upper = b.upper; at = k }) g
 
-  branch_one : (a b : Branch) → IsNamedBranch model a → IsNamedBranch model b → branch_keyword a.upper ≡ branch_keyword b.upper → stop_details model (StopPhrase.Branch a) ≡ stop_details model (StopPhrase.Branch b) → a ≡ b
+  branch_one : (a b : Branch) → IsNamedBranch model a → IsNamedBranch model b → a.upper ≡ b.upper → stop_details model (StopPhrase.Branch a) ≡ stop_details model (StopPhrase.Branch b) → a ≡ b
   branch_one a b h k e d =
       let names : column_name model a.column ≡ column_name model b.column = cc in
       let numbers : signed_decimal a.at ≡ signed_decimal b.at = cc in
-      branch_is a b (column_one a.column b.column h.named k.named names) (side_one a.upper b.upper e) (signed_one a.at b.at h.fits k.fits numbers)
-    where
-      side_one : (u v : Bool) → branch_keyword u ≡ branch_keyword v → u ≡ v
-      side_one true true e = refl
-      side_one false false e = refl
-      side_one true false e = absurd (cc)
-      side_one false true e = absurd (cc)
-
-  -- what is said of a stop
-  stop_one : (a b : StopPhrase) → IsStopPhrase model a → IsStopPhrase model b → stop_keyword a ≡ stop_keyword b → stop_details model a ≡ stop_details model b → a ≡ b
-  stop_one StopPhrase.Wide StopPhrase.Wide h k e d = refl
-  stop_one StopPhrase.Spent StopPhrase.Spent h k e d = refl
-  stop_one StopPhrase.Nodes StopPhrase.Nodes h k e d = refl
-  stop_one (StopPhrase.Branch a) (StopPhrase.Branch b) h k e d = ap StopPhrase.Branch (branch_one a b h k e d)
-  stop_one (StopPhrase.Site a) (StopPhrase.Site b) h k e d = let words : site_word a ≡ site_word b = cc in ap StopPhrase.Site (site_one a b words)
-  stop_one (StopPhrase.Without m) (StopPhrase.Without n) h k e d = let kinds : kind_word m ≡ kind_word n = cc in let names : name_of model m ≡ name_of model n = cc in ap StopPhrase.Without (member_one m n h k kinds names)
-  stop_one (StopPhrase.Enforced m) (StopPhrase.Enforced n) h k e d = let kinds : kind_word m ≡ kind_word n = cc in let names : name_of model m ≡ name_of model n = cc in ap StopPhrase.Enforced (member_one m n h k kinds names)
-  stop_one (StopPhrase.Large m) (StopPhrase.Large n) h k e d = let words : decimal m ≡ decimal n = cc in ap StopPhrase.Large (decimal_injective m n h k words)
-  stop_one (StopPhrase.Step m) (StopPhrase.Step n) h k e d = let words : decimal m ≡ decimal n = cc in ap StopPhrase.Step (decimal_injective m n h k words)
-  stop_one (StopPhrase.Operation a) (StopPhrase.Operation b) h k e d = ap StopPhrase.Operation (operation_one model a b h k d)
-  stop_one (StopPhrase.Branch a) b h k e d = absurd (no_side a.upper (stop_keyword b) e refl)
-  stop_one a (StopPhrase.Branch b) h k e d = absurd (no_side b.upper (stop_keyword a) (sym e) refl)
-  stop_one a b h k e d = absurd (cc)
-
-  -- ---- steps
-  step_one : (a b : ReduceStep) → IsStepFor model a → IsStepFor model b → step_keyword a ≡ step_keyword b → step_details model a ≡ step_details model b → a ≡ b
-  step_one (Empty i) (Empty j) h k e d = let rows : (row_at model i).name ≡ (row_at model j).name = cc in ap Empty (row_one i j h.known k.known rows)
-  step_one (Singleton i) (Singleton j) h k e d = let rows : (row_at model i).name ≡ (row_at model j).name = cc in ap Singleton (row_one i j h.known k.known rows)
-  step_one (Fixed i v) (Fixed j w) h k e d =
-      let columns : column_name model i ≡ column_name model j = cc in
-      let numbers : printed v ≡ printed w = cc in
-      ap (λ n. Fixed n v) (column_one i j h.0 k.0 columns) ∙ ap (λ x. Fixed j x) (fraction_one v w h.1 k.1 numbers)
-  step_one (Redundant i) (Redundant j) h k e d = let rows : (row_at model i).name ≡ (row_at model j).name = cc in ap Redundant (row_one i j h.known k.known rows)
-  step_one (Forcing i s) (Forcing j t) h k e d =
-      let rows : (row_at model i).name ≡ (row_at model j).name = cc in
-      let sides : met_word s ≡ met_word t = cc in
-      ap (λ n. Forcing n s) (row_one i j h.known k.known rows) ∙ ap (λ x. Forcing j x) (met_one s t sides)
-  step_one (Doubleton i l) (Doubleton j m) h k e d =
-      let rows : (row_at model i).name ≡ (row_at model j).name = cc in
-      let columns : column_name model l ≡ column_name model m = cc in
-      ap (λ n. Doubleton n l) (row_one i j h.0.known k.0.known rows) ∙ ap (λ n. Doubleton j n) (column_one l m h.1 k.1 columns)
-  step_one a b h k e d = absurd (cc)
+      branch_is a b (column_one a.column b.column h.named k.named names) e (signed_one a.at b.at h.fits k.fits numbers)
 
   -- ---- shares
   share_is : (a b : Source) (v w : ℚ) → a ≡ b → v ≡ w → (let x : Share = record { source = a; weight = v } in x) ≡ record { source = b; weight = w }
@@ -255,62 +282,52 @@ module _ (model : Program) (f : IsWellFormed model) where
   command_one : (a b : Command) → IsCommand a → IsCommand b → details model (Phrase.Command a) ≡ details model (Phrase.Command b) → a ≡ b
   command_one a b h k e = same_Some a b (sym (own_words a h) ∙ ap command_said e ∙ own_words b k)
 
+  -- phrases of the program with one list of words behind their keywords are one
+  abbrev AreOne : Phrase → Phrase → Type 0
+  AreOne p q = IsPhraseFor model p → IsPhraseFor model q → details model p ≡ details model q → p ≡ q
+
+  -- so it is where this holds of each phrase with the keyword
+  by_keyword : (p q : Phrase) (k : Keyword) → k ≡ keyword_of q → Each (AreOne p) k → AreOne p q
+  by_keyword p q k e all = phrase_has (AreOne p) q (subst (Each (AreOne p)) e all)
+
+  branch_behind : (a : Branch) (q : Phrase) (upper : Bool) → a.upper ≡ upper → branch_keyword upper ≡ keyword_of q → AreOne (Phrase.Stop (StopPhrase.Branch a)) q
+  branch_behind a q true s e = by_keyword (Phrase.Stop (StopPhrase.Branch a)) q Keyword.BranchBelow e (λ b t h k d. ap (λ l. Phrase.Stop (StopPhrase.Branch l)) (branch_one a b h k (s ∙ sym t) d))
+  branch_behind a q false s e = by_keyword (Phrase.Stop (StopPhrase.Branch a)) q Keyword.BranchAbove e (λ b t h k d. ap (λ l. Phrase.Stop (StopPhrase.Branch l)) (branch_one a b h k (s ∙ sym t) d))
+
   -- phrases of one keyword and one list of words behind it
-  behind_one : (p q : Phrase) → IsPhraseFor model p → IsPhraseFor model q → keyword_of p ≡ keyword_of q → details model p ≡ details model q → p ≡ q
-  behind_one Phrase.Head Phrase.Head h k e d = refl
-  behind_one Phrase.Feasible Phrase.Feasible h k e d = refl
-  behind_one Phrase.Infeasible Phrase.Infeasible h k e d = refl
-  behind_one Phrase.Irreducible Phrase.Irreducible h k e d = refl
-  behind_one Phrase.Unbounded Phrase.Unbounded h k e d = refl
-  behind_one Phrase.Bounded Phrase.Bounded h k e d = refl
-  behind_one Phrase.Least Phrase.Least h k e d = refl
-  behind_one Phrase.RigidInfeasible Phrase.RigidInfeasible h k e d = refl
-  behind_one Phrase.Reduced Phrase.Reduced h k e d = refl
-  behind_one Phrase.Point Phrase.Point h k e d = refl
-  behind_one Phrase.Ray Phrase.Ray h k e d = refl
-  behind_one Phrase.Dual Phrase.Dual h k e d = refl
-  behind_one Phrase.Price Phrase.Price h k e d = refl
-  behind_one Phrase.Proof Phrase.Proof h k e d = refl
-  behind_one Phrase.Leaf Phrase.Leaf h k e d = refl
-  behind_one Phrase.End Phrase.End h k e d = refl
-  behind_one Phrase.Foot Phrase.Foot h k e d = refl
-  behind_one (Phrase.Note a) (Phrase.Note b) h k e d = ap Phrase.Note (note_one a b h k d)
-  behind_one (Phrase.Command a) (Phrase.Command b) h k e d = ap Phrase.Command (command_one a b h k d)
-  behind_one Phrase.Done Phrase.Done h k e d = refl
-  behind_one (Phrase.Stop a) (Phrase.Stop b) h k e d = ap Phrase.Stop (stop_one a b h k e d)
-  behind_one (Phrase.Value i v) (Phrase.Value j w) h k e d = let names : column_name model i ≡ column_name model j = cc in let numbers : printed v ≡ printed w = cc in ap (λ n. Phrase.Value n v) (column_one i j h.0 k.0 names) ∙ ap (λ x. Phrase.Value j x) (fraction_one v w h.1.0 k.1.0 numbers)
-  behind_one (Phrase.Objective v) (Phrase.Objective w) h k e d = let numbers : printed v ≡ printed w = cc in ap Phrase.Objective (fraction_one v w h k numbers)
-  behind_one (Phrase.Bound v) (Phrase.Bound w) h k e d = let numbers : printed v ≡ printed w = cc in ap Phrase.Bound (fraction_one v w h k numbers)
-  behind_one (Phrase.Total v) (Phrase.Total w) h k e d = let numbers : printed v ≡ printed w = cc in ap Phrase.Total (fraction_one v w h k numbers)
-  behind_one (Phrase.Rounds m) (Phrase.Rounds n) h k e d = let words : decimal m ≡ decimal n = cc in ap Phrase.Rounds (decimal_injective m n h k words)
-  behind_one (Phrase.NotLinear i) (Phrase.NotLinear j) h k e d = let names : column_name model i ≡ column_name model j = cc in ap Phrase.NotLinear (column_one i j h k names)
-  behind_one (Phrase.Member m) (Phrase.Member n) h k e d = let kinds : kind_word m ≡ kind_word n = cc in let names : name_of model m ≡ name_of model n = cc in ap Phrase.Member (member_one m n h k kinds names)
-  behind_one (Phrase.Use a) (Phrase.Use b) h k e d = ap Phrase.Use (use_one a b h k d)
-  behind_one (Phrase.Split i m) (Phrase.Split j n) h k e d =
-      let names : column_name model i ≡ column_name model j = cc in
-      let numbers : signed_decimal m ≡ signed_decimal n = cc in
-      ap (λ l. Phrase.Split l m) (column_one i j h.0 k.0 names) ∙ ap (λ l. Phrase.Split j l) (signed_one m n (split_fits m h.1.0 h.1.1) (split_fits n k.1.0 k.1.1) numbers)
-  behind_one (Phrase.Reduction a) (Phrase.Reduction b) h k e d = ap Phrase.Reduction (step_one a b h k e d)
-  behind_one (Phrase.Left i m) (Phrase.Left j n) h k e d =
-      let rows : decimal i ≡ decimal j = cc in
-      let columns : decimal m ≡ decimal n = cc in
-      ap (λ l. Phrase.Left l m) (decimal_injective i j h.0 k.0 rows) ∙ ap (λ l. Phrase.Left j l) (decimal_injective m n h.1 k.1 columns)
-  behind_one (Phrase.Refused a) (Phrase.Refused b) h k e d = ap Phrase.Refused (refusal_one a b e)
-  behind_one (Phrase.Refused r) (Phrase.Stop (StopPhrase.Branch b)) h k e d = absurd (no_branch_refused r b.upper e)
-  behind_one (Phrase.Stop (StopPhrase.Branch b)) (Phrase.Refused r) h k e d = absurd (no_branch_refused r b.upper (sym e))
-  behind_one (Phrase.Reduction s) (Phrase.Stop (StopPhrase.Branch b)) h k e d = absurd (no_branch_step s b.upper e)
-  behind_one (Phrase.Stop (StopPhrase.Branch b)) (Phrase.Reduction s) h k e d = absurd (no_branch_step s b.upper (sym e))
-  behind_one (Phrase.Reduction s) (Phrase.Refused r) h k e d = absurd (no_refusal_step s r e)
-  behind_one (Phrase.Refused r) (Phrase.Reduction s) h k e d = absurd (no_refusal_step s r (sym e))
-  behind_one (Phrase.Reduction s) q h k e d = absurd (no_step s (keyword_of q) e refl)
-  behind_one p (Phrase.Reduction s) h k e d = absurd (no_step s (keyword_of p) (sym e) refl)
-  behind_one (Phrase.Stop (StopPhrase.Branch b)) q h k e d = absurd (no_side b.upper (keyword_of q) e refl)
-  behind_one p (Phrase.Stop (StopPhrase.Branch b)) h k e d = absurd (no_side b.upper (keyword_of p) (sym e) refl)
-  behind_one (Phrase.Refused r) q h k e d = absurd (no_refusal r (keyword_of q) e refl)
-  behind_one p (Phrase.Refused r) h k e d = absurd (no_refusal r (keyword_of p) (sym e) refl)
-  behind_one p (Phrase.Stop StopPhrase.Wide) h k e d = absurd (cc)
-  behind_one (Phrase.Stop StopPhrase.Wide) q h k e d = absurd (cc)
-  behind_one p q h k e d = absurd (cc)
+  behind_one : (p q : Phrase) → keyword_of p ≡ keyword_of q → AreOne p q
+  behind_one (Phrase.Note a) q e = by_keyword (Phrase.Note a) q (keyword_of (Phrase.Note a)) e (λ b h k d. ap Phrase.Note (note_one a b h k d))
+  behind_one (Phrase.Command a) q e = by_keyword (Phrase.Command a) q (keyword_of (Phrase.Command a)) e (λ b h k d. ap Phrase.Command (command_one a b h k d))
+  behind_one (Phrase.Refused Refusal.UnknownName) q e = by_keyword (Phrase.Refused Refusal.UnknownName) q (keyword_of (Phrase.Refused Refusal.UnknownName)) e (λ h k d. refl)
+  behind_one (Phrase.Refused Refusal.NoChange) q e = by_keyword (Phrase.Refused Refusal.NoChange) q (keyword_of (Phrase.Refused Refusal.NoChange)) e (λ h k d. refl)
+  behind_one (Phrase.Refused Refusal.NothingToUndo) q e = by_keyword (Phrase.Refused Refusal.NothingToUndo) q (keyword_of (Phrase.Refused Refusal.NothingToUndo)) e (λ h k d. refl)
+  behind_one (Phrase.NotLinear i) q e = by_keyword (Phrase.NotLinear i) q (keyword_of (Phrase.NotLinear i)) e (λ j h k d. let names : column_name model i ≡ column_name model j = cc in ap Phrase.NotLinear (column_one i j h k names))
+  behind_one (Phrase.Value i v) q e = by_keyword (Phrase.Value i v) q (keyword_of (Phrase.Value i v)) e (λ j w h k d. let names : column_name model i ≡ column_name model j = cc in let numbers : printed v ≡ printed w = cc in ap (λ n. Phrase.Value n v) (column_one i j h.0 k.0 names) ∙ ap (λ x. Phrase.Value j x) (fraction_one v w h.1.0 k.1.0 numbers))
+  behind_one (Phrase.Objective v) q e = by_keyword (Phrase.Objective v) q (keyword_of (Phrase.Objective v)) e (λ w h k d. let numbers : printed v ≡ printed w = cc in ap Phrase.Objective (fraction_one v w h k numbers))
+  behind_one (Phrase.Bound v) q e = by_keyword (Phrase.Bound v) q (keyword_of (Phrase.Bound v)) e (λ w h k d. let numbers : printed v ≡ printed w = cc in ap Phrase.Bound (fraction_one v w h k numbers))
+  behind_one (Phrase.Total v) q e = by_keyword (Phrase.Total v) q (keyword_of (Phrase.Total v)) e (λ w h k d. let numbers : printed v ≡ printed w = cc in ap Phrase.Total (fraction_one v w h k numbers))
+  behind_one (Phrase.Rounds m) q e = by_keyword (Phrase.Rounds m) q (keyword_of (Phrase.Rounds m)) e (λ n h k d. let words : decimal m ≡ decimal n = cc in ap Phrase.Rounds (decimal_injective m n h k words))
+  behind_one (Phrase.Member m) q e = by_keyword (Phrase.Member m) q (keyword_of (Phrase.Member m)) e (λ n h k d. let kinds : kind_word m ≡ kind_word n = cc in let names : name_of model m ≡ name_of model n = cc in ap Phrase.Member (member_one m n h k kinds names))
+  behind_one (Phrase.Split i m) q e = by_keyword (Phrase.Split i m) q (keyword_of (Phrase.Split i m)) e (λ j n h k d. let names : column_name model i ≡ column_name model j = cc in let numbers : signed_decimal m ≡ signed_decimal n = cc in ap (λ l. Phrase.Split l m) (column_one i j h.0 k.0 names) ∙ ap (λ l. Phrase.Split j l) (signed_one m n (split_fits m h.1.0 h.1.1) (split_fits n k.1.0 k.1.1) numbers))
+  behind_one (Phrase.Use a) q e = by_keyword (Phrase.Use a) q (keyword_of (Phrase.Use a)) e (λ b h k d. ap Phrase.Use (use_one a b h k d))
+  behind_one (Phrase.Reduction (Empty i)) q e = by_keyword (Phrase.Reduction (Empty i)) q (keyword_of (Phrase.Reduction (Empty i))) e (λ j h k d. let rows : (row_at model i).name ≡ (row_at model j).name = cc in ap (λ n. Phrase.Reduction (Empty n)) (row_one i j h.known k.known rows))
+  behind_one (Phrase.Reduction (Singleton i)) q e = by_keyword (Phrase.Reduction (Singleton i)) q (keyword_of (Phrase.Reduction (Singleton i))) e (λ j h k d. let rows : (row_at model i).name ≡ (row_at model j).name = cc in ap (λ n. Phrase.Reduction (Singleton n)) (row_one i j h.known k.known rows))
+  behind_one (Phrase.Reduction (Fixed i v)) q e = by_keyword (Phrase.Reduction (Fixed i v)) q (keyword_of (Phrase.Reduction (Fixed i v))) e (λ j w h k d. let columns : column_name model i ≡ column_name model j = cc in let numbers : printed v ≡ printed w = cc in ap (λ n. Phrase.Reduction (Fixed n v)) (column_one i j h.0 k.0 columns) ∙ ap (λ x. Phrase.Reduction (Fixed j x)) (fraction_one v w h.1 k.1 numbers))
+  behind_one (Phrase.Reduction (Redundant i)) q e = by_keyword (Phrase.Reduction (Redundant i)) q (keyword_of (Phrase.Reduction (Redundant i))) e (λ j h k d. let rows : (row_at model i).name ≡ (row_at model j).name = cc in ap (λ n. Phrase.Reduction (Redundant n)) (row_one i j h.known k.known rows))
+  behind_one (Phrase.Reduction (Forcing i s)) q e = by_keyword (Phrase.Reduction (Forcing i s)) q (keyword_of (Phrase.Reduction (Forcing i s))) e (λ j t h k d. let rows : (row_at model i).name ≡ (row_at model j).name = cc in let sides : met_word s ≡ met_word t = cc in ap (λ n. Phrase.Reduction (Forcing n s)) (row_one i j h.known k.known rows) ∙ ap (λ x. Phrase.Reduction (Forcing j x)) (met_one s t sides))
+  behind_one (Phrase.Reduction (Doubleton i l)) q e = by_keyword (Phrase.Reduction (Doubleton i l)) q (keyword_of (Phrase.Reduction (Doubleton i l))) e (λ j m h k d. let rows : (row_at model i).name ≡ (row_at model j).name = cc in let columns : column_name model l ≡ column_name model m = cc in ap (λ n. Phrase.Reduction (Doubleton n l)) (row_one i j h.0.known k.0.known rows) ∙ ap (λ n. Phrase.Reduction (Doubleton j n)) (column_one l m h.1 k.1 columns))
+  behind_one (Phrase.Left i m) q e = by_keyword (Phrase.Left i m) q (keyword_of (Phrase.Left i m)) e (λ j n h k d. let rows : decimal i ≡ decimal j = cc in let columns : decimal m ≡ decimal n = cc in ap (λ l. Phrase.Left l m) (decimal_injective i j h.0 k.0 rows) ∙ ap (λ l. Phrase.Left j l) (decimal_injective m n h.1 k.1 columns))
+  behind_one (Phrase.Stop StopPhrase.Wide) q e = by_keyword (Phrase.Stop StopPhrase.Wide) q (keyword_of (Phrase.Stop StopPhrase.Wide)) e (λ h k d. refl, λ n h k d. absurd (cc))
+  behind_one (Phrase.Stop (StopPhrase.Large m)) q e = by_keyword (Phrase.Stop (StopPhrase.Large m)) q (keyword_of (Phrase.Stop (StopPhrase.Large m))) e (λ h k d. absurd (cc), λ n h k d. let words : decimal m ≡ decimal n = cc in ap (λ l. Phrase.Stop (StopPhrase.Large l)) (decimal_injective m n h k words))
+  behind_one (Phrase.Stop StopPhrase.Spent) q e = by_keyword (Phrase.Stop StopPhrase.Spent) q (keyword_of (Phrase.Stop StopPhrase.Spent)) e (λ h k d. refl)
+  behind_one (Phrase.Stop StopPhrase.Nodes) q e = by_keyword (Phrase.Stop StopPhrase.Nodes) q (keyword_of (Phrase.Stop StopPhrase.Nodes)) e (λ h k d. refl)
+  behind_one (Phrase.Stop (StopPhrase.Site a)) q e = by_keyword (Phrase.Stop (StopPhrase.Site a)) q (keyword_of (Phrase.Stop (StopPhrase.Site a))) e (λ b h k d. let words : site_word a ≡ site_word b = cc in ap (λ l. Phrase.Stop (StopPhrase.Site l)) (site_one a b words))
+  behind_one (Phrase.Stop (StopPhrase.Without m)) q e = by_keyword (Phrase.Stop (StopPhrase.Without m)) q (keyword_of (Phrase.Stop (StopPhrase.Without m))) e (λ n h k d. let kinds : kind_word m ≡ kind_word n = cc in let names : name_of model m ≡ name_of model n = cc in ap (λ l. Phrase.Stop (StopPhrase.Without l)) (member_one m n h k kinds names))
+  behind_one (Phrase.Stop (StopPhrase.Enforced m)) q e = by_keyword (Phrase.Stop (StopPhrase.Enforced m)) q (keyword_of (Phrase.Stop (StopPhrase.Enforced m))) e (λ n h k d. let kinds : kind_word m ≡ kind_word n = cc in let names : name_of model m ≡ name_of model n = cc in ap (λ l. Phrase.Stop (StopPhrase.Enforced l)) (member_one m n h k kinds names))
+  behind_one (Phrase.Stop (StopPhrase.Step m)) q e = by_keyword (Phrase.Stop (StopPhrase.Step m)) q (keyword_of (Phrase.Stop (StopPhrase.Step m))) e (λ n h k d. let words : decimal m ≡ decimal n = cc in ap (λ l. Phrase.Stop (StopPhrase.Step l)) (decimal_injective m n h k words))
+  behind_one (Phrase.Stop (StopPhrase.Operation a)) q e = by_keyword (Phrase.Stop (StopPhrase.Operation a)) q (keyword_of (Phrase.Stop (StopPhrase.Operation a))) e (λ b h k d. ap (λ l. Phrase.Stop (StopPhrase.Operation l)) (operation_one model a b h k d))
+  behind_one (Phrase.Stop (StopPhrase.Branch a)) q e = branch_behind a q a.upper refl e
+  behind_one p q e = by_keyword p q (keyword_of p) e (λ h k d. refl)
 
   -- a keyword is spelled as no other
   keyword_one : (k l : Keyword) → keyword_text k ≡ keyword_text l → k ≡ l
@@ -329,7 +346,7 @@ module _ (model : Program) (f : IsWellFormed model) where
       let e : keyword_text (keyword_of p) ∷ details model p ≡ keyword_text (keyword_of q) ∷ details model q = sym (words_of_line model line p h) ∙ words_of_line model line q k in
       let first : keyword_text (keyword_of p) ≡ keyword_text (keyword_of q) = cc in
       let rest : details model p ≡ details model q = cc in
-      behind_one p q h.form k.form (keyword_one (keyword_of p) (keyword_of q) first) rest
+      behind_one p q (keyword_one (keyword_of p) (keyword_of q) first) h.form k.form rest
 
   -- lines say one list of phrases
   pub phrases_one : (ps qs : List Phrase) → All (IsPhraseFor model) ps → All (IsPhraseFor model) qs → map (phrase_line model) ps ≡ map (phrase_line model) qs → ps ≡ qs

@@ -1,5 +1,6 @@
 -- What a word says, if it says something: the first of a list that is spelled so.
-use Rattle.std.specs.Prelude.{◌≡◌, ⊤, ℕ, ◌≤◌, ℤ, unsigned_abs, List, [], ◌∷◌, Option, Some, find, IfSome, decimal}
+use Rattle.std.specs.Prelude.{◌≡◌, ⊤, ℕ, ◌≤◌, ℤ, unsigned_abs, List, [], ◌∷◌, Option, Some, None, cond, find, IfSome, decimal}
+use Rattle.std.specs.Borrow.{Bor}
 use Rattle.std.specs.Fmt.{signed_decimal}
 use Rattle.std.specs.Str.{bytes_eq}
 use Rattle.report_text.specs.declared.phrases.Keyword.{Keyword}
@@ -34,6 +35,11 @@ leading_keywords = Keyword.Value ∷ Keyword.Objective ∷ Keyword.Bound ∷ Key
 -- the keyword among these that a word is
 abbrev pub leading_said : List ℕ → Option Keyword
 leading_said word = find (λ k. bytes_eq word (keyword_text k)) leading_keywords
+
+-- the keyword beside the first of these words that is the word
+abbrev pub beside : List ℕ → List (Bor (List ℕ) × Keyword) → Option Keyword
+beside word [] = None
+beside word (e ∷ es) = cond (bytes_eq word e.0.now) (Some e.1) (beside word es)
 
 -- ---- lines
 -- the phrase has this keyword and these words behind it

@@ -1,5 +1,5 @@
 //! The commands of scripts and of reports.
-ghost use Rattle.std.specs.Prelude.{◌≡◌, All, [], map, IfOk, IfErr, MatchOption, Some};
+ghost use Rattle.std.specs.Prelude.{◌≡◌, ℕ, List, All, [], ◌∷◌, ◌++◌, map, IfOk, IfErr, MatchOption, Some};
 ghost use Rattle.text_fields.specs.Lines.{text_of};
 ghost use Rattle.text_fields.specs.Fields.{IsInside};
 ghost use Rattle.phrase_reader.specs.Parts.{AreWords};
@@ -143,6 +143,21 @@ pub(crate) fn command_in(alloc: Global, words: Words<'_>) -> Result<Option<Comma
     }
 }
 
+// These words, if there are some, and one behind them.
+fn followed<'a>(words: Option<Words<'a>>, last: &'a [u8]) -> Words<'a>
+    ensures { (ws : List (List ℕ)) → MatchOption words.entry (ws ≡ []) (λ given. AreWords given ws)
+        → AreWords result (ws ++ last.now ∷ []) }
+{
+    match words {
+        None => Words::One(last),
+        Some(Words::One(a)) => Words::Two(a, last),
+        Some(Words::Two(a, b)) => Words::Three(a, b, last),
+        Some(Words::Three(a, b, c)) => Words::Four(a, b, c, last),
+        Some(Words::Four(a, b, c, d)) => Words::Five(a, b, c, d, last),
+        Some(Words::Five(..) | Words::More) => Words::More,
+    }
+}
+
 // The fields of a line, as words, where there are some.
 fn words_in<'a>(text: &'a [u8], spans: &[Span]) -> Option<Words<'a>>
     requires { All (IsInside text.now) spans.now }
@@ -150,21 +165,11 @@ fn words_in<'a>(text: &'a [u8], spans: &[Span]) -> Option<Words<'a>>
         (spans.now ≡ [])
         (λ words. AreWords words (map (text_of text.now) spans.now)) }
 {
-    match spans {
-        [] => None,
-        [a] => Some(Words::One(a.text(text))),
-        [a, b] => Some(Words::Two(a.text(text), b.text(text))),
-        [a, b, c] => Some(Words::Three(a.text(text), b.text(text), c.text(text))),
-        [a, b, c, d] => Some(Words::Four(a.text(text), b.text(text), c.text(text), d.text(text))),
-        [a, b, c, d, e] => Some(Words::Five(
-            a.text(text),
-            b.text(text),
-            c.text(text),
-            d.text(text),
-            e.text(text),
-        )),
-        _ => Some(Words::More),
+    let mut words = None;
+    for span in spans {
+        words = Some(followed(words, span.text(text)));
     }
+    words
 }
 
 // What the fields say.

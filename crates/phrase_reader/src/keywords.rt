@@ -1,6 +1,6 @@
 //! The words that lines begin with.
 ghost use Rattle.std.specs.Prelude.{◌≡◌};
-ghost use Rattle.phrase_reader.specs.Words.{lone_said, leading_said};
+ghost use Rattle.phrase_reader.specs.Words.{lone_said, leading_said, beside};
 
 use report_text::{Keyword, Phrase};
 use text_fields::is_word;
@@ -29,45 +29,59 @@ pub(crate) fn lone_phrase(word: &[u8]) -> Option<Phrase>
     }
 }
 
+// The words that have others behind them.
+const LEADING: [(&[u8], Keyword); 34] = [
+    (b"value", Keyword::Value),
+    (b"objective", Keyword::Objective),
+    (b"bound", Keyword::Bound),
+    (b"total", Keyword::Total),
+    (b"rounds", Keyword::Rounds),
+    (b"rigid", Keyword::Rigid),
+    (b"not", Keyword::Not),
+    (b"use", Keyword::Use),
+    (b"member", Keyword::Member),
+    (b"command", Keyword::Command),
+    (b"unknown", Keyword::Unknown),
+    (b"no", Keyword::No),
+    (b"nothing", Keyword::Nothing),
+    (b"too", Keyword::Too),
+    (b"pivots", Keyword::Pivots),
+    (b"site", Keyword::Site),
+    (b"without", Keyword::Without),
+    (b"enforced", Keyword::Enforced),
+    (b"step", Keyword::Step),
+    (b"operation", Keyword::Operation),
+    (b"note", Keyword::Note),
+    (b"split", Keyword::Split),
+    (b"empty", Keyword::Empty),
+    (b"singleton", Keyword::Singleton),
+    (b"fixed", Keyword::Fixed),
+    (b"redundant", Keyword::Redundant),
+    (b"forcing", Keyword::Forcing),
+    (b"doubleton", Keyword::Doubleton),
+    (b"left", Keyword::Left),
+    (b"nodes", Keyword::Nodes),
+    (b"below", Keyword::BranchBelow),
+    (b"above", Keyword::BranchAbove),
+    (b"iisan", Keyword::Iisan),
+    (b"report", Keyword::Report),
+];
+
+// The keyword beside the first of these words that is the word.
+fn keyword_beside(word: &[u8], words: &[(&[u8], Keyword)]) -> Option<Keyword>
+    ensures { result ≡ beside word.now words.now }
+{
+    for (text, keyword) in words {
+        if is_word(word, text) {
+            return Some(*keyword);
+        }
+    }
+    None
+}
+
 /// The keyword that a word with others behind it is.
 pub(crate) fn leading_keyword(word: &[u8]) -> Option<Keyword>
     ensures { result ≡ leading_said word.now }
 {
-    match word {
-        _ if is_word(word, b"value") => Some(Keyword::Value),
-        _ if is_word(word, b"objective") => Some(Keyword::Objective),
-        _ if is_word(word, b"bound") => Some(Keyword::Bound),
-        _ if is_word(word, b"total") => Some(Keyword::Total),
-        _ if is_word(word, b"rounds") => Some(Keyword::Rounds),
-        _ if is_word(word, b"rigid") => Some(Keyword::Rigid),
-        _ if is_word(word, b"not") => Some(Keyword::Not),
-        _ if is_word(word, b"use") => Some(Keyword::Use),
-        _ if is_word(word, b"member") => Some(Keyword::Member),
-        _ if is_word(word, b"command") => Some(Keyword::Command),
-        _ if is_word(word, b"unknown") => Some(Keyword::Unknown),
-        _ if is_word(word, b"no") => Some(Keyword::No),
-        _ if is_word(word, b"nothing") => Some(Keyword::Nothing),
-        _ if is_word(word, b"too") => Some(Keyword::Too),
-        _ if is_word(word, b"pivots") => Some(Keyword::Pivots),
-        _ if is_word(word, b"site") => Some(Keyword::Site),
-        _ if is_word(word, b"without") => Some(Keyword::Without),
-        _ if is_word(word, b"enforced") => Some(Keyword::Enforced),
-        _ if is_word(word, b"step") => Some(Keyword::Step),
-        _ if is_word(word, b"operation") => Some(Keyword::Operation),
-        _ if is_word(word, b"note") => Some(Keyword::Note),
-        _ if is_word(word, b"split") => Some(Keyword::Split),
-        _ if is_word(word, b"empty") => Some(Keyword::Empty),
-        _ if is_word(word, b"singleton") => Some(Keyword::Singleton),
-        _ if is_word(word, b"fixed") => Some(Keyword::Fixed),
-        _ if is_word(word, b"redundant") => Some(Keyword::Redundant),
-        _ if is_word(word, b"forcing") => Some(Keyword::Forcing),
-        _ if is_word(word, b"doubleton") => Some(Keyword::Doubleton),
-        _ if is_word(word, b"left") => Some(Keyword::Left),
-        _ if is_word(word, b"nodes") => Some(Keyword::Nodes),
-        _ if is_word(word, b"below") => Some(Keyword::BranchBelow),
-        _ if is_word(word, b"above") => Some(Keyword::BranchAbove),
-        _ if is_word(word, b"iisan") => Some(Keyword::Iisan),
-        _ if is_word(word, b"report") => Some(Keyword::Report),
-        _ => None,
-    }
+    keyword_beside(word, &LEADING)
 }
