@@ -1,5 +1,4 @@
 pub mod Numbers
-pub mod Said
 pub mod Summaries
 pub mod Unambiguous
 pub mod Statuses

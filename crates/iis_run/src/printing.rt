@@ -2,9 +2,12 @@
 ghost use Rattle.std.specs.Prelude.{◌≡◌, ◌++◌, [], ◌∷◌, IfOk, OnOk, decimal};
 ghost use Rattle.iis_run.specs.Lines.{read_fault_line, too_long_line, bad_report_line, bad_script_line, kind_word, model_refused_line, text_word, accepted_line, rejected_line, wide_line};
 ghost use Rattle.iis_run.specs.Plans.{count_line};
+ghost use Rattle.iis_run.specs.Said.{line_of};
+ghost use Rattle.iis_run.specs.declared.endings.Ending.{Ending};
 ghost use Rattle.report_text.specs.Grammar.{op_word};
 
 use crate::endings::Which;
+use cert_check::Outcome;
 use frac128::{Op, Wide};
 use itoa::Buffer;
 use std::alloc::{AllocError, Global};
@@ -125,12 +128,8 @@ pub(crate) fn print_bad_script(alloc: Global, line: u32) -> Result<Vec<u8>, Allo
     Ok(text)
 }
 
-/// The line of an accepted report.
-pub(crate) fn print_accepted(
-    alloc: Global,
-    settled: u64,
-    unsettled: u64,
-) -> Result<Vec<u8>, AllocError>
+// The line of an accepted report.
+fn print_accepted(alloc: Global, settled: u64, unsettled: u64) -> Result<Vec<u8>, AllocError>
     ensures { IfOk result (λ text. text.items ≡ accepted_line settled unsettled) }
 {
     let mut text = Vec::new(alloc);
@@ -140,8 +139,8 @@ pub(crate) fn print_accepted(
     Ok(text)
 }
 
-/// The line that names a line of the report that fails.
-pub(crate) fn print_rejected(alloc: Global, line: u32) -> Result<Vec<u8>, AllocError>
+// The line that names a line of the report that fails.
+fn print_rejected(alloc: Global, line: u32) -> Result<Vec<u8>, AllocError>
     ensures { IfOk result (λ text. text.items ≡ rejected_line line) }
 {
     let mut text = Vec::new(alloc);
@@ -150,8 +149,8 @@ pub(crate) fn print_rejected(alloc: Global, line: u32) -> Result<Vec<u8>, AllocE
     Ok(text)
 }
 
-/// The line that names an operation that is too wide, and the line of the report on which it is.
-pub(crate) fn print_wide(alloc: Global, line: u32, wide: Wide) -> Result<Vec<u8>, AllocError>
+// The line that names an operation that is too wide, and the line of the report on which it is.
+fn print_wide(alloc: Global, line: u32, wide: Wide) -> Result<Vec<u8>, AllocError>
     ensures { IfOk result (λ text. text.items ≡ wide_line line wide) }
 {
     let mut text = Vec::new(alloc);
@@ -164,4 +163,20 @@ pub(crate) fn print_wide(alloc: Global, line: u32, wide: Wide) -> Result<Vec<u8>
     wide.right.print(&mut text)?;
     text.push(b'\n')?;
     Ok(text)
+}
+
+/// The line of a check.
+///
+/// # Errors
+///
+/// Where memory is refused, or was refused to the check.
+pub(crate) fn print_outcome(alloc: Global, outcome: Outcome) -> Result<Vec<u8>, AllocError>
+    ensures { IfOk result (λ text. text.items ≡ line_of (Ending.Checked outcome)) }
+{
+    match outcome {
+        Outcome::Accepted { settled, unsettled } => print_accepted(alloc, settled, unsettled),
+        Outcome::Rejected { line } => print_rejected(alloc, line),
+        Outcome::Wide { line, wide } => print_wide(alloc, line, wide),
+        Outcome::Memory => Err(AllocError),
+    }
 }

@@ -1,19 +1,16 @@
 //! What an ending writes, and its status.
-ghost use Rattle.std.specs.Prelude.{◌≡◌, ◌==◌, cond, MatchResult};
-ghost use Rattle.cert_check.specs.declared.outcome.Outcome.TheVariants.{Accepted, Rejected, Wide as TooWide};
+ghost use Rattle.std.specs.Prelude.{◌≡◌, ◌⊎◌, IfOk, MatchResult};
 ghost use Rattle.analysis.specs.Puts.{PutWhole, PutFailed};
-ghost use Rattle.iis_run.specs.Said.{Puts, Ends};
+ghost use Rattle.iis_run.specs.Said.{line_of, status_of, status_after_fault as status_after_fault_of, IsSaid, EndsInWant, Ends};
 
 use crate::endings::Ending;
 use crate::printing::{
-    USAGE, print_accepted, print_bad_report, print_bad_script, print_model_refused, print_rejected,
-    print_wide, read_fault_text, too_long_text,
+    USAGE, print_bad_report, print_bad_script, print_model_refused, print_outcome, read_fault_text,
+    too_long_text,
 };
 use cert_check::Outcome;
-use frac128::Wide;
 use iis_edge::{PutFault, Sink};
-use std::alloc::Global;
-use text_fields::ReadStop;
+use std::alloc::{AllocError, Global};
 
 /// Puts a line, or lines.
 pub(crate) fn put_line<W: Sink>(out: &mut W, line: &[u8]) -> Result<(), PutFault>
@@ -22,125 +19,67 @@ pub(crate) fn put_line<W: Sink>(out: &mut W, line: &[u8]) -> Result<(), PutFault
     out.put(line)
 }
 
-// Puts a line, whether or not the put fails.
-fn put_any<W: Sink>(out: &mut W, line: &[u8])
-    ensures { Puts W.faults W.taken out.old out.new line.now }
+// The status of an ending.
+fn status(ending: &Ending) -> u8
+    ensures { result ≡ status_of ending.now }
 {
-    let _ = put_line(out, line);
-}
-
-// Puts the line of an accepted report, and gives the status.
-fn say_accepted<W: Sink>(alloc: Global, settled: u64, unsettled: u64, out: &mut W) -> u8
-    ensures { Ends W.faults W.taken out.old out.new (Ending.Checked (Accepted settled unsettled)) result }
-{
-    let Ok(line) = print_accepted(alloc, settled, unsettled) else {
-        return 7;
-    };
-    match put_line(out, line.as_slice()) {
-        Ok(()) => accepted_status(unsettled),
-        Err(PutFault) => 4,
+    match ending {
+        Ending::Usage => 2,
+        Ending::ReadFault(_) | Ending::TooLong(_) => 3,
+        Ending::ModelRefused(_) => 5,
+        Ending::BadReport(_) | Ending::CutReport | Ending::BadScript(_) => 6,
+        Ending::Memory | Ending::Checked(Outcome::Memory) => 7,
+        Ending::Checked(Outcome::Accepted { unsettled: 0, .. }) => 0,
+        Ending::Checked(Outcome::Accepted { .. }) => 1,
+        Ending::Checked(Outcome::Rejected { .. } | Outcome::Wide { .. }) => 8,
     }
 }
 
-// The status of an accepted report: 1 where entries are unsettled.
-fn accepted_status(unsettled: u64) -> u8
-    ensures { result ≡ cond (unsettled == 0) 0 1 }
+// The status of an ending where the put of its line failed.
+fn status_after_fault(ending: &Ending) -> u8
+    ensures { result ≡ status_after_fault_of ending.now }
 {
-    if unsettled == 0 { 0 } else { 1 }
+    match ending {
+        Ending::Checked(Outcome::Accepted { .. }) => 4,
+        _ => status(ending),
+    }
 }
 
-// Puts the line that names a line of the report that fails, and gives the status.
-fn say_rejected<W: Sink>(alloc: Global, line: u32, out: &mut W) -> u8
-    ensures { Ends W.faults W.taken out.old out.new (Ending.Checked (Rejected line)) result }
+// Puts the line of an ending, and gives the status.
+fn put_ending<W: Sink>(ending: &Ending, line: &[u8], out: &mut W) -> u8
+    requires { line.now ≡ line_of ending.now }
+    ensures { IsSaid W.faults W.taken out.old out.new ending.now result }
 {
-    let Ok(text) = print_rejected(alloc, line) else {
-        return 7;
-    };
-    put_any(out, text.as_slice());
-    8
+    match put_line(out, line) {
+        Ok(()) => status(ending),
+        Err(PutFault) => status_after_fault(ending),
+    }
 }
 
-// Puts the line that names an operation, and gives the status.
-fn say_wide<W: Sink>(alloc: Global, line: u32, wide: Wide, out: &mut W) -> u8
-    ensures { Ends W.faults W.taken out.old out.new (Ending.Checked (TooWide line wide)) result }
+// Puts the line of an ending, where there was memory for it, and gives the status.
+fn put_made<W: Sink>(ending: &Ending, line: Result<Vec<u8>, AllocError>, out: &mut W) -> u8
+    requires { IfOk line (λ text. text.items ≡ line_of ending.now) }
+    ensures { IsSaid W.faults W.taken out.old out.new ending.now result ⊎ EndsInWant W.faults W.taken out.old out.new result }
 {
-    let Ok(text) = print_wide(alloc, line, wide) else {
-        return 7;
-    };
-    put_any(out, text.as_slice());
-    8
-}
-
-// Puts the line that names the first fault of the model, and gives the status.
-fn say_model_refused<W: Sink>(alloc: Global, stop: ReadStop, out: &mut W) -> u8
-    ensures { Ends W.faults W.taken out.old out.new (Ending.ModelRefused stop) result }
-{
-    let Ok(text) = print_model_refused(alloc, stop) else {
-        return 7;
-    };
-    put_any(out, text.as_slice());
-    5
-}
-
-// Puts the line that names a bad line of the report, and gives the status.
-fn say_bad_report<W: Sink>(alloc: Global, line: u32, out: &mut W) -> u8
-    ensures { Ends W.faults W.taken out.old out.new (Ending.BadReport line) result }
-{
-    let Ok(text) = print_bad_report(alloc, line) else {
-        return 7;
-    };
-    put_any(out, text.as_slice());
-    6
-}
-
-// Puts the line that names the first bad line of a script, and gives the status.
-fn say_bad_script<W: Sink>(alloc: Global, line: u32, out: &mut W) -> u8
-    ensures { Ends W.faults W.taken out.old out.new (Ending.BadScript line) result }
-{
-    let Ok(text) = print_bad_script(alloc, line) else {
-        return 7;
-    };
-    put_any(out, text.as_slice());
-    6
+    match line {
+        Ok(line) => put_ending(ending, line.as_slice(), out),
+        Err(AllocError) => 7,
+    }
 }
 
 /// Puts the line of an ending, and gives its status.
 pub fn say<W: Sink>(alloc: Global, ending: Ending, out: &mut W) -> u8
     ensures { Ends W.faults W.taken out.old out.new ending result }
 {
-    match ending {
-        Ending::Usage => {
-            put_any(out, USAGE.as_bytes());
-            2
-        }
-        Ending::ReadFault(which) => {
-            put_any(out, read_fault_text(which).as_bytes());
-            3
-        }
-        Ending::TooLong(which) => {
-            put_any(out, too_long_text(which).as_bytes());
-            3
-        }
+    match &ending {
+        Ending::Usage => put_ending(&ending, USAGE.as_bytes(), out),
+        Ending::ReadFault(which) => put_ending(&ending, read_fault_text(*which).as_bytes(), out),
+        Ending::TooLong(which) => put_ending(&ending, too_long_text(*which).as_bytes(), out),
+        Ending::CutReport => put_ending(&ending, b"report refused truncated\n", out),
         Ending::Memory => 7,
-        Ending::ModelRefused(stop) => say_model_refused(alloc, stop, out),
-        Ending::BadReport(line) => say_bad_report(alloc, line, out),
-        Ending::CutReport => {
-            put_any(out, b"report refused truncated\n");
-            6
-        }
-        Ending::BadScript(line) => say_bad_script(alloc, line, out),
-        Ending::Checked(outcome) => say_outcome(alloc, outcome, out),
-    }
-}
-
-// Puts the line of a check, and gives its status.
-fn say_outcome<W: Sink>(alloc: Global, outcome: Outcome, out: &mut W) -> u8
-    ensures { Ends W.faults W.taken out.old out.new (Ending.Checked outcome) result }
-{
-    match outcome {
-        Outcome::Accepted { settled, unsettled } => say_accepted(alloc, settled, unsettled, out),
-        Outcome::Rejected { line } => say_rejected(alloc, line, out),
-        Outcome::Wide { line, wide } => say_wide(alloc, line, wide, out),
-        Outcome::Memory => 7,
+        Ending::ModelRefused(stop) => put_made(&ending, print_model_refused(alloc, *stop), out),
+        Ending::BadReport(line) => put_made(&ending, print_bad_report(alloc, *line), out),
+        Ending::BadScript(line) => put_made(&ending, print_bad_script(alloc, *line), out),
+        Ending::Checked(outcome) => put_made(&ending, print_outcome(alloc, *outcome), out),
     }
 }

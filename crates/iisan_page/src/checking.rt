@@ -1,7 +1,9 @@
 //! The check of a report, and its page.
-ghost use Rattle.std.specs.Prelude.{◌≡◌, ◌≤◌, length, IfOk, IfErr, MatchResult};
+ghost use Rattle.std.specs.Prelude.{◌≡◌, ◌≤◌, length, IfOk, IfErr, OnOk, MatchResult};
 ghost use Rattle.cert_check.specs.declared.outcome.Outcome.TheVariants.{Accepted};
+ghost use Rattle.iis_edge.specs.Causes.{KeepsCounts};
 ghost use Rattle.iis_run.specs.Causes.{ComesTo, checked_ending};
+ghost use Rattle.iis_run.specs.Steps.{IsQuietEnd};
 ghost use Rattle.iisan_page.specs.Paged.{IsPageOf, IsPaged, IsUnaccepted, IsRefusedBy};
 
 use cert_check::{Outcome, verify};
@@ -80,6 +82,8 @@ pub(crate) fn fetch_page<S: Shelf>(
 ) -> Result<AcceptedPage, Ending>
     ensures page { IfOk result (IsPaged (S.file shelf.old) model.now report.now) }
     ensures refused { IfErr result (IsRefusedBy (S.file shelf.old) (S.faults shelf.old) (S.faults shelf.new) model.now report.now) }
+    ensures quiet { OnOk result (KeepsCounts (S.faults shelf.old) (S.faults shelf.new)) }
+    ensures quiet_stop { IfErr result (IsQuietEnd (S.faults shelf.old) (S.faults shelf.new)) }
 {
     let program = match fetch_model(alloc, shelf, model) {
         Ok(program) => program,

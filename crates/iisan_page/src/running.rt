@@ -1,5 +1,6 @@
 //! A run: a report is checked, and its page is written where it is accepted.
 ghost use Rattle.std.specs.Prelude.{◌≡◌, ◌⊎◌, ◌<◌, ◌==◌, cond, option_map};
+ghost use Rattle.iis_edge.specs.Causes.{KeepsCounts};
 ghost use Rattle.iis_run.specs.Said.{Puts};
 ghost use Rattle.analysis.specs.Puts.{PutWhole, PutFailed};
 ghost use Rattle.iisan_page.specs.Asked.{names_request};
@@ -72,6 +73,8 @@ pub(crate) fn run<S: Shelf, W: Sink>(
     // Under status 0 or 1 what was put is the page of the report that the file is, on the model that the file is, and the
     // check of `iisan verify` accepts that report.
     ensures paged { (result ≡ 0) ⊎ (result ≡ 1) → PutsPageOf (S.file shelf.old) W.faults W.taken out.old out.new (verify_request words.now) result }
+    // Where some count of faults of the shelf has changed, the status is 3, or 7 for want of memory.
+    ensures faulted { (result ≡ 3) ⊎ ((result ≡ 7) ⊎ KeepsCounts (S.faults shelf.old) (S.faults shelf.new)) }
     // Under any other status what was put is what `iisan verify` says, the usage line, or some front of the page.
     ensures unpaged { 1 < result → PutsNoPage (S.file shelf.old) (S.faults shelf.old) (S.faults shelf.new) W.faults W.taken out.old out.new (verify_request words.now) result }
 {

@@ -67,10 +67,10 @@ command_pieces (Nodes n) = Piece.Words Words.NodeBudget ∷ Piece.Count n ∷ []
 abbrev pub conflict_pieces : Program → Among → List Member → List Point → List Node → List Piece
 conflict_pieces model among members ws nodes = list_pieces model among (leaf_shares nodes) members ws ++ (reason_pieces model nodes ++ drawing_pieces model members)
 
--- in how many rounds members were enforced, where it is told
+-- in how many rounds members were enforced, where it is told; that the check does not look into it
 abbrev pub rounds_pieces : Option ℕ → List Piece
 rounds_pieces None = []
-rounds_pieces (Some n) = Piece.Tag Tag.Paragraph ∷ Piece.Words Words.Rounds ∷ Piece.Count n ∷ Piece.Sign Sign.FullStop ∷ Piece.Tag Tag.ParagraphEnd ∷ []
+rounds_pieces (Some n) = Piece.Tag Tag.Paragraph ∷ Piece.Words Words.Rounds ∷ Piece.Count n ∷ Piece.Giving Giving.NotLooked ∷ Piece.Tag Tag.ParagraphEnd ∷ []
 
 -- an irreducible set, with the rounds, or the total and its price, where they are told
 abbrev pub irreducible_pieces : Program → Core → List Piece

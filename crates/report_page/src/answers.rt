@@ -8,7 +8,7 @@ ghost use Rattle.report_page.specs.Page.{method_words, command_pieces, conflict_
 use crate::drawing::write_drawing;
 use crate::edits::{write_edit, write_refused};
 use crate::leasts::{write_least, write_not_linear};
-use crate::markup::{Change, Giving, Reach, Removal, Sign, Tag, Words};
+use crate::markup::{Change, Giving, Reach, Removal, Tag, Words};
 use crate::members::{Among, write_list};
 use crate::objectives::{write_bounded, write_unbounded};
 use crate::pieces::{Piece, write};
@@ -77,7 +77,7 @@ fn write_conflict(
     write_drawing(model, set, into)
 }
 
-// Writes in how many rounds members were enforced, where it is told.
+// Writes in how many rounds members were enforced, where it is told, which the check does not look into.
 fn write_rounds(rounds: Option<u64>, into: &mut Vec<u8>) -> Result<(), AllocError>
     ensures { OnOk result (Writes into.old.items into.new.items (rounds_pieces rounds)) }
 {
@@ -89,7 +89,7 @@ fn write_rounds(rounds: Option<u64>, into: &mut Vec<u8>) -> Result<(), AllocErro
             Piece::Tag(Tag::Paragraph),
             Piece::Words(Words::Rounds),
             Piece::Count(rounds),
-            Piece::Sign(Sign::FullStop),
+            Piece::Giving(Giving::NotLooked),
             Piece::Tag(Tag::ParagraphEnd),
         ],
         into,

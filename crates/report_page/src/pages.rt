@@ -180,7 +180,7 @@ fn write_page(session: &mut Session, report: &Report, into: &mut Vec<u8>) -> Res
 ///
 /// # Errors
 ///
-/// Where memory is refused. Some front of the page is appended then.
+/// Where memory is refused.
 pub fn page(session: &mut Session, report: &Report, into: &mut Vec<u8>) -> Result<(), AllocError>
     requires fresh { session.old.formers ≡ [] }
     requires commands { All (λ e. IsCommand e.command) report.now.entries }
