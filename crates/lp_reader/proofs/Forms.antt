@@ -1,5 +1,5 @@
 -- Forms from sums by column.
-use Rattle.std.proofs.Common.{eq-eqb, ◌≡◌, ℕ, suc, ◌+◌, ◌<◌, ◌≤◌, Bool, true, false, cond, ltb, nat_eq, List, [], ◌∷◌, ◌++◌, Some, None, length, map, drop, get_or, slice_get, refl, sym, ap, ◌∙◌, subst, arith, append_assoc, append-nil}
+use Rattle.std.proofs.Common.{eq-eqb, ◌≡◌, ℕ, suc, ◌+◌, ◌<◌, ◌≤◌, Bool, true, false, cond, ltb, nat_eq, List, [], ◌∷◌, ◌++◌, Some, None, length, map, drop, get_or, slice_get, Result, Ok, Err, IfOk, refl, sym, ap, ◌∙◌, subst, arith, append_assoc, append-nil}
 use Rattle.std.specs.Prelude.{unwrap_or}
 use Rattle.std.specs.List.{All, AllByRecursion, IsDistinct}
 use Rattle.std.specs.List.Sorted.{IsSorted, IsStrictlySortedBy}
@@ -10,7 +10,8 @@ use Rattle.std.proofs.lemmas.Cmp.{nat_cmp_total}
 use Rattle.std.proofs.lemmas.Map.Keys.{apart_from_distinct, sorted_from_all_adjacent}
 use Rattle.std.proofs.lemmas.Bool.{ltb-true, ltb-false, ne_eqb}
 use Rattle.std.proofs.lemmas.Bool.Decides.{nat_tests}
-use Rattle.std.proofs.lemmas.List.Elements.{All-head, All-tail, All-nil, All-cons, All-weaker}
+use Rattle.std.proofs.lemmas.List.Elements.{All-head, All-tail, All-nil, All-cons, All-weaker, All-get_or}
+use Rattle.std.proofs.lemmas.Option.{get_or_from_slice_get, slice_get_within}
 use Rattle.rational.specs.Rational.{ℚ, zero_ℚ, eq_ℚ}
 use Rattle.rational.specs.Linear.{Term as LinearTerm}
 use Rattle.rational.proofs.Compare.{eq-Decides}
@@ -101,7 +102,17 @@ form_is names terms es sorted holds up below same =
     (subst (λ (n : ℕ). All (λ (e : ℕ × ℚ). e.0 < n) sorted) (let s : length names ≡ 0 + length names = omega arith in s) below)
     (λ k h. ap (λ (n : ℕ). lookup (nat_eq n) sorted) (let s : 0 + k ≡ k = omega arith in s) ∙ same k ∙ holds.each k h)
 
+-- what is made of sums in the order of their columns, if it is
+pub forms_are : {E : Type 0} (es sorted : List (ℕ × ℚ)) (result : Result (List LinearTerm) E) → IsStrictlySortedBy nat_cmp (map (λ e. e.0) sorted) → ((n : ℕ) → All (λ e. e.0 < n) es → All (λ e. e.0 < n) sorted) → ((q : ℕ) → lookup (nat_eq q) sorted ≡ lookup (nat_eq q) es)
+    → IfOk result (λ form. form ≡ kept sorted) → IfOk result (λ form. (names : List (List ℕ)) (terms : List Term) → HoldsSums names terms es → form ≡ form_of names terms)
+forms_are es sorted (Ok form) up below same is = λ names terms holds. is ∙ form_is names terms es sorted holds up (below (length names) holds.below) same
+forms_are es sorted (Err e) up below same is = tt
+
 -- ---- the list so far
+-- what holds of each entry holds of one
+pub entry_holds : (P : ℕ × ℚ → Type 0) (es : List (ℕ × ℚ)) (i : ℕ) (e : ℕ × ℚ) → slice_get es i ≡ Some e → All P es → P e
+entry_holds P es i e at all = subst P (get_or_from_slice_get es i e e at) (All-get_or P es i e (slice_get_within es i e at) all)
+
 with_term_first : (column : ℕ) (factor : ℚ) (rest : List LinearTerm) → with_term column factor rest ≡ with_term column factor [] ++ rest
 with_term_first column factor rest = by (eq_ℚ factor zero_ℚ)
   where

@@ -4,7 +4,7 @@ ghost use Rattle.std.specs.List.{All};
 ghost use Rattle.rational.specs.Rational.{lt_q, zero_ℚ};
 ghost use Rattle.name_map.specs.Names.{names_of, name_at};
 ghost use Rattle.lp_model.specs.Program.{IsWellFormedRow};
-ghost use Rattle.lp_model.specs.Shown.{named_row, with_more_row, with_more_column, most_rows, most_columns, longest_name, row_names, column_names, CanAdd};
+ghost use Rattle.lp_model.specs.Shown.{named_row, with_more_row, with_more_column, most_rows, most_columns, longest_name, row_names, column_names, empty_program, CanAdd};
 ghost use Rattle.lp_statements.specs.Statements.{Statement as StatementOf};
 ghost use Rattle.lp_reader.specs.Program.{program_of, is_negative};
 ghost use Rattle.lp_reader.specs.State.{plain};
@@ -13,11 +13,11 @@ ghost use Rattle.lp_reader.specs.Building.{column_shown, keeps_lower_in, no_row,
 
 use crate::columns::{Bounds, Columns};
 use crate::reader::Reader;
-use crate::rows::Rows;
 use frac128::Frac;
-use lp_model::{Column, Model, ModelStop, Note, Row};
+use lp_model::{Column, Model, ModelStop, Note, Row, Terms};
 use name_map::NameMap;
 use std::alloc::{AllocError, Global};
+use std::mem;
 
 // Want of memory: what fits is refused for nothing else.
 fn memory_alone(stop: ModelStop) -> AllocError
@@ -160,22 +160,27 @@ fn put_notes(model: &mut Model, columns: &Columns) -> Result<(), AllocError>
     Ok(())
 }
 
-/// The model that the tables declare.
-pub(crate) fn make_model(alloc: Global, reader: Reader) -> Result<Model, AllocError>
-    requires { (statements : List StatementOf) × Holds reader statements }
-    ensures { IfOk result (λ model. (statements : List StatementOf) → Holds reader statements → model ≡ program_of statements) }
+// Puts the columns, the rows, which are moved into the model, the objective, and the notes.
+fn put_all(alloc: Global, model: &mut Model, reader: &mut Reader) -> Result<(), AllocError>
+    requires holds { (statements : List StatementOf) × Holds reader.old statements }
+    requires new { model.old ≡ empty_program reader.old.maximise }
+    ensures { OnOk result ((statements : List StatementOf) → Holds reader.old statements → model.new ≡ program_of statements) }
 {
-    let Reader {
-        rows,
-        columns,
-        objective,
-        maximise,
-    } = reader;
-    let mut model = Model::new(alloc, maximise);
-    put_columns(alloc, &mut model, &columns)?;
-    let Rows { names, items } = rows;
-    put_rows(alloc, &mut model, &names, items)?;
-    model.set_objective(objective, maximise);
-    put_notes(&mut model, &columns)?;
+    put_columns(alloc, model, &reader.columns)?;
+    let rows = mem::replace(&mut reader.rows.items, Vec::new(alloc));
+    put_rows(alloc, model, &reader.rows.names, rows)?;
+    let objective = mem::replace(&mut reader.objective, Terms::new(Vec::new(alloc)));
+    model.set_objective(objective, reader.maximise);
+    put_notes(model, &reader.columns)?;
+    Ok(())
+}
+
+/// The model that the tables declare, from which its rows and its objective are moved.
+pub(crate) fn make_model(alloc: Global, reader: &mut Reader) -> Result<Model, AllocError>
+    requires { (statements : List StatementOf) × Holds reader.old statements }
+    ensures { IfOk result (λ model. (statements : List StatementOf) → Holds reader.old statements → model ≡ program_of statements) }
+{
+    let mut model = Model::new(alloc, reader.maximise);
+    put_all(alloc, &mut model, reader)?;
     Ok(model)
 }

@@ -175,12 +175,12 @@ fn list_terms(alloc: Global, sums: &Sums) -> Result<Terms, AllocError>
 }
 
 // The terms of sums, in the order of their columns, without those that are 0.
-fn make_terms(alloc: Global, mut sums: Sums) -> Result<Terms, AllocError>
-    requires { All (λ e. e.0 < 2 ^ 32) sums.entries }
-    ensures { IfOk result (λ form. (names : List (List ℕ)) (terms : List TermOf) → HoldsSums names terms sums.entries → form ≡ form_of names terms) }
+fn make_terms(alloc: Global, sums: &mut Sums) -> Result<Terms, AllocError>
+    requires { All (λ e. e.0 < 2 ^ 32) sums.old.entries }
+    ensures { IfOk result (λ form. (names : List (List ℕ)) (terms : List TermOf) → HoldsSums names terms sums.old.entries → form ≡ form_of names terms) }
 {
     sums.sort_keys()?;
-    Ok(list_terms(alloc, &sums)?)
+    list_terms(alloc, sums)
 }
 
 // Puts a term last, unless its factor is 0.
@@ -198,6 +198,25 @@ fn put_term(list: &mut Vec<lp_model::Term>, column: usize, factor: Frac) -> Resu
     Ok(())
 }
 
+// Takes the terms of a form in, with sums that are empty, and gives the form.
+fn sum_terms(
+    alloc: Global,
+    columns: &mut Columns,
+    sums: &mut Sums,
+    terms: &[Term<'_>],
+) -> Result<Terms, ReadFault>
+    requires few { length (names_of columns.old.names) ≤ most_columns }
+    requires empty { sums.old.entries ≡ [] }
+    ensures { MatchResult result
+        (λ form. TakesForm columns.old columns.new (map shown_term terms.now) form)
+        (IsFaultOf (terms_fault_in (names_of columns.old.names) columns.old.entries [] (map shown_term terms.now))) }
+{
+    for term in terms {
+        take_term(alloc, columns, sums, *term)?;
+    }
+    Ok(make_terms(alloc, sums)?)
+}
+
 /// Takes the terms of a form in, and gives the form.
 pub(crate) fn take_terms(
     alloc: Global,
@@ -210,8 +229,5 @@ pub(crate) fn take_terms(
         (IsFaultOf (terms_fault_in (names_of columns.old.names) columns.old.entries [] (map shown_term terms.now))) }
 {
     let mut sums = IndexMap::new(alloc);
-    for term in terms {
-        take_term(alloc, columns, &mut sums, *term)?;
-    }
-    Ok(make_terms(alloc, sums)?)
+    sum_terms(alloc, columns, &mut sums, terms)
 }

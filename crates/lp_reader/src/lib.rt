@@ -1,7 +1,8 @@
 //! The reader of the LP format: the program that a text declares, or its first fault.
 #![tactic(auto)]
 
-ghost use Rattle.std.specs.Prelude.{◌<◌, ◌^◌, length, MatchResult};
+ghost use Rattle.std.specs.Prelude.{◌<◌, ◌^◌, [], length, MatchResult};
+ghost use Rattle.lp_reader.specs.Held.{Holds};
 ghost use Rattle.lp_reader.specs.Meaning.{DeclaresLp, IsLpStop};
 
 mod bounds;
@@ -12,7 +13,7 @@ mod reader;
 mod rows;
 
 use crate::building::make_model;
-use crate::reader::read_statements;
+use crate::reader::{Reader, new_reader, read_statements};
 use lp_model::Model;
 use std::alloc::Global;
 use text_fields::ReadFault;
@@ -26,7 +27,17 @@ pub fn read_lp(alloc: Global, bytes: &[u8]) -> Result<Model, ReadFault>
     requires { length bytes.now < 2 ^ 31 }
     ensures { MatchResult result (DeclaresLp bytes.now) (IsLpStop bytes.now) }
 {
-    let reader = read_statements(alloc, bytes)?;
+    let mut reader = new_reader(alloc);
+    read_into(alloc, &mut reader, bytes)
+}
+
+// Reads a text into a reader that has read nothing, and gives the model that it declares.
+fn read_into(alloc: Global, reader: &mut Reader, bytes: &[u8]) -> Result<Model, ReadFault>
+    requires short { length bytes.now < 2 ^ 31 }
+    requires new { Holds reader.old [] }
+    ensures { MatchResult result (DeclaresLp bytes.now) (IsLpStop bytes.now) }
+{
+    read_statements(alloc, reader, bytes)?;
     let model = make_model(alloc, reader)?;
     Ok(model)
 }

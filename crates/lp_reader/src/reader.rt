@@ -27,8 +27,8 @@ pub(crate) struct Reader {
     pub maximise: bool,
 }
 
-// A reader that has read nothing.
-fn new_reader(alloc: Global) -> Reader
+/// A reader that has read nothing.
+pub(crate) fn new_reader(alloc: Global) -> Reader
     ensures { Holds result [] }
 {
     Reader {
@@ -228,19 +228,23 @@ fn heading_section(section: Section, keyword: Keyword) -> Option<Section>
     }
 }
 
-/// Reads the statements of a text.
+/// Reads the statements of a text into a reader that has read nothing.
 #[tactic(auto, using(crate::proofs::Scripted::fewer_left))]
-pub(crate) fn read_statements(alloc: Global, bytes: &[u8]) -> Result<Reader, ReadFault>
-    requires { length bytes.now < 2 ^ 31 }
-    ensures { MatchResult result (HasRead bytes.now) (IsLpStop bytes.now) }
+pub(crate) fn read_statements(
+    alloc: Global,
+    reader: &mut Reader,
+    bytes: &[u8],
+) -> Result<(), ReadFault>
+    requires short { length bytes.now < 2 ^ 31 }
+    requires new { Holds reader.old [] }
+    ensures { MatchResult result (λ _. HasRead bytes.now reader.new) (IsLpStop bytes.now) }
 {
-    let mut reader = new_reader(alloc);
     let mut cursor = Cursor::new(bytes);
     let mut section = Some(Section::Begin);
     while let Some(here) = section {
         let statement = next_statement(alloc, &mut cursor, here, MOST_TERMS)?;
-        take_statement(alloc, &mut reader, &statement)?;
+        take_statement(alloc, reader, &statement)?;
         section = section_after(here, &statement);
     }
-    Ok(reader)
+    Ok(())
 }

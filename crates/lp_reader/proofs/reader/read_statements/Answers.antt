@@ -6,7 +6,7 @@ use Rattle.lp_reader.proofs.Taking.{holds_room, holds_even}
 use Rattle.lp_reader.proofs.reader.read_statements.Goals as goal
 
 pub loop-section-init : goal.loop-section-init
-loop-section-init c = reading-init c.args.bytes.now _ _ c.new_reader-reader.ensures c.new-cursor.ensures
+loop-section-init c = reading-init c.args.bytes.now _ _ c.requires.new c.new-cursor.ensures
 
 pub returns-in_err-statement : goal.returns-in_err-statement
 returns-in_err-statement c =

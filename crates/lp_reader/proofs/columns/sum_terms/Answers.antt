@@ -4,11 +4,11 @@ use Rattle.rational.specs.Rational.{ℚ}
 use Rattle.name_map.specs.Names.{names_of}
 use Rattle.lp_statements.specs.Statements.{shown_term}
 use Rattle.lp_reader.proofs.Terms.{TermsSoFar, no_terms, terms_more, terms_fail, terms_done, below_small}
-use Rattle.lp_reader.proofs.columns.take_terms.Goals as goal
+use Rattle.lp_reader.proofs.columns.sum_terms.Goals as goal
 
 pub loop-term-init : goal.loop-term-init
 loop-term-init c =
-    subst (λ (es : List (ℕ × ℚ)). TermsSoFar c.args.columns.now c.args.columns.now (map shown_term c.args.terms.now) 0 es) (sym c.new-sums.ensures.empty) (no_terms c.args.columns.now (map shown_term c.args.terms.now) c.requires)
+    subst (λ (es : List (ℕ × ℚ)). TermsSoFar c.args.columns.now c.args.columns.now (map shown_term c.args.terms.now) 0 es) (sym c.requires.empty) (no_terms c.args.columns.now (map shown_term c.args.terms.now) c.requires.few)
 
 pub returns-in_err-take_term : goal.returns-in_err-take_term
 returns-in_err-take_term c =
