@@ -1,5 +1,5 @@
 -- The first fault of steps, one after another.
-use Rattle.std.proofs.Common.{◌≡◌, ℕ, List, [], ◌∷◌, ◌++◌, Option, Some, None, map, refl, sym, ap, ◌∙◌, subst, append_assoc, append-nil}
+use Rattle.std.proofs.Common.{◌≡◌, ℕ, List, [], ◌∷◌, ◌++◌, Option, Some, None, Result, Ok, Err, MatchResult, map, refl, sym, ap, ◌∙◌, subst, append_assoc, append-nil}
 use Rattle.std.specs.Option.{option_or}
 use Rattle.text_fields.specs.declared.faults.ReadKind.{ReadKind}
 use Rattle.text_fields.specs.declared.faults.ReadStop.{ReadStop}
@@ -68,6 +68,13 @@ module _ (line : ℕ) (new : Reader) where
 pub stop_then : (line : ℕ) (steps : List Step) (s : Step) (more : List Step) (found : ReadFault) → fault steps s ≡ None → IsFaultOf (first_fault (steps ++ s ∷ []) (map (placed line) more)) found → IsFaultOf (first_fault steps (map (placed line) (s ∷ more))) found
 stop_then line steps s more found e h = subst (λ o. IsFaultOf o found) (sym (step_passes steps line s (map (placed line) more) e)) h
 
+-- a step without a fault, and those after it
+pub then_all : (line : ℕ) (new : Reader) (steps : List Step) (s : Step) (more : List Step) (result : Result (Unit {0}) ReadFault) → fault steps s ≡ None
+    → MatchResult result (λ _. (first_fault (steps ++ s ∷ []) (map (placed line) more) ≡ None) × Holds new ((steps ++ s ∷ []) ++ more)) (IsFaultOf (first_fault (steps ++ s ∷ []) (map (placed line) more)))
+    → MatchResult result (λ _. (first_fault steps (map (placed line) (s ∷ more)) ≡ None) × Holds new (steps ++ s ∷ more)) (IsFaultOf (first_fault steps (map (placed line) (s ∷ more))))
+then_all line new steps s more (Ok u) e h = all_then line new steps s more e h
+then_all line new steps s more (Err found) e h = stop_then line steps s more found e h
+
 -- ---- one figure or two
 module _ (to : Figure → Step) (line : ℕ) (steps : List Step) (first : FigureRead) where
   abbrev one : Step
@@ -81,10 +88,14 @@ module _ (to : Figure → Step) (line : ℕ) (steps : List Step) (first : Figure
   only_one o new is h = subst (λ (o : Option FigureRead). (first_fault steps (map (placed line) (map to (figures_said first o))) ≡ None) × Holds new (steps ++ map to (figures_said first o))) (sym is) (one_taken line new steps one h)
 
   module _ (second : FigureRead) (o : Option FigureRead) (is : o ≡ Some second) (passed : fault steps one ≡ None) where
-    pub second_stops : (found : ReadFault) → IsStepStop line (fault (steps ++ one ∷ []) (to (figure_shown second))) found → IsFaultOf (first_fault steps (map (placed line) (map to (figures_said first o)))) found
-    second_stops found h = subst (λ (o : Option FigureRead). IsFaultOf (first_fault steps (map (placed line) (map to (figures_said first o)))) found) (sym is)
-        (stop_then line steps one (to (figure_shown second) ∷ []) found passed (first_is (steps ++ one ∷ []) line (to (figure_shown second)) [] found h))
+    abbrev two : Step
+    two = to (figure_shown second)
 
-    pub both_taken : (new : Reader) → (fault (steps ++ one ∷ []) (to (figure_shown second)) ≡ None) × Holds new ((steps ++ one ∷ []) ++ to (figure_shown second) ∷ []) → (first_fault steps (map (placed line) (map to (figures_said first o))) ≡ None) × Holds new (steps ++ map to (figures_said first o))
-    both_taken new h = subst (λ (o : Option FigureRead). (first_fault steps (map (placed line) (map to (figures_said first o))) ≡ None) × Holds new (steps ++ map to (figures_said first o))) (sym is)
-        (two_taken line new steps one (to (figure_shown second)) passed h)
+    abbrev Taken : Reader → Result (Unit {0}) ReadFault → Option FigureRead → Type 0
+    Taken new result o = MatchResult result
+        (λ _. (first_fault steps (map (placed line) (map to (figures_said first o))) ≡ None) × Holds new (steps ++ map to (figures_said first o)))
+        (IsFaultOf (first_fault steps (map (placed line) (map to (figures_said first o)))))
+
+    pub second_is : (new : Reader) (result : Result (Unit {0}) ReadFault) → MatchResult result (λ _. (fault (steps ++ one ∷ []) two ≡ None) × Holds new ((steps ++ one ∷ []) ++ two ∷ [])) (IsStepStop line (fault (steps ++ one ∷ []) two)) → Taken new result o
+    second_is new (Ok u) h = subst (Taken new (Ok u)) (sym is) (two_taken line new steps one two passed h)
+    second_is new (Err found) h = subst (Taken new (Err found)) (sym is) (stop_then line steps one (two ∷ []) found passed (first_is (steps ++ one ∷ []) line two [] found h))

@@ -36,8 +36,7 @@ fn take_entries(
     let Some(figure) = second else {
         return Ok(());
     };
-    take_entry(reader, line, column, figure)?;
-    Ok(())
+    take_entry(reader, line, column, figure)
 }
 
 // Takes right sides in.
@@ -53,8 +52,7 @@ fn take_sides(
     let Some(figure) = second else {
         return Ok(());
     };
-    take_side(reader, line, figure)?;
-    Ok(())
+    take_side(reader, line, figure)
 }
 
 // Takes ranges in.
@@ -70,24 +68,28 @@ fn take_ranges(
     let Some(figure) = second else {
         return Ok(());
     };
-    take_range(reader, line, figure)?;
-    Ok(())
+    take_range(reader, line, figure)
 }
 
 // Takes in what a line says.
-fn take_said(alloc: Global, reader: &mut Reader, line: u32, said: Said) -> Result<(), ReadFault>
-    ensures { TakesAll reader.old reader.new line (steps_said said.entry) result }
+fn take_said(
+    alloc: Global,
+    reader: &mut Reader,
+    line: u32,
+    said: &Said<'_>,
+) -> Result<(), ReadFault>
+    ensures { TakesAll reader.old reader.new line (steps_said said.now) result }
 {
     match said {
         Said::Nothing => Ok(()),
-        Said::Sense(greatest) => take_sense(reader, line, greatest),
-        Said::Row(kind, name) => take_row(alloc, reader, line, kind, name),
+        Said::Sense(greatest) => take_sense(reader, line, *greatest),
+        Said::Row(kind, name) => take_row(alloc, reader, line, *kind, name),
         Said::Entries(name, whole, first, second) => {
-            take_entries(alloc, reader, line, name, whole, first, second)
+            take_entries(alloc, reader, line, name, *whole, *first, *second)
         }
-        Said::Sides(first, second) => take_sides(reader, line, first, second),
-        Said::Ranges(first, second) => take_ranges(reader, line, first, second),
-        Said::Bound(bound) => take_bound(reader, line, bound),
+        Said::Sides(first, second) => take_sides(reader, line, *first, *second),
+        Said::Ranges(first, second) => take_ranges(reader, line, *first, *second),
+        Said::Bound(bound) => take_bound(reader, line, *bound),
     }
 }
 
@@ -106,7 +108,7 @@ fn take_line<'a>(
     ensures context { OnOk result ((front : List Record) → context_shown context.old ≡ context_of front → context_shown context.new ≡ context_of (front ++ record_at bytes.now line.now context.old ∷ [])) }
 {
     let said = read_line(bytes, line, spans, context)?;
-    take_said(alloc, reader, line.number, said)
+    take_said(alloc, reader, line.number, &said)
 }
 
 // The number of the last line, or 1 where there is none, by that of the line after it.

@@ -1,7 +1,11 @@
-use Rattle.std.proofs.Common.{◌∙◌}
+use Rattle.std.proofs.Common.{ap, ◌∙◌}
+use Rattle.lp_model.specs.Shown.{empty_program}
 use Rattle.mps_reader.proofs.Meant.{program_is, places_within, few_are}
 use Rattle.mps_reader.proofs.Summed.{sides_fit}
 use Rattle.mps_reader.proofs.program.make_program.Goals as goal
+
+pub put_all-requires-clause-before : goal.put_all-requires-clause-before
+put_all-requires-clause-before c = c.new-model.ensures ∙ ap empty_program c.unwrap_or.ensures
 
 pub put_all-requires-clause-sound : goal.put_all-requires-clause-sound
 put_all-requires-clause-sound c =

@@ -21,3 +21,12 @@ returns-in-Row c = subst (λ (said : Said). TakesAll c.args.reader.now c.take_ro
 pub returns-in-Bound : goal.returns-in-Bound
 returns-in-Bound c = subst (λ (said : Said). TakesAll c.args.reader.now c.take_bound.new.reader c.args.line (steps_said said) c.take_bound.result) (sym c.in-Bound.is)
     (takes_one c.args.reader.now c.take_bound.new.reader c.args.line (ToBound (bound_shown c.in-Bound.bound)) c.take_bound.result c.take_bound.ensures)
+
+pub returns-in-Entries : goal.returns-in-Entries
+returns-in-Entries c = subst (λ (said : Said). TakesAll c.args.reader.now c.take_entries.new.reader c.args.line (steps_said said) c.take_entries.result) (sym c.in-Entries.is) c.take_entries.ensures
+
+pub returns-in-Sides : goal.returns-in-Sides
+returns-in-Sides c = subst (λ (said : Said). TakesAll c.args.reader.now c.take_sides.new.reader c.args.line (steps_said said) c.take_sides.result) (sym c.in-Sides.is) c.take_sides.ensures
+
+pub returns-in-Ranges : goal.returns-in-Ranges
+returns-in-Ranges c = subst (λ (said : Said). TakesAll c.args.reader.now c.take_ranges.new.reader c.args.line (steps_said said) c.take_ranges.result) (sym c.in-Ranges.is) c.take_ranges.ensures
