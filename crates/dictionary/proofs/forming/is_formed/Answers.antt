@@ -1,4 +1,5 @@
-use Rattle.std.proofs.Common.{◌≡◌, ◌∙◌, sym, ap, subst, length}
+use Rattle.std.proofs.Common.{◌≡◌, ◌∙◌, sym, ap, subst, length, arith}
+use Rattle.std.proofs.lemmas.Grind.{common_steps}
 use Rattle.frac128.specs.Limit.{limit}
 use Rattle.lp_model.specs.declared.parts.Row.{Row}
 use Rattle.certs.specs.Checks.{every}
@@ -49,3 +50,21 @@ returns-clause-all c =
     let d = c.system.inside in
     let many : c.len-columns.result ≡ length d.columns.items = c.len-columns.ensures ∙ d.columns.ok.0 in
     λ formed few. c.is_objective.ensures.all (objective_passing d.columns.items d.rows.items d.objective c.len-columns.result many (subst IsWellFormedSystem (sym c.system.view_is) formed))
+
+pub returns-then-not-are_few-clause-formed : goal.returns-then-not-are_few-clause-formed
+returns-then-not-are_few-clause-formed c = grind (arith, common_steps)
+
+pub returns-then-not-are_few-clause-fits : goal.returns-then-not-are_few-clause-fits
+returns-then-not-are_few-clause-fits c = grind (arith, common_steps)
+
+pub returns-then-not-are_few-clause-all : goal.returns-then-not-are_few-clause-all
+returns-then-not-are_few-clause-all c = grind (arith, common_steps)
+
+pub returns-then-not-are_uncrossed-clause-fits : goal.returns-then-not-are_uncrossed-clause-fits
+returns-then-not-are_uncrossed-clause-fits c = grind (arith, common_steps)
+
+pub returns-then-not-are_rows-clause-formed : goal.returns-then-not-are_rows-clause-formed
+returns-then-not-are_rows-clause-formed c = grind (arith, common_steps)
+
+pub returns-then-not-are_rows-clause-fits : goal.returns-then-not-are_rows-clause-fits
+returns-then-not-are_rows-clause-fits c = grind (arith, common_steps)

@@ -1,4 +1,5 @@
-use Rattle.std.proofs.Common.{◌+◌, ◌<◌, ◌∷◌, [], ◌++◌, length, refl, sym, ◌∙◌, ap, subst}
+use Rattle.std.proofs.Common.{◌+◌, ◌<◌, ◌∷◌, [], ◌++◌, length, refl, sym, ◌∙◌, ap, subst, arith}
+use Rattle.std.proofs.lemmas.Grind.{common_steps}
 use Rattle.std.proofs.lemmas.List.{take_more_set, length_push}
 use Rattle.certs.specs.Tableau.{below}
 use Rattle.dictionary.specs.Layouts.{basis_of, stands}
@@ -40,3 +41,9 @@ loop-variable-preserved c =
       count = ap (λ n. n + 1) c.loop-variable.invariant.count ∙ sym (length_push (below v test) v) ∙ ap length (sym (below-yes test v e));
       listed = take_more_set c.loop-variable.into count v l ∙ ap (λ xs. xs ++ v ∷ []) c.loop-variable.invariant.listed ∙ sym (below-yes test v e);
     }
+
+pub offset_bounds-into-count : goal.offset_bounds-into-count
+offset_bounds-into-count c = grind (arith, common_steps)
+
+pub overflow_add-count : goal.overflow_add-count
+overflow_add-count c = grind (arith, common_steps)

@@ -1,4 +1,5 @@
-use Rattle.std.proofs.Common.{◌≡◌, ◌<◌, ℕ, Bool, List, false, length, get_or, map, refl, sym, ◌∙◌, ap, subst}
+use Rattle.std.proofs.Common.{◌≡◌, ◌<◌, ℕ, Bool, List, false, length, get_or, map, refl, sym, ◌∙◌, ap, subst, arith}
+use Rattle.std.proofs.lemmas.Grind.{common_steps}
 use Rattle.std.specs.Prelude.{slice_index}
 use Rattle.certs.specs.System.{is_basic}
 use Rattle.certs.specs.Tableau.{below}
@@ -43,3 +44,12 @@ returns c =
       order_is = eo ∙ c.list_slots.ensures ∙ ap (λ s. map (λ k. slice_index s k) c.deref-2.result.now) c.deref.ensures.value ∙ ap (map (λ k. slice_index c.in_ok-slots.slots.items k)) c.deref-2.ensures.value;
       width_is = refl;
     }
+
+pub list_standing-requires-clause-room : goal.list_standing-requires-clause-room
+list_standing-requires-clause-room c = grind (arith, common_steps)
+
+pub list_standing-requires-2-clause-room : goal.list_standing-requires-2-clause-room
+list_standing-requires-2-clause-room c = grind (arith, common_steps)
+
+pub list_slots-requires-clause-room : goal.list_slots-requires-clause-room
+list_slots-requires-clause-room c = grind (arith, common_steps)

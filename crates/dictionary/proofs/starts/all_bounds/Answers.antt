@@ -1,4 +1,5 @@
-use Rattle.std.proofs.Common.{◌≡◌, List, [], ◌∷◌, ◌++◌, take, map, refl, sym, ◌∙◌, ap, cond, append_assoc, Option}
+use Rattle.std.proofs.Common.{◌≡◌, List, [], ◌∷◌, ◌++◌, take, map, refl, sym, ◌∙◌, ap, cond, append_assoc, Option, arith}
+use Rattle.std.proofs.lemmas.Grind.{common_steps}
 use Rattle.std.specs.Option.{option_map}
 use Rattle.std.proofs.lemmas.List.{map_push, map_more, take_more, take_all, append-nil}
 use Rattle.rational.specs.Rational.{ℚ}
@@ -60,3 +61,15 @@ returns g c =
     pushed (λ b. record { lower = option_map v b.lower; upper = option_map v b.upper }) c.loop-row.bounds.items c.push-2.new.self.items _ no_limits (c.args.columns.now ++ map f c.args.rows.now) c.in_ok-push-3.ensures.items refl whole
     ∙ append_assoc c.args.columns.now (map f c.args.rows.now) (no_limits ∷ [])
     ∙ ap (λ b. c.args.columns.now ++ (map f c.args.rows.now ++ cond b (no_limits ∷ []) [])) (sym c.if-not-objective.false)
+
+pub narrowed_limit-requires : goal.narrowed_limit-requires
+narrowed_limit-requires g c = grind (arith, common_steps)
+
+pub narrowed_limit-requires-in-loop-limits : goal.narrowed_limit-requires-in-loop-limits
+narrowed_limit-requires-in-loop-limits g c = grind (arith, common_steps)
+
+pub narrowed_limit-requires-in-loop-row : goal.narrowed_limit-requires-in-loop-row
+narrowed_limit-requires-in-loop-row g c = grind (arith, common_steps)
+
+pub narrowed_limit-requires-in-loop-row-2 : goal.narrowed_limit-requires-in-loop-row-2
+narrowed_limit-requires-in-loop-row-2 g c = grind (arith, common_steps)

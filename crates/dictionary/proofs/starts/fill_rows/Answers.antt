@@ -1,4 +1,5 @@
-use Rattle.std.proofs.Common.{◌≡◌, ◌+◌, ◌-◌, ◌<◌, ◌≤◌, ℕ, List, [], length, get_or, map, sym, ◌∙◌, ap, subst}
+use Rattle.std.proofs.Common.{◌≡◌, ◌+◌, ◌-◌, ◌<◌, ◌≤◌, ℕ, List, [], length, get_or, map, sym, ◌∙◌, ap, subst, arith}
+use Rattle.std.proofs.lemmas.Grind.{common_steps}
 use Rattle.std.proofs.lemmas.List.{get_or-map}
 use borrow.Rule.Slice.PartMut.{put_mid}
 use Rattle.rational.specs.Linear.{Term, factor_of}
@@ -49,3 +50,15 @@ loop-row-preserved g c =
   where
     shorter : {X : Type 0} (entries row : List X) (s w p : ℕ) → s + w ≤ length entries → length row ≡ w → p < length (put_mid s ((s + w) - s) entries row) → p < length entries
     shorter entries row s w p fit wide m = subst (λ n. p < n) (put_length entries row s w fit wide) m
+
+pub overflow_add-start : goal.overflow_add-start
+overflow_add-start g c = grind (arith, common_steps)
+
+pub offset_bounds-entries-start : goal.offset_bounds-entries-start
+offset_bounds-entries-start g c = grind (arith, common_steps)
+
+pub slice_bounds-fill_row-end : goal.slice_bounds-fill_row-end
+slice_bounds-fill_row-end g c = grind (arith, common_steps)
+
+pub overflow_add-start-in-loop-row : goal.overflow_add-start-in-loop-row
+overflow_add-start-in-loop-row g c = grind (arith, common_steps)

@@ -1,4 +1,5 @@
 use Rattle.std.proofs.Common.{◌≡◌, ◌+◌, ◌*◌, ◌<◌, ◌≤◌, ℕ, List, [], ◌∷◌, ◌++◌, length, get_or, map, cond, Option, refl, sym, ◌∙◌, ap, subst, arith, is_some}
+use Rattle.std.proofs.lemmas.Grind.{common_steps}
 use Rattle.std.proofs.lemmas.List.{length-map, get_or_append_left, get_or_at}
 use Rattle.rational.specs.Linear.{Term, factor_of}
 use Rattle.lp_model.specs.declared.parts.Row.{Row}
@@ -40,3 +41,15 @@ returns-in-Some g c =
     λ k j l m.
     filled_more v c.fill_rows.new.entries c.fill_row.new.row forms n w (n * w) refl fit (c.fill_row.auto.row ∙ long) is before k j (subst (λ z. k < n + z) one l) m
     ∙ ap (λ (o : Option (List Term)). factor_of (get_or (first ++ forms_of o) k []) j) (sym c.in-Some.is)
+
+pub overflow_mul-start : goal.overflow_mul-start
+overflow_mul-start g c = grind (arith, common_steps)
+
+pub overflow_add-start : goal.overflow_add-start
+overflow_add-start g c = grind (arith, common_steps)
+
+pub offset_bounds-entries-start : goal.offset_bounds-entries-start
+offset_bounds-entries-start g c = grind (arith, common_steps)
+
+pub slice_bounds-fill_row-end : goal.slice_bounds-fill_row-end
+slice_bounds-fill_row-end g c = grind (arith, common_steps)

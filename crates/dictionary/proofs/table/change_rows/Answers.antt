@@ -1,4 +1,5 @@
-use Rattle.std.proofs.Common.{◌≡◌, ◌+◌, ◌-◌, ◌*◌, ◌<◌, ◌≤◌, ℕ, List, length, take, drop, map, refl, sym, ◌∙◌, ap, subst, Some, None}
+use Rattle.std.proofs.Common.{◌≡◌, ◌+◌, ◌-◌, ◌*◌, ◌<◌, ◌≤◌, ℕ, List, length, take, drop, map, refl, sym, ◌∙◌, ap, subst, Some, None, arith}
+use Rattle.std.proofs.lemmas.Grind.{common_steps}
 use Rattle.std.specs.Prelude.{slice_index, Contains}
 use Rattle.std.proofs.lemmas.Result.{err_from_is_err_and}
 use Rattle.std.proofs.lemmas.List.{length-map, get_or_read}
@@ -133,3 +134,18 @@ returns g c =
       sym c.loop-basic.invariant.width ∙ first_of-end m (work (cell slots w old) (v c.args.inverse) q c.args.column order) c.args.leaving basics i c.loop-basic-test.false,
       rows-all slots basics order w size c.args.leaving c.args.column (v c.args.inverse) q old grid there c.requires.column i now c.loop-basic-test.false c.loop-basic.invariant.cells,
     )
+
+pub offset_bounds-basic-items-basic-index : goal.offset_bounds-basic-items-basic-index
+offset_bounds-basic-items-basic-index g c = grind (arith, common_steps)
+
+pub overflow_mul-start : goal.overflow_mul-start
+overflow_mul-start g c = grind (arith, common_steps)
+
+pub overflow_add-start : goal.overflow_add-start
+overflow_add-start g c = grind (arith, common_steps)
+
+pub offset_bounds-entries-start : goal.offset_bounds-entries-start
+offset_bounds-entries-start g c = grind (arith, common_steps)
+
+pub slice_bounds-change_row-end : goal.slice_bounds-change_row-end
+slice_bounds-change_row-end g c = grind (arith, common_steps)

@@ -1,4 +1,5 @@
 use Rattle.std.proofs.Common.{◌≡◌, ◌+◌, ◌-◌, ◌*◌, ◌<◌, ◌≤◌, ℕ, length, get_or, take, drop, map, sym, ◌∙◌, ap, subst, Some, None, arith}
+use Rattle.std.proofs.lemmas.Grind.{common_steps}
 use Rattle.std.specs.Prelude.{slice_index, All}
 use Rattle.std.proofs.lemmas.Result.{err_from_is_err_and}
 use Rattle.std.proofs.lemmas.List.{length-map, get_or_read, get_or_default}
@@ -143,3 +144,33 @@ returns g c =
           (exchanged_table slots basics order w size c.args.leaving column old mid row (map v c.args.quotients.now) quotients (v c.in_ok-inverse.inverse) c.requires.grid c.requires.leaving c.requires.column long room c.requires.fits inverse divided
           c.in_ok-change_rows.ensures.1 (λ k l n. c.solve_row.ensures.others k (subst (λ n. k < n) (sym inner) l) n) c.solve_row.ensures.own),
     )
+
+pub overflow_mul-start : goal.overflow_mul-start
+overflow_mul-start g c = grind (arith, common_steps)
+
+pub overflow_add-pivot : goal.overflow_add-pivot
+overflow_add-pivot g c = grind (arith, common_steps)
+
+pub offset_bounds-entries-start : goal.offset_bounds-entries-start
+offset_bounds-entries-start g c = grind (arith, common_steps)
+
+pub overflow_add-start : goal.overflow_add-start
+overflow_add-start g c = grind (arith, common_steps)
+
+pub offset_bounds-entries-start-2 : goal.offset_bounds-entries-start-2
+offset_bounds-entries-start-2 g c = grind (arith, common_steps)
+
+pub slice_bounds-divide_row-end : goal.slice_bounds-divide_row-end
+slice_bounds-divide_row-end g c = grind (arith, common_steps)
+
+pub divide_row-requires-clause-nonzero : goal.divide_row-requires-clause-nonzero
+divide_row-requires-clause-nonzero g c = grind (arith, common_steps)
+
+pub overflow_add-start-2 : goal.overflow_add-start-2
+overflow_add-start-2 g c = grind (arith, common_steps)
+
+pub offset_bounds-entries-start-3 : goal.offset_bounds-entries-start-3
+offset_bounds-entries-start-3 g c = grind (arith, common_steps)
+
+pub slice_bounds-solve_row-end : goal.slice_bounds-solve_row-end
+slice_bounds-solve_row-end g c = grind (arith, common_steps)

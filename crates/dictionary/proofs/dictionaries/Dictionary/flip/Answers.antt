@@ -1,4 +1,5 @@
-use Rattle.std.proofs.Common.{◌≡◌, ◌<◌, List, length, get_or, set, map, sym, ◌∙◌, ap, subst}
+use Rattle.std.proofs.Common.{◌≡◌, ◌<◌, List, length, get_or, set, map, sym, ◌∙◌, ap, subst, arith}
+use Rattle.std.proofs.lemmas.Grind.{common_steps}
 use Rattle.std.proofs.lemmas.List.{map-set, length-set, get_or_read}
 use Rattle.certs.specs.System.Place.{AtZero}
 use Rattle.certs.specs.System.{Place}
@@ -52,3 +53,18 @@ returns-clause-turned g c =
 
 pub returns-clause-system : goal.returns-clause-system
 returns-clause-system g c = λ system of. subst (IsTableauOf system) (sym (returns-clause-turned g c)) (flip_law system (tableau_of c.args.self.now) c.args.nonbasic of c.requires.nonbasic c.requires.lower c.requires.upper)
+
+pub index-requires : goal.index-requires
+index-requires g c = grind (arith, common_steps)
+
+pub other_limit-requires : goal.other_limit-requires
+other_limit-requires g c = grind (arith, common_steps)
+
+pub index_mut-requires : goal.index_mut-requires
+index_mut-requires g c = grind (arith, common_steps)
+
+pub returns-clause-columns : goal.returns-clause-columns
+returns-clause-columns g c = grind (arith, common_steps)
+
+pub returns-clause-usable : goal.returns-clause-usable
+returns-clause-usable g c = grind (arith, common_steps)

@@ -1,4 +1,5 @@
-use Rattle.std.proofs.Common.{◌≡◌, ◌<◌, ℕ, List, [], ◌++◌, true, length, take, drop, map, refl, sym, ◌∙◌, ap, subst, Some, None}
+use Rattle.std.proofs.Common.{◌≡◌, ◌<◌, ℕ, List, [], ◌++◌, true, length, take, drop, map, refl, sym, ◌∙◌, ap, subst, Some, None, arith}
+use Rattle.std.proofs.lemmas.Grind.{common_steps}
 use Rattle.std.specs.Prelude.{slice_index}
 use Rattle.std.proofs.lemmas.List.{get_or_read}
 use Rattle.rational.specs.Rational.{ℚ}
@@ -136,3 +137,27 @@ returns-clause-done g c =
 
 pub returns-clause-system : goal.returns-clause-system
 returns-clause-system g c = λ system of. pivot_law system _ _ c.args.leaving (side_of c.args.upper) c.args.entering of c.requires.can (returns-clause-done g c).1.0
+
+pub index-column-requires : goal.index-column-requires
+index-column-requires g c = grind (arith, common_steps)
+
+pub change_table-changed-requires-clause-room : goal.change_table-changed-requires-clause-room
+change_table-changed-requires-clause-room g c = grind (arith, common_steps)
+
+pub change_table-changed-requires-clause-known : goal.change_table-changed-requires-clause-known
+change_table-changed-requires-clause-known g c = grind (arith, common_steps)
+
+pub exchange-requires-clause-long : goal.exchange-requires-clause-long
+exchange-requires-clause-long g c = grind (arith, common_steps)
+
+pub exchange-requires-clause-few : goal.exchange-requires-clause-few
+exchange-requires-clause-few g c = grind (arith, common_steps)
+
+pub exchange-requires-clause-leaving : goal.exchange-requires-clause-leaving
+exchange-requires-clause-leaving g c = grind (arith, common_steps)
+
+pub exchange-requires-clause-entering : goal.exchange-requires-clause-entering
+exchange-requires-clause-entering g c = grind (arith, common_steps)
+
+pub exchange-requires-clause-order : goal.exchange-requires-clause-order
+exchange-requires-clause-order g c = grind (arith, common_steps)

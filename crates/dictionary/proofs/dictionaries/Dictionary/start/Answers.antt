@@ -1,4 +1,5 @@
 use Rattle.std.proofs.Common.{◌≡◌, ◌+◌, ◌-◌, ◌*◌, ◌<◌, ◌≤◌, ◌^◌, refl, sym, ◌∙◌, ap, subst, ℕ, List, [], ◌++◌, length, map, is_some, cond, arith}
+use Rattle.std.proofs.lemmas.Grind.{common_steps}
 use Rattle.std.specs.Prelude.{All, slice_index_or}
 use Rattle.std.specs.Option.{option_map}
 use Rattle.std.proofs.lemmas.List.{length-map, get_or-map}
@@ -168,3 +169,18 @@ returns g c =
           _ c.is_some-2.result _ E formed limits c.is_some-2.ensures basis filled,
       (basis, (many, refl)),
     )
+
+pub all_bounds-requires-clause-columns : goal.all_bounds-requires-clause-columns
+all_bounds-requires-clause-columns g c = grind (arith, common_steps)
+
+pub start_entries-requires-clause-few : goal.start_entries-requires-clause-few
+start_entries-requires-clause-few g c = grind (arith, common_steps)
+
+pub start_entries-requires-clause-short : goal.start_entries-requires-clause-short
+start_entries-requires-clause-short g c = grind (arith, common_steps)
+
+pub start_entries-requires-clause-objective : goal.start_entries-requires-clause-objective
+start_entries-requires-clause-objective g c = grind (arith, common_steps)
+
+pub overflow_cast-result : goal.overflow_cast-result
+overflow_cast-result g c = grind (arith, common_steps)
