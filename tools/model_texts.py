@@ -97,11 +97,10 @@ def is_lower(member: str) -> bool:
 
 
 def read_number(text: str) -> Optional[Number]:
-    """A number of a script or a report: a literal or a fraction; None for `none` and for what is huge."""
+    """A number of a script or a report: a fraction or a literal; None for `none`, and for a literal that is huge."""
     if text == "none":
         return None
-    number = Fraction(text) if "/" in text else Decimal(text)
-    return None if abs(number) >= HUGE else number
+    return Fraction(text) if "/" in text else limit(text)
 
 
 def limit(text: str, is_negative: bool = False) -> Optional[Decimal]:

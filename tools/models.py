@@ -144,7 +144,9 @@ class Model:
         return "done"
 
     def put_limit(self, kind, index, side, word):
-        number = None if word == "none" or abs(Fraction(word)) >= HUGE else Fraction(word)
+        # A literal may be huge; a fraction is what it says.
+        is_none = word == "none" or ("/" not in word and abs(Fraction(word)) >= HUGE)
+        number = None if is_none else Fraction(word)
         self.limits_of((kind, index, side))[side] = number
         self.dropped.discard((kind, index, side))
         if number is None:

@@ -260,12 +260,13 @@ def allowed(command):
     }[command]
 
 
-def judge(model, script, report, slow=None):
+def judge(model, script, report, slow=None, kind=Reading):
     """What each command is answered; the model is edited by the commands on the way.
 
     Where a slow program is given, what it finds of the model for a command, an answer and its total, is what is answered, or None.
+    Another kind of reading may ask for more or less of an answer.
     """
-    reading, told = Reading(report), []
+    reading, told = kind(report), []
     reading.sure(reading.take("iisan", "report", "2") == [])
     for command in script:
         words = command.split(" ")
