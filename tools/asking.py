@@ -109,7 +109,7 @@ def find_program() -> str:
         made = subprocess.run([sys.executable, f"{TOP}/tools/try_build.py", place, "iisan"], check=False)
         if made.returncode:
             raise NotBelieved("there is no program to ask")
-    print("iis: by a program that is not proved; ./iisan proves and builds it, in about an hour, once", file=sys.stderr)
+    print("iis: by a program that is not proved; ./iisan proves and builds it, in about half an hour, once", file=sys.stderr)
     return f"{place}/iisan"
 
 

@@ -212,7 +212,7 @@ def main(place, program):
     if build.due:
         say(f"proves {len(build.due)} of {len(build.order)} crates and builds the program; later runs start at once")
     if len(build.due) == len(build.order):
-        say("that takes about an hour on four processors; Ctrl-C stops it, and the next run goes on from there")
+        say("that takes about half an hour on four processors; Ctrl-C stops it, and the next run goes on from there")
         say("for an answer in a few minutes, from the same program not proved: ./iis MODEL, or ./iisan-try MODEL SCRIPT")
     if not build.run():
         return 1

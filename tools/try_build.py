@@ -92,7 +92,7 @@ def main(place, program):
         say("the command rt is not on the path: it is that of the Rattle toolchain")
         return 1
     os.makedirs(place, exist_ok=True)
-    say("builds the program without proving it, once: two to four minutes; later runs start at once")
+    say("builds the program without proving it, once: one to four minutes; later runs start at once")
     progress, made = Progress(), f"{place}/{program}"
     with tempfile.TemporaryDirectory(prefix="iisan-") as room, open(f"{place}/log", "w", encoding="utf-8") as log:
         if not (translate(program, room, progress, log) and compile_module(room, f"{room}/made", progress, log)):
