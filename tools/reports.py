@@ -10,7 +10,7 @@ from collections import Counter
 from fractions import Fraction
 
 from models import LO, RIGID, UP, WHOLE, sum_of
-from slow_reduction import System, active_limits, reduced, step_text
+from slow_reduction import System, active_limits, reduced, reduction, step_text
 
 STOPS = "pivots spent", "nodes spent", "too wide"
 LINEAR = "relax", "iis elastic", "iis alternative"
@@ -211,7 +211,10 @@ class Reading:
     def reduced(self, model):
         system = System(*active_limits(model))
         steps, decided = reduced(system)
-        self.sure(decided is None)
+        # A contradiction is not told where its way back is too wide, as where a weight does not fit.
+        if decided is not None:
+            uses = [Fraction(line.split()[-1]) for line in reduction(model)[0] if line.startswith("use ")]
+            self.sure(any(max(it.numerator, it.denominator) > GREATEST for it in uses))
         for step in steps:
             told = step_text(step, [row.name for row in model.rows], [column.name for column in model.columns])
             self.sure(self.takes(*told.split(" ")))
