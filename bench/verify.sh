@@ -1,6 +1,7 @@
 #!/bin/sh
-# Makes models of 250, 1,000 and 2,000 rows in the MPS format, each with a report that satisfies it, and prints for each
-# the seconds and the peak memory of `iisan verify`. It wants GNU time (Debian's package `time`). A benchmark, no test.
+# Prints the seconds and the peak memory of `iisan verify`: first of models of 250, 1,000 and 2,000 rows in the MPS format, each
+# with a report that satisfies it; then of proofs that are a chain of splits, up to 64 MiB of text, in two shapes: each lower
+# child is a leaf, or each upper one. It wants GNU time (Debian's package `time`). A benchmark, no test.
 set -eu
 
 top=$(CDPATH='' cd -- "$(dirname -- "$0")/.." && pwd)
@@ -32,16 +33,55 @@ report() {
     }'
 }
 
+# A model that a chain of so many splits refutes: twice a whole number is odd.
+odd() {
+    printf 'Minimize\n cost: 0 x\nSubject To\n odd: 2 x = %d\nBounds\n x free\nGeneral\n x\nEnd\n' $((2 * $1 + 1))
+}
+
+# The report with that chain: its leaves are the lower children, or the upper ones.
+chain() {
+    awk -v splits="$1" -v leaves="$2" '
+        function lower() { print "leaf\nuse rowlo odd 1\nuse below x 2" }
+        function upper() { print "leaf\nuse rowup odd 1\nuse above x 2" }
+        BEGIN {
+            print "iisan report 2\ncommand check\ninfeasible\nmember rowlo odd\nmember rowup odd\nmember whole x\nproof"
+            for (k = 0; k <= splits; k++) {
+                print "split x " (leaves == "lower" ? k : 2 * splits - k)
+                if (leaves == "lower") lower()
+            }
+            if (leaves == "lower") upper()
+            else {
+                lower()
+                for (k = 0; k <= splits; k++) upper()
+            }
+            print "end\nreport end"
+        }'
+}
+
+# Verifies the report, and prints the words and what it took.
+verified() {
+    model=$1
+    shift
+    (cd "$work" && /usr/bin/time -f '%e %M' -o figures "$program" verify "$model" report >said) || true
+    grep -q '^accepted settled 1 unsettled 0$' "$work/said" || {
+        echo "not accepted: $(cat "$work/said")" >&2
+        exit 1
+    }
+    awk -v words="$*" '{ print words, $1, $2 / 1024 }' "$work/figures"
+}
+
 find_program
 echo "rows columns entries bytes seconds megabytes"
 for rows in 250 1000 2000; do
     model "$rows" >"$work/model.mps"
     report "$rows" >"$work/report"
-    bytes=$(wc -c <"$work/model.mps")
-    (cd "$work" && /usr/bin/time -f '%e %M' -o figures "$program" verify model.mps report >said)
-    grep -q '^accepted settled 1 unsettled 0$' "$work/said" || {
-        echo "not accepted: $(cat "$work/said")" >&2
-        exit 1
-    }
-    awk -v rows="$rows" -v bytes="$bytes" '{ print rows, 2 * rows, 50 * rows, bytes + 0, $1, $2 / 1024 }' "$work/figures"
+    verified model.mps "$rows" $((2 * rows)) $((50 * rows)) "$(wc -c <"$work/model.mps")"
+done
+echo "splits leaves bytes seconds megabytes"
+for splits in 20000 100000 1300000; do
+    for leaves in lower upper; do
+        odd "$splits" >"$work/model.lp"
+        chain "$splits" "$leaves" >"$work/report"
+        verified model.lp "$splits" "$leaves" "$(wc -c <"$work/report")"
+    done
 done

@@ -42,7 +42,7 @@ pub(crate) fn reduction(alloc: Global, model: &Model) -> Result<Answer, AllocErr
     let _rows = model.row_count();
     let _columns = model.column_count();
     let set = model.members(alloc)?;
-    let system = plain_system(alloc, model, &set, &[], false)?;
+    let system = plain_system(alloc, model, &set, false)?;
     let reduction = reduce(alloc, system)?;
     match reduction {
         Reduction::Reduced { trace, .. } => left_by(alloc, model, &set, &trace),

@@ -20,9 +20,9 @@ use Rattle.branch_oracle.specs.Steps.{IsStep}
 pub one_left : (n i : ℕ) → i < n → n - i ≡ suc (n - (i + 1))
 one_left n i l = omega arith
 
--- by the same pivots and on the same path
-pub moved_step : (model : Program) (set : List Member) (p q : ℕ) (path other : List Branch) (result : Result Step Stop) → p ≡ q → path ≡ other → IsStep model set p path result → IsStep model set q other result
-moved_step model set p q path other result e f h = subst (λ (l : List Branch). IsStep model set q l result) f (subst (λ (n : ℕ). IsStep model set n path result) e h)
+-- by the same pivots
+pub moved_step : (model : Program) (set : List Member) (p q : ℕ) (path : List Branch) (result : Result Step Stop) → p ≡ q → IsStep model set p path result → IsStep model set q path result
+moved_step model set p q path result e h = subst (λ (n : ℕ). IsStep model set n path result) e h
 
 module _ (model : Program) (set : List Member) (budgets : Budgets) where
   -- these nodes were taken: what goes on from these paths with so many more goes on behind them

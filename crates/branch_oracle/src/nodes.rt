@@ -5,7 +5,6 @@ ghost use Rattle.lp_model.specs.Satisfaction.{values_at};
 ghost use Rattle.certs.specs.declared.evidence.Branch.{Branch as OneBranch};
 ghost use Rattle.certs.specs.declared.evidence.Node.TheVariants.{Split};
 ghost use Rattle.certs.specs.Checks.{IsSetOf};
-ghost use Rattle.certs.specs.Combination.{IsFitting};
 ghost use Rattle.certs.specs.Plain.{plain_system};
 ghost use Rattle.certs.specs.Solves.{SettlesAt};
 ghost use Rattle.certs.specs.Trees.{first_broken as least_broken, is_broken as breaks_mark};
@@ -13,7 +12,7 @@ ghost use Rattle.certs.specs.Proof.{IsFittingNode};
 ghost use Rattle.branch_oracle.specs.Steps.{IsStep};
 
 use branch_proof::is_marked;
-use certs::{Branch, BranchAsk, MemberSet, Node, NodeEnd, Point, Stop};
+use certs::{BranchAsk, BranchPath, MemberSet, Node, NodeEnd, Point, Stop};
 use frac128::{Exact, Frac};
 use lp_model::Model;
 use std::alloc::Global;
@@ -35,12 +34,11 @@ pub(crate) fn take_node<B: BranchAsk>(
     model: &Model,
     inner: &mut B,
     set: &MemberSet,
-    path: &[Branch],
+    path: &BranchPath,
 ) -> Result<Step, Stop>
     requires same { IsSetOf model.now set.now }
     requires program { (B.state inner.old).model ≡ model.now }
     requires known { All (λ b. b.column < length model.now.columns) path.now }
-    requires fitting { All IsFitting path.now }
     ensures step { IsStep model.now set.now.members (B.state inner.old).budgets.pivots path.now result }
     ensures untold { B.state inner.new ≡ B.state inner.old }
 {

@@ -10,7 +10,7 @@ ghost use Rattle.certs.specs.Proof.{IsFittingNode};
 
 use crate::nodes::{Step, take_node};
 use branch_proof::go_on;
-use certs::{Branch, BranchAsk, MemberSet, Node, Nodes, Proof, Stop, Verdict};
+use certs::{BranchAsk, BranchPath, MemberSet, Node, Nodes, Proof, Stop, Verdict};
 use linear_oracle::settle_site;
 use lp_model::Model;
 use std::alloc::{AllocError, Global};
@@ -34,11 +34,11 @@ pub(crate) fn solve_tree<B: BranchAsk>(
     ensures untold { B.state inner.new ≡ B.state inner.old }
     ensures taken { taken.old ≤ taken.new }
 {
-    let mut path = Vec::new(alloc);
+    let mut path = BranchPath::new(alloc);
     let mut list = Vec::new(alloc);
     for _node in 0..nodes {
         *taken = with_one_more(*taken);
-        let node = match take_node(alloc, model, inner, set, path.as_slice())? {
+        let node = match take_node(alloc, model, inner, set, &path)? {
             Step::Found(point) => return Ok(Verdict::Feasible(point)),
             Step::Further(node) => node,
         };
@@ -62,13 +62,13 @@ fn with_one_more(count: u64) -> u64
 }
 
 // Lists a node, and takes the path to the next one. Whether there is one.
-fn go_further(path: &mut Vec<Branch>, list: &mut Vec<Node>, node: Node) -> Result<bool, AllocError>
-    requires turnable { All IsTurnable path.old.items }
+fn go_further(path: &mut BranchPath, list: &mut Vec<Node>, node: Node) -> Result<bool, AllocError>
+    requires turnable { All IsTurnable path.old }
     requires fitting { IsFittingNode node }
-    ensures next { IfOk result (λ more. child_paths path.old.items node ++ pending path.old.items
-        ≡ (if more then path.new.items ∷ pending path.new.items else [])) }
-    ensures turnable { IfOk result (λ more. All IsTurnable path.new.items) }
-    ensures known { (n : ℕ) → IsKnown n node → AreKnown n path.old.items → IfOk result (λ more. AreKnown n path.new.items) }
+    ensures next { IfOk result (λ more. child_paths path.old node ++ pending path.old
+        ≡ (if more then path.new ∷ pending path.new else [])) }
+    ensures turnable { IfOk result (λ more. All IsTurnable path.new) }
+    ensures known { (n : ℕ) → IsKnown n node → AreKnown n path.old → IfOk result (λ more. AreKnown n path.new) }
     ensures listed { IfOk result (λ more. list.new.items ≡ list.old.items ++ node ∷ []) }
 {
     let is_more = go_on(path, &node)?;

@@ -1,8 +1,8 @@
 //! Whether nodes are those of one tree that proves a set.
 ghost use Rattle.std.specs.Prelude.{◌≡◌, ◌≢◌, ◌<◌, ◌↔◌, All, IfOk, length, ℕ};
+ghost use Rattle.rational.specs.Rational.{zero_ℚ};
 ghost use Rattle.lp_model.specs.Satisfaction.{IsUnsatisfiable};
 ghost use Rattle.certs.specs.Checks.{IsSetOf};
-ghost use Rattle.certs.specs.Combination.{IsFitting};
 ghost use Rattle.certs.specs.Proof.{IsProof};
 ghost use Rattle.certs.specs.Trees.{mark_test};
 ghost use Rattle.certs.specs.Proof.{IsFittingNode};
@@ -10,7 +10,7 @@ ghost use Rattle.branch_proof.specs.Walk.{IsWithin, judgement, node_check};
 ghost use Rattle.branch_proof.specs.Narrow.{IsNarrowProof};
 
 use crate::paths::go_on;
-use certs::{Branch, Checked, Node, Proof, check_combo};
+use certs::{BranchPath, Checked, Node, Proof, check_combo};
 use frac128::{Frac, Wide};
 use lp_model::{Member, MemberSet, Model};
 use std::alloc::{AllocError, Global};
@@ -53,11 +53,12 @@ pub fn check_proof(
 {
     // That the program is well formed is told with the count.
     let _rows = model.row_count();
-    let mut sums = vec![in alloc; Frac::whole(0); model.column_count() as usize]?;
-    let mut path = Vec::new(alloc);
+    let mut room = vec![in alloc; Frac::whole(0); model.column_count() as usize]?;
+    let sums = room.as_mut_slice();
+    let mut path = BranchPath::new(alloc);
     let nodes = proof.nodes.as_slice();
     for (n, node) in nodes.iter().enumerate() {
-        match check_node(model, set, path.as_slice(), node, sums.as_mut_slice()) {
+        match check_node(model, set, &path, node, sums) {
             Checked::Yes => {}
             Checked::No => return Ok(Judged::No(n)),
             Checked::Wide(wide) => return Ok(Judged::Wide(n, wide)),
@@ -76,15 +77,16 @@ pub fn check_proof(
 fn check_node(
     model: &Model,
     set: &MemberSet,
-    path: &[Branch],
+    path: &BranchPath,
     node: &Node,
     sums: &mut [Frac],
 ) -> Checked
     requires room { length sums.old ≡ length model.now.columns }
+    requires zeros { All (λ q. q ≡ zero_ℚ) sums.old }
     requires known { All (λ b. b.column < length model.now.columns) path.now }
-    requires fitting { All IsFitting path.now }
     requires same { IsSetOf model.now set.now }
-    ensures { result ≡ node_check model.now set.now.members path.now node.now }
+    ensures zeros { result ≡ Checked.Yes → All (λ q. q ≡ zero_ℚ) sums.new }
+    ensures said { result ≡ node_check model.now set.now.members path.now node.now }
 {
     match node {
         Node::Split { column, .. } => {

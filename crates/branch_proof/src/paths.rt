@@ -6,7 +6,7 @@ ghost use Rattle.certs.specs.Trees.{child_paths};
 ghost use Rattle.certs.specs.Proof.{IsFittingNode};
 ghost use Rattle.branch_proof.specs.Pending.{AreKnown, IsKnown, IsTurnable, pending, turned as turned_of};
 
-use certs::{Branch, Node};
+use certs::{Branch, BranchPath, Node};
 use std::alloc::AllocError;
 
 /// Goes on from a node to the next one of its tree, in preorder, and takes its path. Whether there is one.
@@ -19,13 +19,13 @@ use std::alloc::AllocError;
 /// # Errors
 ///
 /// There is no memory for one branch more. The path may then be cut short.
-pub fn go_on(path: &mut Vec<Branch>, node: &Node) -> Result<bool, AllocError>
-    requires turnable { All IsTurnable path.old.items }
+pub fn go_on(path: &mut BranchPath, node: &Node) -> Result<bool, AllocError>
+    requires turnable { All IsTurnable path.old }
     requires fitting { IsFittingNode node.now }
     ensures next { IfOk result
-        (λ more. child_paths path.old.items node.now ++ pending path.old.items ≡ (if more then path.new.items ∷ pending path.new.items else [])) }
-    ensures turnable { IfOk result (λ more. All IsTurnable path.new.items) }
-    ensures known { (n : ℕ) → IsKnown n node.now → AreKnown n path.old.items → IfOk result (λ more. AreKnown n path.new.items) }
+        (λ more. child_paths path.old node.now ++ pending path.old ≡ (if more then path.new ∷ pending path.new else [])) }
+    ensures turnable { IfOk result (λ more. All IsTurnable path.new) }
+    ensures known { (n : ℕ) → IsKnown n node.now → AreKnown n path.old → IfOk result (λ more. AreKnown n path.new) }
 {
     match node {
         Node::Split { column, at } => {
@@ -37,11 +37,11 @@ pub fn go_on(path: &mut Vec<Branch>, node: &Node) -> Result<bool, AllocError>
 }
 
 // Takes branches back up to the last that says at most, and turns that one. Whether there is one.
-fn turn(path: &mut Vec<Branch>) -> Result<bool, AllocError>
-    requires { All IsTurnable path.old.items }
-    ensures next { IfOk result (λ more. pending path.old.items ≡ (if more then path.new.items ∷ pending path.new.items else [])) }
-    ensures turnable { IfOk result (λ more. All IsTurnable path.new.items) }
-    ensures known { (n : ℕ) → AreKnown n path.old.items → IfOk result (λ more. AreKnown n path.new.items) }
+fn turn(path: &mut BranchPath) -> Result<bool, AllocError>
+    requires { All IsTurnable path.old }
+    ensures next { IfOk result (λ more. pending path.old ≡ (if more then path.new ∷ pending path.new else [])) }
+    ensures turnable { IfOk result (λ more. All IsTurnable path.new) }
+    ensures known { (n : ℕ) → AreKnown n path.old → IfOk result (λ more. AreKnown n path.new) }
 {
     while let Some(branch) = path.pop() {
         if branch.upper {

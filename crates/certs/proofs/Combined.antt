@@ -1,11 +1,14 @@
 -- The outcome of the check of a combination, by its three tests.
-use Rattle.std.proofs.Common.{◌≡◌, ◌<◌, refl, sym, ◌∙◌, ap, subst, ℕ, zero, suc, Bool, true, false, cond, List, length, Option, None, Some, arith, inl, inr}
+use Rattle.std.proofs.Common.{◌≡◌, ◌<◌, refl, sym, ◌∙◌, ap, ap₂, subst, ℕ, zero, suc, Bool, true, false, true≢false, eqb-true, cond, ◌==◌, List, [], ◌∷◌, length, Option, None, Some, arith, inl, inr}
 use Rattle.std.specs.Prelude.{All}
-use Rattle.std.proofs.lemmas.Bool.{cases_lt, and_from}
+use Rattle.std.proofs.lemmas.Bool.{cases_lt, and_from, and_parts}
 use Rattle.std.proofs.lemmas.List.{get_or_default, get_or_past}
 use Rattle.std.proofs.lemmas.List.Elements.{All-weaker}
-use Rattle.rational.specs.Rational.{ℚ, ◌+ℚ◌, zero_ℚ, eq_ℚ, lt_q}
-use Rattle.rational.specs.Linear.{Assignment}
+use Rattle.algebra.proofs.Ring.{x0, ◌:+◌, ◌:*◌, zero_of}
+use Rattle.rational.specs.Rational.{ℚ, ◌+ℚ◌, ◌*ℚ◌, zero_ℚ, eq_ℚ, lt_q}
+use Rattle.rational.specs.Linear.{Term, Assignment, factor_of}
+use Rattle.rational.proofs.Compare.{eq-Decides}
+use Rattle.rational.proofs.Field.{ring_ℚ}
 use Rattle.rational.proofs.Sums.{nothing_first}
 use Rattle.lp_model.specs.declared.members.Member.{Member}
 use Rattle.lp_model.specs.Program.{Program, IsWellFormed}
@@ -17,8 +20,8 @@ use Rattle.certs.specs.declared.evidence.Branch.{Branch}
 use Rattle.certs.specs.declared.evidence.Share.{Share}
 use Rattle.certs.specs.declared.evidence.Checked.{Checked}
 use Rattle.certs.specs.declared.evidence.Checked.TheVariants.{Yes, No, Wide}
-use Rattle.certs.specs.Combination.{IsThere, source_form, column_sum, right_side}
-use Rattle.certs.specs.Checks.{outcome, unless_wide, every, every_below, usable_test, column_operations, right_operations, combination_steps}
+use Rattle.certs.specs.Combination.{IsThere, source_form, multiple, column_sum, right_side}
+use Rattle.certs.specs.Checks.{outcome, unless_wide, every, every_below, usable_test, is_zero_on, column_operations, right_operations, combination_steps}
 use Rattle.certs.proofs.Evaluate.{every_all, every_below_all}
 use Rattle.certs.proofs.Passed.{usable_there}
 use Rattle.certs.proofs.Refused.{every_passes}
@@ -104,6 +107,55 @@ zeros_are xs n sum e h =
     (λ k. below_from (λ j. eq_ℚ (sum j) zero_ℚ) n (λ j l. subst (λ (q : ℚ). eq_ℚ q zero_ℚ ≡ true) (h j) (every_all (λ q. eq_ℚ q zero_ℚ) (λ q. eq_ℚ q zero_ℚ ≡ true) (λ q s. s) xs k j zero_ℚ (omega arith))))
     (λ k. every_passes (λ q. eq_ℚ q zero_ℚ) (λ q. eq_ℚ q zero_ℚ ≡ true) (λ q s. s) xs
     (λ j d l. subst (λ (q : ℚ). eq_ℚ q zero_ℚ ≡ true) (sym (h j) ∙ get_or_default xs j zero_ℚ d l) (every_below_all (λ j. eq_ℚ (sum j) zero_ℚ) n j k (omega arith))))
+
+-- ---- where the columns that the forms name have sums of 0, each has
+-- a form that names only columns that pass leaves out one that does not
+left_out : (test : ℕ → Bool) (terms : List Term) (j : ℕ) → every (λ t. test t.column) terms ≡ true → test j ≡ false → factor_of terms j ≡ zero_ℚ
+left_out test [] j h f = refl
+left_out test (t ∷ terms) j h f =
+    let both = and_parts (test t.column) (every (λ t. test t.column) terms) h in
+    ap (λ (s : Bool). cond s t.factor zero_ℚ +ℚ factor_of terms j) (apart (t.column == j) refl both.0) ∙ (nothing_first (factor_of terms j) ∙ left_out test terms j both.1 f)
+  where
+    apart : (s : Bool) → (t.column == j) ≡ s → test t.column ≡ true → s ≡ false
+    apart true e k = absurd (true≢false (sym k ∙ (ap test (eqb-true t.column j e) ∙ f)))
+    apart false e k = refl
+
+module _ (model : Program) where
+  abbrev named : (ℕ → Bool) → List Share → Bool
+  named test shares = every (λ s. every (λ t. test t.column) (source_form model s.source)) shares
+
+  sum_left_out : (test : ℕ → Bool) (shares : List Share) (j : ℕ) → named test shares ≡ true → test j ≡ false → column_sum model shares j ≡ zero_ℚ
+  sum_left_out test [] j h f = refl
+  sum_left_out test (s ∷ shares) j h f =
+      let both = and_parts (every (λ t. test t.column) (source_form model s.source)) (named test shares) h in
+      ap₂ (λ (a b : ℚ). multiple s *ℚ a +ℚ b) (left_out test (source_form model s.source) j both.0 f) (sum_left_out test shares j both.1 f)
+      ∙ ring_ℚ (multiple s ∷ []) (x0 :* zero_of :+ zero_of) zero_of tt
+
+  module _ (shares : List Share) (x : Assignment) (same : (j : ℕ) → x j ≡ column_sum model shares j) where
+    abbrev zero_at : ℕ → Bool
+    zero_at j = eq_ℚ (x j) zero_ℚ
+
+    no_other : named zero_at shares ≡ true → (j : ℕ) → zero_at j ≡ true
+    no_other h j = by (zero_at j) refl
+      where
+        by : (s : Bool) → zero_at j ≡ s → zero_at j ≡ true
+        by true e = e
+        by false e = (eq-Decides (x j) zero_ℚ).1 (same j ∙ sum_left_out zero_at shares j h e)
+
+    -- all sums are 0 exactly where those that are named are
+    pub named_zeros_are : (n : ℕ) → All (λ s. All (λ t. t.column < n) (source_form model s.source)) shares
+        → every (λ s. is_zero_on x (source_form model s.source)) shares ≡ every_below (λ j. eq_ℚ (column_sum model shares j) zero_ℚ) n
+    named_zeros_are n known =
+        one_truth (named zero_at shares) (every_below (λ j. eq_ℚ (column_sum model shares j) zero_ℚ) n)
+        (λ h. below_from (λ j. eq_ℚ (column_sum model shares j) zero_ℚ) n (λ j l. subst (λ (q : ℚ). eq_ℚ q zero_ℚ ≡ true) (same j) (no_other h j)))
+        (λ h. every_passes (λ s. is_zero_on x (source_form model s.source)) (λ s. All (λ t. t.column < n) (source_form model s.source))
+        (λ s k. every_passes (λ t. zero_at t.column) (λ t. t.column < n) (λ t l. subst (λ (q : ℚ). eq_ℚ q zero_ℚ ≡ true) (sym (same t.column)) (every_below_all (λ j. eq_ℚ (column_sum model shares j) zero_ℚ) n t.column h l)) (source_form model s.source) k)
+        shares known)
+
+    -- and then they are again as they were at first
+    pub zeros_again : (xs : List ℚ) → x ≡ values_at xs → every (λ s. is_zero_on x (source_form model s.source)) shares ≡ true → All (λ q. q ≡ zero_ℚ) xs
+    zeros_again xs is h j d l =
+        get_or_default xs j d zero_ℚ l ∙ (ap (λ (y : Assignment). y j) (sym is) ∙ (eq-Decides (x j) zero_ℚ).0 (no_other h j))
 
 -- what the columns' sums are, where they began at 0
 pub from_zero : (xs : List ℚ) (after sum : ℕ → ℚ) → All (λ q. q ≡ zero_ℚ) xs → ((j : ℕ) → after j ≡ values_at xs j +ℚ sum j) → (j : ℕ) → after j ≡ sum j

@@ -10,6 +10,7 @@ pub mod Refused
 pub mod Held
 pub mod ColumnSums
 pub mod PathNumbers
+mod Tightest
 pub mod Combined
 pub mod Sound
 pub mod Walk

@@ -153,6 +153,10 @@ right_operations model path sum (s ∷ shares) =
     share_operations sum (source_side s.source) (number_or_zero (source_number model path s.source)) s.weight
     ++ right_operations model path (sum +ℚ signed (source_side s.source) (number_or_zero (source_number model path s.source) *ℚ s.weight)) shares
 
+-- whether the sum of each column in some terms is 0
+abbrev pub is_zero_on : Assignment → List Term → Bool
+is_zero_on sums terms = every (λ t. eq_ℚ (sums t.column) zero_ℚ) terms
+
 -- before any arithmetic: weights and sources
 abbrev pub usable_step : Program → List Member → List Branch → List Share → Step
 usable_step model set path shares = record { operations = []; passes = usable_test model set path shares }

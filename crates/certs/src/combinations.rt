@@ -1,14 +1,16 @@
 //! Whether shares are a combination.
-ghost use Rattle.std.specs.Prelude.{◌≡◌, ◌<◌, [], All, length};
+ghost use Rattle.std.specs.Prelude.{◌≡◌, ◌<◌, [], All, Ok, true, length};
+ghost use Rattle.rational.specs.Rational.{zero_ℚ};
 ghost use Rattle.rational.specs.Linear.{Assignment};
 ghost use Rattle.lp_model.specs.Satisfaction.{Satisfies, IsUnsatisfiable};
-ghost use Rattle.certs.specs.Combination.{IsFitting, KeepsPath};
+ghost use Rattle.certs.specs.Combination.{KeepsPath};
 ghost use Rattle.certs.specs.Checks.{IsSetOf, outcome, combination_steps, checked_of};
 
-use crate::evidence::{Branch, Checked, Combo, Share};
+use crate::evidence::{Checked, Combo, Share};
 use crate::numbers::are_usable;
+use crate::paths::BranchPath;
 use crate::points::checked;
-use crate::sums::{add_shares, are_zero, clear, right_side};
+use crate::sums::{add_shares, are_zero, right_side};
 use frac128::{Frac, Wide};
 use lp_model::{MemberSet, Model};
 
@@ -21,18 +23,20 @@ use lp_model::{MemberSet, Model};
 /// before it fails.
 /// A yes shows that no point that keeps the path satisfies the set, and without a path that no point does.
 ///
-/// `sums` is room for one number a column: what it held does not matter.
+/// `sums` is a 0 for each column, and is so again after a yes. The time that this takes follows the shares and their
+/// terms, whatever the path's length and the number of columns are.
 pub fn check_combo(
     model: &Model,
     set: &MemberSet,
-    path: &[Branch],
+    path: &BranchPath,
     combo: &Combo,
     sums: &mut [Frac],
 ) -> Checked
     requires room { length sums.old ≡ length model.now.columns }
+    requires zeros { All (λ q. q ≡ zero_ℚ) sums.old }
     requires known { All (λ b. b.column < length model.now.columns) path.now }
-    requires fitting { All IsFitting path.now }
     requires same { IsSetOf model.now set.now }
+    ensures zeros { result ≡ Checked.Yes → All (λ q. q ≡ zero_ℚ) sums.new }
     ensures said { result ≡ outcome (combination_steps model.now set.now.members path.now combo.now.shares) }
     ensures sound { result ≡ Checked.Yes → (x : Assignment) → Satisfies model.now set.now.members x → KeepsPath x path.now → ⊥ }
     ensures unsatisfiable { result ≡ Checked.Yes → path.now ≡ [] → IsUnsatisfiable model.now set.now.members }
@@ -46,24 +50,24 @@ pub fn check_combo(
 fn combines(
     model: &Model,
     set: &MemberSet,
-    path: &[Branch],
+    path: &BranchPath,
     shares: &[Share],
     sums: &mut [Frac],
 ) -> Result<bool, Wide>
     requires room { length sums.old ≡ length model.now.columns }
+    requires zeros { All (λ q. q ≡ zero_ℚ) sums.old }
     requires known { All (λ b. b.column < length model.now.columns) path.now }
-    requires fitting { All IsFitting path.now }
     requires same { IsSetOf model.now set.now }
-    ensures { checked_of result ≡ outcome (combination_steps model.now set.now.members path.now shares.now) }
+    ensures zeros { result ≡ Ok true → All (λ q. q ≡ zero_ℚ) sums.new }
+    ensures said { checked_of result ≡ outcome (combination_steps model.now set.now.members path.now shares.now) }
 {
     if !are_usable(model, set, path, shares) {
         return Ok(false);
     }
-    clear(sums);
     // That the terms of a row name the program's columns is told with the count.
     let _rows = model.row_count();
     add_shares(model, shares, sums)?;
-    if !are_zero(sums) {
+    if !are_zero(model, shares, sums) {
         return Ok(false);
     }
     let right = right_side(model, path, shares)?;

@@ -1,19 +1,35 @@
 //! Combinations of a plain system as combinations of the program, and the members that a proof uses.
-ghost use Rattle.std.specs.Prelude.{◌≡◌, ◌<◌, ◌++◌, ◌||◌, Bool, All, IfOk, filter, length};
+ghost use Rattle.std.specs.Prelude.{◌≡◌, ◌<◌, [], ◌++◌, ◌||◌, Bool, All, IfOk, filter, length};
 ghost use Rattle.std.specs.List.{list_any};
 ghost use Rattle.lp_model.specs.declared.members.Member.{Member as OneMember};
 ghost use Rattle.lp_model.specs.Members.{is_same};
 ghost use Rattle.lp_model.specs.MemberSets.{IsPossibleIn};
 ghost use Rattle.certs.specs.Checks.{IsSetOf};
-ghost use Rattle.certs.specs.Combination.{IsCombination, IsFitting};
+ghost use Rattle.certs.specs.Combination.{IsCombination};
 ghost use Rattle.certs.specs.Named.{IsKnownNode, IsKnownSource, IsNamedCombination, IsOfSize, IsPartBy, IsOfSystem, arranged as arranged_by, is_above, is_below, is_member, node_uses, on_column, program_shares, stands_for as source_for, translated as translated_one, used_set};
 ghost use Rattle.certs.specs.Plain.{plain_system, rows_in};
 ghost use Rattle.certs.specs.Violation.{is_of};
 
-use crate::evidence::{Branch, Combo, Node, Proof, Share, Shares, Source};
+use crate::evidence::{Combo, Node, Proof, Share, Shares, Source};
+use crate::paths::BranchPath;
 use crate::plain_systems::{has_row, limit_source};
 use lp_model::{Member, MemberSet, Model, Side};
 use std::alloc::{AllocError, Global};
+
+/// A combination of the plain system of a set on no path, as one of the program.
+pub fn named_combo(
+    alloc: Global,
+    model: &Model,
+    set: &MemberSet,
+    combo: &Combo,
+) -> Result<Combo, AllocError>
+    requires same { IsSetOf model.now set.now }
+    requires of_system { All (λ s. IsOfSystem (length model.now.columns) (length (rows_in model.now set.now.members)) s.source) combo.now.shares }
+    ensures shares { IfOk result (λ named. named.shares ≡ program_shares model.now set.now.members [] combo.now.shares) }
+    ensures combination { (objective : Bool) → IsNamedCombination (plain_system model.now set.now.members [] objective) combo.now.shares → IfOk result (λ named. IsCombination model.now set.now.members [] named.shares) }
+{
+    node_combo(alloc, model, set, &BranchPath::new(alloc), combo)
+}
 
 /// A combination of a plain system, whose shares name sides of rows and limits of that system, as one of the program on the
 /// path.
@@ -21,15 +37,14 @@ use std::alloc::{AllocError, Global};
 /// Each side of a row becomes the member that it stands for; each limit the bound that gave it, or the branches where the
 /// path gave it. Weights stay. The shares of members come first, in the order in which they stood,
 /// and then those of branches by column, `Below` before `Above`.
-pub fn named_combo(
+pub fn node_combo(
     alloc: Global,
     model: &Model,
     set: &MemberSet,
-    path: &[Branch],
+    path: &BranchPath,
     combo: &Combo,
 ) -> Result<Combo, AllocError>
     requires same { IsSetOf model.now set.now }
-    requires fitting { All IsFitting path.now }
     requires known { All (λ b. b.column < length model.now.columns) path.now }
     requires of_system { All (λ s. IsOfSystem (length model.now.columns) (length (rows_in model.now set.now.members)) s.source) combo.now.shares }
     ensures shares { IfOk result (λ named. named.shares ≡ program_shares model.now set.now.members path.now combo.now.shares) }
@@ -62,9 +77,14 @@ fn set_rows(alloc: Global, model: &Model, set: &MemberSet) -> Result<Vec<u32>, A
 }
 
 // A share of the system as one of the program.
-fn translated(model: &Model, set: &MemberSet, path: &[Branch], rows: &[u32], share: Share) -> Share
+fn translated(
+    model: &Model,
+    set: &MemberSet,
+    path: &BranchPath,
+    rows: &[u32],
+    share: Share,
+) -> Share
     requires same { IsSetOf model.now set.now }
-    requires fitting { All IsFitting path.now }
     requires rows { rows.now ≡ rows_in model.now set.now.members }
     requires of_system { IsOfSystem (length model.now.columns) (length rows.now) share.source }
     ensures { result ≡ translated_one model.now set.now.members path.now share }
@@ -79,12 +99,11 @@ fn translated(model: &Model, set: &MemberSet, path: &[Branch], rows: &[u32], sha
 fn stands_for(
     model: &Model,
     set: &MemberSet,
-    path: &[Branch],
+    path: &BranchPath,
     rows: &[u32],
     source: Source,
 ) -> Source
     requires same { IsSetOf model.now set.now }
-    requires fitting { All IsFitting path.now }
     requires rows { rows.now ≡ rows_in model.now set.now.members }
     requires of_system { IsOfSystem (length model.now.columns) (length rows.now) source }
     ensures { result ≡ source_for model.now set.now.members path.now source }

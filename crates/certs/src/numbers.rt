@@ -1,20 +1,25 @@
 //! The numbers that members and paths ask for.
-ghost use Rattle.std.specs.Prelude.{◌≡◌, ◌&&◌, Some, None, is_some, All, IfSome, ◌≤◌, unsigned_abs};
+ghost use Rattle.std.specs.Prelude.{◌≡◌, ◌&&◌, is_some, IfSome, ◌≤◌, unsigned_abs};
 ghost use Rattle.std.specs.Option.{option_map};
 ghost use Rattle.rational.specs.Rational.{whole, zero_ℚ, lt_q};
 ghost use Rattle.frac128.specs.Limit.{limit};
 ghost use Rattle.lp_model.specs.Members.{number, has};
-ghost use Rattle.certs.specs.Combination.{source_number as number_of_source, least_upper as least_on, greatest_lower as greatest_on, lesser as lesser_of, greater as greater_of, IsFitting};
+ghost use Rattle.certs.specs.Combination.{source_number as number_of_source};
 ghost use Rattle.certs.specs.Checks.{IsSetOf, there_test, usable_test};
 
-use crate::evidence::{Branch, Share, Source};
+use crate::evidence::{Share, Source};
+use crate::paths::BranchPath;
 use crate::points::is_present;
 use frac128::Frac;
 use lp_model::{Member, MemberSet, Model};
 
 /// Whether each share has a weight above 0, and a source that the set and the path have, with a number.
-pub(crate) fn are_usable(model: &Model, set: &MemberSet, path: &[Branch], shares: &[Share]) -> bool
-    requires fitting { All IsFitting path.now }
+pub(crate) fn are_usable(
+    model: &Model,
+    set: &MemberSet,
+    path: &BranchPath,
+    shares: &[Share],
+) -> bool
     requires same { IsSetOf model.now set.now }
     ensures { result ≡ usable_test model.now set.now.members path.now shares.now }
 {
@@ -27,8 +32,7 @@ pub(crate) fn are_usable(model: &Model, set: &MemberSet, path: &[Branch], shares
 }
 
 // Whether one share has.
-fn is_usable(model: &Model, set: &MemberSet, path: &[Branch], share: &Share) -> bool
-    requires fitting { All IsFitting path.now }
+fn is_usable(model: &Model, set: &MemberSet, path: &BranchPath, share: &Share) -> bool
     requires same { IsSetOf model.now set.now }
     ensures { result ≡ (lt_q zero_ℚ share.now.weight && there_test model.now set.now.members path.now share.now) }
 {
@@ -43,15 +47,14 @@ fn is_positive(number: Frac) -> bool
 }
 
 /// Whether a number is below another.
-pub(crate) fn is_less(a: Frac, b: Frac) -> bool
+pub fn is_less(a: Frac, b: Frac) -> bool
     ensures { result ≡ lt_q a b }
 {
     a < b
 }
 
 // Whether the set or the path has the source of a share, with a number.
-fn is_there(model: &Model, set: &MemberSet, path: &[Branch], share: &Share) -> bool
-    requires fitting { All IsFitting path.now }
+fn is_there(model: &Model, set: &MemberSet, path: &BranchPath, share: &Share) -> bool
     requires same { IsSetOf model.now set.now }
     ensures { result ≡ there_test model.now set.now.members path.now share.now }
 {
@@ -62,8 +65,8 @@ fn is_there(model: &Model, set: &MemberSet, path: &[Branch], share: &Share) -> b
     }
 }
 
-// Whether the set has the member, and the member asks for a number.
-fn is_member_there(model: &Model, set: &MemberSet, member: Member) -> bool
+/// Whether the set has the member, and the program has it with a number. A mark has none.
+pub fn is_member_there(model: &Model, set: &MemberSet, member: Member) -> bool
     requires { IsSetOf model.now set.now }
     ensures { result ≡ (has set.now.members member && is_some (number model.now member)) }
 {
@@ -74,19 +77,18 @@ fn is_member_there(model: &Model, set: &MemberSet, member: Member) -> bool
 }
 
 /// The number that a source asks for, where there is one.
-pub(crate) fn source_number(model: &Model, path: &[Branch], source: Source) -> Option<Frac>
-    requires { All IsFitting path.now }
+pub(crate) fn source_number(model: &Model, path: &BranchPath, source: Source) -> Option<Frac>
     ensures { result ≡ number_of_source model.now path.now source }
 {
     match source {
         Source::Member(member) => member_number(model, member),
-        Source::Below(column) => as_fraction(least_upper(path, column)),
-        Source::Above(column) => as_fraction(greatest_lower(path, column)),
+        Source::Below(column) => as_fraction(path.tightest(column).upper),
+        Source::Above(column) => as_fraction(path.tightest(column).lower),
     }
 }
 
-// The number that a member asks for, where it is there; a mark asks for none.
-fn member_number(model: &Model, member: Member) -> Option<Frac>
+/// The number that a member asks for, where the program has the member; a mark asks for none.
+pub fn member_number(model: &Model, member: Member) -> Option<Frac>
     ensures { result ≡ number model.now member }
 {
     if !is_present(model, member) {
@@ -98,62 +100,6 @@ fn member_number(model: &Model, member: Member) -> Option<Frac>
         Member::Lower(index) => model.column(index).lo,
         Member::Upper(index) => model.column(index).up,
         Member::Whole(_) => None,
-    }
-}
-
-// The least number that the path's upper branches on a column give.
-fn least_upper(path: &[Branch], column: u32) -> Option<i128>
-    requires { All IsFitting path.now }
-    ensures value { result ≡ least_on path.now column }
-    ensures fits { IfSome result (λ n. unsigned_abs n ≤ limit) }
-{
-    let mut least = None;
-    let mut left = path.len();
-    while left > 0 {
-        left -= 1;
-        let branch = path[left];
-        if branch.column == column && branch.upper {
-            least = Some(lesser(branch.at, least));
-        }
-    }
-    least
-}
-
-// The greatest number that the path's lower branches on a column give.
-fn greatest_lower(path: &[Branch], column: u32) -> Option<i128>
-    requires { All IsFitting path.now }
-    ensures value { result ≡ greatest_on path.now column }
-    ensures fits { IfSome result (λ n. unsigned_abs n ≤ limit) }
-{
-    let mut greatest = None;
-    let mut left = path.len();
-    while left > 0 {
-        left -= 1;
-        let branch = path[left];
-        if branch.column == column && !branch.upper {
-            greatest = Some(greater(branch.at, greatest));
-        }
-    }
-    greatest
-}
-
-// The lesser of a number and one that may be absent.
-fn lesser(at: i128, other: Option<i128>) -> i128
-    ensures { result ≡ lesser_of at other }
-{
-    match other {
-        Some(least) => if least < at { least } else { at },
-        None => at,
-    }
-}
-
-// The greater of a number and one that may be absent.
-fn greater(at: i128, other: Option<i128>) -> i128
-    ensures { result ≡ greater_of at other }
-{
-    match other {
-        Some(greatest) => if at < greatest { greatest } else { at },
-        None => at,
     }
 }
 

@@ -10,12 +10,11 @@ ghost use Rattle.certs.specs.declared.solving.Stretched.{Stretched as OneStretch
 ghost use Rattle.certs.specs.declared.solving.Verdict.{Verdict as OneVerdict};
 ghost use Rattle.certs.specs.declared.solving.Verdict.TheVariants.{Infeasible};
 ghost use Rattle.certs.specs.Checks.{IsSetOf};
-ghost use Rattle.certs.specs.Combination.{IsFitting};
 ghost use Rattle.certs.specs.Order.{AreLeavesInOrder};
 ghost use Rattle.certs.specs.Sites.{Budgets};
 ghost use Rattle.certs.specs.Tales.{IsNodeEnd, IsSiteWithin, IsStretchStop, IsStretched, IsVerdict, OracleState, Stopped, asked_after, one_more, stops_after};
 
-use crate::evidence::Branch;
+use crate::paths::BranchPath;
 use crate::solving::{NodeEnd, Stop, Stretched, Verdict};
 use lp_model::MemberSet;
 use std::alloc::Global;
@@ -57,15 +56,19 @@ pub trait Oracle {
 /// An oracle that also makes the runs of nodes.
 pub trait BranchAsk: Oracle {
     /// The end of the run of the set's plain system on a path; marks do not count. The branches are on columns of the
-    /// program, with numbers of magnitude at most 2^127 - 1.
+    /// program.
     ///
     /// # Errors
     ///
     /// The stop of just that run. Nothing is put into the oracle's tale.
-    fn ask_with(&mut self, alloc: Global, set: &MemberSet, path: &[Branch]) -> Result<NodeEnd, Stop>
+    fn ask_with(
+        &mut self,
+        alloc: Global,
+        set: &MemberSet,
+        path: &BranchPath,
+    ) -> Result<NodeEnd, Stop>
         requires same { IsSetOf (Self.state self.old).model set.now }
         requires known { All (λ b. b.column < length (Self.state self.old).model.columns) path.now }
-        requires fitting { All IsFitting path.now }
         ensures end { IsNodeEnd (Self.state self.old).model set.now.members path.now (Self.state self.old).budgets.pivots result }
         ensures untold { Self.state self.new ≡ Self.state self.old };
 }

@@ -1,33 +1,45 @@
 //! The plain system of a set of members on a path.
-ghost use Rattle.std.specs.Prelude.{◌≡◌, ◌<◌, All, IfOk, None, Some, cond, length, map};
+ghost use Rattle.std.specs.Prelude.{◌≡◌, ◌<◌, IfOk, None, Some, cond, length, map, []};
 ghost use Rattle.certs.specs.Checks.{IsSetOf};
-ghost use Rattle.certs.specs.Combination.{IsFitting};
 ghost use Rattle.certs.specs.Ended.{numbers_from};
 ghost use Rattle.certs.specs.Rows.{row_of};
 ghost use Rattle.lp_model.specs.MemberSets.{IsPossibleIn};
 ghost use Rattle.certs.specs.Plain.{column_limits, greatest_objective as objective_of, has_row as has_side, is_lowered as allows_less, is_raised as asks_more, limit_of as limit_on, limit_source as source_of, negated as opposite, number_in as number_within, plain_row as row_of_program, plain_system as system_of, rows_in};
 
-use crate::evidence::{Branch, Source};
-use crate::numbers::{is_less, source_number};
+use crate::evidence::Source;
+use crate::numbers::{is_less, member_number, source_number};
+use crate::paths::BranchPath;
 use crate::systems::{Limits, System};
 use frac128::Frac;
 use lp_model::{Member, MemberSet, Model, Row, Side, Term, Terms, Weight};
 use std::alloc::{AllocError, Global};
 
-/// The system of a set on a path, marks left out: all columns of the program, each limited by the set's bounds and by the
-/// path where that is strictly tighter; the rows of which the set has a side, in order, each with those sides; and the program's objective exactly where `objective` is
-/// true, negated where it is to be made least.
-///
-/// The branches are on columns of the program, with numbers of magnitude at most 2^127 - 1.
+/// The system of a set, marks left out, on no path.
 pub fn plain_system(
     alloc: Global,
     model: &Model,
     set: &MemberSet,
-    path: &[Branch],
     objective: bool,
 ) -> Result<System, AllocError>
     requires same { IsSetOf model.now set.now }
-    requires fitting { All IsFitting path.now }
+    ensures { IfOk result (λ system. system ≡ system_of model.now set.now.members [] objective) }
+{
+    node_system(alloc, model, set, &BranchPath::new(alloc), objective)
+}
+
+/// The system of a set on a path, marks left out: all columns of the program, each limited by the set's bounds and by the
+/// path where that is strictly tighter; the rows of which the set has a side, in order, each with those sides; and the program's objective exactly where `objective` is
+/// true, negated where it is to be made least.
+///
+/// The branches are on columns of the program.
+pub fn node_system(
+    alloc: Global,
+    model: &Model,
+    set: &MemberSet,
+    path: &BranchPath,
+    objective: bool,
+) -> Result<System, AllocError>
+    requires same { IsSetOf model.now set.now }
     ensures { IfOk result (λ system. system ≡ system_of model.now set.now.members path.now objective) }
 {
     let columns = plain_columns(alloc, model, set, path)?;
@@ -45,10 +57,9 @@ fn plain_columns(
     alloc: Global,
     model: &Model,
     set: &MemberSet,
-    path: &[Branch],
+    path: &BranchPath,
 ) -> Result<Vec<Limits>, AllocError>
     requires same { IsSetOf model.now set.now }
-    requires fitting { All IsFitting path.now }
     ensures { IfOk result (λ columns. columns.items ≡ map (column_limits model.now set.now.members path.now) (numbers_from 0 (length model.now.columns))) }
 {
     let mut columns = Vec::new(alloc);
@@ -65,13 +76,12 @@ fn plain_columns(
 pub(crate) fn limit_source(
     model: &Model,
     set: &MemberSet,
-    path: &[Branch],
+    path: &BranchPath,
     column: u32,
     side: Side,
 ) -> Source
     requires known { column < length model.now.columns }
     requires same { IsSetOf model.now set.now }
-    requires fitting { All IsFitting path.now }
     ensures { result ≡ source_of model.now set.now.members path.now column side }
 {
     match side {
@@ -129,20 +139,19 @@ fn number_in(model: &Model, set: &MemberSet, member: Member) -> Option<Frac>
     if !set.contains(member) {
         return None;
     }
-    source_number(model, &[], Source::Member(member))
+    member_number(model, member)
 }
 
 // The limit of a column on a side.
 fn limit_of(
     model: &Model,
     set: &MemberSet,
-    path: &[Branch],
+    path: &BranchPath,
     column: u32,
     side: Side,
 ) -> Option<Frac>
     requires known { column < length model.now.columns }
     requires same { IsSetOf model.now set.now }
-    requires fitting { All IsFitting path.now }
     ensures { result ≡ limit_on model.now set.now.members path.now column side }
 {
     let source = limit_source(model, set, path, column, side);

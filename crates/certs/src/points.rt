@@ -23,7 +23,7 @@ pub fn check_point(model: &Model, set: &MemberSet, point: &Point) -> Checked
 }
 
 /// A yes or a no, or what was too wide.
-pub(crate) fn checked(answer: Result<bool, Wide>) -> Checked
+pub fn checked(answer: Result<bool, Wide>) -> Checked
     ensures { result ≡ checked_of answer }
 {
     match answer {
@@ -59,7 +59,7 @@ fn member_holds(model: &Model, member: Member, values: &[Frac]) -> Result<bool, 
 }
 
 /// Whether the program has the member, whatever its number.
-pub(crate) fn is_present(model: &Model, member: Member) -> bool
+pub fn is_present(model: &Model, member: Member) -> bool
     ensures there { result ≡ exists model.now member }
     ensures in_range { IsTrue result → IsInRange model.now member }
 {

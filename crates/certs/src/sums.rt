@@ -1,22 +1,26 @@
 //! Sums of shares: those of the columns, and the right side.
 ghost use Rattle.std.specs.Prelude.{◌≡◌, ◌<◌, MatchResult, Some, None, All, true, false, ℕ, length};
-ghost use Rattle.rational.specs.Rational.{◌+ℚ◌, ◌*ℚ◌, zero_ℚ, eq_ℚ};
+ghost use Rattle.rational.specs.Rational.{◌+ℚ◌, ◌*ℚ◌, zero_ℚ};
 ghost use Rattle.frac128.specs.Limit.{limit};
 ghost use Rattle.frac128.specs.Width.{operation, is_wide};
 ghost use Rattle.frac128.specs.Calculation.{first_wide};
 ghost use Rattle.lp_model.specs.Program.{row_at};
 ghost use Rattle.lp_model.specs.Members.{column_form, form};
 ghost use Rattle.lp_model.specs.Satisfaction.{values_at};
-ghost use Rattle.certs.specs.Combination.{source_form, source_side, signed, column_sum, right_side as right_of, IsFitting};
-ghost use Rattle.certs.specs.Checks.{every, sign_of, share_operations, added_at, sums_after, form_operations, column_operations, right_operations};
+ghost use Rattle.certs.specs.Combination.{source_form, source_side, signed, column_sum, right_side as right_of};
+ghost use Rattle.certs.specs.Checks.{every, is_zero_on, sign_of, share_operations, added_at, sums_after, form_operations, column_operations, right_operations};
 
-use crate::evidence::{Branch, Share, Source};
+use crate::evidence::{Share, Source};
 use crate::numbers::source_number;
+use crate::paths::BranchPath;
 use frac128::{Frac, Wide};
 use lp_model::{Member, Model, Side, Term};
 
-/// Adds the shares to the columns' sums, in order, the terms of each in order.
-pub(crate) fn add_shares(model: &Model, shares: &[Share], sums: &mut [Frac]) -> Result<(), Wide>
+/// Adds the shares to the columns' sums, in order, the terms of each in order: factor times weight, plus where the source is
+/// on `Up` and minus where it is on `Lo`. An error is the first operation that is too wide, and comes just where one is.
+///
+/// The shares name columns of which there is a sum.
+pub fn add_shares(model: &Model, shares: &[Share], sums: &mut [Frac]) -> Result<(), Wide>
     requires { All (λ s. All (λ t. t.column < length sums.old) (source_form model.now s.source)) shares.now }
     ensures { MatchResult result
         (λ done. (first_wide limit (column_operations model.now (values_at sums.old) shares.now) ≡ None)
@@ -132,8 +136,9 @@ fn add_term(
     Ok(())
 }
 
-// The sum with a number times a weight more on `up`, or less on `lo`.
-fn added(sum: Frac, side: Side, number: Frac, weight: Frac) -> Result<Frac, Wide>
+/// The sum with a number times a weight more on `Up`, or less on `Lo`. An error is the first of the two operations that is
+/// too wide, and comes just where one is.
+pub fn added(sum: Frac, side: Side, number: Frac, weight: Frac) -> Result<Frac, Wide>
     ensures { MatchResult result
         (λ r. (r ≡ sum +ℚ signed side (number *ℚ weight)) × (first_wide limit (share_operations sum side number weight) ≡ None))
         (λ w. first_wide limit (share_operations sum side number weight) ≡ Some w) }
@@ -154,30 +159,72 @@ fn signed_sum(sum: Frac, side: Side, number: Frac) -> Result<Frac, Wide>
     }
 }
 
-/// Whether all sums are 0.
-pub(crate) fn are_zero(sums: &[Frac]) -> bool
-    ensures { result ≡ every (λ q. eq_ℚ q zero_ℚ) sums.now }
+/// Whether the sum of each column in the forms of the shares is 0.
+pub(crate) fn are_zero(model: &Model, shares: &[Share], sums: &[Frac]) -> bool
+    requires { All (λ s. All (λ t. t.column < length sums.now) (source_form model.now s.source)) shares.now }
+    ensures { result ≡ every (λ s. is_zero_on (values_at sums.now) (source_form model.now s.source)) shares.now }
 {
-    let zero = Frac::whole(0);
-    for sum in sums {
-        if *sum != zero {
+    for share in shares {
+        if !is_source_zero(model, share.source, sums) {
             return false;
         }
     }
     true
 }
 
-/// Sets all sums to 0.
-pub(crate) fn clear(sums: &mut [Frac])
-    ensures length { length sums.new ≡ length sums.old }
-    ensures zero { All (λ q. q ≡ zero_ℚ) sums.new }
+// Whether it is 0 for each column of a source.
+fn is_source_zero(model: &Model, source: Source, sums: &[Frac]) -> bool
+    requires { All (λ t. t.column < length sums.now) (source_form model.now source) }
+    ensures { result ≡ is_zero_on (values_at sums.now) (source_form model.now source) }
 {
-    sums.fill(Frac::whole(0));
+    match source {
+        Source::Member(member) => is_member_zero(model, member, sums),
+        Source::Below(column) => is_column_zero(column, sums),
+        Source::Above(column) => is_column_zero(column, sums),
+    }
+}
+
+// Whether it is 0 for each column of a member.
+fn is_member_zero(model: &Model, member: Member, sums: &[Frac]) -> bool
+    requires { All (λ t. t.column < length sums.now) (form model.now member) }
+    ensures { result ≡ is_zero_on (values_at sums.now) (form model.now member) }
+{
+    match member {
+        Member::RowLo(index) => is_row_zero(model, index, sums),
+        Member::RowUp(index) => is_row_zero(model, index, sums),
+        Member::Lower(column) => is_column_zero(column, sums),
+        Member::Upper(column) => is_column_zero(column, sums),
+        Member::Whole(column) => is_column_zero(column, sums),
+    }
+}
+
+// Whether it is 0 for each column of a row, of which one past the last has no terms.
+fn is_row_zero(model: &Model, index: u32, sums: &[Frac]) -> bool
+    requires { All (λ t. t.column < length sums.now) (row_at model.now index).terms }
+    ensures { result ≡ is_zero_on (values_at sums.now) (row_at model.now index).terms }
+{
+    if index >= model.row_count() {
+        return true;
+    }
+    let zero = Frac::whole(0);
+    for term in model.row(index).terms.as_slice() {
+        if sums[term.column as usize] != zero {
+            return false;
+        }
+    }
+    true
+}
+
+// Whether it is 0 for one column.
+fn is_column_zero(column: u32, sums: &[Frac]) -> bool
+    requires { All (λ t. t.column < length sums.now) (column_form column) }
+    ensures { result ≡ is_zero_on (values_at sums.now) (column_form column) }
+{
+    sums[column as usize] == Frac::whole(0)
 }
 
 /// The right side: the number of each share times its weight, in order from 0.
-pub(crate) fn right_side(model: &Model, path: &[Branch], shares: &[Share]) -> Result<Frac, Wide>
-    requires { All IsFitting path.now }
+pub(crate) fn right_side(model: &Model, path: &BranchPath, shares: &[Share]) -> Result<Frac, Wide>
     ensures { MatchResult result
         (λ r. (r ≡ right_of model.now path.now shares.now) × (first_wide limit (right_operations model.now path.now zero_ℚ shares.now) ≡ None))
         (λ w. first_wide limit (right_operations model.now path.now zero_ℚ shares.now) ≡ Some w) }

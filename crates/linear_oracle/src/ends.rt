@@ -6,7 +6,6 @@ ghost use Rattle.lp_model.specs.Program.{Program};
 ghost use Rattle.lp_model.specs.declared.members.Member.{Member as OneMember};
 ghost use Rattle.certs.specs.declared.evidence.Branch.{Branch as OneBranch};
 ghost use Rattle.certs.specs.Checks.{IsSetOf};
-ghost use Rattle.certs.specs.Combination.{IsFitting};
 ghost use Rattle.certs.specs.Named.{named};
 ghost use Rattle.certs.specs.Plain.{crossing_shares, first_crossing, plain_system};
 ghost use Rattle.certs.specs.Runs.End.{Feasible as IsFeasible, Infeasible as IsInfeasible};
@@ -20,7 +19,8 @@ ghost use Rattle.simplex.specs.declared.settling.Settled.TheVariants.{Feasible, 
 ghost use Rattle.linear_oracle.specs.Ended.{HasEnded};
 
 use certs::{
-    Branch, Combo, MemberSet, NodeEnd, Path, Shares, Side, Site, SiteKind, Stop, named_combo,
+    Branch, BranchPath, Combo, MemberSet, NodeEnd, Path, Shares, Side, Site, SiteKind, Stop,
+    node_combo,
 };
 use dictionary::Dictionary;
 use frac128::Frac;
@@ -47,13 +47,12 @@ pub(crate) fn cut_end(
     alloc: Global,
     model: &Model,
     set: &MemberSet,
-    path: &[Branch],
+    path: &BranchPath,
     dictionary: &Dictionary<Frac>,
     variable: u32,
 ) -> Result<NodeEnd, Stop>
     requires same { IsSetOf model.now set.now }
     requires known { All (λ b. b.column < length model.now.columns) path.now }
-    requires fitting { All IsFitting path.now }
     requires formed { IsWellFormedSystem (plain_system model.now set.now.members path.now false) }
     requires is_of { IsTableauOf (plain_system model.now set.now.members path.now false) (tableau_of dictionary.now) }
     requires count { dictionary.now.columns ≡ length model.now.columns }
@@ -66,7 +65,7 @@ pub(crate) fn cut_end(
     let Ok(combo) = combo_of(alloc, dictionary, variable) else {
         return Err(Stop::Memory);
     };
-    match named_combo(alloc, model, set, path, &combo) {
+    match node_combo(alloc, model, set, path, &combo) {
         Ok(named) => Ok(NodeEnd::Cut(named)),
         Err(_) => Err(Stop::Memory),
     }
@@ -77,19 +76,18 @@ pub(crate) fn crossing_end(
     alloc: Global,
     model: &Model,
     set: &MemberSet,
-    path: &[Branch],
+    path: &BranchPath,
     variable: u32,
 ) -> Result<NodeEnd, Stop>
     requires same { IsSetOf model.now set.now }
     requires known { All (λ b. b.column < length model.now.columns) path.now }
-    requires fitting { All IsFitting path.now }
     requires crosses { first_crossing (plain_system model.now set.now.members path.now false) ≡ Some variable }
     ensures { (pivots : ℕ) → IsNodeEnd model.now set.now.members path.now pivots result }
 {
     let Ok(combo) = crossing_combo(alloc, model.column_count(), variable) else {
         return Err(Stop::Memory);
     };
-    match named_combo(alloc, model, set, path, &combo) {
+    match node_combo(alloc, model, set, path, &combo) {
         Ok(named) => Ok(NodeEnd::Cut(named)),
         Err(_) => Err(Stop::Memory),
     }

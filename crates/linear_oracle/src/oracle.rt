@@ -10,7 +10,8 @@ ghost use Rattle.linear_oracle.specs.Value.{OracleValue, state_of};
 
 use crate::solve::solve;
 use certs::{
-    Branch, BranchAsk, Combo, MemberSet, Node, NodeEnd, Nodes, Oracle, Proof, Stop, Tale, Verdict,
+    BranchAsk, BranchPath, Combo, MemberSet, Node, NodeEnd, Nodes, Oracle, Proof, Stop, Tale,
+    Verdict,
 };
 use lp_model::Model;
 use std::alloc::{AllocError, Global};
@@ -95,7 +96,14 @@ impl Oracle for LinearOracle<'_> {
         // That the program is well formed is told with its count of rows.
         let _rows = self.model.row_count();
         set.stands_in_order();
-        let end = solve(alloc, self.model, set, &[], self.pivots, &mut self.made);
+        let end = solve(
+            alloc,
+            self.model,
+            set,
+            &BranchPath::new(alloc),
+            self.pivots,
+            &mut self.made,
+        );
         let answer = verdict_of(alloc, end);
         self.tale.tell(alloc, set, answer)
     }
@@ -106,7 +114,7 @@ impl BranchAsk for LinearOracle<'_> {
         &mut self,
         alloc: Global,
         set: &MemberSet,
-        path: &[Branch],
+        path: &BranchPath,
     ) -> Result<NodeEnd, Stop> {
         solve(alloc, self.model, set, path, self.pivots, &mut self.made)
     }

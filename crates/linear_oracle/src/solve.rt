@@ -1,7 +1,6 @@
 //! The run of the plain system of a set on a path.
 ghost use Rattle.std.specs.Prelude.{◌≡◌, ◌<◌, ◌≤◌, ◌^◌, false, true, All, IfOk, None, length};
 ghost use Rattle.certs.specs.Checks.{IsSetOf};
-ghost use Rattle.certs.specs.Combination.{IsFitting};
 ghost use Rattle.certs.specs.Plain.{first_crossing as least_crossing, plain_system as system_of};
 ghost use Rattle.certs.specs.Tableau.{IsTableauOf, IsWellFormedSystem, start_basis, variables};
 ghost use Rattle.certs.specs.Tales.{IsNodeEnd};
@@ -9,7 +8,7 @@ ghost use Rattle.dictionary.specs.Value.{tableau_of};
 
 use crate::crossings::first_crossing;
 use crate::ends::{crossing_end, cut_end, point_end, stop_end};
-use certs::{Branch, MemberSet, NodeEnd, Stop, System, plain_system};
+use certs::{BranchPath, MemberSet, NodeEnd, Stop, System, node_system};
 use dictionary::{Dictionary, is_formed};
 use frac128::Frac;
 use lp_model::Model;
@@ -25,13 +24,12 @@ pub(crate) fn solve(
     alloc: Global,
     model: &Model,
     set: &MemberSet,
-    path: &[Branch],
+    path: &BranchPath,
     pivots: u64,
     made: &mut u64,
 ) -> Result<NodeEnd, Stop>
     requires same { IsSetOf model.now set.now }
     requires known { All (λ b. b.column < length model.now.columns) path.now }
-    requires fitting { All IsFitting path.now }
     requires budget { pivots < 2 ^ 63 }
     ensures end { IsNodeEnd model.now set.now.members path.now pivots result }
     ensures made { made.old ≤ made.new }
@@ -39,7 +37,7 @@ pub(crate) fn solve(
     // With the counts it is told that the program is well formed, and that it has few rows and columns.
     let _rows = model.row_count();
     let _columns = model.column_count();
-    let Ok(system) = plain_system(alloc, model, set, path, false) else {
+    let Ok(system) = node_system(alloc, model, set, path, false) else {
         return Err(Stop::Memory);
     };
     if let Some(variable) = first_crossing(&system) {
@@ -56,13 +54,12 @@ fn settle_system(
     alloc: Global,
     model: &Model,
     set: &MemberSet,
-    path: &[Branch],
+    path: &BranchPath,
     system: &System,
     pivots: &mut u64,
 ) -> Result<NodeEnd, Stop>
     requires same { IsSetOf model.now set.now }
     requires known { All (λ b. b.column < length model.now.columns) path.now }
-    requires fitting { All IsFitting path.now }
     requires budget { pivots.old < 2 ^ 63 }
     requires plain { system.now ≡ system_of model.now set.now.members path.now false }
     requires apart { least_crossing system.now ≡ None }
@@ -76,7 +73,7 @@ fn settle_system(
     let mut turn = 0;
     let settled = match settle(&mut dictionary, pivots, &mut turn) {
         Ok(settled) => settled,
-        Err(stop) => return Err(stop_end(alloc, set, path, stop)),
+        Err(stop) => return Err(stop_end(alloc, set, path.as_slice(), stop)),
     };
     match settled {
         Settled::Feasible => point_end(alloc, &dictionary),

@@ -121,7 +121,7 @@ pub fn cut_back(
         Ok(back) => back,
         Err(stop) => return none_where_wide(stop),
     };
-    let named = named_combo(alloc, model, set, &[], &back)?;
+    let named = named_combo(alloc, model, set, &back)?;
     let proof = leaf_proof(alloc, named)?;
     Ok(Some(proof))
 }

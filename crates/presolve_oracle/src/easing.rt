@@ -52,7 +52,7 @@ pub(crate) fn eased(
     // With the counts it is told that the program is well formed, and that it has few rows and columns.
     let _rows = model.row_count();
     let _columns = model.column_count();
-    let system = plain_system(alloc, model, set, &[], false)?;
+    let system = plain_system(alloc, model, set, false)?;
     let reduction = reduce(alloc, system)?;
     match reduction {
         Reduction::Reduced { system, trace } => {

@@ -9,7 +9,7 @@ ghost use Rattle.presolve_oracle.specs.Value.{fresh_value, presolve_state};
 ghost use Rattle.presolve_laws.proofs.PresolveAnswers.{presolved_holds, presolved_ordered, presolved_within};
 
 use crate::easing::{Easing, eased};
-use certs::{Branch, BranchAsk, MemberSet, NodeEnd, Oracle, Stop, Tale, Verdict};
+use certs::{BranchAsk, BranchPath, MemberSet, NodeEnd, Oracle, Stop, Tale, Verdict};
 use linear_oracle::LinearOracle;
 use lp_model::Model;
 use std::alloc::Global;
@@ -104,7 +104,7 @@ impl BranchAsk for PresolveOracle<'_> {
         &mut self,
         alloc: Global,
         set: &MemberSet,
-        path: &[Branch],
+        path: &BranchPath,
     ) -> Result<NodeEnd, Stop> {
         self.inner.ask_with(alloc, set, path)
     }

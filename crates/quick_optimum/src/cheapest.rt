@@ -164,7 +164,7 @@ fn is_priced(
     if price.values.as_slice().len() != model.column_count() as usize {
         return false;
     }
-    is_combo(alloc, model, set, &[], combo)
+    is_combo(alloc, model, set, combo)
         && is_yes(check_cost(model, combo, total))
         && is_yes(check_price(model, set, total, price))
 }

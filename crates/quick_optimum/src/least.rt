@@ -89,7 +89,7 @@ fn rigid_refuted(alloc: Global, model: &Model, rigid: &MemberSet, combo: Combo) 
     ensures { (set : List OneMember) → rigid.now.members ≡ rigid_members model.now set
         → IfSome result (IsRelaxed model.now set) }
 {
-    if !is_combo(alloc, model, rigid, &[], &combo) {
+    if !is_combo(alloc, model, rigid, &combo) {
         return None;
     }
     Some(Relaxed::RigidInfeasible(combo))

@@ -109,7 +109,7 @@ fn confirmed_end(
 {
     match settled {
         Suggestion::Combo(combo) => {
-            if !is_combo(alloc, model, enforced, &[], &combo) {
+            if !is_combo(alloc, model, enforced, &combo) {
                 return None;
             }
             Some(Stretched::Cut(combo))
@@ -153,9 +153,7 @@ fn confirmed_least(
     if missed.further.count() == 0 {
         return met(model, set, point);
     }
-    if !is_combo(alloc, model, set, &[], &combo)
-        || !are_within(set, enforced, combo.shares.as_slice())
-    {
+    if !is_combo(alloc, model, set, &combo) || !are_within(set, enforced, combo.shares.as_slice()) {
         return None;
     }
     let Ok(right) = right_side(model, combo.shares.as_slice()) else {

@@ -3,7 +3,7 @@ ghost use Rattle.std.specs.Prelude.{◌≡◌, ◌<◌, ◌∷◌, [], All, IfOk
 ghost use Rattle.lp_model.specs.declared.members.Member.{Member as OneMember};
 ghost use Rattle.lp_model.specs.Program.{Program};
 ghost use Rattle.certs.specs.Checks.{IsSetOf};
-ghost use Rattle.certs.specs.Combination.{IsCombination, IsFitting};
+ghost use Rattle.certs.specs.Combination.{IsCombination};
 ghost use Rattle.certs.specs.Order.{AreLeavesInOrder, AreSharesInOrder, IsNodeInOrder};
 ghost use Rattle.certs.specs.Proof.{IsFittingNode};
 ghost use Rattle.certs.specs.Tales.{IsPointOf};
@@ -11,7 +11,7 @@ ghost use Rattle.quick_oracle.specs.Answers.{IsConfirmed};
 
 use branch_proof::{Judged, check_proof};
 use certs::{
-    Branch, Checked, Combo, MemberSet, Node, Nodes, Point, Proof, Shares, Values, Verdict,
+    BranchPath, Checked, Combo, MemberSet, Node, Nodes, Point, Proof, Shares, Values, Verdict,
     are_in_order, check_combo, check_point,
 };
 use frac128::Frac;
@@ -28,18 +28,26 @@ pub fn is_point(model: &Model, set: &MemberSet, point: &Point) -> bool
     is_yes(check_point(model, set, point))
 }
 
-/// Whether the shares of a combination stand in order, and its check says that no point on a path satisfies the set. Where
-/// memory is refused, it does not.
-pub fn is_combo(
+/// Whether the shares of a combination stand in order, and its check says that no point satisfies the set. Where memory is
+/// refused, it does not.
+pub fn is_combo(alloc: Global, model: &Model, set: &MemberSet, combo: &Combo) -> bool
+    requires same { IsSetOf model.now set.now }
+    ensures { result ≡ true → IsCombination model.now set.now.members [] combo.now.shares
+        × AreSharesInOrder combo.now.shares }
+{
+    is_combo_on(alloc, model, set, &BranchPath::new(alloc), combo)
+}
+
+/// Whether it is so, and its check says that no point on a path satisfies the set.
+pub(crate) fn is_combo_on(
     alloc: Global,
     model: &Model,
     set: &MemberSet,
-    path: &[Branch],
+    path: &BranchPath,
     combo: &Combo,
 ) -> bool
     requires same { IsSetOf model.now set.now }
     requires known { All (λ b. b.column < length model.now.columns) path.now }
-    requires fitting { All IsFitting path.now }
     ensures { result ≡ true → IsCombination model.now set.now.members path.now combo.now.shares
         × AreSharesInOrder combo.now.shares }
 {

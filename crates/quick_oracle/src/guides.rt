@@ -3,9 +3,9 @@ ghost use Rattle.std.specs.Prelude.{IfSome};
 ghost use Rattle.certs.specs.Checks.{IsSetOf};
 ghost use Rattle.quick_oracle.specs.Walks.{IsWalkNode, IsWalkPath};
 
-use crate::confirmed::{copied_combo, is_combo};
+use crate::confirmed::{copied_combo, is_combo_on};
 use crate::splits::split;
-use certs::{Branch, Combo, MemberSet, Node};
+use certs::{BranchPath, Combo, MemberSet, Node};
 use lp_model::Model;
 use std::alloc::Global;
 
@@ -30,13 +30,16 @@ impl<'a> Guide<'a> {
         alloc: Global,
         model: &Model,
         set: &MemberSet,
-        path: &[Branch],
+        path: &BranchPath,
     ) -> Option<Node>
         requires same { IsSetOf model.now set.now }
         requires path { IsWalkPath model.now path.now }
         ensures { IfSome result (IsWalkNode model.now set.now.members) }
     {
-        if self.apart.is_some_and(|length| path.len() > length) {
+        if self
+            .apart
+            .is_some_and(|length| path.as_slice().len() > length)
+        {
             return None;
         }
         let [first, rest @ ..] = self.ahead else {
@@ -47,7 +50,7 @@ impl<'a> Guide<'a> {
             self.apart = None;
             self.ahead = rest;
         } else {
-            self.apart = Some(path.len());
+            self.apart = Some(path.as_slice().len());
             self.ahead = behind_subtree(self.ahead);
         }
         served
@@ -59,7 +62,7 @@ fn served(
     alloc: Global,
     model: &Model,
     set: &MemberSet,
-    path: &[Branch],
+    path: &BranchPath,
     node: &Node,
 ) -> Option<Node>
     requires same { IsSetOf model.now set.now }
@@ -77,14 +80,14 @@ fn leaf_again(
     alloc: Global,
     model: &Model,
     set: &MemberSet,
-    path: &[Branch],
+    path: &BranchPath,
     combo: &Combo,
 ) -> Option<Node>
     requires same { IsSetOf model.now set.now }
     requires path { IsWalkPath model.now path.now }
     ensures { IfSome result (IsWalkNode model.now set.now.members) }
 {
-    if !is_combo(alloc, model, set, path, combo) {
+    if !is_combo_on(alloc, model, set, path, combo) {
         return None;
     }
     Some(Node::Leaf(copied_combo(alloc, combo).ok()?))

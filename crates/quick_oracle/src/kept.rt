@@ -412,7 +412,7 @@ fn refuted(
     requires { IsSetOf model.now set.now }
     ensures { IfSome result (IsConfirmed model.now set.now.members) }
 {
-    if !is_combo(alloc, model, set, &[], &combo) {
+    if !is_combo(alloc, model, set, &combo) {
         return None;
     }
     *kept = copied_combo(alloc, &combo).ok();
@@ -435,7 +435,7 @@ fn refuted_again(alloc: Global, model: &Model, set: &MemberSet, kept: &Combo) ->
     requires { IsSetOf model.now set.now }
     ensures { IfSome result (IsConfirmed model.now set.now.members) }
 {
-    if !is_combo(alloc, model, set, &[], kept) {
+    if !is_combo(alloc, model, set, kept) {
         return None;
     }
     let Ok(combo) = copied_combo(alloc, kept) else {

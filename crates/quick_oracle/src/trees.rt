@@ -10,7 +10,7 @@ use crate::confirmed::{is_point, proof_verdict};
 use crate::guides::Guide;
 use crate::splits::broken_split;
 use branch_proof::go_on;
-use certs::{Branch, MemberSet, Node, Nodes, Point, Proof, Verdict};
+use certs::{Branch, BranchPath, MemberSet, Node, Nodes, Point, Proof, Verdict};
 use lp_model::Model;
 use quick_run::{Suggest, Suggestion};
 use std::alloc::Global;
@@ -67,11 +67,11 @@ fn walk<S: Suggest>(
     ensures spent { S.made run.new + pivots * left.new ≤ S.made run.old + pivots * left.old }
 {
     let mut guide = Guide::new(ahead);
-    let mut path = Vec::new(alloc);
+    let mut path = BranchPath::new(alloc);
     let mut list = Vec::new(alloc);
     for _node in 0..*left {
         *left = left.saturating_sub(1);
-        let step = next_step(alloc, model, set, run, &mut guide, path.as_slice(), pivots)?;
+        let step = next_step(alloc, model, set, run, &mut guide, &path, pivots)?;
         let node = match step {
             Step::Found(point) => return Some(Verdict::Feasible(point)),
             Step::Further(node) => node,
@@ -87,15 +87,15 @@ fn walk<S: Suggest>(
 // Lists a node, and takes the path to the next one. Whether there is one; none where memory is refused.
 fn go_further(
     model: &Model,
-    path: &mut Vec<Branch>,
+    path: &mut BranchPath,
     list: &mut Vec<Node>,
     node: Node,
 ) -> Option<bool>
-    requires path { IsWalkPath model.now path.old.items }
+    requires path { IsWalkPath model.now path.old }
     requires known { IsKnown (length model.now.columns) node }
     requires fits { IsFittingNode node }
     requires fitting { All IsFittingNode list.old.items }
-    ensures path { IfSome result (λ more. IsWalkPath model.now path.new.items) }
+    ensures path { IfSome result (λ more. IsWalkPath model.now path.new) }
     ensures fitting { IfSome result (λ more. All IsFittingNode list.new.items) }
 {
     let Ok(is_more) = go_on(path, &node) else {
@@ -112,7 +112,7 @@ fn next_step<S: Suggest>(
     set: &MemberSet,
     run: &mut S,
     guide: &mut Guide<'_>,
-    path: &[Branch],
+    path: &BranchPath,
     pivots: u64,
 ) -> Option<Step>
     requires same { IsSetOf model.now set.now }
@@ -124,7 +124,7 @@ fn next_step<S: Suggest>(
     if let Some(node) = guide.followed(alloc, model, set, path) {
         return Some(Step::Further(node));
     }
-    step_by_runs(alloc, model, set, run, path, pivots)
+    step_by_runs(alloc, model, set, run, path.as_slice(), pivots)
 }
 
 // What a quick run gives at a node; where what was kept gave nothing, one from nothing with the pivots left.

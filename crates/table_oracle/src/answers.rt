@@ -4,7 +4,8 @@ ghost use Rattle.certs.specs.Checks.{IsSetOf};
 ghost use Rattle.table_oracle.specs.Value.{is_leaf as leaf_is_right, is_point as point_is_right, is_yes as check_says_yes};
 
 use certs::{
-    Checked, Combo, MemberSet, Node, Nodes, Point, Proof, are_in_order, check_combo, check_point,
+    BranchPath, Checked, Combo, MemberSet, Node, Nodes, Point, Proof, are_in_order, check_combo,
+    check_point,
 };
 use frac128::Frac;
 use lp_model::Model;
@@ -39,7 +40,13 @@ pub(crate) fn is_leaf(
     ensures { IfOk result (λ b. b ≡ leaf_is_right model.now set.now.members combo.now) }
 {
     let mut sums = vec![in alloc; Frac::whole(0); model.column_count() as usize]?;
-    let checked = check_combo(model, set, &[], combo, sums.as_mut_slice());
+    let checked = check_combo(
+        model,
+        set,
+        &BranchPath::new(alloc),
+        combo,
+        sums.as_mut_slice(),
+    );
     Ok(is_yes(checked) && are_in_order(combo.shares.as_slice()))
 }
 

@@ -87,7 +87,7 @@ fn improved(
     let _rows = model.row_count();
     let _columns = model.column_count();
     set.stands_in_order();
-    let Ok(system) = plain_system(alloc, model, set, &[], true) else {
+    let Ok(system) = plain_system(alloc, model, set, true) else {
         return Err(Stop::Memory);
     };
     let Ok(mut dictionary) = started(alloc, &system) else {

@@ -101,7 +101,7 @@ fn bounded_at(
         → IfOk result (HasLastPoint model.now set.now.members pivots) }
 {
     let dual = dual_of(alloc, dictionary)?;
-    let combo = named_combo(alloc, model, set, &[], &dual.combo)?;
+    let combo = named_combo(alloc, model, set, &dual.combo)?;
     let bound = directed(model, dual.bound);
     let point = last_point(alloc, model, set, dictionary, asked)?;
     let value = value_told(model, set, bound, &point);

@@ -20,12 +20,12 @@ loop-node-init g c =
     let budgets : Budgets = record { pivots = (g.B.Oracle.state c.args.inner.now).budgets.pivots; nodes = c.args.nodes } in
     record {
       untold = refl;
-      turnable = subst (λ (l : List Branch). All IsTurnable l) (sym c.new-path.ensures.items) (All-nil IsTurnable);
-      known = subst (λ (l : List Branch). AreKnown (length c.args.model.now.columns) l) (sym c.new-path.ensures.items) (All-nil (λ (b : Branch). b.column < length c.args.model.now.columns));
+      turnable = subst (λ (l : List Branch). All IsTurnable l) (sym c.new-path.ensures) (All-nil IsTurnable);
+      known = subst (λ (l : List Branch). AreKnown (length c.args.model.now.columns) l) (sym c.new-path.ensures) (All-nil (λ (b : Branch). b.column < length c.args.model.now.columns));
       counted = omega arith;
       fits = subst (All IsFittingNode) (sym c.new-list.ensures.items) (All-nil IsFittingNode);
       left =
-          subst (λ (l : List Branch). AreTaken c.args.model.now c.args.set.now.members budgets c.new-list.result.items (c.args.nodes - 0) (l ∷ pending l)) (sym c.new-path.ensures.items)
+          subst (λ (l : List Branch). AreTaken c.args.model.now c.args.set.now.members budgets c.new-list.result.items (c.args.nodes - 0) (l ∷ pending l)) (sym c.new-path.ensures)
           (subst (λ (l : List Node). AreTaken c.args.model.now c.args.set.now.members budgets l (c.args.nodes - 0) ([] ∷ [])) (sym c.new-list.ensures.items)
           (start_taken c.args.model.now c.args.set.now.members budgets (c.args.nodes - 0) (omega arith)));
     }
@@ -34,24 +34,20 @@ pub take_node-requires-clause-program : goal.take_node-requires-clause-program
 take_node-requires-clause-program g c = ap (λ (s : OracleState). s.model) c.loop-node.invariant.untold ∙ c.requires.program
 
 pub take_node-requires-clause-known : goal.take_node-requires-clause-known
-take_node-requires-clause-known g c = subst (AreKnown (length c.args.model.now.columns)) (sym c.as_slice.ensures.value) c.loop-node.invariant.known
-
-pub take_node-requires-clause-fitting : goal.take_node-requires-clause-fitting
-take_node-requires-clause-fitting g c =
-    subst (All IsFitting) (sym c.as_slice.ensures.value) (All-weaker IsTurnable IsFitting (λ b t. t.fitting) c.loop-node.path.items c.loop-node.invariant.turnable)
+take_node-requires-clause-known g c = c.loop-node.invariant.known
 
 pub returns-in_err-point-clause-ends : goal.returns-in_err-point-clause-ends
 returns-in_err-point-clause-ends g c =
     let model = c.args.model.now in
     let set = c.args.set.now.members in
     let budgets : Budgets = record { pivots = (g.B.Oracle.state c.args.inner.now).budgets.pivots; nodes = c.args.nodes } in
-    let path = c.loop-node.path.items in
+    let path = c.loop-node.path in
     let done = c.loop-node.list.items in
     let most : ℕ = c.args.nodes - (c.loop-node._node + 1) in
     let stop = c.in_err-point.field-0.0 in
     let taken = subst (λ (n : ℕ). AreTaken model set budgets done n (path ∷ pending path)) (one_left c.args.nodes c.loop-node._node c.loop-node-test.true) c.loop-node.invariant.left in
     let pivots_are = ap (λ (s : OracleState). s.budgets.pivots) c.loop-node.invariant.untold in
-    let step = moved_step model set _ _ _ _ (Err stop) pivots_are c.as_slice.ensures.value c.in_err-point.ensures.step in
+    let step = moved_step model set _ _ _ (Err stop) pivots_are c.in_err-point.ensures.step in
     let p = err_from_is_err_and c.from_residual.result c.from_residual.ensures.1 in
     let fits = All-weaker IsTurnable IsFitting (λ b t. t.fitting) path c.loop-node.invariant.turnable in
     rw (p.1, p.2) (stops_then model set budgets done most path (pending path) stop c.loop-node.invariant.known fits taken step)
@@ -67,12 +63,12 @@ returns-in-Found-clause-ends g c =
     let model = c.args.model.now in
     let set = c.args.set.now.members in
     let budgets : Budgets = record { pivots = (g.B.Oracle.state c.args.inner.now).budgets.pivots; nodes = c.args.nodes } in
-    let path = c.loop-node.path.items in
+    let path = c.loop-node.path in
     let done = c.loop-node.list.items in
     let most : ℕ = c.args.nodes - (c.loop-node._node + 1) in
     let taken = subst (λ (n : ℕ). AreTaken model set budgets done n (path ∷ pending path)) (one_left c.args.nodes c.loop-node._node c.loop-node-test.true) c.loop-node.invariant.left in
     let pivots_are = ap (λ (s : OracleState). s.budgets.pivots) c.loop-node.invariant.untold in
-    let step = moved_step model set _ _ _ _ (Ok c.in_ok-point.field-0) pivots_are c.as_slice.ensures.value c.in_ok-point.ensures.step in
+    let step = moved_step model set _ _ _ (Ok c.in_ok-point.field-0) pivots_are c.in_ok-point.ensures.step in
     let found = subst (λ (s : Step). IsStep model set budgets.pivots path (Ok s)) c.in-Found.is step in
     ends_then model set budgets done most path (pending path) (TreeEnd.Found c.in-Found.point.values) taken found
 
@@ -96,14 +92,14 @@ returns-then-not-is_more-clause-ends g c =
     let model = c.args.model.now in
     let set = c.args.set.now.members in
     let budgets : Budgets = record { pivots = (g.B.Oracle.state c.args.inner.now).budgets.pivots; nodes = c.args.nodes } in
-    let path = c.loop-node.path.items in
+    let path = c.loop-node.path in
     let done = c.loop-node.list.items in
     let node = c.in-Further.node in
-    let next = c.go_further.new.path.items in
+    let next = c.go_further.new.path in
     let most : ℕ = c.args.nodes - (c.loop-node._node + 1) in
     let taken = subst (λ (n : ℕ). AreTaken model set budgets done n (path ∷ pending path)) (one_left c.args.nodes c.loop-node._node c.loop-node-test.true) c.loop-node.invariant.left in
     let pivots_are = ap (λ (s : OracleState). s.budgets.pivots) c.loop-node.invariant.untold in
-    let step = moved_step model set _ _ _ _ (Ok c.in_ok-point.field-0) pivots_are c.as_slice.ensures.value c.in_ok-point.ensures.step in
+    let step = moved_step model set _ _ _ (Ok c.in_ok-point.field-0) pivots_are c.in_ok-point.ensures.step in
     let further : IsFurtherNode model set budgets.pivots path node = subst (λ (s : Step). IsStep model set budgets.pivots path (Ok s)) c.in-Further.is step in
     let none : child_paths path node ++ pending path ≡ [] = c.in-Ok.ensures.next ∙ ap (λ (b : Bool). if b then next ∷ pending next else []) c.if-not-is_more.true in
     let fits = All-append IsFittingNode done (node ∷ []) c.loop-node.invariant.fits (All-cons IsFittingNode node [] further.fitting (All-nil IsFittingNode)) in
@@ -121,14 +117,14 @@ loop-node-preserved g c =
     let model = c.args.model.now in
     let set = c.args.set.now.members in
     let budgets : Budgets = record { pivots = (g.B.Oracle.state c.args.inner.now).budgets.pivots; nodes = c.args.nodes } in
-    let path = c.loop-node.path.items in
+    let path = c.loop-node.path in
     let done = c.loop-node.list.items in
     let node = c.in-Further.node in
-    let next = c.go_further.new.path.items in
+    let next = c.go_further.new.path in
     let most : ℕ = c.args.nodes - (c.loop-node._node + 1) in
     let taken = subst (λ (n : ℕ). AreTaken model set budgets done n (path ∷ pending path)) (one_left c.args.nodes c.loop-node._node c.loop-node-test.true) c.loop-node.invariant.left in
     let pivots_are = ap (λ (s : OracleState). s.budgets.pivots) c.loop-node.invariant.untold in
-    let step = moved_step model set _ _ _ _ (Ok c.in_ok-point.field-0) pivots_are c.as_slice.ensures.value c.in_ok-point.ensures.step in
+    let step = moved_step model set _ _ _ (Ok c.in_ok-point.field-0) pivots_are c.in_ok-point.ensures.step in
     let further : IsFurtherNode model set budgets.pivots path node = subst (λ (s : Step). IsStep model set budgets.pivots path (Ok s)) c.in-Further.is step in
     let some : child_paths path node ++ pending path ≡ next ∷ pending next = c.in-Ok.ensures.next ∙ ap (λ (b : Bool). if b then next ∷ pending next else []) c.if-not-is_more.false in
     record {
@@ -149,7 +145,7 @@ returns-clause-ends g c =
     let model = c.args.model.now in
     let set = c.args.set.now.members in
     let budgets : Budgets = record { pivots = (g.B.Oracle.state c.args.inner.now).budgets.pivots; nodes = c.args.nodes } in
-    let path = c.loop-node.path.items in
+    let path = c.loop-node.path in
     let done = c.loop-node.list.items in
     let past = c.loop-node-test.false in
     let none : c.args.nodes - c.loop-node._node ≡ 0 = omega (arith, past) in

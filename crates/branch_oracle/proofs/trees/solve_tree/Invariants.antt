@@ -9,9 +9,9 @@ use Rattle.branch_oracle.proofs.trees.solve_tree.Given as goal
 abbrev pub invariant-loop-node : goal.invariant-loop-node
 invariant-loop-node g l = record {
   untold : g.B.Oracle.state l.inner ≡ g.B.Oracle.state l.initial.inner;
-  turnable : All IsTurnable l.path.items;
-  known : AreKnown (length l.model.columns) l.path.items;
+  turnable : All IsTurnable l.path;
+  known : AreKnown (length l.model.columns) l.path;
   counted : l.initial.taken ≤ l.taken;
   fits : All IsFittingNode l.list.items;
-  left : AreTaken l.model l.set.members (record { pivots = (g.B.Oracle.state l.initial.inner).budgets.pivots; nodes = l.nodes }) l.list.items (l.nodes - l._node) (l.path.items ∷ pending l.path.items);
+  left : AreTaken l.model l.set.members (record { pivots = (g.B.Oracle.state l.initial.inner).budgets.pivots; nodes = l.nodes }) l.list.items (l.nodes - l._node) (l.path ∷ pending l.path);
 }

@@ -1,8 +1,11 @@
 use Rattle.std.proofs.Common.{◌≡◌, drop}
-use Rattle.rational.specs.Rational.{zero_ℚ, eq_ℚ}
-use Rattle.certs.specs.Checks.{every}
+use Rattle.lp_model.specs.Satisfaction.{values_at}
+use Rattle.certs.specs.Combination.{source_form}
+use Rattle.certs.specs.Checks.{every, is_zero_on}
 use Rattle.certs.proofs.sums.are_zero.Given as goal
 
--- the sums left decide
-abbrev pub invariant-loop-sum : goal.invariant-loop-sum
-invariant-loop-sum l = every (λ q. eq_ℚ q zero_ℚ) (drop l.sum-index l.sums) ≡ every (λ q. eq_ℚ q zero_ℚ) l.sums
+-- the shares left decide
+abbrev pub invariant-loop-share : goal.invariant-loop-share
+invariant-loop-share l =
+    every (λ s. is_zero_on (values_at l.sums) (source_form l.model s.source)) (drop l.share-index l.shares)
+    ≡ every (λ s. is_zero_on (values_at l.sums) (source_form l.model s.source)) l.shares

@@ -6,15 +6,15 @@ use Rattle.dictionary.specs.Value.{tableau_of}
 use Rattle.linear_oracle.proofs.Shares.{columns_are, of_plain}
 use Rattle.linear_oracle.proofs.ends.cut_end.Goals as goal
 
-pub named_combo-requires-clause-of_system : goal.named_combo-requires-clause-of_system
-named_combo-requires-clause-of_system c =
+pub node_combo-requires-clause-of_system : goal.node_combo-requires-clause-of_system
+node_combo-requires-clause-of_system c =
     let model = c.args.model.now in
     let set = c.args.set.now.members in
     let path = c.args.path.now in
     of_plain model set path c.in-Ok.combo.shares (c.in-Ok.ensures.combination (plain_system model set path false) c.requires.formed (columns_are model set path ∙ sym c.requires.count) c.requires.is_of)
 
-pub returns-in-Ok-named_combo : goal.returns-in-Ok-named_combo
-returns-in-Ok-named_combo c = λ pivots h.
+pub returns-in-Ok-node_combo : goal.returns-in-Ok-node_combo
+returns-in-Ok-node_combo c = λ pivots h.
     (let model = c.args.model.now in
     let set = c.args.set.now.members in
     let path = c.args.path.now in
@@ -34,5 +34,5 @@ returns-in-Ok-named_combo c = λ pivots h.
         blocked = c.requires.blocked.1;
         shares_are = refl;
       });
-      shares_are = c.in-Ok-named_combo.ensures.shares ∙ ap (program_shares model set path) (shares ∙ ap (λ n. map (named n) of) c.requires.count);
+      shares_are = c.in-Ok-node_combo.ensures.shares ∙ ap (program_shares model set path) (shares ∙ ap (λ n. map (named n) of) c.requires.count);
     })

@@ -1,4 +1,7 @@
-use Rattle.std.proofs.Common.{◌∙◌, ap, subst, Ok, Err, length}
+use Rattle.std.proofs.Common.{◌∙◌, ap, sym, subst, List, Ok, Err, false, length}
+use Rattle.certs.specs.declared.evidence.Branch.{Branch}
+use Rattle.certs.specs.Plain.{plain_system}
+use Rattle.certs.specs.Tales.{IsNodeEnd}
 use Rattle.certs.specs.Solves.{RunEnds}
 use Rattle.certs.specs.System.{LinearSystem}
 use Rattle.certs.specs.Tableau.{IsWellFormedSystem}
@@ -16,9 +19,11 @@ returns-in-Err c =
     let system = c.args.system.now in
     let start = c.in-Ok.dictionary in
     let new = c.settle.new in
-    c.stop_end.ensures c.args.model.now c.args.pivots.now c.requires.same
-    (subst (λ (s : LinearSystem). RunEnds s c.args.pivots.now (end_of (Err c.in-Err.stop))) c.requires.plain
-    (run_ends system start new.dictionary c.args.pivots.now new.pivots new.turn (end_of (Err c.in-Err.stop)) c.requires.apart c.in-Ok.ensures.1.0 (c.in-Err.ensures.run system c.in-Ok.ensures.0)))
+    let path = c.as_slice.ensures in
+    subst (λ (p : List Branch). IsNodeEnd c.args.model.now c.args.set.now.members p c.args.pivots.now (Err c.stop_end.result)) path
+    (c.stop_end.ensures c.args.model.now c.args.pivots.now c.requires.same
+    (subst (λ (s : LinearSystem). RunEnds s c.args.pivots.now (end_of (Err c.in-Err.stop))) (c.requires.plain ∙ ap (λ (p : List Branch). plain_system c.args.model.now c.args.set.now.members p false) (sym path))
+    (run_ends system start new.dictionary c.args.pivots.now new.pivots new.turn (end_of (Err c.in-Err.stop)) c.requires.apart c.in-Ok.ensures.1.0 (c.in-Err.ensures.run system c.in-Ok.ensures.0))))
 
 pub cut_end-requires-clause-formed : goal.cut_end-requires-clause-formed
 cut_end-requires-clause-formed c = subst IsWellFormedSystem c.requires.plain c.requires.formed

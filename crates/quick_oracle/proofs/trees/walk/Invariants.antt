@@ -7,7 +7,7 @@ use Rattle.quick_oracle.proofs.trees.walk.Given as goal
 -- the walk can go on; the nodes passed are taken off, and so many pivots were spent for each
 abbrev pub invariant-loop-node : goal.invariant-loop-node
 invariant-loop-node g l = record {
-  path : IsWalkPath l.model l.path.items;
+  path : IsWalkPath l.model l.path;
   fitting : All IsFittingNode l.list.items;
   taken : l.left + l._node ≡ l.initial.left;
   counted : g.S.Suggest.made l.initial.run ≤ g.S.Suggest.made l.run;

@@ -4,7 +4,7 @@ use Rattle.certs.specs.declared.evidence.Share.{Share}
 use Rattle.certs.specs.Combination.{IsCombination}
 use Rattle.certs.specs.Named.{arranged, translated, program_shares}
 use Rattle.certs.proofs.Translated.{translation}
-use Rattle.certs.proofs.naming.named_combo.Goals as goal
+use Rattle.certs.proofs.naming.node_combo.Goals as goal
 
 pub returns-clause-combination : goal.returns-clause-combination
 returns-clause-combination c objective named =

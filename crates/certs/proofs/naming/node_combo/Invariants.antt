@@ -1,6 +1,6 @@
 use Rattle.std.proofs.Common.{◌≡◌, map, take}
 use Rattle.certs.specs.Named.{translated}
-use Rattle.certs.proofs.naming.named_combo.Given as goal
+use Rattle.certs.proofs.naming.node_combo.Given as goal
 
 -- the shares passed are there as ones of the program
 abbrev pub invariant-loop-share : goal.invariant-loop-share

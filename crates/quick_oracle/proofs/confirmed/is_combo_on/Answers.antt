@@ -3,7 +3,7 @@ use Rattle.certs.specs.declared.evidence.Share.{Share}
 use Rattle.certs.specs.Order.{are_in_order}
 use Rattle.certs.proofs.PlainOrder.{in_order_by_test}
 use Rattle.quick_oracle.proofs.Confirming.{combo_confirmed}
-use Rattle.quick_oracle.proofs.confirmed.is_combo.Goals as goal
+use Rattle.quick_oracle.proofs.confirmed.is_combo_on.Goals as goal
 
 pub returns : goal.returns
 returns c = λ yes.
