@@ -3,10 +3,9 @@ ghost use Rattle.std.specs.Prelude.{◌≡◌, ◌≢◌, length};
 ghost use Rattle.certs.specs.Bound.{IsBoundDual, IsValidBound};
 ghost use Rattle.certs.specs.Checks.{IsSetOf, bound_steps, checked_of, outcome};
 
-use crate::outcomes::checked;
 use crate::sources::are_usable;
-use crate::sums::{add_shares, are_factors, clear, directed, right_side};
-use certs::{Checked, Dual, Share};
+use crate::sums::{are_factors, clear, directed, right_side};
+use certs::{Checked, Dual, Share, add_shares, checked};
 use evidence_laws::{bound_is_valid, checked_bound, refused_bound};
 use frac128::{Frac, Wide};
 use lp_model::{MemberSet, Model};

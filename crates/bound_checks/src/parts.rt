@@ -4,10 +4,9 @@ ghost use Rattle.certs.specs.Checks.{IsSetOf, checked_of, outcome};
 ghost use Rattle.certs.specs.Combination.{source_form};
 ghost use Rattle.bound_checks.specs.Parts.{factor_steps, right_steps, PartsLaw};
 
-use crate::outcomes::checked;
 use crate::sources::are_usable;
-use crate::sums::{add_shares, are_factors, clear, directed, right_side};
-use certs::{Checked, Combo, Dual, Share};
+use crate::sums::{are_factors, clear, directed, right_side};
+use certs::{Checked, Combo, Dual, Share, add_shares, checked};
 use frac128::{Frac, Wide};
 use lp_model::{MemberSet, Model};
 

@@ -10,10 +10,8 @@ ghost use Rattle.lp_model.specs.Evaluation.{member_operations, value_operations}
 ghost use Rattle.certs.specs.Bound.{IsImproving, directed as directed_of};
 ghost use Rattle.certs.specs.Checks.{checked_of, kept_test, outcome, ray_steps, ray_test};
 
-use crate::outcomes::checked;
-use crate::sources::{is_less, is_present};
 use crate::sums::directed;
-use certs::{Checked, Ray};
+use certs::{Checked, Ray, checked, is_less, is_present};
 use evidence_laws::{checked_ray, refused_ray};
 use frac128::{Frac, Wide};
 use lp_model::{Member, MemberSet, Model, Side, Term};

@@ -10,9 +10,8 @@ ghost use Rattle.certs.specs.Checks.{checked_of, outcome};
 ghost use Rattle.certs.specs.Trees.{has_mark as some_mark};
 ghost use Rattle.bound_checks.specs.Parts.{value_steps, ValueLaw};
 
-use crate::outcomes::checked;
 use crate::rays::value_of;
-use certs::{Checked, Point};
+use certs::{Checked, Point, checked};
 use frac128::{Frac, Wide};
 use lp_model::{Member, MemberSet, Model};
 

@@ -7,10 +7,9 @@ ghost use Rattle.certs.specs.Checks.{IsSetOf, checked_of, least_steps, outcome};
 ghost use Rattle.certs.specs.Violation.{IsLeastDual, rigid_members, weighted_violation};
 ghost use Rattle.least_checks.specs.Least.{ReachedLaw};
 
-use crate::outcomes::checked;
 use crate::weights::{are_weights, is_right};
 use bound_checks::are_usable;
-use certs::{Checked, Dual, Share};
+use certs::{Checked, Dual, Share, checked};
 use evidence_laws::{checked_least, least_is_bounded, refused_least};
 use frac128::{Frac, Wide};
 use lp_model::{MemberSet, Model};

@@ -2,7 +2,6 @@
 #![tactic(auto)]
 
 mod least;
-mod outcomes;
 mod parts;
 mod violations;
 mod weights;

@@ -4,10 +4,9 @@ ghost use Rattle.certs.specs.Checks.{IsSetOf, checked_of, outcome};
 ghost use Rattle.certs.specs.Combination.{source_form};
 ghost use Rattle.least_checks.specs.Parts.{PartsLaw, total_steps, weight_steps};
 
-use crate::outcomes::checked;
 use crate::weights::{are_weights, is_right};
 use bound_checks::are_usable;
-use certs::{Checked, Combo, Dual, Share};
+use certs::{Checked, Combo, Dual, Share, checked};
 use frac128::{Frac, Wide};
 use lp_model::{MemberSet, Model};
 

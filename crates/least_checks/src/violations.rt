@@ -1,6 +1,6 @@
 //! Weighted violations at points.
 ghost use Rattle.std.specs.Prelude.{◌≡◌, ◌<◌, ◌++◌, All, IfOk, MatchResult, Some, None, length};
-ghost use Rattle.rational.specs.Rational.{◌-ℚ◌, lt_q, zero_ℚ};
+ghost use Rattle.rational.specs.Rational.{◌-ℚ◌, zero_ℚ};
 ghost use Rattle.rational.specs.Linear.{form_value};
 ghost use Rattle.lp_model.specs.Evaluation.{side_operations};
 ghost use Rattle.frac128.specs.Limit.{limit};
@@ -11,10 +11,9 @@ ghost use Rattle.certs.specs.Checks.{IsSetOf, checked_of, missed_operations, out
 ghost use Rattle.certs.specs.Violation.{larger, missed_by as distance, rigid_members, violation, weighted_violation as violation_of};
 ghost use Rattle.least_checks.specs.Parts.{ViolationLaw, excess_operations, missing_operations, violation_steps};
 
-use crate::outcomes::checked;
 use crate::weights::weight_of;
 use bound_checks::value_of;
-use certs::{Checked, Point};
+use certs::{Checked, Point, checked, is_less};
 use frac128::{Frac, Wide};
 use lp_model::{Member, MemberSet, Model, Side, Term, Weight};
 use std::alloc::{AllocError, Global};
@@ -148,13 +147,6 @@ fn excess(number: Frac, other: Frac) -> Result<Frac, Wide>
         return number.minus(other);
     }
     Ok(Frac::whole(0))
-}
-
-// Whether a number is below another.
-fn is_less(a: Frac, b: Frac) -> bool
-    ensures { result ≡ lt_q a b }
-{
-    a < b
 }
 
 /// A yes to a violation is the violation.

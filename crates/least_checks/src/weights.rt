@@ -11,8 +11,8 @@ ghost use Rattle.certs.specs.Violation.{is_of, weight_on as weight_given};
 ghost use Rattle.least_checks.specs.Parts.{weight_steps};
 ghost use Rattle.std.specs.Prelude.{◌<◌, All};
 
-use bound_checks::{add_shares, are_zero, clear, right_side};
-use certs::{Share, Source};
+use bound_checks::{are_zero, clear, right_side};
+use certs::{Share, Source, add_shares};
 use frac128::{Frac, Wide};
 use lp_model::{Member, MemberSet, Model, Weight};
 

@@ -1,7 +1,7 @@
 //! Sides, limits, and which of two limits is the tighter one.
 ghost use Rattle.std.specs.Prelude.{◌≡◌, ◌≢◌, ◌+◌, ◌<◌, MatchResult, None, Some, length};
 ghost use Rattle.std.specs.Option.{option_map};
-ghost use Rattle.rational.specs.Rational.{◌/ℚ◌, lt_q, zero_ℚ};
+ghost use Rattle.rational.specs.Rational.{◌/ℚ◌, zero_ℚ};
 ghost use Rattle.frac128.specs.Limit.{limit};
 ghost use Rattle.frac128.specs.Calculation.{first_wide};
 ghost use Rattle.certs.specs.Plain.{are_crossed, is_lowered as allows_less, is_raised as asks_more};
@@ -11,7 +11,7 @@ ghost use Rattle.reductions.specs.Limited.{is_tighter as is_tighter_one, opposit
 ghost use Rattle.reductions.specs.Rules.{single_limit, single_work};
 ghost use Rattle.reductions.specs.Stage.{limits_in, row_in};
 
-use certs::{Limits, System};
+use certs::{Limits, System, is_less};
 use frac128::{Frac, Wide};
 use lp_model::{Side, Term};
 
@@ -33,13 +33,6 @@ pub(crate) fn turned(factor: Frac, side: Side) -> Side
         return side;
     }
     opposite(side)
-}
-
-/// Whether a number is below another.
-pub(crate) fn is_less(a: Frac, b: Frac) -> bool
-    ensures { result ≡ lt_q a b }
-{
-    a < b
 }
 
 /// The limit on a side.

@@ -10,11 +10,11 @@ ghost use Rattle.reductions.specs.Rules.Found.{Goes};
 ghost use Rattle.presolve.specs.Next.{IsNext};
 ghost use Rattle.presolve.specs.Forced.{forced_columns};
 
-use crate::limits::{is_less, limit_on, opposite, row_sides, row_terms, turned};
+use crate::limits::{limit_on, opposite, row_sides, row_terms, turned};
 use crate::plans::{NewLimits, Next, Plan};
 use crate::row_rules::{emptied, removal, row_share};
 use crate::sums::{extreme, taken_value};
-use certs::{Limits, Share, Shares, System};
+use certs::{Limits, Share, Shares, System, is_less};
 use frac128::Frac;
 use lp_model::{Side, Term, Terms};
 use reductions::{Forcing, Step};

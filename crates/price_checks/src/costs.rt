@@ -7,10 +7,9 @@ ghost use Rattle.certs.specs.Checks.{checked_of, outcome};
 ghost use Rattle.price_checks.specs.Costs.{CostLaw, CostNoLaw, HasCost, PricedLaw, cost_operations, cost_steps};
 
 use crate::members::source_cost;
-use crate::outcomes::checked;
 use crate::sums::added;
 use bound_checks::right_side;
-use certs::{Checked, Combo, Share};
+use certs::{Checked, Combo, Share, checked};
 use evidence_laws::price_is_least;
 use frac128::{Frac, Wide};
 use lp_model::Model;

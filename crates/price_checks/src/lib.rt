@@ -3,7 +3,6 @@
 
 mod costs;
 mod members;
-mod outcomes;
 mod prices;
 mod sums;
 

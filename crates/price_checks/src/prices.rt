@@ -9,9 +9,8 @@ ghost use Rattle.certs.specs.Alternative.{IsPrice, IsWeighting, cost};
 ghost use Rattle.certs.specs.Checks.{IsSetOf, checked_of, outcome, price_steps, priced_steps};
 
 use crate::members::{member_cost, number_of, value_on_side};
-use crate::outcomes::checked;
 use crate::sums::signed;
-use certs::{Checked, Point};
+use certs::{Checked, Point, checked};
 use evidence_laws::{checked_price, price_is_least, refused_price};
 use frac128::{Frac, Wide};
 use lp_model::{Member, MemberSet, Model};

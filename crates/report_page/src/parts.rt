@@ -1,10 +1,11 @@
 //! The parts of a model by their numbers. What is not there has no name, no terms and no number.
 ghost use Rattle.std.specs.Prelude.{◌≡◌};
-ghost use Rattle.lp_model.specs.Program.{row_at, column_at};
+ghost use Rattle.lp_model.specs.Program.{row_at};
 ghost use Rattle.lp_model.specs.Members.{number};
 ghost use Rattle.certs.specs.Combination.{number_or_zero};
 ghost use Rattle.report_text.specs.Grammar.{column_name as column_named, name_of};
 
+use certs::member_number;
 use frac128::Frac;
 use lp_model::{Member, Model, Term};
 
@@ -48,59 +49,6 @@ pub(crate) fn member_name(model: &Model, member: Member) -> &[u8]
         Member::Lower(index) => column_name(model, index),
         Member::Upper(index) => column_name(model, index),
         Member::Whole(index) => column_name(model, index),
-    }
-}
-
-// The lower side of a row.
-fn row_lower(model: &Model, row: u32) -> Option<Frac>
-    ensures { result ≡ (row_at model.now row).lower }
-{
-    if row < model.row_count() {
-        return model.row(row).lo;
-    }
-    None
-}
-
-// The upper side of a row.
-fn row_upper(model: &Model, row: u32) -> Option<Frac>
-    ensures { result ≡ (row_at model.now row).upper }
-{
-    if row < model.row_count() {
-        return model.row(row).up;
-    }
-    None
-}
-
-// The lower bound of a column.
-fn column_lower(model: &Model, column: u32) -> Option<Frac>
-    ensures { result ≡ (column_at model.now column).lower }
-{
-    if column < model.column_count() {
-        return model.column(column).lo;
-    }
-    None
-}
-
-// The upper bound of a column.
-fn column_upper(model: &Model, column: u32) -> Option<Frac>
-    ensures { result ≡ (column_at model.now column).upper }
-{
-    if column < model.column_count() {
-        return model.column(column).up;
-    }
-    None
-}
-
-// The number that a member asks for, where it is there; a mark asks for none.
-fn member_number(model: &Model, member: Member) -> Option<Frac>
-    ensures { result ≡ number model.now member }
-{
-    match member {
-        Member::RowLo(index) => row_lower(model, index),
-        Member::RowUp(index) => row_upper(model, index),
-        Member::Lower(index) => column_lower(model, index),
-        Member::Upper(index) => column_upper(model, index),
-        Member::Whole(_) => None,
     }
 }
 

@@ -1,19 +1,12 @@
 //! Sides, and what numbers are on them.
 ghost use Rattle.std.specs.Prelude.{◌≡◌};
-ghost use Rattle.rational.specs.Rational.{lt_q};
 ghost use Rattle.certs.specs.Improves as improves;
 ghost use Rattle.reductions.specs.Back as back;
 ghost use Rattle.reductions.specs.Limited as limited;
 
+use certs::is_less;
 use frac128::Frac;
 use lp_model::Side;
-
-/// Whether a number is below another.
-pub(crate) fn is_less(a: Frac, b: Frac) -> bool
-    ensures { result ≡ lt_q a b }
-{
-    a.cmp(&b).is_lt()
-}
 
 /// The magnitude of a number.
 pub fn magnitude(a: Frac) -> Frac

@@ -1,6 +1,0 @@
-use Rattle.std.proofs.Common.{sym, ◌∙◌}
-use Rattle.rational.proofs.Compare.{lt_q-is}
-use Rattle.bound_checks.proofs.sources.is_less.Goals as goal
-
-pub returns : goal.returns
-returns c = c.lt.ensures ∙ sym (lt_q-is c.args.a c.args.b)
