@@ -1,20 +1,18 @@
 -- What rounds of enforcing give, as an answer.
-use Rattle.std.proofs.Common.{◌≡◌, ◌⊎◌, ◌<◌, refl, sym, ◌∙◌, ap, subst, ℕ, Bool, ◌||◌, List, [], ◌∷◌, filter, length, Some, Result, Ok, Err, inl, inr}
-use Rattle.std.specs.Prelude.{All, Contains, IfErr, IfOk}
-use Rattle.std.proofs.lemmas.List.Elements.{All-contains_itself, All-filter, All-nil}
+use Rattle.std.proofs.Common.{◌≡◌, ◌⊎◌, refl, sym, ◌∙◌, ap, subst, ℕ, Bool, ◌||◌, List, [], ◌∷◌, filter, Some, Result, Ok, Err, inl, inr}
+use Rattle.std.specs.Prelude.{Contains, IfErr, IfOk}
+use Rattle.std.proofs.lemmas.List.Elements.{All-contains_itself, All-filter}
 use Rattle.lp_model.specs.declared.members.Member.{Member}
 use Rattle.lp_model.specs.Program.{Program}
 use Rattle.lp_model.specs.Members.{active_members, has}
 use Rattle.lp_model.specs.MemberSets.{SetValue}
 use Rattle.lp_model.specs.Satisfaction.{IsPart, coordinate}
-use Rattle.certs.specs.declared.evidence.Branch.{Branch}
 use Rattle.certs.specs.declared.evidence.Combo.{Combo}
 use Rattle.certs.specs.declared.solving.Irreducible.{Irreducible}
 use Rattle.certs.specs.declared.solving.Site.{Site}
 use Rattle.certs.specs.declared.solving.SiteKind.TheVariants.{Stretch}
 use Rattle.certs.specs.declared.solving.Stop.{Stop}
 use Rattle.certs.specs.declared.solving.Stop.TheVariants.{Wide, Pivots as Spent, Nodes, Large, Memory}
-use Rattle.certs.specs.Combination.{IsFitting}
 use Rattle.certs.specs.Filter.{Enforces, first, further, IsLateTest, Late}
 use Rattle.certs.specs.Sites.{Budgets, IsFirstStopped}
 use Rattle.certs.specs.Trees.{TreeEnd}
@@ -29,13 +27,12 @@ use Rattle.presolve_oracle.specs.Value.{PresolveValue}
 use Rattle.branch_oracle.specs.Value.{BranchValue}
 use Rattle.quick_oracle.specs.Value.{state_with}
 use Rattle.report_text.specs.declared.report.Answer.{Answer}
-use Rattle.report_text.specs.Form.{IsRunSite}
 use Rattle.analysis.specs.Answers.{IsAnswerOf, IsPossibleSite, IsToldStop, fresh_oracle, oracle_state}
-use Rattle.analysis.specs.Right.{IsEnforcedTold, IsIsolated, IsLateOfRounds, IsRoundStop, IsRoundsTest, IsStoppedBy}
+use Rattle.analysis.specs.Right.{IsEnforcedTold, IsIsolated, IsLateOfRounds, IsPrintedSite, IsRoundStop, IsRoundsTest, IsStoppedBy}
 use Rattle.analysis.proofs.Asked.{QuickAnswers}
 use Rattle.analysis.proofs.Found.{late_is_part, late_test_is_part, within}
 use Rattle.analysis.proofs.Searched.{filter_answer}
-use Rattle.analysis.proofs.Stopping.{active_site}
+use Rattle.analysis.proofs.Stopping.{whole_printed}
 
 -- ---- parts of a set
 -- what passes a test stands in the set's order
@@ -90,15 +87,10 @@ module _ (model : Program) (budgets : Budgets) where
   abbrev set : List Member
   set = active_members model
 
-  round_site : (count : ℕ) (enforced : List Member) (site : Site) → Enforces model set count enforced → IsStretchSite model set enforced site → IsPossibleSite site → IsRunSite model site
-  round_site count enforced site chain h possible = record {
-    of_model = h.set_of;
-    active = active_site model site.set h.set_of possible (subst (λ l. IsPart l set) (sym h.set_is) (All-contains_itself set));
-    enforced_of = h.enforced_of;
-    enforced_part = part_by (has enforced) site.enforced.members site.set.members (h.enforced_is ∙ chain_part model set count enforced chain ∙ ap (filter (has enforced)) (sym h.set_is));
-    known = subst (All (λ b. b.column < length model.columns)) (sym h.path_is) (All-nil (λ (b : Branch). b.column < length model.columns));
-    fits = subst (All IsFitting) (sym h.path_is) (All-nil IsFitting);
-  }
+  round_site : (count : ℕ) (enforced : List Member) (site : Site) → Enforces model set count enforced → IsStretchSite model set enforced site → IsPossibleSite site → IsPrintedSite model site
+  round_site count enforced site chain h possible =
+      whole_printed model site h.set_of h.set_is possible h.enforced_of
+      (part_by (has enforced) site.enforced.members site.set.members (h.enforced_is ∙ chain_part model set count enforced chain ∙ ap (filter (has enforced)) (sym h.set_is))) h.path_is
 
   abbrev IsAnsweredHere : Stop → Type 0
   IsAnsweredHere stop = IsAnsweredRound IsRound model (record { pivots = budgets.pivots; nodes = 0 }) set stop

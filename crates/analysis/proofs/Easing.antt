@@ -1,5 +1,5 @@
 -- What a relaxation gives, as an answer.
-use Rattle.std.proofs.Common.{◌≡◌, ◌<◌, refl, sym, ◌∙◌, ap, subst, Bool, true, false, true≢false, ◌||◌, List, [], ◌∷◌, filter, length, Result, Ok, Err}
+use Rattle.std.proofs.Common.{◌≡◌, refl, sym, ◌∙◌, ap, subst, Bool, true, false, true≢false, ◌||◌, List, [], ◌∷◌, filter, Result, Ok, Err}
 use Rattle.std.specs.Prelude.{All, Contains, IfOk}
 use Rattle.std.specs.List.{list_any}
 use Rattle.std.proofs.lemmas.List.Elements.{All-cons, All-contains, All-contains_itself, All-filter, All-head, All-nil, All-tail, All-weaker, filter_passes}
@@ -9,7 +9,6 @@ use Rattle.lp_model.specs.Members.{active_members, weight}
 use Rattle.lp_model.specs.MemberSets.{SetValue, active_set}
 use Rattle.lp_model.specs.Satisfaction.{IsPart}
 use Rattle.lp_model.proofs.Sets.{same_members}
-use Rattle.certs.specs.declared.evidence.Branch.{Branch}
 use Rattle.certs.specs.declared.evidence.Combo.{Combo}
 use Rattle.certs.specs.declared.evidence.Node.TheVariants.{Leaf}
 use Rattle.certs.specs.declared.evidence.Point.{Point}
@@ -20,7 +19,7 @@ use Rattle.certs.specs.declared.evidence.Source.TheVariants.{Member as Of, Below
 use Rattle.certs.specs.declared.solving.Site.{Site}
 use Rattle.certs.specs.declared.solving.Stop.{Stop}
 use Rattle.certs.specs.declared.solving.Stop.TheVariants.{Wide, Pivots as Spent, Nodes, Large, Memory}
-use Rattle.certs.specs.Combination.{IsCombination, IsFitting, IsFrom, IsThere}
+use Rattle.certs.specs.Combination.{IsCombination, IsFrom, IsThere}
 use Rattle.certs.specs.Named.{node_uses, used_set}
 use Rattle.certs.specs.Order.{AreLeavesInOrder, IsNodeInOrder}
 use Rattle.certs.specs.Proof.{IsFittingNode, IsProof, Tip}
@@ -32,14 +31,15 @@ use Rattle.least_checks.specs.Least.{IsLeastBy}
 use Rattle.relaxation.specs.Relaxed.{IsRelaxSite, IsRelaxStop}
 use Rattle.report_text.specs.declared.report.Answer.{Answer}
 use Rattle.report_text.specs.declared.report.Answer.TheVariants.{RigidInfeasible}
-use Rattle.report_text.specs.Form.{IsRunSite, is_one_leaf}
+use Rattle.report_text.specs.Form.{is_one_leaf}
 use Rattle.report_printer.specs.Printing.{IsKnownLeast}
 use Rattle.analysis.specs.Answers.{IsPossibleSite, IsToldStop}
 use Rattle.analysis.specs.Least.{IsLeastTold}
+use Rattle.analysis.specs.Stops.{IsPrintedSite}
 use Rattle.analysis.proofs.Chained.{part_by}
 use Rattle.analysis.proofs.Objectives.{least_sources}
 use Rattle.analysis.proofs.Refuting.{refutes}
-use Rattle.analysis.proofs.Stopping.{active_site}
+use Rattle.analysis.proofs.Stopping.{whole_printed}
 
 -- ---- a combination of rigid members
 from_within : (part whole : List Member) (source : Source) → IsPart part whole → IsFrom part source → IsFrom whole source
@@ -114,15 +114,10 @@ module _ (model : Program) (budgets : Budgets) where
   abbrev set : List Member
   set = active_members model
 
-  relax_run_site : (site : Site) → IsRelaxSite model set site → IsPossibleSite site → IsRunSite model site
-  relax_run_site site h possible = record {
-    of_model = h.set_of;
-    active = active_site model site.set h.set_of possible (subst (λ l. IsPart l set) (sym h.set_is) (All-contains_itself set));
-    enforced_of = h.enforced_of;
-    enforced_part = part_by (λ m. is_rigid (weight model m)) site.enforced.members site.set.members (h.enforced_is ∙ ap (rigid_members model) (sym h.set_is));
-    known = subst (All (λ b. b.column < length model.columns)) (sym h.path_is) (All-nil (λ (b : Branch). b.column < length model.columns));
-    fits = subst (All IsFitting) (sym h.path_is) (All-nil IsFitting);
-  }
+  relax_run_site : (site : Site) → IsRelaxSite model set site → IsPossibleSite site → IsPrintedSite model site
+  relax_run_site site h possible =
+      whole_printed model site h.set_of h.set_is possible h.enforced_of
+      (part_by (λ m. is_rigid (weight model m)) site.enforced.members site.set.members (h.enforced_is ∙ ap (rigid_members model) (sym h.set_is))) h.path_is
 
   stop_eased : (stop : Stop) (answer : Answer) → IsRelaxStop model set budgets.pivots stop → IsToldStop stop answer → IsLeastTold model budgets answer
   stop_eased (Wide site k o) answer h told = subst (IsLeastTold model budgets) (sym told.0) (relax_run_site site h.0 told.1, h)

@@ -55,7 +55,7 @@ use Rattle.report_text.specs.Turns.{after, edits_after, AllEntries, entry_comman
 use Rattle.report_text.proofs.Standing.{after_well_formed}
 use Rattle.report_text.proofs.Unchanged.{same_names, rows_same, columns_same, row_name_same, column_name_same}
 use Rattle.report_text.specs.Grammar.{column_name}
-use Rattle.report_text.specs.Form.{IsPricedFor, has_price, is_one_leaf, is_word, AreUses, IsBoundedFor, IsRayFor, IsWithinLimit, IsNamedColumn, IsNamedMember, IsNamedRow, IsListed, IsPointFor, IsNamedSource, IsNodeFor, IsProofFor, IsRunSite, IsSiteFor, IsStopFor, IsStepFor, IsCoreFor, IsAnswerFor, IsCommand, IsEntryFor, IsReportFor, AreEntriesFor, AreNumbered, IsLeastFor, can_answer, has_rounds}
+use Rattle.report_text.specs.Form.{IsPricedFor, has_price, is_one_leaf, is_word, AreUses, IsBoundedFor, IsRayFor, IsWithinLimit, IsNamedColumn, IsNamedMember, IsNamedRow, IsListed, IsPointFor, IsNamedSource, IsNodeFor, IsProofFor, IsSiteFor, IsStopFor, IsStepFor, IsCoreFor, IsAnswerFor, IsCommand, IsEntryFor, IsReportFor, AreEntriesFor, AreNumbered, IsLeastFor, can_answer, has_rounds}
 use Rattle.report_printer.specs.EvidenceNumbers.{IsStepWithin}
 use Rattle.reductions.specs.declared.steps.ReduceStep.{ReduceStep}
 use Rattle.reductions.specs.declared.steps.ReduceStep.TheVariants.{Empty, Singleton, Fixed, Redundant, Forcing, Doubleton}
@@ -68,7 +68,7 @@ use Rattle.unbounded.specs.Diagnosed.{IsBoundedBy, IsOwnStop, IsUnboundedBy}
 use Rattle.analysis.specs.Objectives.{IsDiagnosed, IsTold, diagnosis_size, most_entries}
 use Rattle.analysis.specs.Least.{IsLeastTold}
 use Rattle.analysis.specs.Linear.{IsLinearly, IsLinearlyBy, alternative_size, elastic_size, first_mark}
-use Rattle.analysis.specs.Right.{AreRight, IsAtRun, IsChecked, IsChainStop, IsCheapestCore, IsEnforcedTold, IsIsolated, IsLateOfRounds, IsReduction, IsRefutation, IsRightAfter, IsRightCore, IsRoundsTest, IsSettleStop, IsStoppedBy, IsWhole, IsSupportTest, IsWeighedTold, Right, RightAfter, budgets_in_force}
+use Rattle.analysis.specs.Right.{AreRight, IsAtRun, IsChecked, IsChainStop, IsCheapestCore, IsEnforcedTold, IsIsolated, IsLateOfRounds, IsPrintedSite, IsReduction, IsRefutation, IsRightAfter, IsRightCore, IsRoundsTest, IsSettleStop, IsStoppedBy, IsWhole, IsSupportTest, IsWeighedTold, Right, RightAfter, budgets_in_force}
 use Rattle.analysis.specs.Pieces.{Answers}
 use Rattle.analysis.proofs.Leaving.{known_steps}
 use Rattle.analysis.specs.Written.{report_of}
@@ -181,15 +181,15 @@ module _ (model : Program) (words : HasWords model) where
   }
 
   -- ---- stops
-  site_form : (site : Site) → IsRunSite model site → IsSiteFor model site
+  site_form : (site : Site) → IsPrintedSite model site → IsSiteFor model site
   site_form site h = record {
-    run = h;
+    run = h.run;
     named = All-filter (λ (m : Member). not (has site.set.members m)) (IsNamedMember model) (active_members model) active_named;
     enforced =
         subst (All (IsNamedMember model)) (sym h.enforced_part)
         (All-filter (has site.enforced.members) (IsNamedMember model) site.set.members
-        (subst (All (IsNamedMember model)) (sym h.active) (All-filter (has site.set.members) (IsNamedMember model) (active_members model) active_named)));
-    path = All-weaker (λ (b : Branch). b.column < length model.columns) (λ (b : Branch). IsNamedColumn model b.column) (λ b l. named_column b.column l) site.path h.known;
+        (subst (All (IsNamedMember model)) (sym h.run.active) (All-filter (has site.set.members) (IsNamedMember model) (active_members model) active_named)));
+    path = All-weaker (λ (b : Branch). b.column < length model.columns) (λ (b : Branch). IsNamedColumn model b.column) (λ b l. named_column b.column l) site.path h.run.known;
   }
 
   stop_form : (IsSo : Site → Stop → Type 0) (stop : Stop) → IsAtRun model IsSo stop → IsStopWithin stop → IsStopFor model stop

@@ -25,12 +25,11 @@ use Rattle.report_text.specs.declared.report.Answer.TheVariants.{Feasible, Infea
 use Rattle.alt_polyhedron.specs.Pricing.{IsPricingStop}
 use Rattle.relaxation.specs.Relaxed.{IsRelaxStop}
 use Rattle.unbounded.specs.Diagnosed.{IsOwnStop}
-use Rattle.report_text.specs.Form.{IsRunSite}
 use Rattle.report_printer.specs.Printing.{IsKnownAnswer, IsKnownCore, IsKnownPrice, IsKnownProof, IsKnownSite, IsKnownStep, IsKnownStop}
 use Rattle.analysis.specs.Least.{IsLeastTold, IsRelaxation}
 use Rattle.analysis.specs.Linear.{IsLinearly, IsLinearlyBy, alternative_size, elastic_size, first_mark}
 use Rattle.analysis.specs.Objectives.{IsDiagnosed, IsTold, diagnosis_size, most_entries}
-use Rattle.analysis.specs.Right.{IsAtRun, IsChainStop, IsChecked, IsEnforcedTold, IsFound, IsIsolated, IsReduction, IsRefutation, IsRightCore, IsSettleStop, IsStoppedBy, IsWeighedTold, IsWhole}
+use Rattle.analysis.specs.Right.{IsAtRun, IsChainStop, IsChecked, IsEnforcedTold, IsFound, IsIsolated, IsPrintedSite, IsReduction, IsRefutation, IsRightCore, IsSettleStop, IsStoppedBy, IsWeighedTold, IsWhole}
 use Rattle.analysis.proofs.Easing.{least_known}
 use Rattle.analysis.proofs.Found.{part_possible}
 use Rattle.analysis.proofs.Leaving.{known_steps}
@@ -61,8 +60,8 @@ module _ (model : Program) where
     price = known_price core.price h.price;
   }
 
-  known_site : (site : Site) → IsRunSite model site → IsKnownSite model site
-  known_site site h = record { set = h.of_model; enforced = h.enforced_of; path = h.known }
+  known_site : (site : Site) → IsPrintedSite model site → IsKnownSite model site
+  known_site site h = record { set = h.run.of_model; enforced = h.run.enforced_of; path = h.run.known }
 
   known_stop : (IsSo : Site → Stop → Type 0) (stop : Stop) → IsAtRun model IsSo stop → IsKnownStop model stop
   known_stop IsSo (Wide site k o) h = known_site site h.0

@@ -20,7 +20,7 @@ use Rattle.certs.specs.declared.solving.Stop.TheVariants.{Wide, Pivots as Spent,
 use Rattle.certs.specs.declared.solving.Verdict.{Verdict}
 use Rattle.certs.specs.declared.solving.Verdict.TheVariants.{Feasible as AtPoint, Infeasible as Refuted}
 use Rattle.certs.specs.Bound.{IsBoundDual, without_marks}
-use Rattle.certs.specs.Combination.{IsFitting, IsThere}
+use Rattle.certs.specs.Combination.{IsThere}
 use Rattle.certs.specs.Sites.{Budgets}
 use Rattle.certs.specs.Tales.{OracleState}
 use Rattle.certs.specs.Violation.{IsLeastDual}
@@ -28,18 +28,17 @@ use Rattle.unbounded.specs.declared.diagnosing.Diagnosis.{Diagnosis}
 use Rattle.unbounded.specs.declared.diagnosing.Diagnosis.TheVariants.{Infeasible as NoPoint, Unbounded as AlongRay, Bounded as ByDual}
 use Rattle.unbounded.specs.Diagnosed.{AsksOnce, IsDiagnosis, IsImproveSite, IsOwnStop, PassesOn}
 use Rattle.report_text.specs.declared.report.Answer.{Answer}
-use Rattle.report_text.specs.Form.{IsRunSite}
 use Rattle.report_printer.specs.Printing.{IsKnownSource}
 use Rattle.branch_oracle.specs.Value.{BranchValue}
 use Rattle.presolve_oracle.specs.Value.{PresolveValue}
 use Rattle.quick_optimum.specs.Best.{IsBestOf}
 use Rattle.analysis.specs.Answers.{IsPossibleSite, IsRefutedBy, IsToldStop, fresh_oracle, oracle_state}
 use Rattle.analysis.specs.Objectives.{IsFoundBy, IsTold}
-use Rattle.analysis.specs.Right.{IsWhole}
+use Rattle.analysis.specs.Right.{IsPrintedSite, IsWhole}
 use Rattle.analysis.proofs.Asked.{QuickAnswers, proof_fits, proof_ordered, stop_reference}
 use Rattle.analysis.proofs.Found.{part_possible}
 use Rattle.analysis.proofs.Refuting.{known_source}
-use Rattle.analysis.proofs.Stopping.{IsRunOf, active_site, none_part, run_answer}
+use Rattle.analysis.proofs.Stopping.{IsRunOf, none_part, run_answer, whole_printed}
 
 -- ---- the sources of a dual
 plain_part : (model : Program) → IsPart (without_marks (active_members model)) (active_members model)
@@ -65,15 +64,8 @@ module _ (model : Program) (budgets : Budgets) where
   set = active_members model
 
   -- the site of the improve run
-  improve_run_site : (site : Site) → IsImproveSite model set site → IsPossibleSite site → IsRunSite model site
-  improve_run_site site h possible = record {
-    of_model = h.set_of;
-    active = active_site model site.set h.set_of possible (subst (λ l. IsPart l set) (sym h.set_is) (All-contains_itself set));
-    enforced_of = h.enforced_of;
-    enforced_part = none_part site h.none_enforced;
-    known = subst (All (λ b. b.column < length model.columns)) (sym h.path_is) (All-nil (λ (b : Branch). b.column < length model.columns));
-    fits = subst (All IsFitting) (sym h.path_is) (All-nil IsFitting);
-  }
+  improve_run_site : (site : Site) → IsImproveSite model set site → IsPossibleSite site → IsPrintedSite model site
+  improve_run_site site h possible = whole_printed model site h.set_of h.set_is possible h.enforced_of (none_part site h.none_enforced) h.path_is
 
   -- its own stop
   own_told : (stop : Stop) (answer : Answer) → IsOwnStop model set budgets.pivots stop → IsToldStop stop answer → IsTold model budgets answer

@@ -1,13 +1,15 @@
 -- Stops of oracles as answers.
 use Rattle.std.proofs.Common.{◌≡◌, ◌<◌, refl, sym, ◌∙◌, ap, subst, ℕ, Bool, true, false, true≢false, ◌&&◌, List, [], ◌∷◌, filter, length, Result, Ok, Err, inl, inr}
-use Rattle.std.specs.Prelude.{All, Contains, IfOk}
-use Rattle.std.proofs.lemmas.List.Elements.{All-contains, All-nil, filter_passes}
+use Rattle.std.specs.Prelude.{All, Contains, IfOk, IsTrue}
+use Rattle.std.proofs.lemmas.Bool.{and_parts}
+use Rattle.std.proofs.lemmas.List.Elements.{All-contains, All-contains_itself, All-filter, All-nil, All-weaker, filter_passes}
+use Rattle.std.proofs.lemmas.List.Kept.{AllPairs-filter}
 use Rattle.lp_model.specs.declared.members.Member.{Member}
 use Rattle.lp_model.specs.Program.{Program}
-use Rattle.lp_model.specs.Members.{active_members, has, is_active, possible_members}
+use Rattle.lp_model.specs.Members.{active_members, comes_before, exists, flag, has, is_active, possible_members, IsInOrder}
 use Rattle.lp_model.specs.MemberSets.{SetValue, members_for, possible_in}
 use Rattle.lp_model.specs.Satisfaction.{IsPart}
-use Rattle.lp_model.proofs.Sets.{contains_of_has}
+use Rattle.lp_model.proofs.Sets.{contains_of_has, members_law}
 use Rattle.certs.specs.declared.evidence.Branch.{Branch}
 use Rattle.certs.specs.declared.solving.Site.{Site}
 use Rattle.certs.specs.declared.solving.Stop.{Stop}
@@ -26,9 +28,8 @@ use Rattle.presolve_laws.specs.Answers.{IsPresolvedReference, IsPresolvedVerdict
 use Rattle.presolve_laws.specs.Eased.{IsEased}
 use Rattle.report_text.specs.declared.report.Answer.{Answer}
 use Rattle.report_text.specs.declared.report.Core.{Core}
-use Rattle.report_text.specs.Form.{IsRunSite}
 use Rattle.analysis.specs.Answers.{IsPossibleSite, IsStopAnswer, IsToldStop}
-use Rattle.analysis.specs.Right.{IsChecked, IsIsolated, IsRightStop, IsSiteOf, IsWhole}
+use Rattle.analysis.specs.Right.{IsChecked, IsIsolated, IsPrintedSite, IsRightStop, IsSiteOf, IsWhole}
 
 -- ---- the site of a set of active members
 and_false : (a : Bool) → (a && false) ≡ false
@@ -36,7 +37,7 @@ and_false true = refl
 and_false false = refl
 
 -- its members are those of the active members that it has
-pub active_site : (model : Program) (set : SetValue) → IsSetOf model set → set.members ≡ filter (has set.members) (possible_in set) → IsPart set.members (active_members model)
+active_site : (model : Program) (set : SetValue) → IsSetOf model set → set.members ≡ filter (has set.members) (possible_in set) → IsPart set.members (active_members model)
     → set.members ≡ filter (has set.members) (active_members model)
 active_site model set of possible part =
     possible
@@ -54,6 +55,41 @@ active_site model set of possible part =
     by m true e = sym (ap (λ a. a && has set.members m) (active m e))
     by m false e = e ∙ sym (ap (λ b. is_active model m && b) e ∙ and_false (is_active model m))
 
+-- where its members are active and some of them are enforced, the site is as it is printed
+printed_site : (model : Program) (site : Site) → IsSetOf model site.set → IsPossibleSite site → IsPart site.set.members (active_members model) → IsSetOf model site.enforced
+    → site.enforced.members ≡ filter (has site.enforced.members) site.set.members → All (λ b. b.column < length model.columns) site.path → All IsFitting site.path → IsPrintedSite model site
+printed_site model site of possible part enforced_of enforced_part known fits =
+    let active = active_site model site.set of possible part in record {
+      run = record {
+        of_model = of;
+        active = active;
+        enforced_of = enforced_of;
+        enforced_in_order = subst IsInOrder (sym enforced_part) (ordered site.enforced.members site.set.members (subst IsInOrder (sym active) (ordered site.set.members (active_members model) (members_law model).0)));
+        enforced_there =
+            subst (All (λ m. IsTrue (exists model m))) (sym enforced_part)
+            (All-filter (has site.enforced.members) (λ m. IsTrue (exists model m)) site.set.members
+            (subst (All (λ m. IsTrue (exists model m))) (sym active) (All-filter (has site.set.members) (λ m. IsTrue (exists model m)) (active_members model) there)));
+        known = known;
+        fits = fits;
+      };
+      enforced_part = enforced_part;
+    }
+  where
+    ordered : (part set : List Member) → IsInOrder set → IsInOrder (filter (has part) set)
+    ordered part set order = AllPairs-filter (λ m n. IsTrue (comes_before m n)) (has part) set order
+
+    there : All (λ m. IsTrue (exists model m)) (active_members model)
+    there =
+        All-weaker (Contains (active_members model)) (λ m. IsTrue (exists model m)) (λ m c. (and_parts (exists model m) (flag model m) (((members_law model).1 m).0 c)).0) (active_members model)
+        (All-contains_itself (active_members model))
+
+-- that of all active members, on no path
+pub whole_printed : (model : Program) (site : Site) → IsSetOf model site.set → site.set.members ≡ active_members model → IsPossibleSite site → IsSetOf model site.enforced
+    → site.enforced.members ≡ filter (has site.enforced.members) site.set.members → site.path ≡ [] → IsPrintedSite model site
+whole_printed model site of whole possible enforced_of enforced_part none =
+    printed_site model site of possible (subst (λ l. IsPart l (active_members model)) (sym whole) (All-contains_itself (active_members model))) enforced_of enforced_part
+    (subst (All (λ b. b.column < length model.columns)) (sym none) (All-nil (λ (b : Branch). b.column < length model.columns))) (subst (All IsFitting) (sym none) (All-nil IsFitting))
+
 -- where nothing is enforced, that is a part of the set
 pub none_part : (site : Site) → site.enforced.members ≡ [] → site.enforced.members ≡ filter (has site.enforced.members) site.set.members
 none_part site none = none ∙ sym (ap (λ l. filter (has l) site.set.members) none ∙ nothing site.set.members)
@@ -68,16 +104,9 @@ IsUneasedSet model budgets set = has_mark set ≡ false → IsEased (set_system 
 
 -- the site of a node, whose path is known and fits, with a stop there
 at_node : (model : Program) (budgets : Budgets) (asked : List Member) (site : Site) (stop : Stop) → IsTreeSite model asked site → IsUneasedSet model budgets asked → IsPossibleSite site → IsPart asked (active_members model) → IsStopped model budgets stop
-    → IsRunSite model site × (IsSiteOf (λ s. s ≡ asked) model budgets site × IsStopped model budgets stop)
+    → IsPrintedSite model site × (IsSiteOf (λ s. s ≡ asked) model budgets site × IsStopped model budgets stop)
 at_node model budgets asked site stop h uneased possible part stopped = (
-  record {
-    of_model = h.node.set_of;
-    active = active_site model site.set h.node.set_of possible (subst (λ l. IsPart l (active_members model)) (sym h.node.set_is) part);
-    enforced_of = h.node.enforced_of;
-    enforced_part = none_part site h.node.none_enforced;
-    known = h.known;
-    fits = h.fits;
-  },
+  printed_site model site h.node.set_of possible (subst (λ l. IsPart l (active_members model)) (sym h.node.set_is) part) h.node.enforced_of (none_part site h.node.none_enforced) h.known h.fits,
   (
     record {
       settles = h.node.kind;

@@ -1,5 +1,5 @@
 -- What a cheapest weighting gives, as an answer.
-use Rattle.std.proofs.Common.{◌≡◌, ◌<◌, refl, sym, ap, subst, List, [], ◌∷◌, length, Some, None, Result, Ok, Err, inl, inr}
+use Rattle.std.proofs.Common.{◌≡◌, refl, sym, ap, subst, List, [], ◌∷◌, Some, None, Result, Ok, Err, inl, inr}
 use Rattle.std.specs.Prelude.{All, Contains, IfOk}
 use Rattle.std.proofs.lemmas.List.Elements.{All-contains_itself, All-cons, All-head, All-nil, All-tail, All-weaker}
 use Rattle.rational.specs.Rational.{ℚ}
@@ -8,7 +8,6 @@ use Rattle.lp_model.specs.Program.{Program}
 use Rattle.lp_model.specs.Members.{active_members, IsInOrder}
 use Rattle.lp_model.specs.MemberSets.{SetValue, active_set}
 use Rattle.lp_model.specs.Satisfaction.{IsPart}
-use Rattle.certs.specs.declared.evidence.Branch.{Branch}
 use Rattle.certs.specs.declared.evidence.Combo.{Combo}
 use Rattle.certs.specs.declared.evidence.Node.{Node}
 use Rattle.certs.specs.declared.evidence.Node.TheVariants.{Leaf}
@@ -21,7 +20,7 @@ use Rattle.certs.specs.declared.solving.Site.{Site}
 use Rattle.certs.specs.declared.solving.Stop.{Stop}
 use Rattle.certs.specs.declared.solving.Stop.TheVariants.{Wide, Pivots as Spent, Nodes, Large, Memory}
 use Rattle.certs.specs.Alternative.{members_of, with_source}
-use Rattle.certs.specs.Combination.{IsFitting, IsFrom, IsThere}
+use Rattle.certs.specs.Combination.{IsFrom, IsThere}
 use Rattle.certs.specs.Order.{AreLeavesInOrder, IsNodeInOrder}
 use Rattle.certs.specs.Proof.{IsFittingNode, IsProof, Tip}
 use Rattle.certs.specs.Sites.{Budgets}
@@ -33,11 +32,10 @@ use Rattle.presolve_oracle.specs.Value.{PresolveValue}
 use Rattle.branch_oracle.specs.Value.{BranchValue}
 use Rattle.report_text.specs.declared.report.Answer.{Answer}
 use Rattle.report_text.specs.declared.report.Core.{Core}
-use Rattle.report_text.specs.Form.{IsRunSite}
 use Rattle.analysis.specs.Answers.{IsOracleOf, IsPossibleSite, IsToldStop, IsWitnessStop, fresh_oracle, oracle_state, weighed_answer}
-use Rattle.analysis.specs.Right.{IsCheapestCore, IsIsolated, IsRightCore, IsStoppedBy, IsSupportTest, IsWeighedTold, IsWeighingStop, IsWhole, IsWithoutOne}
+use Rattle.analysis.specs.Right.{IsCheapestCore, IsIsolated, IsPrintedSite, IsRightCore, IsStoppedBy, IsSupportTest, IsWeighedTold, IsWeighingStop, IsWhole, IsWithoutOne}
 use Rattle.analysis.proofs.Found.{within}
-use Rattle.analysis.proofs.Stopping.{IsRunOf, active_site, isolated_stop, none_part, run_answer}
+use Rattle.analysis.proofs.Stopping.{IsRunOf, isolated_stop, none_part, run_answer, whole_printed}
 
 -- ---- the members of shares
 -- are some of those that the shares are from
@@ -139,15 +137,8 @@ module _ (model : Program) (members : SetValue) (combo : Combo) (total : ℚ) (p
 
 -- ---- stops of the run of the system of the alternative
 module _ (model : Program) (budgets : Budgets) where
-  weighing_site : (site : Site) → IsAlternativeSite model (active_members model) site → IsPossibleSite site → IsRunSite model site
-  weighing_site site h possible = record {
-    of_model = h.set_of;
-    active = active_site model site.set h.set_of possible (subst (λ l. IsPart l (active_members model)) (sym h.set_is) (All-contains_itself (active_members model)));
-    enforced_of = h.enforced_of;
-    enforced_part = none_part site h.none_enforced;
-    known = subst (All (λ b. b.column < length model.columns)) (sym h.path_is) (All-nil (λ (b : Branch). b.column < length model.columns));
-    fits = subst (All IsFitting) (sym h.path_is) (All-nil IsFitting);
-  }
+  weighing_site : (site : Site) → IsAlternativeSite model (active_members model) site → IsPossibleSite site → IsPrintedSite model site
+  weighing_site site h possible = whole_printed model site h.set_of h.set_is possible h.enforced_of (none_part site h.none_enforced) h.path_is
 
   weighing_stop : (stop : Stop) (answer : Answer) → IsPricingStop model (active_members model) budgets.pivots stop → IsToldStop stop answer → IsStoppedBy (IsWeighingStop model budgets) answer
   weighing_stop (Wide site k o) answer h told = record { stop = Wide site k o; is = told.0; so = (weighing_site site h.0 told.1, h) }

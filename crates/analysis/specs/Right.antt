@@ -41,7 +41,7 @@ use Rattle.analysis.specs.Least.{IsRelaxation}
 use Rattle.analysis.specs.Linear.{IsLinearly, alternative_size, elastic_size}
 use Rattle.alt_polyhedron.specs.Pricing.{IsCheapestSet, IsPricingStop}
 use Rattle.analysis.specs.Objectives.{IsDiagnosed}
-pub use Rattle.analysis.specs.Stops.{IsAtRun, IsRefutation, IsSettleStop, IsSiteOf, IsRightStop, IsStoppedBy, IsWhole}
+pub use Rattle.analysis.specs.Stops.{IsAtRun, IsPrintedSite, IsRefutation, IsSettleStop, IsSiteOf, IsRightStop, IsStoppedBy, IsWhole}
 
 -- ---- answers
 -- where some active member is a mark, the tree of the active members ends so

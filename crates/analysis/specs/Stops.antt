@@ -1,8 +1,8 @@
 -- Proofs of printed members, and stops of runs and trees, as answers.
-use Rattle.std.specs.Prelude.{◌≡◌, false, List, [], All}
+use Rattle.std.specs.Prelude.{◌≡◌, false, List, [], filter, All}
 use Rattle.lp_model.specs.Program.{Program}
 use Rattle.lp_model.specs.declared.members.Member.{Member}
-use Rattle.lp_model.specs.Members.{active_members}
+use Rattle.lp_model.specs.Members.{active_members, has}
 use Rattle.lp_model.specs.MemberSets.{SetValue, active_set}
 use Rattle.certs.specs.declared.evidence.Proof.{Proof}
 use Rattle.certs.specs.Order.{AreLeavesInOrder}
@@ -34,11 +34,16 @@ pub record IsSiteOf (IsTest : List Member → Type 0) (model : Program) (budgets
   pub test : IsTest site.set.members
   pub uneased : has_mark site.set.members ≡ false → IsEased (set_system model site.set.members) budgets.pivots → ⊥
 
--- the stop is at a site that can be told, a run of active members, and this holds of the two
+-- a site that is printed: a run of active members, of which those that are enforced stand in the set's order
+pub record IsPrintedSite (model : Program) (site : Site) : Type 0 where
+  pub run : IsRunSite model site
+  pub enforced_part : site.enforced.members ≡ filter (has site.enforced.members) site.set.members
+
+-- the stop is at a site that is printed, and this holds of the two
 abbrev pub IsAtRun : Program → (Site → Stop → Type 0) → Stop → Type 0
-IsAtRun model IsSo (Wide site k o) = IsRunSite model site × IsSo site (Wide site k o)
-IsAtRun model IsSo (Spent site) = IsRunSite model site × IsSo site (Spent site)
-IsAtRun model IsSo (Nodes site) = IsRunSite model site × IsSo site (Nodes site)
+IsAtRun model IsSo (Wide site k o) = IsPrintedSite model site × IsSo site (Wide site k o)
+IsAtRun model IsSo (Spent site) = IsPrintedSite model site × IsSo site (Spent site)
+IsAtRun model IsSo (Nodes site) = IsPrintedSite model site × IsSo site (Nodes site)
 IsAtRun model IsSo (Large size) = ⊥
 IsAtRun model IsSo Memory = ⊥
 

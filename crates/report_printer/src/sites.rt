@@ -111,8 +111,8 @@ fn print_kind(kind: SiteKind, into: &mut Vec<u8>) -> Result<(), AllocError>
     push_line(site_name(kind).as_bytes(), into)
 }
 
-/// Appends the lines of a site: its kind, the active members that are not in its set, those of its set that are enforced,
-/// and the branches of its path.
+/// Appends the lines of a site: its kind, the active members that are not in its set, those that are enforced, and the
+/// branches of its path.
 pub(crate) fn print_site(model: &Model, site: &Site, into: &mut Vec<u8>) -> Result<(), AllocError>
     requires { IsKnownSite model.now site.now }
     ensures { OnOk result (into.new.items ≡ into.old.items ++ phrases_text model.now (site_phrases model.now site.now)) }

@@ -14,7 +14,7 @@ use Rattle.rational.proofs.Compare.{eq-Decides}
 use Rattle.lp_model.specs.Program.{Program, noted_column}
 use Rattle.lp_model.specs.declared.parts.Note.{Note}
 use Rattle.lp_model.specs.declared.members.Member.{Member}
-use Rattle.lp_model.specs.Members.{comes_before, is_active}
+use Rattle.lp_model.specs.Members.{comes_before, exists, is_active}
 use Rattle.lp_model.specs.Satisfaction.{values_at}
 use Rattle.certs.specs.declared.evidence.Branch.{Branch}
 use Rattle.certs.specs.declared.evidence.Share.{Share}
@@ -54,11 +54,11 @@ use Rattle.report_text.proofs.InTurn.{gathered-push, AllEntries-push, numbered-p
 use Rattle.certs.specs.Order.{source_before}
 use Rattle.report_text.specs.Form.{is_word, IsNamedColumn, IsNamedMember, IsWithinLimit, IsUse, AreUses, IsListed, IsPointFor, IsRayFor, IsStepFor, IsAnswerFor, IsEntryFor, can_answer}
 use Rattle.phrase_reader.specs.Phrases.{IsNamedBranch, IsStopPhrase, IsPhraseFor}
-use Rattle.report_reader.specs.Drafts.{filled, point_of, ray_of, leaf_of, set_of, answer_of, only_if, is_within, may_split, counts_rounds, gives_price, has_tail, proof_with, price_with, witnessed_with, site_of, run_of, stop_begun, stop_with, claim_with, bound_with, least_with, not_linear_said, reply_said, extended, placed, between, advanced, AreValues, AreMembers, AreWitnesses, IsFound, IsOneMore, AreLeftOut, AreEnforced, IsTold, IsStopPart, AreNodes, Asks, Seeks, Bounds, IsBoundPart, Relaxes, IsLeastPart, Reduces, IsPartFor, IsDraftFor}
+use Rattle.report_reader.specs.Drafts.{filled, point_of, ray_of, leaf_of, set_of, answer_of, only_if, may_split, counts_rounds, gives_price, has_tail, proof_with, price_with, witnessed_with, site_of, run_of, stop_begun, stop_with, claim_with, bound_with, least_with, not_linear_said, reply_said, extended, placed, between, advanced, AreValues, AreMembers, AreWitnesses, IsFound, IsOneMore, AreLeftOut, AreEnforced, IsTold, IsStopPart, AreNodes, Asks, Seeks, Bounds, IsBoundPart, Relaxes, IsLeastPart, Reduces, IsPartFor, IsDraftFor}
 use Rattle.phrase_reader.proofs.Named.{told}
 use Rattle.report_reader.proofs.DueTrees.{whole_due, split_due, leaf_due, none_due, one_leaf_due}
 use Rattle.report_reader.proofs.Rounds.{rounds_told, price_told, nothing_told}
-use Rattle.report_reader.proofs.LeftOut.{no_members, none_told, none_enforced, left_twice, site_in_form}
+use Rattle.report_reader.proofs.LeftOut.{no_members, none_told, left_twice, site_in_form}
 
 -- ---- what is read, as phrases
 abbrev pub found_phrases : Found → List Phrase
@@ -356,6 +356,12 @@ module _ (model : Program) where
       let both = and_parts (is_active model m) (list_all (λ n. comes_before n m) left) may in
       record { members = member_taken left m h.members named both.1; active = All-push (λ n. IsTrue (is_active model n)) left m h.active both.0 }
 
+  -- one member more that is enforced
+  enforced_added : (enforced : List Member) (m : Member) → AreEnforced model enforced → IsNamedMember model m → (exists model m && list_all (λ n. comes_before n m) enforced) ≡ true → AreEnforced model (enforced ++ m ∷ [])
+  enforced_added enforced m h named may =
+      let both = and_parts (exists model m) (list_all (λ n. comes_before n m) enforced) may in
+      record { members = member_taken enforced m h.members named both.1; there = All-push (λ n. IsTrue (exists model n)) enforced m h.there both.0 }
+
   -- a stop, and a phrase
   begun_taken : (c : Command) (s : StopPhrase) (next : Part) → Asks c → IsStopPhrase model s → stop_begun s ≡ Some (Next.More next) → Took c Part.Nothing (Phrase.Stop s) next
   unfolding Took
@@ -364,12 +370,6 @@ module _ (model : Program) where
   begun_taken c StopPhrase.Nodes next asks k e = subst (Took c Part.Nothing (Phrase.Stop StopPhrase.Nodes)) (more_is (Part.Stop (StopPart.Begun StopCause.Nodes)) next e) ((asks, tt), refl)
   begun_taken c (StopPhrase.Large size) next asks k e = subst (Took c Part.Nothing (Phrase.Stop (StopPhrase.Large size))) (more_is (Part.Stop (StopPart.Large size)) next e) ((asks, k), refl)
   begun_taken c _ next asks k e = absurd (cc)
-
-  -- one member more that is enforced
-  one_more_enforced : (left enforced : List Member) (m : Member) → AreEnforced model left enforced → IsNamedMember model m → (is_within model left m && list_all (λ n. comes_before n m) enforced) ≡ true → AreEnforced model left (enforced ++ m ∷ [])
-  one_more_enforced left enforced m h named may =
-      let both = and_parts (is_within model left m) (list_all (λ n. comes_before n m) enforced) may in
-      record { members = member_taken enforced m h.members named both.1; within = All-push (λ n. IsTrue (is_within model left n)) enforced m h.within both.0 }
 
   -- where a member is left out, none is enforced and no branch stands
   without_told : (cause : StopCause) (kind : SiteKind) (left enforced : List Member) (path : List Branch) (m : Member) (next : Part)
@@ -392,7 +392,7 @@ module _ (model : Program) where
       let with_left : List Member → SitePart = λ ms. record { kind = kind; left = ms; enforced = []; path = [] } in
       list_taken c (Part.Stop (StopPart.Site cause (with_left left))) (without_phrase m) (λ members. Part.Stop (StopPart.Site cause (with_left members))) (is_active model m && list_all (λ n. comes_before n m) left) (left ++ m ∷ []) next
       (λ t. (
-        (asks, record { left = left_taken left m h.left k t; enforced = none_enforced model (left ++ m ∷ []); path = h.path }),
+        (asks, record { left = left_taken left m h.left k t; enforced = h.enforced; path = h.path }),
         ap (λ l. Phrase.Stop (opening cause) ∷ Phrase.Stop (StopPhrase.Site kind) ∷ l)
             (append-nil (map without_phrase (left ++ m ∷ [])) ∙ map_push without_phrase left m ∙ ap (λ l. l ++ without_phrase m ∷ []) (sym (append-nil (map without_phrase left)))),
       )) e
@@ -413,9 +413,9 @@ module _ (model : Program) where
       let with_enforced : List Member → SitePart = λ ms. record { kind = kind; left = left; enforced = ms; path = [] } in
       let front : List Phrase → List Phrase = λ l. Phrase.Stop (opening cause) ∷ Phrase.Stop (StopPhrase.Site kind) ∷ l in
       list_taken c (Part.Stop (StopPart.Site cause (with_enforced enforced))) (enforced_phrase m) (λ members. Part.Stop (StopPart.Site cause (with_enforced members)))
-      (is_within model left m && list_all (λ n. comes_before n m) enforced) (enforced ++ m ∷ []) next
+      (exists model m && list_all (λ n. comes_before n m) enforced) (enforced ++ m ∷ []) next
       (λ t. (
-        (asks, record { left = h.left; enforced = one_more_enforced left enforced m h.enforced k t; path = h.path }),
+        (asks, record { left = h.left; enforced = enforced_added enforced m h.enforced k t; path = h.path }),
         ap (λ l. front (map without_phrase left ++ l))
             (append-nil (map enforced_phrase (enforced ++ m ∷ [])) ∙ map_push enforced_phrase enforced m ∙ ap (λ l. l ++ enforced_phrase m ∷ []) (sym (append-nil (map enforced_phrase enforced))))
             ∙ ap front (sym (append_assoc (map without_phrase left) (map enforced_phrase enforced ++ []) (enforced_phrase m ∷ []))),
@@ -423,8 +423,8 @@ module _ (model : Program) where
   enforced_taken c cause kind left enforced (b ∷ path) m next asks h k e =
       let first : Bool = length (b ∷ path) == 0 in
       let with_enforced : List Member → SitePart = λ ms. record { kind = kind; left = left; enforced = ms; path = b ∷ path } in
-      let t = mapped_told (λ members. Next.More (Part.Stop (StopPart.Site cause (with_enforced members)))) ((first && is_within model left m) && list_all (λ n. comes_before n m) enforced) (enforced ++ m ∷ []) (Next.More next) e in
-      let none : length (b ∷ path) ≡ 0 = eqb-true (length (b ∷ path)) 0 (and_parts first (is_within model left m) (and_parts (first && is_within model left m) (list_all (λ n. comes_before n m) enforced) t.0).0).0 in
+      let t = mapped_told (λ members. Next.More (Part.Stop (StopPart.Site cause (with_enforced members)))) ((first && exists model m) && list_all (λ n. comes_before n m) enforced) (enforced ++ m ∷ []) (Next.More next) e in
+      let none : length (b ∷ path) ≡ 0 = eqb-true (length (b ∷ path)) 0 (and_parts first (exists model m) (and_parts (first && exists model m) (list_all (λ n. comes_before n m) enforced) t.0).0).0 in
       absurd (omega arith)
 
   -- the last part of phrases, moved out of the others
@@ -871,7 +871,7 @@ module _ (model : Program) where
   stop_ends c (StopPart.Site cause site) (Phrase.Stop (StopPhrase.Without m)) a h e =
       absurd (not_whole (λ members. Next.More (Part.Stop (StopPart.Site cause (record site { left = members })))) ((((length site.enforced == 0) && (length site.path == 0)) && is_active model m) && list_all (λ n. comes_before n m) site.left) (site.left ++ m ∷ []) a (λ y s. cc) e)
   stop_ends c (StopPart.Site cause site) (Phrase.Stop (StopPhrase.Enforced m)) a h e =
-      absurd (not_whole (λ members. Next.More (Part.Stop (StopPart.Site cause (record site { enforced = members })))) (((length site.path == 0) && is_within model site.left m) && list_all (λ n. comes_before n m) site.enforced) (site.enforced ++ m ∷ []) a (λ y s. cc) e)
+      absurd (not_whole (λ members. Next.More (Part.Stop (StopPart.Site cause (record site { enforced = members })))) (((length site.path == 0) && exists model m) && list_all (λ n. comes_before n m) site.enforced) (site.enforced ++ m ∷ []) a (λ y s. cc) e)
   stop_ends c (StopPart.Site cause site) (Phrase.Stop (StopPhrase.Branch b)) a h e = absurd (cc)
   stop_ends c (StopPart.Site StopCause.Wide site) (Phrase.Stop (StopPhrase.Step n)) a h e = absurd (cc)
   stop_ends c (StopPart.Begun cause) (Phrase.Stop (StopPhrase.Site kind)) a h e = absurd (cc)

@@ -1,11 +1,6 @@
--- What comes after the last of a list in order comes after all of it, and what a search of such a list finds.
+-- What comes after the last of a list in order comes after all of it.
 use Rattle.std.proofs.Common.{◌≡◌, refl, sym, ap, subst, ◌∙◌, ℕ, ◌-◌, ◌<◌, ◌≤◌, Bool, true, false, true≢false, List, length, get_or, Some, arith, ◌⊎◌, inl, inr}
-use Rattle.std.specs.Prelude.{AllPairs, IsTrue, Result, Ok, Err, slice_index_or}
-use Rattle.std.specs.Result.{is_ok}
-use Rattle.std.specs.List.Sorted.{IsSearchInRange, IsBinarySearchResult, IsNonDecreasingBy}
-use Rattle.std.specs.Ordering.{on, nat_cmp, then_cmp, ordering_index}
-use Rattle.std.specs.declared.cmp.Ordering.{Ordering}
-use Rattle.std.specs.declared.cmp.Ordering.TheVariants.{Less, Equal, Greater}
+use Rattle.std.specs.Prelude.{AllPairs, IsTrue}
 use Rattle.std.specs.List.{list_all, slice_get}
 use Rattle.std.proofs.lemmas.Bool.Decides.{nat_tests}
 use Rattle.std.proofs.lemmas.Bool.{cases_lt}
@@ -14,8 +9,7 @@ use Rattle.std.proofs.lemmas.List.Sums.{list_all-from_AllPass}
 use Rattle.std.proofs.lemmas.List.Folds.{list_all_at}
 use Rattle.lp_model.proofs.Orders.{over}
 use Rattle.lp_model.specs.declared.members.Member.{Member}
-use Rattle.lp_model.specs.Members.{kind, place, comes_before, is_same, has, IsInOrder}
-use Rattle.lp_model.proofs.Sets.{same_members, contains_of_has, has_of_contains}
+use Rattle.lp_model.specs.Members.{comes_before, IsInOrder}
 use Rattle.certs.specs.declared.evidence.Source.{Source}
 use Rattle.certs.specs.declared.evidence.Source.TheVariants.{Member as Of, Below, Above}
 use Rattle.certs.specs.declared.evidence.Share.{Share}
@@ -39,39 +33,6 @@ module _ {X : Type 0} (before : X → X → Bool) (over : (x y z : X) → before
 -- ---- members
 pub last_member : (members : List Member) (l m : Member) → IsInOrder members → slice_get members (length members - 1) ≡ Some l → comes_before l m ≡ list_all (λ n. comes_before n m) members
 last_member members l m h e = last_decides comes_before over members l m h e
-
--- ---- a search
-abbrev order : Member → Member → Ordering
-order = then_cmp (on kind nat_cmp) (on place nat_cmp)
-
-ordered_same : (m n : Member) → order m n ≡ Equal → is_same m n ≡ true
-ordered_same m n e = grind (arith, nat_tests)
-
-same_ordered : (m : Member) → order m m ≡ Equal
-same_ordered m = grind (arith, nat_tests)
-
--- what stands before another stands no further behind a third
-no_further : (m n x : Member) → comes_before m n ≡ true → ordering_index (order m x) ≤ ordering_index (order n x)
-no_further m n x e = grind (arith, nat_tests)
-
-pub searched_member : (members : List Member) (m : Member) (r : Result ℕ ℕ) → IsInOrder members → IsSearchInRange r (length members) → IsBinarySearchResult (λ n. order n m) members r → is_ok r ≡ has members m
-searched_member members m (Ok i) in_order range at =
-    sym (has_of_contains members m (i, range, same_members (slice_index_or members i m) m (ordered_same (slice_index_or members i m) m (at m))))
-searched_member members m (Err i) in_order range parted = by (has members m) refl
-  where
-    rising : IsNonDecreasingBy (λ n. ordering_index (order n m)) members
-    rising a b d le lt = elim (cases_lt a b) [
-      | inl less ↦ no_further (get_or members a d) (get_or members b d) m (in_order a b d less lt)
-      | inr same ↦ (let e : a ≡ b = omega arith in omega (arith, ap (λ k. ordering_index (order (get_or members k d) m)) e))
-    ]
-
-    never : (k : ℕ) → (k < i) ⊎ (i ≤ k) → k < length members → get_or members k m ≡ m → ⊥
-    never k (inl less) lt e = let s : Less ≡ Equal = sym ((parted rising).0 k m (omega arith) less) ∙ ap (λ n. order n m) e ∙ same_ordered m in cc
-    never k (inr more) lt e = let s : Greater ≡ Equal = sym ((parted rising).1 k m more lt) ∙ ap (λ n. order n m) e ∙ same_ordered m in cc
-
-    by : (b : Bool) → has members m ≡ b → false ≡ b
-    by true h = let c = contains_of_has members m h in absurd (never c.0 (cases_lt c.0 i) c.1 c.2)
-    by false h = refl
 
 -- ---- shares
 source_over : (a b c : Source) → source_before a b ≡ true → source_before b c ≡ true → source_before a c ≡ true

@@ -1,14 +1,14 @@
 -- Members left out of the active ones: those that are left out of what is left are the ones left out at first.
 use Rattle.std.proofs.Common.{◌≡◌, refl, sym, ap, subst, ◌∙◌, ℕ, ◌+◌, ◌<◌, Bool, true, false, true≢false, not, cond, ◌&&◌, ◌||◌, List, [], ◌∷◌, ◌++◌, length, take, get_or, filter, arith}
 use Rattle.std.specs.Prelude.{All, Contains, IsTrue}
-use Rattle.std.proofs.lemmas.Bool.{and_parts, and_from}
+use Rattle.std.proofs.lemmas.Bool.{and_parts}
 use Rattle.std.proofs.lemmas.List.{take_more}
 use Rattle.std.proofs.lemmas.List.Elements.{All-nil, All-contains, All-weaker, All-contains_itself}
 use Rattle.certs.specs.Combination.{IsFitting}
 use Rattle.std.proofs.lemmas.List.Kept.{AllPairs-filter}
 use Rattle.lp_model.specs.declared.members.Member.{Member}
 use Rattle.lp_model.specs.Program.{Program}
-use Rattle.lp_model.specs.Members.{comes_before, is_same, has, is_active, active_members, IsInOrder}
+use Rattle.lp_model.specs.Members.{comes_before, is_same, has, exists, is_active, active_members, IsInOrder}
 use Rattle.lp_model.specs.MemberSets.{set_without}
 use Rattle.lp_model.proofs.Sets.{same_members, contains_of_has, has_of_contains, members_law}
 use Rattle.lp_model.proofs.Marked.{is_what_it_has}
@@ -17,7 +17,7 @@ use Rattle.report_text.specs.Grammar.{left_out}
 use Rattle.report_text.specs.Form.{IsNamedColumn, IsNamedMember, IsSiteFor}
 use Rattle.phrase_reader.specs.Phrases.{IsNamedBranch}
 use Rattle.report_reader.specs.declared.drafts.SitePart.{SitePart}
-use Rattle.report_reader.specs.Drafts.{set_of, site_of, run_of, is_within, AreMembers, AreLeftOut, AreEnforced, IsTold}
+use Rattle.report_reader.specs.Drafts.{set_of, site_of, run_of, AreMembers, AreLeftOut, IsTold}
 use Rattle.report_text.proofs.Filters.{filter_twice}
 use Rattle.report_reader.proofs.Listed.{one_list, has_push, same_flip}
 
@@ -120,40 +120,6 @@ module _ (model : Program) where
       twice set (subst IsInOrder (sym e) (AllPairs-filter (λ m n. IsTrue (comes_before m n)) (has set) (active_members model) (members_law model).0))
       (λ m h. (and_parts (has (active_members model) m) (has set m) (sym (ap (λ l. has l m) e ∙ has_kept (has set) (active_members model) m) ∙ h)).0)
 
-  -- ---- members that are enforced
-  -- a member of the set of a site is one that is active and not left out
-  within_set : (left : List Member) (m : Member) → is_within model left m ≡ true → has (left_out model left) m ≡ true
-  within_set left m e =
-      let both = and_parts (is_active model m) (not (has left m)) e in
-      has_kept (λ n. not (has left n)) (active_members model) m
-      ∙ and_from (has (active_members model) m) (not (has left m)) (has_of_contains (active_members model) m (((members_law model).1 m).1 both.0)) both.1
-
-  set_within : (left : List Member) (m : Member) → has (left_out model left) m ≡ true → is_within model left m ≡ true
-  set_within left m e =
-      let both = and_parts (has (active_members model) m) (not (has left m)) (sym (has_kept (λ n. not (has left n)) (active_members model) m) ∙ e) in
-      and_from (is_active model m) (not (has left m)) (((members_law model).1 m).0 (contains_of_has (active_members model) m both.0)) both.1
-
-  -- such members in order are what the set has of them
-  enforced_part : (left enforced : List Member) → AreEnforced model left enforced → enforced ≡ filter (has enforced) (left_out model left)
-  enforced_part left enforced h =
-      one_list enforced (filter (has enforced) (left_out model left)) h.members.in_order (AllPairs-filter (λ m n. IsTrue (comes_before m n)) (has enforced) (left_out model left) (left_in_order left))
-      (λ m e. has_kept (has enforced) (left_out model left) m
-      ∙ and_from (has (left_out model left) m) (has enforced m) (within_set left m (All-contains (λ n. IsTrue (is_within model left n)) enforced m h.within (contains_of_has enforced m e))) e)
-      (λ m e. (and_parts (has (left_out model left) m) (has enforced m) (sym (has_kept (has enforced) (left_out model left) m) ∙ e)).1)
-
-  -- what a set of active members has of some members, is in order and within it
-  pub part_in_order : (set enforced : List Member) → set ≡ filter (has set) (active_members model) → enforced ≡ filter (has enforced) set → IsInOrder enforced
-  part_in_order set enforced s e =
-      let order : IsInOrder set = subst IsInOrder (sym s) (AllPairs-filter (λ m n. IsTrue (comes_before m n)) (has set) (active_members model) (members_law model).0) in
-      subst IsInOrder (sym e) (AllPairs-filter (λ m n. IsTrue (comes_before m n)) (has enforced) set order)
-
-  pub part_within : (set enforced : List Member) → set ≡ filter (has set) (active_members model) → enforced ≡ filter (has enforced) set → All (λ m. IsTrue (is_within model (left_out model set) m)) enforced
-  part_within set enforced s e =
-      All-weaker (Contains enforced) (λ m. IsTrue (is_within model (left_out model set) m))
-      (λ m c. set_within (left_out model set) m (ap (λ l. has l m) (set_twice set s)
-      ∙ (and_parts (has set m) (has enforced m) (sym (has_kept (has enforced) set m) ∙ ap (λ l. has l m) (sym e) ∙ has_of_contains enforced m c)).0))
-      enforced (All-contains_itself enforced)
-
   -- the site that is told
   pub site_in_form : (site : SitePart) → IsTold model site → IsSiteFor model (site_of model site)
   site_in_form site h = record {
@@ -161,7 +127,8 @@ module _ (model : Program) where
       of_model = record { rows = refl; columns = refl };
       active = is_what_it_has (λ m. not (has site.left m)) (active_members model);
       enforced_of = record { rows = refl; columns = refl };
-      enforced_part = enforced_part site.left site.enforced h.enforced;
+      enforced_in_order = h.enforced.members.in_order;
+      enforced_there = h.enforced.there;
       known = All-weaker (IsNamedBranch model) (λ b. b.column < length model.columns) (λ b k. k.named.known) site.path h.path;
       fits = All-weaker (IsNamedBranch model) IsFitting (λ b k. k.fits) site.path h.path;
     };
@@ -177,8 +144,5 @@ module _ (model : Program) where
   pub none_left : AreLeftOut model []
   none_left = record { members = no_members; active = All-nil (λ m. IsTrue (is_active model m)) }
 
-  pub none_enforced : (left : List Member) → AreEnforced model left []
-  none_enforced left = record { members = no_members; within = All-nil (λ m. IsTrue (is_within model left m)) }
-
   pub none_told : (kind : SiteKind) → IsTold model (run_of kind)
-  none_told kind = record { left = none_left; enforced = none_enforced []; path = All-nil (IsNamedBranch model) }
+  none_told kind = record { left = none_left; enforced = record { members = no_members; there = All-nil (λ m. IsTrue (exists model m)) }; path = All-nil (IsNamedBranch model) }

@@ -12,7 +12,7 @@ use Rattle.rational.specs.Rational.{ℚ, zero_ℚ, eq_ℚ}
 use Rattle.lp_model.specs.Program.{Program}
 use Rattle.lp_model.specs.declared.parts.Note.{Note}
 use Rattle.lp_model.specs.declared.members.Member.{Member}
-use Rattle.lp_model.specs.Members.{comes_before, is_active, IsInOrder}
+use Rattle.lp_model.specs.Members.{comes_before, exists, is_active, IsInOrder}
 use Rattle.certs.specs.declared.evidence.Point.{Point}
 use Rattle.certs.specs.declared.evidence.Share.{Share}
 use Rattle.certs.specs.declared.evidence.Node.{Node}
@@ -58,9 +58,9 @@ use Rattle.report_text.specs.Turns.{after, entry_commands}
 use Rattle.report_text.proofs.InTurn.{commands_push}
 use Rattle.certs.specs.Order.{source_before}
 use Rattle.report_text.specs.Form.{AreUses, IsListed, IsNodeFor, IsProofFor, IsPointFor, IsRayFor, IsBoundedFor, IsLeastFor, IsCoreFor, IsPricedFor, IsRunSite, IsStopFor, IsAnswerFor, IsEntryFor, AreEntriesFor, AreNumbered, IsReportFor, is_one_leaf, can_answer}
-use Rattle.report_reader.specs.Drafts.{filled, point_of, ray_of, leaf_of, set_of, answer_of, only_if, with_value, with_member, with_next, is_within, may_split, counts_rounds, gives_price, has_tail, may_stand, proof_begun, proof_with, witnessed_with, site_of, run_of, stop_begun, extended, placed, program_now, advanced, nothing_read}
+use Rattle.report_reader.specs.Drafts.{filled, point_of, ray_of, leaf_of, set_of, answer_of, only_if, with_value, with_member, with_next, may_split, counts_rounds, gives_price, has_tail, may_stand, proof_begun, proof_with, witnessed_with, site_of, run_of, stop_begun, extended, placed, program_now, advanced, nothing_read}
 use Rattle.report_reader.proofs.Rounds.{tells, rounds_told, price_told, nothing_told, never_both}
-use Rattle.report_reader.proofs.LeftOut.{left_in_order, left_active, set_twice, part_in_order, part_within}
+use Rattle.report_reader.proofs.LeftOut.{left_in_order, left_active, set_twice}
 
 -- ---- runs
 -- the draft that phrases lead to, where the first is that of line number n
@@ -414,8 +414,7 @@ site_read model c cause site h =
     ∙ grown_append model c begun (Part.Stop (StopPart.Site cause (with_left left))) (map without_phrase left) behind
     (list_read model c (is_active model) comes_before (λ ms. Part.Stop (StopPart.Site cause (with_left ms))) without_phrase (λ ms m. refl) [] left (left_in_order model site.set.members) (left_active model site.set.members))
     ∙ grown_append model c (Part.Stop (StopPart.Site cause (with_left left))) (Part.Stop (StopPart.Site cause (with_enforced enforced))) (map enforced_phrase enforced) (map branch_phrase site.path)
-    (list_read model c (is_within model left) comes_before (λ ms. Part.Stop (StopPart.Site cause (with_enforced ms))) enforced_phrase (λ ms m. refl) [] enforced
-    (part_in_order model site.set.members enforced h.active h.enforced_part) (part_within model site.set.members enforced h.active h.enforced_part))
+    (list_read model c (exists model) comes_before (λ ms. Part.Stop (StopPart.Site cause (with_enforced ms))) enforced_phrase (λ ms m. refl) [] enforced h.enforced_in_order h.enforced_there)
     ∙ path_read model c cause (with_enforced enforced) site.path
 
 -- a stop

@@ -4,7 +4,7 @@ use Rattle.std.specs.List.{list_all}
 use Rattle.rational.specs.Rational.{ℚ, zero_ℚ}
 use Rattle.lp_model.specs.Program.{Program, noted_column}
 use Rattle.lp_model.specs.declared.members.Member.{Member}
-use Rattle.lp_model.specs.Members.{comes_before, has, is_active, IsInOrder}
+use Rattle.lp_model.specs.Members.{comes_before, exists, is_active, IsInOrder}
 use Rattle.lp_model.specs.MemberSets.{SetValue}
 use Rattle.lp_model.specs.Satisfaction.{values_at}
 use Rattle.lp_model.specs.declared.parts.Note.{Note}
@@ -108,13 +108,9 @@ with_share shares s = with_next (λ t. true) (λ t u. source_before t.source u.s
 abbrev pub with_left_out : Program → List Member → List Branch → List Member → Member → Option (List Member)
 with_left_out model enforced path left m = with_next (λ n. ((length enforced == 0) && (length path == 0)) && is_active model n) comes_before left m
 
--- members of the set of a site: the active ones that are not left out
-abbrev pub is_within : Program → List Member → Member → Bool
-is_within model left m = is_active model m && not (has left m)
-
--- such members that are enforced, which stand before the branches of a path
-abbrev pub with_enforced : Program → List Member → List Branch → List Member → Member → Option (List Member)
-with_enforced model left path enforced m = with_next (λ n. (length path == 0) && is_within model left n) comes_before enforced m
+-- members that there are which are enforced, before the branches of a path
+abbrev pub with_enforced : Program → List Branch → List Member → Member → Option (List Member)
+with_enforced model path enforced m = with_next (λ n. (length path == 0) && exists model n) comes_before enforced m
 
 -- ---- answers
 -- whether a proof of an answer to the command may have a split: that of a reduction is one leaf, and so is that of rigid members
@@ -168,7 +164,7 @@ witnessed_with members witnesses (Phrase.Member m) = only_if (list_all (λ n. co
 witnessed_with members witnesses Phrase.Proof = Some (proof_begun (Found.Witnessed members witnesses))
 witnessed_with members witnesses _ = None
 
--- the site that is told: a run of the active members but those that are left out, some of them enforced, on a path
+-- the site that is told: a run of the active members but those that are left out, with those that are enforced, on a path
 abbrev pub site_of : Program → SitePart → Site
 site_of model site = record { kind = site.kind; set = set_of model (left_out model site.left); enforced = set_of model site.enforced; path = site.path }
 
@@ -189,7 +185,7 @@ abbrev pub stop_with : Program → StopPart → Phrase → Option Next
 stop_with model (StopPart.Begun cause) (Phrase.Stop (StopPhrase.Site kind)) = Some (Next.More (Part.Stop (StopPart.Site cause (run_of kind))))
 stop_with model (StopPart.Large size) Phrase.End = Some (Next.Whole (Answer.Stopped (Stop.Large size)))
 stop_with model (StopPart.Site cause site) (Phrase.Stop (StopPhrase.Without m)) = option_map (λ members. Next.More (Part.Stop (StopPart.Site cause (record site { left = members })))) (with_left_out model site.enforced site.path site.left m)
-stop_with model (StopPart.Site cause site) (Phrase.Stop (StopPhrase.Enforced m)) = option_map (λ members. Next.More (Part.Stop (StopPart.Site cause (record site { enforced = members })))) (with_enforced model site.left site.path site.enforced m)
+stop_with model (StopPart.Site cause site) (Phrase.Stop (StopPhrase.Enforced m)) = option_map (λ members. Next.More (Part.Stop (StopPart.Site cause (record site { enforced = members })))) (with_enforced model site.path site.enforced m)
 stop_with model (StopPart.Site cause site) (Phrase.Stop (StopPhrase.Branch b)) = Some (Next.More (Part.Stop (StopPart.Site cause (record site { path = site.path ++ b ∷ [] }))))
 stop_with model (StopPart.Site StopCause.Wide site) (Phrase.Stop (StopPhrase.Step k)) = Some (Next.More (Part.Stop (StopPart.Step site k)))
 stop_with model (StopPart.Site StopCause.Spent site) Phrase.End = Some (Next.Whole (Answer.Stopped (Stop.Pivots (site_of model site))))
@@ -402,15 +398,15 @@ pub record AreLeftOut (model : Program) (left : List Member) : Type 0 where
   pub members : AreMembers model left
   pub active : All (λ m. IsTrue (is_active model m)) left
 
--- members of the set of a site in order, with words for names
-pub record AreEnforced (model : Program) (left enforced : List Member) : Type 0 where
+-- members that there are in order, with words for names
+pub record AreEnforced (model : Program) (enforced : List Member) : Type 0 where
   pub members : AreMembers model enforced
-  pub within : All (λ m. IsTrue (is_within model left m)) enforced
+  pub there : All (λ m. IsTrue (exists model m)) enforced
 
 -- a part of a site: members left out and members enforced, and branches
 pub record IsTold (model : Program) (site : SitePart) : Type 0 where
   pub left : AreLeftOut model site.left
-  pub enforced : AreEnforced model site.left site.enforced
+  pub enforced : AreEnforced model site.enforced
   pub path : All (IsNamedBranch model) site.path
 
 -- a part of a stop

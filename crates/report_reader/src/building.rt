@@ -8,7 +8,7 @@ ghost use Rattle.report_text.specs.Form.{IsNamedMember};
 ghost use Rattle.report_reader.specs.Drafts.{filled, point_of, ray_of, leaf_of, set_of, answer_of, with_value, with_member, with_share, with_left_out, with_enforced, site_of, IsFound, AreEnforced, AreLeftOut};
 
 use crate::drafts::{Found, Members, SitePart};
-use crate::ordering::{is_listed, member_follows, source_follows};
+use crate::ordering::{member_follows, source_follows};
 use certs::{Branch, Combo, Node, Nodes, Path, Point, Proof, Ray, Share, Shares, Site, Values};
 use frac128::Frac;
 use lp_model::{Member, MemberSet, Model};
@@ -104,28 +104,21 @@ pub(crate) fn add_left_out(
     add_member(left, member)
 }
 
-/// The enforced members with one more, where no branch stands yet, and it is active, not left out, and comes after all of
-/// them.
+/// The enforced members with one more, where no branch stands yet, and it is there and comes after all of them.
 pub(crate) fn add_enforced(
     model: &Model,
-    left: &[Member],
     path: &[Branch],
     enforced: Members,
     member: Member,
 ) -> Result<Option<Members>, AllocError>
     requires named { IsNamedMember model.now member }
-    requires left_in_order { IsInOrder left.now }
     requires in_order { IsInOrder enforced }
-    ensures { IfOk result (λ m.
-        m ≡ with_enforced model.now left.now path.now enforced member) }
+    ensures { IfOk result (λ m. m ≡ with_enforced model.now path.now enforced member) }
 {
     if path.len() != 0 {
         return Ok(None);
     }
-    if !model.is_active(member) {
-        return Ok(None);
-    }
-    if is_listed(left, member) {
+    if !model.exists(member) {
         return Ok(None);
     }
     add_member(enforced, member)
@@ -242,10 +235,10 @@ fn make_others(alloc: Global, model: &Model, left: &[Member]) -> Result<MemberSe
     Ok(set)
 }
 
-/// The site that is told: a run of the active members but those that are left out, some of them enforced, on a path.
+/// The site that is told: a run of the active members but those that are left out, with those that are enforced, on a path.
 pub(crate) fn make_site(alloc: Global, model: &Model, site: SitePart) -> Result<Site, AllocError>
     requires left { AreLeftOut model.now site.left }
-    requires enforced { AreEnforced model.now site.left site.enforced }
+    requires enforced { AreEnforced model.now site.enforced }
     ensures { IfOk result (λ s. s ≡ site_of model.now site) }
 {
     let SitePart {

@@ -1,7 +1,7 @@
 //! What stands before what.
 ghost use Rattle.std.specs.Prelude.{◌≡◌};
 ghost use Rattle.std.specs.List.{list_all};
-ghost use Rattle.lp_model.specs.Members.{IsInOrder, has, comes_before as member_before};
+ghost use Rattle.lp_model.specs.Members.{IsInOrder, comes_before as member_before};
 ghost use Rattle.certs.specs.Order.{AreSharesInOrder, source_before};
 
 use certs::{Share, Source, stands_before};
@@ -23,14 +23,6 @@ pub(crate) fn member_follows(members: &[Member], member: Member) -> bool
         Some(last) => comes_before(*last, member),
         None => true,
     }
-}
-
-/// Whether a list has a member.
-pub(crate) fn is_listed(members: &[Member], member: Member) -> bool
-    requires { IsInOrder members.now }
-    ensures { result ≡ has members.now member }
-{
-    members.binary_search(&member).is_ok()
 }
 
 /// Whether a source comes after those of all the shares of a list.

@@ -132,7 +132,7 @@ fn enforce(
         enforced,
         path,
     } = site;
-    let enforced = add_enforced(model, left.as_slice(), path.as_slice(), enforced, member)?;
+    let enforced = add_enforced(model, path.as_slice(), enforced, member)?;
     Ok(enforced.map(|enforced| {
         let site = SitePart {
             kind,

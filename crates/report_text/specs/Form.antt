@@ -1,5 +1,5 @@
 -- Which reports stand in the grammar: what is asked of their names, numbers and order.
-use Rattle.std.specs.Prelude.{◌≡◌, ◌≢◌, ℕ, ◌+◌, ◌^◌, ◌<◌, ◌≤◌, nat_lt, Bool, true, false, ◌&&◌, List, [], ◌∷◌, ◌++◌, length, filter, Option, None, Some, All}
+use Rattle.std.specs.Prelude.{◌≡◌, ◌≢◌, ℕ, ◌+◌, ◌^◌, ◌<◌, ◌≤◌, nat_lt, Bool, true, false, ◌&&◌, List, [], ◌∷◌, ◌++◌, length, filter, Option, None, Some, All, IsTrue}
 use Rattle.std.specs.List.{list_all}
 use Rattle.report_text.specs.Names.{is_shown}
 use Rattle.rational.specs.Rational.{ℚ, zero_ℚ, ◌<ℚ◌}
@@ -10,7 +10,7 @@ use Rattle.lp_model.specs.declared.parts.Weight.TheVariants.{Soft, Rigid}
 use Rattle.lp_model.specs.Program.{Program, row_at, noted_column}
 use Rattle.text_fields.specs.Numbers.{is_far}
 use Rattle.lp_model.specs.declared.members.Member.{Member}
-use Rattle.lp_model.specs.Members.{has, active_members, IsInOrder}
+use Rattle.lp_model.specs.Members.{exists, has, active_members, IsInOrder}
 use Rattle.lp_model.specs.MemberSets.{SetValue, IsMemberFor}
 use Rattle.lp_model.specs.Satisfaction.{values_at}
 use Rattle.certs.specs.declared.evidence.Source.{Source}
@@ -127,12 +127,13 @@ pub record IsProofFor (model : Program) (proof : Proof) : Type 0 where
   pub each : All (IsNodeFor model) proof.nodes
 
 -- ---- stops
--- a run of active members in member order, some of which may be enforced, on a path of columns that there are
+-- a run of active members in member order, with enforced members that there are in that order, none twice, on a path of columns that there are
 pub record IsRunSite (model : Program) (site : Site) : Type 0 where
   pub of_model : IsSetOf model site.set
   pub active : site.set.members ≡ filter (has site.set.members) (active_members model)
   pub enforced_of : IsSetOf model site.enforced
-  pub enforced_part : site.enforced.members ≡ filter (has site.enforced.members) site.set.members
+  pub enforced_in_order : IsInOrder site.enforced.members
+  pub enforced_there : All (λ m. IsTrue (exists model m)) site.enforced.members
   pub known : All (λ b. b.column < length model.columns) site.path
   pub fits : All IsFitting site.path
 

@@ -457,7 +457,7 @@ enforced_phrase m = Phrase.Stop (StopPhrase.Enforced m)
 abbrev pub branch_phrase : Branch → Phrase
 branch_phrase b = Phrase.Stop (StopPhrase.Branch b)
 
--- a site: its kind, the active members that are not in its set, those of its set that are enforced, and the branches on the way to its node
+-- a site: its kind, the active members that are not in its set, those that are enforced, and the branches on the way to its node
 abbrev pub site_phrases : Program → Site → List Phrase
 site_phrases model site = Phrase.Stop (StopPhrase.Site site.kind) ∷ (map without_phrase (left_out model site.set.members) ++ (map enforced_phrase site.enforced.members ++ map branch_phrase site.path))
 
