@@ -130,12 +130,27 @@ def deep_proofs():
         yield f"deep proof: {kind}", ["verify", "m.lp", "r"], {"m.lp": model, "r": report}, 6, f"report refused {told}\n"
 
 
+def chains():
+    """A proof that is a chain of 20,000 splits: its leaves are the lower children, or the upper ones; and the last leaf is wrong."""
+    count = 20_000
+    model = f"Minimize\n cost: 0 x\nSubject To\n odd: 2 x = {2 * count + 1}\nBounds\n x free\nGeneral\n x\nEnd\n"
+    below, above = (["leaf", f"use {side} odd 1", f"use {use} x 2"] for side, use in (("rowlo", "below"), ("rowup", "above")))
+    by_lower = [line for k in range(count + 1) for line in (f"split x {k}", *below)] + above
+    by_upper = [f"split x {2 * count - k}" for k in range(count + 1)] + below + above * (count + 1)
+    head = ["iisan report 2", "command check", "infeasible", "member rowlo odd", "member rowup odd", "member whole x", "proof"]
+    for kind, nodes in (("lower", by_lower), ("upper", by_upper)):
+        for last, told in (("2", (0, "accepted settled 1 unsettled 0\n")), ("1", (8, f"rejected line {len(head + nodes) - 2}\n"))):
+            report = "".join(f"{line}\n" for line in [*head, *nodes[:-1], f"use above x {last}", "end", "report end"])
+            yield f"deep proof: {kind} leaves, the last use {last}", ["verify", "m.lp", "r"], {"m.lp": model, "r": report}, *told
+
+
 def cases():
     yield from cuts()
     yield from fetches()
     yield from literals()
     yield from ((f"LP: {name}", *reading("m.lp", text.encode(), told)) for name, text, told in CORNERS)
     yield from deep_proofs()
+    yield from chains()
 
 
 def puts():
