@@ -11,7 +11,7 @@ ghost use Rattle.certs.specs.Bound.{directed as directed_of};
 ghost use Rattle.certs.specs.Checks.{every, every_below, right_operations};
 
 use crate::sources::source_number;
-use certs::{Share, added};
+use certs::{Share, plus_product};
 use frac128::{Frac, Wide};
 use lp_model::{Model, Term};
 
@@ -87,7 +87,7 @@ pub fn right_side(model: &Model, shares: &[Share]) -> Result<Frac, Wide>
     let mut sum = zero;
     for share in shares {
         let number = source_number(model, share.source).unwrap_or(zero);
-        sum = added(sum, share.source.side(), number, share.weight)?;
+        sum = plus_product(sum, share.source.side(), number, share.weight)?;
     }
     Ok(sum)
 }

@@ -10,7 +10,7 @@ ghost use Rattle.branch_proof.specs.Walk.{IsWithin, judgement, node_check};
 ghost use Rattle.branch_proof.specs.Narrow.{IsNarrowProof};
 
 use crate::paths::go_on;
-use certs::{BranchPath, Checked, Node, Proof, check_combo};
+use certs::{BranchPath, Checked, Node, Proof, check_leaf};
 use frac128::{Frac, Wide};
 use lp_model::{Member, MemberSet, Model};
 use std::alloc::{AllocError, Global};
@@ -96,7 +96,7 @@ fn check_node(
                 Checked::No
             }
         }
-        Node::Leaf(combo) => check_combo(model, set, path, combo, sums),
+        Node::Leaf(combo) => check_leaf(model, set, path, combo, sums),
     }
 }
 

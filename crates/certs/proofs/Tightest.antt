@@ -1,53 +1,24 @@
 -- The tightest branches of a path that goes one branch further, or back.
-use Rattle.std.proofs.Common.{◌≡◌, ◌<◌, ◌≤◌, ap, ap₂, refl, sym, subst, ◌∙◌, arith, ℕ, Bool, true, false, cond, not, ◌&&◌, ◌==◌, List, [], ◌∷◌, ◌++◌, length, get_or, set, Option, Some, None, Result, Ok, Err, is_ok, is_err, if◌then◌else◌, int_lt, append_assoc, eq-eqb, eqb-true, true≢false}
+use Rattle.std.proofs.Common.{◌≡◌, ◌<◌, ◌≤◌, ap, ap₂, refl, sym, subst, ◌∙◌, arith, ℕ, Bool, true, false, cond, not, ◌&&◌, ◌==◌, List, [], ◌∷◌, ◌++◌, length, get_or, set, Option, Some, None, Result, Ok, Err, is_ok, is_err, if◌then◌else◌, append_assoc, eq-eqb, eqb-true, true≢false}
 use Rattle.std.specs.Prelude.{All}
 use Rattle.std.proofs.lemmas.List.{append-nil, length_push, same_from_push, get_or-set_same, get_or-set_other, length-set}
 use Rattle.std.proofs.lemmas.List.Elements.{All-nil, All-pop, All-push, All-weaker}
-use Rattle.std.proofs.lemmas.Int.{ints}
+use Rattle.std.proofs.lemmas.Int.{ints, clamps}
+use Rattle.std.specs.Int.{int_max, int_min}
 use lib.IntN.{ℤ}
 use Rattle.certs.specs.declared.evidence.Branch.{Branch}
 use Rattle.certs.specs.declared.paths.Tightest.{Tightest}
 use Rattle.certs.specs.Combination.{lesser, greater, least_upper, greatest_lower, IsFitting}
-use Rattle.certs.specs.Paths.{unbranched, tightest_on, tightest_with, tightest_before, HasTightest}
+use Rattle.certs.specs.Paths.{unbranched, tightest_on, tightest_before, HasTightest}
 
--- ---- the lesser and the greater of two and of three, in either order
-lesser_both : (a b : ℤ) → lesser a (Some b) ≡ lesser b (Some a)
-lesser_both a b = by (int_lt b a) refl (int_lt a b) refl
-  where
-    by : (s : Bool) → int_lt b a ≡ s → (t : Bool) → int_lt a b ≡ t → cond s b a ≡ cond t a b
-    by true e true f = absurd (omega (arith, ints))
-    by true e false f = refl
-    by false e true f = refl
-    by false e false f = omega (arith, ints)
-
+-- ---- the lesser and the greater of three, in either order
 lesser_turned : (a b : ℤ) (o : Option ℤ) → lesser a (Some (lesser b o)) ≡ lesser b (Some (lesser a o))
-lesser_turned a b None = lesser_both a b
-lesser_turned a b (Some c) = by (int_lt c b) refl (int_lt c a) refl
-  where
-    by : (s : Bool) → int_lt c b ≡ s → (t : Bool) → int_lt c a ≡ t → lesser a (Some (cond s c b)) ≡ lesser b (Some (cond t c a))
-    by true e true f = ap (λ w. cond w c a) f ∙ sym (ap (λ w. cond w c b) e)
-    by true e false f = (let less : int_lt a b ≡ true = grind (arith, ints, e, f) in ap (λ w. cond w c a) f ∙ sym (ap (λ w. cond w a b) less))
-    by false e true f = (let less : int_lt b a ≡ true = grind (arith, ints, e, f) in ap (λ w. cond w b a) less ∙ sym (ap (λ w. cond w c b) e))
-    by false e false f = lesser_both a b
-
-greater_both : (a b : ℤ) → greater a (Some b) ≡ greater b (Some a)
-greater_both a b = by (int_lt a b) refl (int_lt b a) refl
-  where
-    by : (s : Bool) → int_lt a b ≡ s → (t : Bool) → int_lt b a ≡ t → cond s b a ≡ cond t a b
-    by true e true f = absurd (omega (arith, ints))
-    by true e false f = refl
-    by false e true f = refl
-    by false e false f = omega (arith, ints)
+lesser_turned a b None = let e : int_min a b ≡ int_min b a = omega (arith, ints, clamps) in e
+lesser_turned a b (Some c) = let e : int_min a (int_min b c) ≡ int_min b (int_min a c) = omega (arith, ints, clamps) in e
 
 greater_turned : (a b : ℤ) (o : Option ℤ) → greater a (Some (greater b o)) ≡ greater b (Some (greater a o))
-greater_turned a b None = greater_both a b
-greater_turned a b (Some c) = by (int_lt b c) refl (int_lt a c) refl
-  where
-    by : (s : Bool) → int_lt b c ≡ s → (t : Bool) → int_lt a c ≡ t → greater a (Some (cond s c b)) ≡ greater b (Some (cond t c a))
-    by true e true f = ap (λ w. cond w c a) f ∙ sym (ap (λ w. cond w c b) e)
-    by true e false f = (let more : int_lt b a ≡ true = grind (arith, ints, e, f) in ap (λ w. cond w c a) f ∙ sym (ap (λ w. cond w a b) more))
-    by false e true f = (let more : int_lt a b ≡ true = grind (arith, ints, e, f) in ap (λ w. cond w b a) more ∙ sym (ap (λ w. cond w c b) e))
-    by false e false f = greater_both a b
+greater_turned a b None = let e : int_max b a ≡ int_max a b = omega (arith, ints, clamps) in e
+greater_turned a b (Some c) = let e : int_max (int_max c b) a ≡ int_max (int_max c a) b = omega (arith, ints, clamps) in e
 
 -- ---- one branch further
 -- a number that is picked, where it counts, by a choice that may be turned
@@ -77,18 +48,19 @@ both_as : (t u : Tightest) → t.upper ≡ u.upper → t.lower ≡ u.lower → t
 both_as t u e f = ap₂ (λ (a b : Option ℤ). record { upper = a; lower = b }) e f
 
 module _ (path : List Branch) (b : Branch) where
-  -- on its own column
-  tightest_here : tightest_on (path ++ b ∷ []) b.column ≡ tightest_with (tightest_on path b.column) b
-  tightest_here =
-      both_as (tightest_on (path ++ b ∷ []) b.column) (tightest_with (tightest_on path b.column) b)
-      (least_push path b b.column ∙ ap (λ t. cond (t && b.upper) (Some (lesser b.at (least_upper path b.column))) (least_upper path b.column)) (eq-eqb b.column b.column refl))
-      (greatest_push path b b.column
-      ∙ (ap (λ t. cond (t && not b.upper) (Some (greater b.at (greatest_lower path b.column))) (greatest_lower path b.column)) (eq-eqb b.column b.column refl)
-      ∙ flipped b.upper (Some (greater b.at (greatest_lower path b.column))) (greatest_lower path b.column)))
-    where
-      flipped : (u : Bool) (o p : Option ℤ) → cond (not u) o p ≡ cond u p o
-      flipped true o p = refl
-      flipped false o p = refl
+  -- on its own column, where t is what the path says of that
+  pub tightest_more : (u : Bool) → b.upper ≡ u → (t new : Tightest) → t ≡ tightest_on path b.column
+      → new.upper ≡ cond u (Some (lesser b.at t.upper)) t.upper → new.lower ≡ cond (not u) (Some (greater b.at t.lower)) t.lower
+      → new ≡ tightest_on (path ++ b ∷ []) b.column
+  tightest_more u is t new told e f =
+      let here = eq-eqb b.column b.column refl in
+      both_as new (tightest_on (path ++ b ∷ []) b.column)
+      (e
+      ∙ (ap (λ (z : Tightest). cond u (Some (lesser b.at z.upper)) z.upper) told
+      ∙ sym (least_push path b b.column ∙ ap₂ (λ (s v : Bool). cond (s && v) (Some (lesser b.at (least_upper path b.column))) (least_upper path b.column)) here is)))
+      (f
+      ∙ (ap (λ (z : Tightest). cond (not u) (Some (greater b.at z.lower)) z.lower) told
+      ∙ sym (greatest_push path b b.column ∙ ap₂ (λ (s v : Bool). cond (s && not v) (Some (greater b.at (greatest_lower path b.column))) (greatest_lower path b.column)) here is)))
 
   -- and on another one
   tightest_there : (j : ℕ) → (b.column == j) ≡ false → tightest_on (path ++ b ∷ []) j ≡ tightest_on path j
@@ -132,16 +104,14 @@ on_set path columns c t new l e other j = by (c == j) refl
     by true f = (let same : c ≡ j = eqb-true c j f in subst (λ k. get_or (set columns c t) k unbranched ≡ new k) same (get_or-set_same columns c t unbranched l ∙ e))
     by false f = (let apart : j ≡ c → ⊥ = λ s. true≢false (sym (eq-eqb c j (sym s)) ∙ f) in get_or-set_other columns c j t unbranched apart ∙ other j f)
 
-pub tightest_pushed : (path : List Branch) (b : Branch) (columns before : List Tightest) (t new : Tightest) → HasTightest path columns before → IsFitting b → b.column < length columns → t ≡ get_or columns b.column unbranched → new ≡ tightest_with t b
-    → HasTightest (path ++ b ∷ []) (set columns b.column new) (before ++ t ∷ [])
-tightest_pushed path b columns before t new h f l is made =
+pub tightest_pushed : (path : List Branch) (b : Branch) (columns before : List Tightest) (t new : Tightest) → HasTightest path columns before → IsFitting b → b.column < length columns → t ≡ get_or columns b.column unbranched
+    → ((path : List Branch) → t ≡ tightest_on path b.column → new ≡ tightest_on (path ++ b ∷ []) b.column) → HasTightest (path ++ b ∷ []) (set columns b.column new) (before ++ t ∷ [])
+tightest_pushed path b columns before t new h f l is more =
     let kept : t ≡ tightest_on path b.column = is ∙ h.on b.column in
     record {
       fitting = All-push IsFitting path b h.fitting f;
       known = subst (λ n. All (λ b. b.column < n) (path ++ b ∷ [])) (sym (length-set columns b.column new)) (All-push (λ b. b.column < length columns) path b h.known l);
-      on =
-          on_set path columns b.column new (tightest_on (path ++ b ∷ [])) l (made ∙ (ap (λ (z : Tightest). tightest_with z b) kept ∙ sym (tightest_here path b)))
-          (λ j e. h.on j ∙ sym (tightest_there path b j e));
+      on = on_set path columns b.column new (tightest_on (path ++ b ∷ [])) l (more path kept) (λ j e. h.on j ∙ sym (tightest_there path b j e));
       before = ap₂ (λ (xs : List Tightest) (z : Tightest). xs ++ z ∷ []) h.before kept ∙ sym (before_push [] path b);
     }
 

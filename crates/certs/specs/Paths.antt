@@ -1,8 +1,8 @@
 -- The tightest branches of a path on each column.
-use Rattle.std.specs.Prelude.{◌≡◌, ℕ, ◌<◌, cond, List, [], ◌∷◌, ◌++◌, length, get_or, Some, None, All}
+use Rattle.std.specs.Prelude.{◌≡◌, ℕ, ◌<◌, List, [], ◌∷◌, ◌++◌, length, get_or, None, All}
 use Rattle.certs.specs.declared.evidence.Branch.{Branch}
 use Rattle.certs.specs.declared.paths.Tightest.{Tightest}
-use Rattle.certs.specs.Combination.{lesser, greater, least_upper, greatest_lower, IsFitting}
+use Rattle.certs.specs.Combination.{least_upper, greatest_lower, IsFitting}
 
 -- of a column without a branch
 abbrev pub unbranched : Tightest
@@ -11,13 +11,6 @@ unbranched = record { upper = None; lower = None }
 -- the least upper branch of a path on a column, and the greatest lower one
 abbrev pub tightest_on : List Branch → ℕ → Tightest
 tightest_on path j = record { upper = least_upper path j; lower = greatest_lower path j }
-
--- a column's tightest branches, with one branch on it more
-abbrev pub tightest_with : Tightest → Branch → Tightest
-tightest_with t b = record {
-  upper = cond b.upper (Some (lesser b.at t.upper)) t.upper;
-  lower = cond b.upper t.lower (Some (greater b.at t.lower));
-}
 
 -- for each branch behind a front, the tightest ones on its column among those before it
 abbrev pub tightest_before : List Branch → List Branch → List Tightest

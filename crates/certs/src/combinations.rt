@@ -23,9 +23,31 @@ use lp_model::{MemberSet, Model};
 /// before it fails.
 /// A yes shows that no point that keeps the path satisfies the set, and without a path that no point does.
 ///
-/// `sums` is a 0 for each column, and is so again after a yes. The time that this takes follows the shares and their
-/// terms, whatever the path's length and the number of columns are.
+/// `sums` has a number for each column. What it held does not matter, and what it holds afterwards is not said.
 pub fn check_combo(
+    model: &Model,
+    set: &MemberSet,
+    path: &BranchPath,
+    combo: &Combo,
+    sums: &mut [Frac],
+) -> Checked
+    requires room { length sums.old ≡ length model.now.columns }
+    requires known { All (λ b. b.column < length model.now.columns) path.now }
+    requires same { IsSetOf model.now set.now }
+    ensures said { result
+        ≡ outcome (combination_steps model.now set.now.members path.now combo.now.shares) }
+    ensures sound { result ≡ Checked.Yes → (x : Assignment)
+        → Satisfies model.now set.now.members x → KeepsPath x path.now → ⊥ }
+    ensures unsatisfiable { result ≡ Checked.Yes → path.now ≡ []
+        → IsUnsatisfiable model.now set.now.members }
+{
+    sums.fill(Frac::whole(0));
+    check_leaf(model, set, path, combo, sums)
+}
+
+/// `check_combo` for a walk over many leaves: `sums` is a 0 for each column, and is so again after a yes. The time that
+/// this takes follows the shares and their terms, whatever the path's length and the number of columns are.
+pub fn check_leaf(
     model: &Model,
     set: &MemberSet,
     path: &BranchPath,
@@ -37,9 +59,12 @@ pub fn check_combo(
     requires known { All (λ b. b.column < length model.now.columns) path.now }
     requires same { IsSetOf model.now set.now }
     ensures zeros { result ≡ Checked.Yes → All (λ q. q ≡ zero_ℚ) sums.new }
-    ensures said { result ≡ outcome (combination_steps model.now set.now.members path.now combo.now.shares) }
-    ensures sound { result ≡ Checked.Yes → (x : Assignment) → Satisfies model.now set.now.members x → KeepsPath x path.now → ⊥ }
-    ensures unsatisfiable { result ≡ Checked.Yes → path.now ≡ [] → IsUnsatisfiable model.now set.now.members }
+    ensures said { result
+        ≡ outcome (combination_steps model.now set.now.members path.now combo.now.shares) }
+    ensures sound { result ≡ Checked.Yes → (x : Assignment)
+        → Satisfies model.now set.now.members x → KeepsPath x path.now → ⊥ }
+    ensures unsatisfiable { result ≡ Checked.Yes → path.now ≡ []
+        → IsUnsatisfiable model.now set.now.members }
 {
     // That the program is well formed is told with the count.
     let _rows = model.row_count();

@@ -15,7 +15,7 @@ mod sums;
 mod systems;
 mod tales;
 
-pub use combinations::check_combo;
+pub use combinations::{check_combo, check_leaf};
 pub use evidence::{
     Branch, Checked, Combo, Dual, Node, Nodes, Point, Proof, Ray, Share, Shares, Source, Values,
 };
@@ -28,6 +28,6 @@ pub use paths::BranchPath;
 pub use plain_systems::{node_system, plain_system};
 pub use points::{check_point, checked, is_present};
 pub use solving::{Irreducible, NodeEnd, Path, Site, SiteKind, Stop, Stretched, Verdict};
-pub use sums::{add_shares, added};
+pub use sums::{add_shares, plus_product};
 pub use systems::{Limits, System};
 pub use tales::{CoreRecord, StopRecord, Tale, told_stop};

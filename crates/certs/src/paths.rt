@@ -1,8 +1,9 @@
 //! Paths that have the tightest branches on each column at hand.
-ghost use Rattle.std.specs.Prelude.{◌≡◌, ◌≤◌, ◌<◌, ◌∷◌, ◌++◌, [], None, ℕ, is_ok, if◌then◌else◌, IfOk, IfSome, option_to_list, unsigned_abs, get_or, length};
+ghost use Rattle.std.specs.Prelude.{◌≡◌, ◌≤◌, ◌<◌, ◌∷◌, ◌++◌, [], None, ℕ, is_ok, if◌then◌else◌, IfOk, IfSome, option_to_list, unsigned_abs, get_or, length, List};
 ghost use Rattle.frac128.specs.Limit.{limit};
 ghost use Rattle.certs.specs.Combination.{lesser as lesser_of, greater as greater_of, IsFitting};
-ghost use Rattle.certs.specs.Paths.{unbranched as no_branches, tightest_on, tightest_with};
+ghost use Rattle.certs.specs.declared.evidence.Branch.{Branch as OneBranch};
+ghost use Rattle.certs.specs.Paths.{unbranched as no_branches, tightest_on};
 
 use crate::evidence::Branch;
 use std::alloc::{AllocError, Global};
@@ -126,9 +127,10 @@ fn make_room(columns: &mut Vec<Tightest>, column: u32) -> Result<(), AllocError>
     Ok(())
 }
 
-// With a branch on the column more.
+// What a path says of the branch's column with the branch more, from what it said without.
 fn with_branch(tightest: Tightest, branch: Branch) -> Tightest
-    ensures { result ≡ tightest_with tightest branch }
+    ensures { (path : List OneBranch) → tightest ≡ tightest_on path branch.column
+        → result ≡ tightest_on (path ++ branch ∷ []) branch.column }
 {
     if branch.upper {
         Tightest {

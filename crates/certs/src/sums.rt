@@ -131,14 +131,14 @@ fn add_term(
         × (values_at sums.new ≡ added_at (values_at sums.old) column (signed side (factor *ℚ weight))))
         (λ w. first_wide limit (share_operations (values_at sums.old column) side factor weight) ≡ Some w) }
 {
-    let sum = added(sums[column as usize], side, factor, weight)?;
+    let sum = plus_product(sums[column as usize], side, factor, weight)?;
     sums[column as usize] = sum;
     Ok(())
 }
 
 /// The sum with a number times a weight more on `Up`, or less on `Lo`. An error is the first of the two operations that is
 /// too wide, and comes just where one is.
-pub fn added(sum: Frac, side: Side, number: Frac, weight: Frac) -> Result<Frac, Wide>
+pub fn plus_product(sum: Frac, side: Side, number: Frac, weight: Frac) -> Result<Frac, Wide>
     ensures { MatchResult result
         (λ r. (r ≡ sum +ℚ signed side (number *ℚ weight)) × (first_wide limit (share_operations sum side number weight) ≡ None))
         (λ w. first_wide limit (share_operations sum side number weight) ≡ Some w) }
@@ -233,7 +233,7 @@ pub(crate) fn right_side(model: &Model, path: &BranchPath, shares: &[Share]) -> 
     let mut sum = zero;
     for share in shares {
         let number = source_number(model, path, share.source).unwrap_or(zero);
-        sum = added(sum, share.source.side(), number, share.weight)?;
+        sum = plus_product(sum, share.source.side(), number, share.weight)?;
     }
     Ok(sum)
 }

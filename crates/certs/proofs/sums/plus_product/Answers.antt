@@ -1,6 +1,6 @@
 use Rattle.std.proofs.lemmas.Result.{err_from_is_err_and}
 use Rattle.certs.proofs.ColumnSums.{product_wide, then_sum}
-use Rattle.certs.proofs.sums.added.Goals as goal
+use Rattle.certs.proofs.sums.plus_product.Goals as goal
 
 pub returns-in_err-product : goal.returns-in_err-product
 returns-in_err-product c =

@@ -4,7 +4,7 @@ use Rattle.certs.specs.Checks.{outcome, combination_steps}
 use Rattle.certs.specs.declared.evidence.Branch.{Branch}
 use Rattle.certs.specs.declared.evidence.Checked.TheVariants.{Yes}
 use Rattle.certs.proofs.Sound.{refuted_law, unsatisfiable_law}
-use Rattle.certs.proofs.combinations.check_combo.Goals as goal
+use Rattle.certs.proofs.combinations.check_leaf.Goals as goal
 use Rattle.std.specs.Prelude.{List}
 
 pub returns-clause-sound : goal.returns-clause-sound
