@@ -1,10 +1,10 @@
-//! Fractions of 64-bit parts beside an arithmetic without a limit.
+//! Fractions of both widths beside an arithmetic without a limit.
 use frac128::{Exact, Frac, Frac64, Op, Wide, read_fraction};
 use std::alloc::{AllocError, Global};
 use std::cmp::Ordering;
 use std::test::Fail;
 
-// Operations near 2^63 - 1, with the answers of an arithmetic without a limit.
+// Operations on narrow fractions near 2^63 - 1, with the answers of an arithmetic without a limit.
 const VECTORS: &str = "plus 9223372036854775807 0 9223372036854775807\n\
 plus 9223372036854775807 1 wide\n\
 plus 9223372036854775806 1 9223372036854775807\n\
@@ -108,14 +108,28 @@ plus 521351176385088565/14 23151/3098100873445666862 wide\n\
 times 651909349255925126/394330247410583559 -1/6 -325954674627962563/1182990742231750677\n\
 minus 1162757312/11 78372185 300663277/11";
 
-fn put(found: Result<Frac64, Wide>, into: &mut Vec<u8>) -> Result<(), AllocError> {
+// The same on whole numbers of 128 bits near 2^63, 2^64 and 2^127 - 1.
+const WHOLES: &str = "plus 9223372036854775807 1 9223372036854775808\n\
+minus -9223372036854775808 1 -9223372036854775809\n\
+plus 18446744073709551615 1 18446744073709551616\n\
+minus -18446744073709551616 1 -18446744073709551617\n\
+times 18446744073709551615 18446744073709551615 wide\n\
+times 18446744073709551615 9223372036854775808 170141183460469231722463931679029329920\n\
+times 18446744073709551616 9223372036854775808 wide\n\
+times -18446744073709551616 9223372036854775807 -170141183460469231713240559642174554112\n\
+plus 170141183460469231731687303715884105727 0 170141183460469231731687303715884105727\n\
+plus 170141183460469231731687303715884105727 1 wide\n\
+minus -170141183460469231731687303715884105727 1 wide\n\
+cmp 170141183460469231731687303715884105727 -170141183460469231731687303715884105727 greater";
+
+fn put<N: Exact>(found: Result<N, Wide>, into: &mut Vec<u8>) -> Result<(), AllocError> {
     match found {
         Ok(value) => value.widen().print(into),
         Err(_) => into.extend_from_slice(b"wide"),
     }
 }
 
-fn quotient(left: Frac64, right: Frac64) -> Result<Frac64, Wide> {
+fn quotient<N: Exact>(left: N, right: N) -> Result<N, Wide> {
     if right.widen() == Frac::whole(0) {
         return Ok(right);
     }
@@ -123,7 +137,7 @@ fn quotient(left: Frac64, right: Frac64) -> Result<Frac64, Wide> {
 }
 
 // How they compare, where all the comparisons agree.
-fn order(left: Frac64, right: Frac64) -> &'static str {
+fn order<N: Exact>(left: N, right: N) -> &'static str {
     match left.cmp(&right) {
         Ordering::Less if left < right && left != right => "less",
         Ordering::Equal if left == right && left <= right => "equal",
@@ -133,7 +147,7 @@ fn order(left: Frac64, right: Frac64) -> &'static str {
 }
 
 // The answer to the operation of that name.
-fn answer(alloc: Global, name: &str, left: Frac64, right: Frac64) -> Result<Vec<u8>, AllocError> {
+fn answer<N: Exact>(alloc: Global, name: &str, left: N, right: N) -> Result<Vec<u8>, AllocError> {
     let mut text = Vec::new(alloc);
     match name {
         "plus" => put(left.plus(right), &mut text)?,
@@ -146,14 +160,14 @@ fn answer(alloc: Global, name: &str, left: Frac64, right: Frac64) -> Result<Vec<
     Ok(text)
 }
 
-fn read(text: &str) -> Option<Frac64> {
+fn read<N: Exact>(text: &str) -> Option<N> {
     match read_fraction(text.as_bytes()) {
-        Some(value) => Frac64::narrow(value),
+        Some(value) => N::narrow(value),
         None => None,
     }
 }
 
-fn agrees(alloc: Global, line: &str) -> Result<bool, AllocError> {
+fn agrees<N: Exact>(alloc: Global, line: &str) -> Result<bool, AllocError> {
     let mut words = line.split(' ');
     let (Some(name), Some(left), Some(right), Some(want)) = (
         words.next(),
@@ -163,7 +177,7 @@ fn agrees(alloc: Global, line: &str) -> Result<bool, AllocError> {
     ) else {
         return Ok(false);
     };
-    let (Some(left), Some(right)) = (read(left), read(right)) else {
+    let (Some(left), Some(right)) = (read::<N>(left), read::<N>(right)) else {
         return Ok(false);
     };
     let found = answer(alloc, name, left, right)?;
@@ -188,10 +202,13 @@ fn parts_at(left: Frac, right: Frac) -> bool {
     told && left.minus(right).is_ok()
 }
 
-// The first line of the table that is not so.
-fn first_wrong(alloc: Global) -> Result<Option<&'static str>, AllocError> {
-    for line in VECTORS.lines() {
-        if !agrees(alloc, line)? {
+// The first line of a table that is not so.
+fn first_wrong<N: Exact>(
+    alloc: Global,
+    lines: &'static str,
+) -> Result<Option<&'static str>, AllocError> {
+    for line in lines.lines() {
+        if !agrees::<N>(alloc, line)? {
             return Ok(Some(line));
         }
     }
@@ -200,7 +217,8 @@ fn first_wrong(alloc: Global) -> Result<Option<&'static str>, AllocError> {
 
 #[test]
 fn vectors(rt: HostRuntime) -> Result<(), Fail> {
-    assert_eq!(rt; first_wrong(rt.alloc())?, None);
+    assert_eq!(rt; first_wrong::<Frac64>(rt.alloc(), VECTORS)?, None);
+    assert_eq!(rt; first_wrong::<Frac>(rt.alloc(), WHOLES)?, None);
     Ok(())
 }
 
