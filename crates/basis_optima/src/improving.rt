@@ -1,0 +1,78 @@
+//! How far the objective can go over a set.
+ghost use Rattle.std.specs.Prelude.{◌≡◌, ◌≤◌, IfSome, length};
+ghost use Rattle.certs.specs.Checks.{IsSetOf};
+ghost use Rattle.basis_optima.specs.Shape.{HasShape};
+
+use crate::descending::{End, descend, shares};
+use crate::optima::BestSuggestion;
+use crate::prices::Prices;
+use crate::slopes::{Descent, Way};
+use certs::{MemberSet, Ray, Values};
+use factors::signed;
+use frac128::Frac;
+use lp_model::Model;
+use quick_basis::{Basis, point, take_over};
+use std::alloc::Global;
+
+/// How far the objective can go over a set, from a basis that has the limits of the set, with as many pivots as are left: a point
+/// and shares that bound the objective by its value there, or a point and a ray. None where a variable misses a limit.
+pub fn best(
+    alloc: Global,
+    model: &Model,
+    set: &MemberSet,
+    basis: &mut Basis,
+    pivots: &mut u64,
+) -> Option<BestSuggestion>
+    requires same { IsSetOf model.now set.now }
+    ensures shape { IfSome result (HasShape (length model.now.columns)) }
+    ensures spent { pivots.new ≤ pivots.old }
+{
+    take_over(basis)?;
+    let costs = costs(alloc, model)?;
+    let prices = Prices::of_rows(alloc, model, None)?;
+    let mut descent = Descent::new(alloc, basis, prices, costs.as_slice())?;
+    match descend(alloc, basis, &mut descent, pivots)? {
+        End::Least => {
+            let combo = shares(alloc, basis, &descent, set)?;
+            Some(BestSuggestion::Bounded(point(alloc, model, basis, None)?, combo))
+        }
+        End::Endless(way) => {
+            let ray = ray(alloc, model, basis, way)?;
+            Some(BestSuggestion::Unbounded(point(alloc, model, basis, None)?, ray))
+        }
+    }
+}
+
+// What the columns cost where the objective is made least.
+fn costs(alloc: Global, model: &Model) -> Option<Vec<Frac>> {
+    let mut costs = vec![in alloc; Frac::whole(0); model.column_count() as usize].ok()?;
+    for term in model.objective() {
+        *costs.get_mut(term.column as usize)? = signed(term.factor, !model.maximise());
+    }
+    Some(costs)
+}
+
+// How the columns change where a nonbasic variable moves by 1, for which `solved` was solved.
+fn ray(alloc: Global, model: &Model, basis: &Basis, way: Way) -> Option<Ray>
+    ensures { IfSome result (λ ray. length ray.values ≡ length model.now.columns) }
+{
+    let mut values = Vec::new(alloc);
+    for column in 0..model.column_count() {
+        let fall = fall(basis, column, way.variable)?;
+        values.push(signed(fall, !way.rises)).ok()?;
+    }
+    Some(Ray {
+        values: Values::new(values),
+    })
+}
+
+// How much a variable falls where a nonbasic one rises by 1.
+fn fall(basis: &Basis, variable: u32, rising: u32) -> Option<Frac> {
+    if variable == rising {
+        return Some(Frac::whole(-1));
+    }
+    match basis.variable(variable)?.slot {
+        Some(slot) => basis.solved.value(slot),
+        None => Some(Frac::whole(0)),
+    }
+}

@@ -1,0 +1,56 @@
+//! How little of a set must give way.
+ghost use Rattle.std.specs.Prelude.{◌≡◌, ◌≤◌, IfSome, length};
+ghost use Rattle.certs.specs.Checks.{IsSetOf};
+
+use crate::descending::{End, descend, shares};
+use crate::optima::LeastSuggestion;
+use crate::prices::Prices;
+use crate::slopes::Descent;
+use certs::MemberSet;
+use frac128::Frac;
+use lp_model::Model;
+use quick_basis::{Basis, point, take_over};
+use std::alloc::Global;
+
+/// A point at which the sum of all costs of a set is least, and shares of members that show it, found from where the
+/// basis stands with as many pivots as are left, of which those that it makes are taken off: no wall may be missed there.
+pub fn least(
+    alloc: Global,
+    model: &Model,
+    set: &MemberSet,
+    prices: Prices,
+    basis: &mut Basis,
+    pivots: &mut u64,
+) -> Option<LeastSuggestion>
+    requires same { IsSetOf model.now set.now }
+    ensures shape { IfSome result (λ least. length least.point.values ≡ length model.now.columns) }
+    ensures spent { pivots.new ≤ pivots.old }
+{
+    take_over(basis)?;
+    basis.put_all_limits(model, set)?;
+    let mut descent = Descent::new(alloc, basis, prices, &[])?;
+    let End::Least = descend(alloc, basis, &mut descent, pivots)? else {
+        return None;
+    };
+    let combo = shares(alloc, basis, &descent, set)?;
+    let point = point(alloc, model, basis, None)?;
+    Some(LeastSuggestion { point, combo })
+}
+
+/// Makes the sum of what rows miss least, where no column may miss a bound, from where the basis stands; none where one
+/// misses a bound there, where a number does not fit, or where more pivots are wanted than are left.
+pub fn descend_first(
+    alloc: Global,
+    model: &Model,
+    basis: &mut Basis,
+    pivots: &mut u64,
+) -> Option<()>
+    ensures spent { pivots.new ≤ pivots.old }
+{
+    let prices = Prices::of_rows(alloc, model, Some(Frac::whole(1)))?;
+    let mut descent = Descent::new(alloc, basis, prices, &[])?;
+    match descend(alloc, basis, &mut descent, pivots)? {
+        End::Least => Some(()),
+        End::Endless(_) => None,
+    }
+}

@@ -1,0 +1,195 @@
+//! At what rates a sum of costs falls as nonbasic variables move.
+use crate::candidates::Candidates;
+use crate::prices::Prices;
+use certs::Side;
+use factors::{is_zero, signed};
+use frac128::Frac;
+use quick_basis::{Basis, Variable, is_narrow};
+use std::alloc::Global;
+
+/// A nonbasic variable that moves up or down, and at what rate the sum falls by it.
+#[derive(Clone, Copy)]
+pub(crate) struct Way {
+    pub variable: u32,
+    pub rises: bool,
+    pub rate: Frac,
+}
+
+/// A run that makes least what it costs that variables miss limits, with the costs of an objective: which side each basic
+/// variable counts as missing, and the reduced cost of each nonbasic one, which is how the sum rises with it by the basic ones
+/// and by the objective.
+///
+/// A basic variable that stands at a limit may count as missing it. So what was passed is not forgotten where a step has no
+/// length, and the run does not go back.
+#[derive(Drop)]
+pub(crate) struct Descent {
+    pub prices: Prices,
+    pub missed: Vec<Option<Side>>,
+    pub reduced: Vec<Frac>,
+    pub idle: u64,
+    candidates: Candidates,
+}
+
+impl Descent {
+    /// The run from where the basis stands, with the costs of the columns in an objective, or of none; none where the limits of
+    /// a variable cross, or one misses a wall.
+    pub(crate) fn new(
+        alloc: Global,
+        basis: &mut Basis,
+        prices: Prices,
+        costs: &[Frac],
+    ) -> Option<Descent> {
+        let count = basis.variables.len();
+        let candidates = Candidates::new(alloc, count)?;
+        let mut missed = Vec::with_capacity(alloc, count).ok()?;
+        let mut reduced = Vec::with_capacity(alloc, count).ok()?;
+        for (variable, known) in (0..).zip(basis.variables.iter()) {
+            if known.is_crossed() || prices.slope(variable, known.missed).is_none() {
+                return None;
+            }
+            missed.push(known.missed).ok()?;
+            reduced.push(cost(costs, variable)).ok()?;
+        }
+        let mut descent = Descent {
+            prices,
+            missed,
+            reduced,
+            idle: 0,
+            candidates,
+        };
+        descent.begin(basis, costs)?;
+        Some(descent)
+    }
+
+    // Finds the reduced costs of all nonbasic variables, and the rates by them.
+    fn begin(&mut self, basis: &mut Basis, costs: &[Frac]) -> Option<()> {
+        basis.costs.clear();
+        for (slot, base) in (0..).zip(basis.head.iter()) {
+            let slope = self.basic_slope(*base)?.plus(cost(costs, *base)).ok()?;
+            if !is_zero(slope) {
+                basis.costs.set(slot, slope)?;
+            }
+        }
+        self.solve(basis)?;
+        self.rate_all(basis)
+    }
+
+    // Puts down for the candidates at what rate the sum falls by each nonbasic variable.
+    fn rate_all(&mut self, basis: &Basis) -> Option<()> {
+        for (variable, known) in (0..).zip(basis.variables.iter()) {
+            if known.slot.is_none() {
+                self.rate_anew(basis, variable)?;
+            }
+        }
+        Some(())
+    }
+
+    /// Whether so many steps in a row had no length that the least variable is to be taken.
+    pub(crate) fn is_stuck(&self, basis: &Basis) -> bool {
+        let patience = (basis.head.len() as u64)
+            .saturating_mul(2)
+            .saturating_add(200);
+        self.idle > patience
+    }
+
+    /// By how much what it costs to miss limits rises with a basic variable.
+    pub(crate) fn basic_slope(&self, variable: u32) -> Option<Frac> {
+        let missed = *self.missed.get(variable as usize)?;
+        self.prices.slope(variable, missed)
+    }
+
+    /// Solves for how the reduced costs change by the changed slopes of basic variables in `costs`, and changes them.
+    pub(crate) fn solve(&mut self, basis: &mut Basis) -> Option<()> {
+        basis.solve_row()?;
+        for variable in basis.row.places() {
+            let change = basis.row.value(*variable)?;
+            if !is_zero(change) {
+                let reduced = *self.reduced.get(*variable as usize)?;
+                self.put(basis, *variable, reduced.minus(change).ok()?)?;
+            }
+        }
+        Some(())
+    }
+
+    // Puts down the reduced cost of a nonbasic variable, and the rate by it.
+    fn put(&mut self, basis: &Basis, variable: u32, reduced: Frac) -> Option<()> {
+        if basis.is_narrow && !is_narrow(reduced) {
+            return None;
+        }
+        *self.reduced.get_mut(variable as usize)? = reduced;
+        self.rate_anew(basis, variable)
+    }
+
+    /// Puts down for the candidates at what rate the sum falls by a nonbasic variable.
+    pub(crate) fn rate_anew(&mut self, basis: &Basis, variable: u32) -> Option<()> {
+        let way = self.way(variable, basis.variable(variable)?)?;
+        let rate = way.map_or(Frac::whole(0), |way| way.rate);
+        self.candidates.put(variable, rate)
+    }
+
+    /// A variable has left the basis, with its reduced cost, and another one has entered.
+    pub(crate) fn exchange(
+        &mut self,
+        basis: &Basis,
+        enters: u32,
+        leaves: u32,
+        reduced: Frac,
+    ) -> Option<()> {
+        self.candidates.put(enters, Frac::whole(0))?;
+        self.put(basis, leaves, reduced)
+    }
+
+    /// How the next variable that enters moves; none in it where the sum falls by none.
+    pub(crate) fn next_way(&mut self, basis: &Basis) -> Option<Option<Way>> {
+        let is_stuck = self.is_stuck(basis);
+        let Some(variable) = self.candidates.best(&basis.by_column, is_stuck)? else {
+            return Some(None);
+        };
+        self.way(variable, basis.variable(variable)?)?.map(Some)
+    }
+
+    // The way of a nonbasic variable on which the sum falls; none in it where there is none.
+    fn way(&self, variable: u32, known: &Variable) -> Option<Option<Way>> {
+        for rises in [true, false] {
+            let rate = self.rate(variable, known, rises)?;
+            if rate.num() > 0 {
+                return Some(Some(Way {
+                    variable,
+                    rises,
+                    rate,
+                }));
+            }
+        }
+        Some(None)
+    }
+
+    // At what rate the sum falls as a nonbasic variable rises or falls; 0 where a wall is in the way.
+    fn rate(&self, variable: u32, known: &Variable, rises: bool) -> Option<Frac> {
+        let reduced = *self.reduced.get(variable as usize)?;
+        if is_zero(reduced) && known.missed.is_none() {
+            return Some(reduced);
+        }
+        let missed = missed_on_the_way(known, rises);
+        let Some(slope) = self.prices.slope(variable, missed) else {
+            return Some(Frac::whole(0));
+        };
+        Some(signed(slope.plus(reduced).ok()?, !rises))
+    }
+}
+
+// What a variable costs in an objective, of whose columns the costs are given.
+fn cost(costs: &[Frac], variable: u32) -> Frac {
+    costs
+        .get(variable as usize)
+        .copied()
+        .unwrap_or(Frac::whole(0))
+}
+
+/// The side that a nonbasic variable misses as soon as it moves up or down.
+pub(crate) fn missed_on_the_way(known: &Variable, rises: bool) -> Option<Side> {
+    let side = if rises { Side::Up } else { Side::Lo };
+    if known.is_at(side) {
+        return Some(side);
+    }
+    known.missed
+}

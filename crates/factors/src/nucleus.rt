@@ -1,0 +1,195 @@
+//! The nucleus of a basis: the rows and slots that are left after those with one entry.
+use crate::arithmetic::{is_zero, quotient, width};
+use crate::sides::Entry;
+use crate::vectors::SparseVector;
+use frac128::Frac;
+use std::alloc::Global;
+
+// How many rows and slots are looked at for a pivot.
+const CANDIDATES: usize = 4;
+
+// How many entries a row or a slot has, whether it is a row, and its index.
+type Candidate = (usize, bool, u32);
+
+/// The entries of each row, and the rows of each slot. What was a pivot's has none.
+#[derive(Drop)]
+pub(crate) struct Nucleus {
+    rows: Vec<Vec<Entry>>,
+    slots: Vec<Vec<u32>>,
+    sum: SparseVector,
+}
+
+/// A pivot, with the number of entries that it can make, and its width.
+#[derive(Clone, Copy)]
+pub(crate) struct Pivot {
+    pub row: u32,
+    pub slot: u32,
+    pub value: Frac,
+    cost: usize,
+    width: u32,
+}
+
+impl Nucleus {
+    /// So many rows and slots without entries.
+    pub(crate) fn new(alloc: Global, count: usize) -> Option<Nucleus> {
+        let mut rows = Vec::with_capacity(alloc, count).ok()?;
+        let mut slots = Vec::with_capacity(alloc, count).ok()?;
+        for _ in 0..count {
+            rows.push(Vec::new(alloc)).ok()?;
+            slots.push(Vec::new(alloc)).ok()?;
+        }
+        let sum = SparseVector::new(alloc, count)?;
+        Some(Nucleus { rows, slots, sum })
+    }
+
+    /// Puts an entry in.
+    pub(crate) fn put(&mut self, row: u32, slot: u32, value: Frac) -> Option<()> {
+        let entry = Entry { place: slot, value };
+        self.rows.get_mut(row as usize)?.push(entry).ok()?;
+        self.slots.get_mut(slot as usize)?.push(row).ok()
+    }
+
+    /// Of the entries of the shortest rows and slots the one that makes the fewest entries as a pivot, the narrowest of these
+    /// (Markowitz, *The elimination form of the inverse and its application to linear programming*, 1957).
+    pub(crate) fn choose(&self, alloc: Global) -> Option<Pivot> {
+        let mut best: Option<Pivot> = None;
+        for (count, is_row, index) in self.shortest(alloc)?.iter() {
+            let others = count.saturating_sub(1);
+            let least = others.saturating_mul(others);
+            if best.is_some_and(|found| found.cost <= least) {
+                break;
+            }
+            if *is_row {
+                for entry in self.rows.get(*index as usize)?.iter() {
+                    best = self.better(best, *index, entry.place)?;
+                }
+            } else {
+                for row in self.slots.get(*index as usize)?.iter() {
+                    best = self.better(best, *row, *index)?;
+                }
+            }
+        }
+        best
+    }
+
+    // The rows and slots that have the fewest entries.
+    fn shortest(&self, alloc: Global) -> Option<Vec<Candidate>> {
+        let mut shortest = Vec::new(alloc);
+        for index in 0..u32::try_from(self.rows.len()).ok()? {
+            let rows = self.slots.get(index as usize)?.len();
+            keep(&mut shortest, (rows, false, index))?;
+            let entries = self.rows.get(index as usize)?.len();
+            keep(&mut shortest, (entries, true, index))?;
+        }
+        Some(shortest)
+    }
+
+    // The better one of the best pivot so far and another.
+    fn better(&self, best: Option<Pivot>, row: u32, slot: u32) -> Option<Option<Pivot>> {
+        let entries = self.rows.get(row as usize)?;
+        let rows = self.slots.get(slot as usize)?;
+        let others = entries.len().saturating_sub(1);
+        let cost = others.saturating_mul(rows.len().saturating_sub(1));
+        if let Some(found) = &best
+            && found.cost < cost
+        {
+            return Some(best);
+        }
+        let value = value_of(entries.as_slice(), slot)?;
+        let width = width(value);
+        if let Some(found) = &best
+            && (found.cost, found.width) <= (cost, width)
+        {
+            return Some(best);
+        }
+        Some(Some(Pivot {
+            row,
+            slot,
+            value,
+            cost,
+            width,
+        }))
+    }
+
+    /// Takes out the row of a pivot, and gives its entries in other slots.
+    pub(crate) fn take_row(&mut self, alloc: Global, pivot: Pivot) -> Option<Vec<Entry>> {
+        let row = self.rows.get_mut(pivot.row as usize)?;
+        let mut entries = std::mem::replace(row, Vec::new(alloc));
+        entries.retain(|entry| entry.place != pivot.slot);
+        for entry in entries.iter() {
+            let rows = self.slots.get_mut(entry.place as usize)?;
+            rows.retain(|row| *row != pivot.row);
+        }
+        Some(entries)
+    }
+
+    /// Takes out the slot of a pivot, and gives its other rows.
+    pub(crate) fn take_slot(&mut self, alloc: Global, pivot: Pivot) -> Option<Vec<u32>> {
+        let slot = self.slots.get_mut(pivot.slot as usize)?;
+        let mut rows = std::mem::replace(slot, Vec::new(alloc));
+        rows.retain(|row| *row != pivot.row);
+        Some(rows)
+    }
+
+    /// Takes the row of a pivot, of which these are the other entries, off another row as many times as clears its slot there,
+    /// and gives how many.
+    pub(crate) fn reduce(&mut self, row: u32, pivot: Pivot, entries: &[Entry]) -> Option<Frac> {
+        let own = self.rows.get_mut(row as usize)?;
+        let value = value_of(own.as_slice(), pivot.slot)?;
+        let times = quotient(value, pivot.value)?;
+        own.retain(|entry| entry.place != pivot.slot);
+        self.sum.clear();
+        for entry in own.iter() {
+            self.sum.set(entry.place, entry.value)?;
+        }
+        for entry in entries {
+            self.sum.subtract(entry.place, entry.value, times)?;
+        }
+        self.store(row)?;
+        Some(times)
+    }
+
+    // Stores the sum as a row, whose places come first in it.
+    fn store(&mut self, row: u32) -> Option<()> {
+        let own = self.rows.get_mut(row as usize)?;
+        let before = own.len();
+        own.clear();
+        for (index, place) in self.sum.places().iter().enumerate() {
+            let value = self.sum.value(*place)?;
+            let rows = self.slots.get_mut(*place as usize)?;
+            if is_zero(value) {
+                rows.retain(|other| *other != row);
+                continue;
+            }
+            let place = *place;
+            own.push(Entry { place, value }).ok()?;
+            if index >= before {
+                rows.push(row).ok()?;
+            }
+        }
+        Some(())
+    }
+}
+
+// Keeps a row or a slot that has entries among the first ones.
+#[inline(always)]
+fn keep(first: &mut Vec<Candidate>, candidate: Candidate) -> Option<()> {
+    let is_full = first.len() >= CANDIDATES;
+    if candidate.0 == 0 || is_full && first.last().is_some_and(|last| *last < candidate) {
+        return Some(());
+    }
+    first.push(candidate).ok()?;
+    first.sort_unstable();
+    first.truncate(CANDIDATES);
+    Some(())
+}
+
+// The value at a place.
+fn value_of(entries: &[Entry], place: u32) -> Option<Frac> {
+    for entry in entries {
+        if entry.place == place {
+            return Some(entry.value);
+        }
+    }
+    None
+}
