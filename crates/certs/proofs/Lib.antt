@@ -1,4 +1,5 @@
 pub mod Lists
+mod Sequence
 pub mod Signs
 pub mod Sides
 pub mod Refuted

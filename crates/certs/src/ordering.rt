@@ -1,5 +1,5 @@
 //! The order in which the shares of a combination stand.
-ghost use Rattle.std.specs.Prelude.{◌≡◌};
+ghost use Rattle.std.specs.Prelude.{◌≡◌, ◌&&◌};
 ghost use Rattle.std.specs.List.{list_all};
 ghost use Rattle.certs.specs.Order.{are_in_order as all_in_order, source_before};
 
@@ -21,25 +21,24 @@ pub fn stands_before(first: Source, second: Source) -> bool
     }
 }
 
-// Whether a source stands before all of these.
-fn stands_before_all(source: Source, rest: &[Share]) -> bool
-    ensures { result ≡ list_all (λ t. source_before source t.source) rest.now }
+// Whether a source stands before the first of these: where they are in order, before all of them.
+fn stands_before_next(source: Source, rest: &[Share]) -> bool
+    ensures { let before_all = list_all (λ t. source_before source t.source) rest.now in
+        (before_all && all_in_order rest.now) ≡ (result && all_in_order rest.now) }
 {
-    for other in rest {
-        if !stands_before(source, other.source) {
-            return false;
-        }
+    match rest {
+        [next, ..] => stands_before(source, next.source),
+        [] => true,
     }
-    true
 }
 
-/// Whether each share stands before all after it.
+/// Whether each share stands before all after it: it does where each stands before the next.
 pub fn are_in_order(shares: &[Share]) -> bool
     ensures { result ≡ all_in_order shares.now }
 {
     let mut left = shares;
     while let [first, rest @ ..] = left {
-        if !stands_before_all(first.source, rest) {
+        if !stands_before_next(first.source, rest) {
             return false;
         }
         left = rest;
