@@ -179,16 +179,12 @@ class LpReader:
 
     def __init__(self, text: str):
         self.tokens: list[tuple[str, str, bool]] = []
-        self.places: list[int] = []
-        self.at = self.rows_end = start = 0
+        self.at = 0
         self.model = Model()
         for line in text.split("\n"):
             found = list(TOKEN.finditer(line.split("\\")[0]))
             self.tokens += [(it.lastgroup or "", it[0], place == 0) for place, it in enumerate(found)]
-            self.places += [start + it.start() for it in found]
-            start += len(line) + 1
         self.tokens.append(("word", "end", True))
-        self.places.append(len(text))
 
     def kind(self, ahead: int = 0) -> str:
         at = self.at + ahead
@@ -215,7 +211,6 @@ class LpReader:
         while section != "end":
             found = self.heading()
             if found:
-                self.rows_end = self.places[self.at] if section == "rows" else self.rows_end
                 section, width = found
                 self.at += width
                 self.model.maximise = self.model.maximise or section == "max"
@@ -310,20 +305,6 @@ class LpReader:
         place = {name: at for at, name in enumerate(self.model.columns)}
         for row in self.model.rows.values():
             row.terms = dict(sorted(row.terms.items(), key=lambda it: place[it[0]]))
-
-
-def with_idle_rows(data: bytes, is_lp: bool, count: int) -> bytes:
-    """A model with so many rows more, behind its own, which say nothing: every point keeps them."""
-    text = data.decode("latin-1")
-    reader = LpReader(text)
-    model = reader.read() if is_lp else MpsReader().read(text)
-    stem = next(it for it in ("idle_", "idle__", "i_d_l_e_") if not any(name.startswith(it) for name in model.rows))
-    if is_lp:
-        place, row = reader.rows_end, f" {stem}{{}}: 0 {next(iter(model.columns))} >= -1\n"
-    else:
-        place = re.search(r"^(COLUMNS)", text, re.M).start()
-        row = f" L {stem}{{}}\n"
-    return (text[:place] + "".join(row.format(number) for number in range(count)) + text[place:]).encode("latin-1")
 
 
 def set_limits(part: Union[Row, Column], relation: str, number: Optional[Number]) -> None:

@@ -6,7 +6,7 @@ from typing import Optional
 
 from asking import Answer, Desk, NotBelieved, OutOfTime, Refused
 from contradictions import Contradiction
-from model_texts import Model, is_lp_file, read_bytes, read_model, with_idle_rows
+from model_texts import Model, is_lp_file, read_bytes, read_model
 from yielding import Yielding, rigid_bounds
 
 METHODS = ("deletion", "additive", "sensitivity", "elastic", "alternative")
@@ -15,8 +15,6 @@ WITHOUT_MARKS = ("alternative", "deletion", "additive")
 WITH_MARKS = ("additive", "sensitivity")
 # A script has at most 10,000 commands.
 MOST_DROPS = 9000
-# No quick run is made of a model of so many rows times columns.
-SMALL = 1000
 
 
 class Question:
@@ -28,7 +26,7 @@ class Question:
         data = read_bytes(path)
         is_lp = is_lp_file(path, data)
         self.desk = Desk(data, is_lp, seconds)
-        self.edits, self.data, self.is_wide = edits, data, False
+        self.edits = edits
         self.stops: list[tuple[str, str]] = []
         try:
             unknown = next((it for it in self.desk.ask(self.edits) if it.word == "unknown name"), None)
@@ -64,21 +62,9 @@ class Question:
                 return answer
         return None
 
-    def widen(self) -> bool:
-        """Puts idle rows beside a small model, once, so that quick runs are made of it; whether that may serve after a stop."""
-        missing = SMALL // max(len(self.model.columns), 1) + 1 - len(self.model.rows)
-        if self.is_wide or missing <= 0 or not self.model.columns or not any(stop == "too wide" for _, stop in self.stops):
-            return False
-        self.is_wide = True
-        self.desk.write(self.desk.name, with_idle_rows(self.data, self.desk.name == "model.lp", missing))
-        self.stops.clear()
-        return True
-
     def answer(self) -> tuple[Optional[Answer], bool]:
         """What shows whether the model can be met, and whether whole values have no part in it."""
         answer, is_aside = self.ask_round()
-        if answer is None and self.widen():
-            answer, is_aside = self.ask_round()
         if answer is None and not self.method:
             answer, is_aside = self.relaxed(), True
         return answer and self.narrowed(answer), is_aside
@@ -120,8 +106,6 @@ class Question:
         given = [line for line in self.edits if line.startswith("weight ")]
         lines = [*rigid_bounds(self.model), *given, *self.plain, "relax"]
         answer = self.ask_last(lines, "relax")
-        if answer is None and self.widen():
-            answer = self.ask_last(lines, "relax")
         return Yielding(self.model, answer, given) if answer else None
 
 

@@ -66,7 +66,7 @@ CASES = [
     ("dense.lp", dense(2), "", 0, "all requirements can be met"),
     ("dense.lp", dense(8), "", 1, "These 11 requirements contradict one another; each of them is needed"),
     ("dense.mps", mps_text(read_model(dense(8).encode(), True)), "", 1, "These 11 requirements contradict one another"),
-    ("dense.lp", dense(16), "", 1, "These 21 requirements contradict one another; each of them is needed"),
+    ("dense.lp", dense(16), "", 1, "These 17 requirements contradict one another; each of them is needed"),
     ("dense.lp", dense(12), "", 3, "relax: too wide"),
     ("large.lp", LARGE, "--method elastic", 3, "the table would be too large"),
     ("plan.lp", PLAN, "--script no_pivots.script --relax", 3, "the pivots are spent"),

@@ -1,5 +1,5 @@
 -- What the quick oracle answers over the reference.
-use Rattle.std.proofs.Common.{◌≡◌, ℕ, refl, sym, ◌∙◌, ap, subst, Bool, true, false, true≢false, not, ◌||◌, ◌&&◌, ◌==◌, eq-eqb, List, Ok, Err, inl, inr}
+use Rattle.std.proofs.Common.{◌≡◌, ℕ, refl, sym, ◌∙◌, ap, subst, Bool, true, false, true≢false, not, ◌&&◌, ◌==◌, eq-eqb, List, Ok, Err, inl, inr}
 use Rattle.std.specs.Prelude.{All, Result, ◌⊎◌}
 use Rattle.std.proofs.lemmas.Bool.{or_right}
 use Rattle.std.proofs.lemmas.List.Elements.{All-contains_itself, All-weaker, filter_passes}
@@ -24,7 +24,7 @@ use Rattle.branch_proof.proofs.TreeAnswers.{tree_holds, tree_ordered}
 use Rattle.branch_oracle.specs.Answers.{IsBranchAnswer}
 use Rattle.presolve_laws.specs.Answers.{IsPresolvedAnswer, IsPresolvedReference, IsPresolvedVerdict}
 use Rattle.presolve_laws.proofs.PresolveAnswers.{presolved_fits, presolved_holds, presolved_ordered}
-use Rattle.quick_oracle.specs.Alone.{has_crossing, is_small, stands_alone, wants_nodes}
+use Rattle.quick_oracle.specs.Alone.{is_tiny, stands_alone, wants_nodes}
 use Rattle.quick_oracle.specs.Answers.{IsAsked, IsQuickAnswer, quick_holds, quick_ordered}
 use Rattle.analysis.specs.Right.{IsWhole}
 use Rattle.analysis.proofs.Stopping.{IsRunOf}
@@ -125,8 +125,7 @@ asked_run model budgets set stop whole h = record {
 -- a set with a mark stands alone where quick trees may have no nodes
 pub marked_alone : (model : Program) (set : List Member) (nodes : ℕ) → nodes ≡ 0 → has_mark set ≡ true → stands_alone model set nodes ≡ true
 marked_alone model set nodes none e =
-    or_right (is_small model set) (has_crossing model set || wants_nodes set nodes)
-    (or_right (has_crossing model set) (wants_nodes set nodes) (ap (λ b. not (not b) && (nodes == 0)) e ∙ eq-eqb nodes 0 none))
+    or_right (is_tiny model set) (wants_nodes set nodes) (ap (λ b. not (not b) && (nodes == 0)) e ∙ eq-eqb nodes 0 none)
 
 -- what the inner oracle was asked for it is its tree
 pub by_tree : (model : Program) (budgets : Budgets) (set : List Member) (verdict : Verdict) (before after : OracleState) → before.model ≡ model → before.budgets ≡ budgets → has_mark set ≡ true → IsAsked InnerAnswers before after set (Ok verdict)

@@ -9,7 +9,7 @@ ghost use Rattle.report_printer.specs.Printing.{IsKnownAnswer};
 ghost use Rattle.analysis.specs.Answers.{IsNext, IsRefutedBy, budgets_of, fresh_oracle};
 ghost use Rattle.analysis.specs.Right.{BoxLaw, IsChecked, budgets_after, first_budgets as budgets_at_first};
 
-use crate::asking::{Reference, quick_oracle};
+use crate::asking::{Reference, keep, quick_oracle};
 use crate::diagnosing::diagnosis;
 use crate::reducing::reduction;
 use crate::relaxing::relaxation;
@@ -98,7 +98,7 @@ fn check(
     let set = model.members(alloc)?;
     let mut oracle = quick_oracle(alloc, model, budgets, 0, kept);
     let answer = check_by(alloc, model, budgets, &mut oracle, &set);
-    *kept = oracle.into_kept();
+    keep(kept, oracle.into_kept());
     answer
 }
 

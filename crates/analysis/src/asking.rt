@@ -40,10 +40,14 @@ pub(crate) fn quick_oracle<'a>(
     ensures inner { result.inner ≡ fresh_oracle model.now (budgets_of budgets) }
     ensures pivots { result.pivots ≡ budgets.pivots }
     ensures nodes { result.nodes ≡ nodes }
-    ensures made { result.made ≡ kept.old.made }
     ensures tale { result.tale ≡ no_tale }
 {
     let inner = reference_oracle(alloc, model, budgets);
     let kept = mem::replace(kept, Kept::new());
     QuickOracle::new(alloc, model, kept, inner, budgets.pivots, nodes)
+}
+
+/// Keeps what an oracle used of the program, for the next one.
+pub(crate) fn keep(kept: &mut Kept, used: Kept) {
+    *kept = used;
 }

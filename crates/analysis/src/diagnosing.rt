@@ -1,17 +1,17 @@
 //! Whether the objective runs away over the active members, or how far it can go.
-ghost use Rattle.std.specs.Prelude.{◌≡◌, ◌<◌, ◌^◌, Err, IfOk, Ok};
+ghost use Rattle.std.specs.Prelude.{◌≡◌, ◌<◌, ◌^◌, Err, IfOk, IfSome, Ok};
 ghost use Rattle.lp_model.specs.MemberSets.{active_set};
 ghost use Rattle.analysis.specs.Answers.{budgets_of};
 ghost use Rattle.analysis.specs.Objectives.{IsDiagnosed, IsFoundBy, IsTold, diagnosis_size};
 
 use crate::answering::{Budgets, refuted};
-use crate::asking::quick_oracle;
+use crate::asking::{keep, quick_oracle};
 use crate::reducing::set_rows;
-use crate::searching::stopped;
+use crate::searching::{is_wide, stopped};
 use certs::{MemberSet, Stop};
 use lp_model::Model;
 use quick_optimum::quick_best;
-use quick_oracle::Kept;
+use quick_oracle::{Kept, is_small};
 use report_text::{Answer, Bounded};
 use std::alloc::{AllocError, Global};
 use unbounded::{Diagnosis, diagnose};
@@ -50,7 +50,8 @@ fn size_of(alloc: Global, model: &Model, set: &MemberSet) -> Result<u64, AllocEr
     Ok((rows.as_slice().len() as u64 + 1) * columns)
 }
 
-// What is told of the objective, where the dictionary is not too large: what quick runs show, or else the improve run.
+// What is told of the objective, where the dictionary is not too large: what quick runs show, or else the improve run; of a small
+// set that comes second, where a number did not fit.
 fn diagnosed(
     alloc: Global,
     model: &Model,
@@ -62,12 +63,53 @@ fn diagnosed(
     requires whole { set.now ≡ active_set model.now }
     ensures { IfOk result (IsTold model.now (budgets_of budgets)) }
 {
-    if let Some(found) = quick_best(alloc, model, set, kept, budgets.pivots) {
-        return told(alloc, model, budgets, set, Ok(found));
+    let is_small = is_small(model, set);
+    if !is_small && let Some(answer) = quickly_diagnosed(alloc, model, budgets, set, kept)? {
+        return Ok(answer);
     }
+    let answer = diagnosed_by_run(alloc, model, budgets, set, kept)?;
+    if is_small
+        && is_wide(&answer)
+        && let Some(answer) = quickly_diagnosed(alloc, model, budgets, set, kept)?
+    {
+        return Ok(answer);
+    }
+    Ok(answer)
+}
+
+// What quick runs show of it.
+fn quickly_diagnosed(
+    alloc: Global,
+    model: &Model,
+    budgets: Budgets,
+    set: &MemberSet,
+    kept: &mut Kept,
+) -> Result<Option<Answer>, AllocError>
+    requires { set.now ≡ active_set model.now }
+    ensures { IfOk result (λ found. IfSome found (IsTold model.now (budgets_of budgets))) }
+{
+    let Some(found) = quick_best(alloc, model, set, kept, budgets.pivots) else {
+        return Ok(None);
+    };
+    let answer = told(alloc, model, budgets, set, Ok(found))?;
+    Ok(Some(answer))
+}
+
+// The same by the improve run.
+fn diagnosed_by_run(
+    alloc: Global,
+    model: &Model,
+    budgets: Budgets,
+    set: &MemberSet,
+    kept: &mut Kept,
+) -> Result<Answer, AllocError>
+    requires few { budgets.pivots < 2 ^ 63 }
+    requires whole { set.now ≡ active_set model.now }
+    ensures { IfOk result (IsTold model.now (budgets_of budgets)) }
+{
     let mut oracle = quick_oracle(alloc, model, budgets, 0, kept);
     let found = diagnose(alloc, model, &mut oracle, budgets.pivots);
-    *kept = oracle.into_kept();
+    keep(kept, oracle.into_kept());
     told(alloc, model, budgets, set, found)
 }
 

@@ -8,7 +8,7 @@ ghost use Rattle.analysis.specs.Linear.{first_mark};
 ghost use Rattle.analysis.specs.Right.{IsEnforcedTold, IsFound};
 
 use crate::answering::Budgets;
-use crate::asking::quick_oracle;
+use crate::asking::{keep, quick_oracle};
 use crate::linear::not_begun;
 use crate::searching::{concluded, stopped};
 use certs::MemberSet;
@@ -59,7 +59,7 @@ fn enforced(
     let taken = mem::replace(kept, Kept::new());
     let mut stretcher = QuickStretcher::new(alloc, model, taken, budgets.pivots);
     let ended = enforce(alloc, &mut stretcher, set);
-    *kept = stretcher.into_kept();
+    keep(kept, stretcher.into_kept());
     match ended {
         Ok(
             Enforced::Set {
@@ -70,7 +70,7 @@ fn enforced(
         ) => {
             let mut oracle = quick_oracle(alloc, model, budgets, budgets.nodes, kept);
             let given = deletion_filter::isolate(alloc, &mut oracle, &members);
-            *kept = oracle.into_kept();
+            keep(kept, oracle.into_kept());
             concluded(Some(rounds), given)
         }
         Ok(Enforced::Feasible(point)) => Ok(Answer::Feasible(point)),

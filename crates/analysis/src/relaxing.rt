@@ -1,5 +1,5 @@
 //! How little of the active members must give way.
-ghost use Rattle.std.specs.Prelude.{◌≡◌, ◌<◌, ◌^◌, None, IfOk};
+ghost use Rattle.std.specs.Prelude.{◌≡◌, ◌<◌, ◌^◌, None, IfOk, IfSome};
 ghost use Rattle.lp_model.specs.Members.{active_members};
 ghost use Rattle.lp_model.specs.MemberSets.{active_set};
 ghost use Rattle.certs.specs.Sites.{Budgets as OneBudgets};
@@ -12,13 +12,13 @@ ghost use Rattle.analysis.specs.Linear.{first_mark};
 
 use crate::answering::Budgets;
 use crate::linear::not_begun;
-use crate::searching::stopped;
+use crate::searching::{is_wide, stopped};
 use certs::{Combo, MemberSet, members_used};
 use least_checks::rigid_set;
 use linear_oracle::leaf_proof;
 use lp_model::Model;
 use quick_optimum::quick_least;
-use quick_oracle::Kept;
+use quick_oracle::{Kept, is_small};
 use relaxation::{Relaxed, relax};
 use report_text::Answer;
 use std::alloc::{AllocError, Global};
@@ -43,7 +43,8 @@ pub(crate) fn relaxation(
     relaxed(alloc, model, budgets, &set, kept)
 }
 
-// What is told of it, where there is no mark: what quick runs show, or else the run of the elastic system.
+// What is told of it, where there is no mark: what quick runs show, or else the run of the elastic system; of a small set that
+// comes second, where a number did not fit.
 fn relaxed(
     alloc: Global,
     model: &Model,
@@ -56,10 +57,51 @@ fn relaxed(
     requires linear { first_mark (active_members model.now) ≡ None }
     ensures { IfOk result (IsLeastTold model.now (budgets_of budgets)) }
 {
-    set.stands_in_order();
-    if let Some(found) = quick_least(alloc, model, set, kept, budgets.pivots) {
-        return told(alloc, model, set, found);
+    let is_small = is_small(model, set);
+    if !is_small && let Some(answer) = quickly_relaxed(alloc, model, budgets, set, kept)? {
+        return Ok(answer);
     }
+    let answer = relaxed_by_run(alloc, model, budgets, set)?;
+    if is_small
+        && is_wide(&answer)
+        && let Some(answer) = quickly_relaxed(alloc, model, budgets, set, kept)?
+    {
+        return Ok(answer);
+    }
+    Ok(answer)
+}
+
+// What quick runs show of it.
+fn quickly_relaxed(
+    alloc: Global,
+    model: &Model,
+    budgets: Budgets,
+    set: &MemberSet,
+    kept: &mut Kept,
+) -> Result<Option<Answer>, AllocError>
+    requires { set.now ≡ active_set model.now }
+    ensures { IfOk result (λ found. IfSome found (IsLeastTold model.now (budgets_of budgets))) }
+{
+    let Some(found) = quick_least(alloc, model, set, kept, budgets.pivots) else {
+        return Ok(None);
+    };
+    let answer = told(alloc, model, set, found)?;
+    Ok(Some(answer))
+}
+
+// The same by the run of the elastic system.
+fn relaxed_by_run(
+    alloc: Global,
+    model: &Model,
+    budgets: Budgets,
+    set: &MemberSet,
+) -> Result<Answer, AllocError>
+    requires few { budgets.pivots < 2 ^ 63 }
+    requires whole { set.now ≡ active_set model.now }
+    requires linear { first_mark (active_members model.now) ≡ None }
+    ensures { IfOk result (IsLeastTold model.now (budgets_of budgets)) }
+{
+    set.stands_in_order();
     match relax(alloc, model, set, budgets.pivots) {
         Ok(found) => told(alloc, model, set, found),
         Err(stop) => stopped(stop),

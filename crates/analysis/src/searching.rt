@@ -6,12 +6,12 @@ ghost use Rattle.analysis.specs.Answers.{IsAnswerOf, IsFoundInOrder, IsRunStop, 
 ghost use Rattle.analysis.specs.Right.{IsFound};
 
 use crate::answering::Budgets;
-use crate::asking::{quick_oracle, reference_oracle};
+use crate::asking::{keep, quick_oracle, reference_oracle};
 use crate::enforcing::enforced_search;
 use crate::weighing::weighed_search;
 use certs::{Irreducible, MemberSet, Stop};
 use lp_model::Model;
-use quick_oracle::Kept;
+use quick_oracle::{Kept, is_small};
 use report_text::{Answer, Core, Method, Witnesses};
 use std::alloc::{AllocError, Global};
 
@@ -51,7 +51,7 @@ fn late_search(
 {
     let mut oracle = quick_oracle(alloc, model, budgets, budgets.nodes, kept);
     let given = deletion_filter::isolate(alloc, &mut oracle, set);
-    *kept = oracle.into_kept();
+    keep(kept, oracle.into_kept());
     concluded(None, given)
 }
 
@@ -69,13 +69,41 @@ fn early_search(
 {
     let mut oracle = quick_oracle(alloc, model, budgets, budgets.nodes, kept);
     let given = additive_filter::isolate(alloc, &mut oracle, set);
-    *kept = oracle.into_kept();
+    keep(kept, oracle.into_kept());
     concluded(None, given)
+}
+
+// A point of the active members by quick runs, or else what the sensitivity filter leaves of them; of a small set that comes
+// second, where a number did not fit.
+fn core_search(
+    alloc: Global,
+    model: &Model,
+    budgets: Budgets,
+    set: &MemberSet,
+    kept: &mut Kept,
+) -> Result<Answer, AllocError>
+    requires few { budgets.pivots < 2 ^ 63 }
+    requires whole { set.now ≡ active_set model.now }
+    ensures { IfOk result (IsFound Sensitivity model.now (budgets_of budgets)) }
+{
+    let Budgets { pivots, nodes } = budgets;
+    let is_small = is_small(model, set);
+    if !is_small && let Some(point) = kept.find_point(alloc, model, set, pivots, nodes) {
+        return Ok(Answer::Feasible(point));
+    }
+    let answer = core_search_by_run(alloc, model, budgets, set, kept)?;
+    if is_small
+        && is_wide(&answer)
+        && let Some(point) = kept.find_point(alloc, model, set, pivots, nodes)
+    {
+        return Ok(Answer::Feasible(point));
+    }
+    Ok(answer)
 }
 
 // What the sensitivity filter leaves of the active members, by a quick oracle. It asks for all of them by a run of the budget,
 // since the first core is the one of that run.
-fn core_search(
+fn core_search_by_run(
     alloc: Global,
     model: &Model,
     budgets: Budgets,
@@ -89,7 +117,7 @@ fn core_search(
     let mut first = reference_oracle(alloc, model, budgets);
     let mut oracle = quick_oracle(alloc, model, budgets, budgets.nodes, kept);
     let given = sensitivity_filter::isolate_with(alloc, &mut first, &mut oracle, set);
-    *kept = oracle.into_kept();
+    keep(kept, oracle.into_kept());
     concluded(None, given)
 }
 
@@ -152,4 +180,9 @@ pub(crate) fn stopped(stop: Stop) -> Result<Answer, AllocError>
         Stop::Large(_) => unreachable!(),
         Stop::Memory => Err(AllocError),
     }
+}
+
+/// Whether an answer is that a number did not fit.
+pub(crate) fn is_wide(answer: &Answer) -> bool {
+    matches!(answer, Answer::Stopped(Stop::Wide(..)))
 }

@@ -1,5 +1,5 @@
 //! The irreducible set that a cheapest weighting of the active members uses.
-ghost use Rattle.std.specs.Prelude.{◌≡◌, ◌<◌, ◌^◌, IfOk, None};
+ghost use Rattle.std.specs.Prelude.{◌≡◌, ◌<◌, ◌^◌, IfOk, IfSome, None};
 ghost use Rattle.lp_model.specs.Members.{active_members};
 ghost use Rattle.lp_model.specs.MemberSets.{active_set};
 ghost use Rattle.lp_model.specs.Satisfaction.{IsSatisfiable};
@@ -11,9 +11,9 @@ ghost use Rattle.analysis.specs.Linear.{first_mark};
 ghost use Rattle.analysis.specs.Right.{IsFound, IsWeighedTold};
 
 use crate::answering::Budgets;
-use crate::asking::{Reference, quick_oracle};
+use crate::asking::{Reference, keep, quick_oracle};
 use crate::linear::not_weighed;
-use crate::searching::stopped;
+use crate::searching::{is_wide, stopped};
 use crate::witnesses::{witness, witnesses};
 use alt_polyhedron::{Priced, cheapest};
 use certs::{MemberSet, Point, Proof};
@@ -21,7 +21,7 @@ use frac128::Frac;
 use linear_oracle::leaf_proof;
 use lp_model::Model;
 use quick_optimum::{QuickCore, Weighed, quick_cheapest};
-use quick_oracle::{Kept, QuickOracle};
+use quick_oracle::{Kept, QuickOracle, is_small};
 use report_text::{Answer, Core, Witnesses};
 use std::alloc::{AllocError, Global};
 
@@ -46,7 +46,8 @@ pub(crate) fn weighed_search(
     weighed(alloc, model, budgets, set, kept)
 }
 
-// The same where there is no mark: what quick runs show, or else the run of the system of the alternative.
+// The same where there is no mark: what quick runs show, or else the run of the system of the alternative; of a small set that
+// comes second, where a number did not fit.
 fn weighed(
     alloc: Global,
     model: &Model,
@@ -59,19 +60,41 @@ fn weighed(
     requires linear { first_mark (active_members model.now) ≡ None }
     ensures { IfOk result (IsWeighedTold model.now (budgets_of budgets)) }
 {
-    if let Some(found) = quick_cheapest(alloc, model, set, kept, budgets.pivots) {
-        return Ok(quickly_weighed(model, set, found));
+    let is_small = is_small(model, set);
+    if !is_small && let Some(answer) = quickly_weighed(alloc, model, budgets, set, kept) {
+        return Ok(answer);
     }
     let mut oracle = quick_oracle(alloc, model, budgets, budgets.nodes, kept);
     let answer = weighed_by_run(alloc, model, budgets, &mut oracle, set);
-    *kept = oracle.into_kept();
-    answer
+    keep(kept, oracle.into_kept());
+    let answer = answer?;
+    if is_small
+        && is_wide(&answer)
+        && let Some(answer) = quickly_weighed(alloc, model, budgets, set, kept)
+    {
+        return Ok(answer);
+    }
+    Ok(answer)
 }
 
-// What quick runs show, as an answer.
-fn quickly_weighed(model: &Model, set: &MemberSet, found: Weighed) -> Answer
-    requires whole { set.now ≡ active_set model.now }
-    requires found { IsWeighed model.now (active_members model.now) found }
+// What quick runs show of it.
+fn quickly_weighed(
+    alloc: Global,
+    model: &Model,
+    budgets: Budgets,
+    set: &MemberSet,
+    kept: &mut Kept,
+) -> Option<Answer>
+    requires { set.now ≡ active_set model.now }
+    ensures { IfSome result (IsWeighedTold model.now (budgets_of budgets)) }
+{
+    let found = quick_cheapest(alloc, model, set, kept, budgets.pivots)?;
+    Some(told(model, found))
+}
+
+// What they show, as an answer.
+fn told(model: &Model, found: Weighed) -> Answer
+    requires { IsWeighed model.now (active_members model.now) found }
     ensures { (budgets : OneBudgets) → IsWeighedTold model.now budgets result }
 {
     match found {

@@ -1,4 +1,5 @@
 //! The variables that can enter, and which of them is taken.
+use crate::optima::Pricing;
 use factors::Columns;
 use frac128::Frac;
 use std::alloc::Global;
@@ -36,11 +37,12 @@ pub(crate) struct Candidates {
     list: Vec<u32>,
     at: usize,
     turn: u64,
+    pricing: Pricing,
 }
 
 impl Candidates {
     /// So many variables, by none of which the sum falls.
-    pub(crate) fn new(alloc: Global, count: usize) -> Option<Candidates> {
+    pub(crate) fn new(alloc: Global, count: usize, pricing: Pricing) -> Option<Candidates> {
         let none = Candidate {
             rate: 0,
             is_listed: false,
@@ -51,6 +53,7 @@ impl Candidates {
             list: Vec::new(alloc),
             at: 0,
             turn: 0,
+            pricing,
         })
     }
 
@@ -118,7 +121,10 @@ impl Candidates {
         if !is_stuck {
             let rate = self.known.get(variable as usize)?.rate;
             let entries = columns.column(variable)?.places.len();
-            choice.square = rate.saturating_mul(rate);
+            choice.square = match self.pricing {
+                Pricing::Steepest => rate.saturating_mul(rate),
+                Pricing::Shortest => 1,
+            };
             choice.length = (entries as u128).saturating_add(1);
             choice.number = scattered(variable, self.turn);
         }

@@ -4,7 +4,7 @@ ghost use Rattle.certs.specs.Checks.{IsSetOf};
 ghost use Rattle.basis_optima.specs.Shape.{HasShape};
 
 use crate::descending::{End, descend, shares};
-use crate::optima::BestSuggestion;
+use crate::optima::{BestSuggestion, Pricing};
 use crate::prices::Prices;
 use crate::slopes::{Descent, Way};
 use certs::{MemberSet, Ray, Values};
@@ -21,6 +21,7 @@ pub fn best(
     model: &Model,
     set: &MemberSet,
     basis: &mut Basis,
+    pricing: Pricing,
     pivots: &mut u64,
 ) -> Option<BestSuggestion>
     requires same { IsSetOf model.now set.now }
@@ -30,7 +31,7 @@ pub fn best(
     take_over(basis)?;
     let costs = costs(alloc, model)?;
     let prices = Prices::of_rows(alloc, model, None)?;
-    let mut descent = Descent::new(alloc, basis, prices, costs.as_slice())?;
+    let mut descent = Descent::new(alloc, basis, prices, costs.as_slice(), pricing)?;
     match descend(alloc, basis, &mut descent, pivots)? {
         End::Least => {
             let combo = shares(alloc, basis, &descent, set)?;

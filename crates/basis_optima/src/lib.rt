@@ -17,6 +17,6 @@ mod widening;
 
 pub use alternative::cheapest;
 pub use improving::best;
-pub use optima::{BestSuggestion, CheapestSuggestion, Costs, LeastSuggestion};
+pub use optima::{BestSuggestion, CheapestSuggestion, Costs, LeastSuggestion, Pricing};
 pub use prices::Prices;
 pub use relaxing::{descend_first, least};

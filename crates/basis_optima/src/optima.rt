@@ -16,6 +16,13 @@ pub enum Costs {
     Ones,
 }
 
+/// Which of the variables that can enter is taken: the steepest, or that of the shortest column, by which numbers stay less wide.
+#[derive(Clone, Copy, PartialEq, Eq)]
+pub enum Pricing {
+    Steepest,
+    Shortest,
+}
+
 /// What may be the cheapest weighting of a set that refutes it: shares with the right side -1, what they cost, and a price for
 /// that cost, with a value for each column.
 #[derive(Drop)]

@@ -3,7 +3,7 @@ ghost use Rattle.std.specs.Prelude.{◌≡◌, ◌≤◌, IfSome, length};
 ghost use Rattle.certs.specs.Checks.{IsSetOf};
 
 use crate::descending::{End, descend, shares};
-use crate::optima::LeastSuggestion;
+use crate::optima::{LeastSuggestion, Pricing};
 use crate::prices::Prices;
 use crate::slopes::Descent;
 use certs::MemberSet;
@@ -20,6 +20,7 @@ pub fn least(
     set: &MemberSet,
     prices: Prices,
     basis: &mut Basis,
+    pricing: Pricing,
     pivots: &mut u64,
 ) -> Option<LeastSuggestion>
     requires same { IsSetOf model.now set.now }
@@ -28,7 +29,7 @@ pub fn least(
 {
     take_over(basis)?;
     basis.put_all_limits(model, set)?;
-    let mut descent = Descent::new(alloc, basis, prices, &[])?;
+    let mut descent = Descent::new(alloc, basis, prices, &[], pricing)?;
     let End::Least = descend(alloc, basis, &mut descent, pivots)? else {
         return None;
     };
@@ -48,7 +49,7 @@ pub fn descend_first(
     ensures spent { pivots.new ≤ pivots.old }
 {
     let prices = Prices::of_rows(alloc, model, Some(Frac::whole(1)))?;
-    let mut descent = Descent::new(alloc, basis, prices, &[])?;
+    let mut descent = Descent::new(alloc, basis, prices, &[], Pricing::Steepest)?;
     match descend(alloc, basis, &mut descent, pivots)? {
         End::Least => Some(()),
         End::Endless(_) => None,

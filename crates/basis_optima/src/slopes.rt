@@ -1,5 +1,6 @@
 //! At what rates a sum of costs falls as nonbasic variables move.
 use crate::candidates::Candidates;
+use crate::optima::Pricing;
 use crate::prices::Prices;
 use certs::Side;
 use factors::{is_zero, signed};
@@ -38,9 +39,10 @@ impl Descent {
         basis: &mut Basis,
         prices: Prices,
         costs: &[Frac],
+        pricing: Pricing,
     ) -> Option<Descent> {
         let count = basis.variables.len();
-        let candidates = Candidates::new(alloc, count)?;
+        let candidates = Candidates::new(alloc, count, pricing)?;
         let mut missed = Vec::with_capacity(alloc, count).ok()?;
         let mut reduced = Vec::with_capacity(alloc, count).ok()?;
         for (variable, known) in (0..).zip(basis.variables.iter()) {

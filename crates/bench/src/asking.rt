@@ -84,8 +84,8 @@ impl End {
     }
 }
 
-/// What a question came to, and what it took: the asks, those of them that the reference was asked for, the pivots of all runs,
-/// and the nodes of all trees.
+/// What a question came to, and what it took: the asks, those of them that the reference was asked for, the pivots of its runs,
+/// and the nodes of its trees.
 #[derive(Clone, Copy)]
 pub(crate) struct Told {
     pub(crate) asks: u64,
@@ -204,12 +204,8 @@ fn ask_quick(alloc: Global, model: &Model, question: Question) -> Result<Told, A
         pivots: first
             .inner()
             .pivots_made()
-            .saturating_add(reference.inner().pivots_made())
-            .saturating_add(quick.pivots_made()),
-        nodes: first
-            .nodes_taken()
-            .saturating_add(reference.nodes_taken())
-            .saturating_add(quick.nodes_taken()),
+            .saturating_add(reference.inner().pivots_made()),
+        nodes: first.nodes_taken().saturating_add(reference.nodes_taken()),
         end,
     })
 }

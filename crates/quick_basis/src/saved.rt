@@ -12,19 +12,18 @@ struct Entry {
     factor: Frac,
 }
 
-/// A basis whose row was blocked, with this row.
+/// A basis, with the row that was blocked.
 #[derive(Drop)]
 pub struct Saved {
     variables: Vec<Variable>,
     head: Vec<u32>,
     row: Vec<Entry>,
-    blocked: Blocked,
+    blocked: Option<Blocked>,
 }
 
 impl Basis {
-    /// The basis as it is, where a row is blocked.
+    /// The basis as it is.
     pub fn save(&self, alloc: Global) -> Option<Saved> {
-        let blocked = self.blocked?;
         let mut row = Vec::new(alloc);
         for variable in self.row.places() {
             let factor = self.row.value(*variable)?;
@@ -36,7 +35,7 @@ impl Basis {
             variables: Vec::from_slice(alloc, self.variables.as_slice()).ok()?,
             head,
             row,
-            blocked,
+            blocked: self.blocked,
         })
     }
 
@@ -49,7 +48,7 @@ impl Basis {
         for entry in saved.row.iter() {
             self.row.set(entry.variable, entry.factor)?;
         }
-        self.blocked = Some(saved.blocked);
+        self.blocked = saved.blocked;
         Some(())
     }
 }

@@ -1,11 +1,10 @@
 //! How far the objective can go over a set, by quick runs.
-ghost use Rattle.std.specs.Prelude.{◌≡◌, ◌+◌, ◌≤◌, IfSome, None, false, true};
+ghost use Rattle.std.specs.Prelude.{◌≡◌, IfSome, None, false, true};
 ghost use Rattle.certs.specs.Checks.{IsSetOf};
 ghost use Rattle.certs.specs.Trees.{has_mark};
 ghost use Rattle.quick_oracle.specs.Alone.{stands_alone as is_alone};
 ghost use Rattle.quick_optimum.specs.Best.{IsBestOf};
 
-use crate::spending::left;
 use bound_checks::{check_bound, check_ray, check_value, checked_value, directed, right_side};
 use certs::{Combo, Dual, Point, Ray, are_in_order};
 use frac128::Frac;
@@ -18,7 +17,7 @@ use unbounded::Diagnosis;
 /// Whether the objective runs away over a set, or how far it can go, where quick runs of at most so many pivots suggest it and
 /// the checks of `bound_checks` confirm it: the point satisfies the set and reaches the bound that the dual shows, or the ray
 /// improves the objective and keeps the set. Where what was kept gives nothing, it is tried once more from nothing. None where
-/// nothing was confirmed, and where the set stands alone: it is small, limits cross, or it has a mark.
+/// nothing was confirmed, and where the set stands alone: it is tiny, or it has a mark.
 pub fn quick_best<S: Suggest>(
     alloc: Global,
     model: &Model,
@@ -29,21 +28,18 @@ pub fn quick_best<S: Suggest>(
     requires same { IsSetOf model.now set.now }
     ensures found { IfSome result (IsBestOf model.now set.now.members) }
     ensures alone { is_alone model.now set.now.members 0 ≡ true → result ≡ None }
-    ensures counted { kept.old.made ≤ kept.new.made }
-    ensures spent { kept.new.made ≤ kept.old.made + pivots }
 {
     if stands_alone(model, set, 0) {
         return None;
     }
-    let before = kept.pivots_made();
-    if let Some(found) = best_once(alloc, model, set, kept, pivots) {
+    let mut left = pivots;
+    if let Some(found) = best_once(alloc, model, set, kept, &mut left) {
         return Some(found);
     }
-    if !kept.restart() {
+    if !kept.run().restart() {
         return None;
     }
-    let pivots = left(kept, before, pivots);
-    best_once(alloc, model, set, kept, pivots)
+    best_once(alloc, model, set, kept, &mut left)
 }
 
 // The same by what is kept: the set is settled, and then the objective is improved.
@@ -52,20 +48,16 @@ fn best_once<S: Suggest>(
     model: &Model,
     set: &MemberSet,
     kept: &mut Kept<S>,
-    pivots: u64,
+    pivots: &mut u64,
 ) -> Option<Diagnosis>
     requires same { IsSetOf model.now set.now }
     requires linear { has_mark set.now.members ≡ false }
-    ensures found { IfSome result (IsBestOf model.now set.now.members) }
-    ensures counted { kept.old.made ≤ kept.new.made }
-    ensures spent { kept.new.made ≤ kept.old.made + pivots }
+    ensures { IfSome result (IsBestOf model.now set.now.members) }
 {
-    let before = kept.pivots_made();
-    let Suggestion::Point(_) = kept.suggest(alloc, model, set, pivots)? else {
+    let Suggestion::Point(_) = kept.run().suggest(alloc, model, set, &[], pivots)? else {
         return None;
     };
-    let pivots = left(kept, before, pivots);
-    match kept.suggest_best(alloc, model, set, pivots)? {
+    match kept.run().suggest_best(alloc, model, set, pivots)? {
         BestSuggestion::Bounded(point, combo) => bounded(alloc, model, set, point, combo),
         BestSuggestion::Unbounded(point, ray) => unbounded(model, set, point, ray),
     }

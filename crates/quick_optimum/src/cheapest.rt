@@ -1,5 +1,5 @@
 //! The cheapest irreducible set of a set, by quick runs.
-ghost use Rattle.std.specs.Prelude.{◌≡◌, ◌+◌, ◌≤◌, ◌∷◌, [], IfSome, None, length, true};
+ghost use Rattle.std.specs.Prelude.{◌≡◌, ◌∷◌, [], IfSome, None, length, true};
 ghost use Rattle.certs.specs.Alternative.{IsPrice, members_of};
 ghost use Rattle.certs.specs.Checks.{IsSetOf};
 ghost use Rattle.certs.specs.Combination.{IsCombination};
@@ -10,7 +10,6 @@ ghost use Rattle.price_checks.specs.Costs.{HasCost};
 ghost use Rattle.quick_oracle.specs.Alone.{stands_alone as is_alone};
 ghost use Rattle.quick_optimum.specs.Cores.{IsListed, IsQuickCore, IsWeighed};
 
-use crate::spending::left;
 use crate::witnesses::witnesses;
 use certs::{Combo, Node, Point, Proof, Share, Source, members_used};
 use evidence_laws::combination_refutes;
@@ -44,7 +43,7 @@ pub enum Weighed {
 /// The cheapest weighting of a set that refutes it, where quick runs of at most so many pivots suggest it and the checks
 /// confirm it: its cost has a price, and each member that it uses has a witness, so that these members are irreducible (Gleeson
 /// and Ryan 1990); or a point. Where what was kept gives nothing, it is tried once more from nothing. None where nothing was
-/// confirmed, and where the set stands alone: it is small, limits cross, or it has a mark.
+/// confirmed, and where the set stands alone: it is tiny, or it has a mark.
 pub fn quick_cheapest<S: Suggest>(
     alloc: Global,
     model: &Model,
@@ -55,21 +54,18 @@ pub fn quick_cheapest<S: Suggest>(
     requires same { IsSetOf model.now set.now }
     ensures found { IfSome result (IsWeighed model.now set.now.members) }
     ensures alone { is_alone model.now set.now.members 0 ≡ true → result ≡ None }
-    ensures counted { kept.old.made ≤ kept.new.made }
-    ensures spent { kept.new.made ≤ kept.old.made + pivots }
 {
     if stands_alone(model, set, 0) {
         return None;
     }
-    let before = kept.pivots_made();
-    if let Some(found) = cheapest_once(alloc, model, set, kept, pivots) {
+    let mut left = pivots;
+    if let Some(found) = cheapest_once(alloc, model, set, kept, &mut left) {
         return Some(found);
     }
-    if !kept.restart() {
+    if !kept.run().restart() {
         return None;
     }
-    let pivots = left(kept, before, pivots);
-    cheapest_once(alloc, model, set, kept, pivots)
+    cheapest_once(alloc, model, set, kept, &mut left)
 }
 
 // The same by what is kept: the set is settled, and a row that refutes it is made the cheapest.
@@ -78,21 +74,16 @@ fn cheapest_once<S: Suggest>(
     model: &Model,
     set: &MemberSet,
     kept: &mut Kept<S>,
-    pivots: u64,
+    pivots: &mut u64,
 ) -> Option<Weighed>
     requires same { IsSetOf model.now set.now }
-    ensures found { IfSome result (IsWeighed model.now set.now.members) }
-    ensures counted { kept.old.made ≤ kept.new.made }
-    ensures spent { kept.new.made ≤ kept.old.made + pivots }
+    ensures { IfSome result (IsWeighed model.now set.now.members) }
 {
-    let before = kept.pivots_made();
-    if let Suggestion::Point(point) = kept.suggest(alloc, model, set, pivots)? {
+    if let Suggestion::Point(point) = kept.run().suggest(alloc, model, set, &[], pivots)? {
         return satisfied(model, set, point);
     }
-    let rest = left(kept, before, pivots);
-    let found = kept.suggest_cheapest(alloc, model, set, rest)?;
-    let rest = left(kept, before, pivots);
-    let core = core(alloc, model, set, kept, found, rest)?;
+    let found = kept.run().suggest_cheapest(alloc, model, set, pivots)?;
+    let core = core(alloc, model, set, kept, found, pivots)?;
     Some(Weighed::Core(core))
 }
 
@@ -113,12 +104,10 @@ fn core<S: Suggest>(
     set: &MemberSet,
     kept: &mut Kept<S>,
     found: CheapestSuggestion,
-    pivots: u64,
+    pivots: &mut u64,
 ) -> Option<QuickCore>
     requires same { IsSetOf model.now set.now }
-    ensures found { IfSome result (IsQuickCore model.now set.now.members) }
-    ensures counted { kept.old.made ≤ kept.new.made }
-    ensures spent { kept.new.made ≤ kept.old.made + pivots }
+    ensures { IfSome result (IsQuickCore model.now set.now.members) }
 {
     let CheapestSuggestion {
         combo,
@@ -195,12 +184,9 @@ fn members_of_leaf(
 fn only_leaf(proof: &Proof) -> Option<&Combo>
     ensures { IfSome result (λ combo. proof.now.nodes ≡ Node.Leaf combo.now ∷ []) }
 {
-    let [first] = proof.nodes.as_slice() else {
-        return None;
-    };
-    match first {
-        Node::Leaf(combo) => Some(combo),
-        Node::Split { .. } => None,
+    match proof.nodes.as_slice() {
+        [Node::Leaf(combo)] => Some(combo),
+        _ => None,
     }
 }
 

@@ -1,12 +1,11 @@
 //! How little of a set must give way, by quick runs.
-ghost use Rattle.std.specs.Prelude.{◌≡◌, ◌+◌, ◌≤◌, IfSome, List, None, true};
+ghost use Rattle.std.specs.Prelude.{◌≡◌, IfSome, List, None, true};
 ghost use Rattle.lp_model.specs.declared.members.Member.{Member as OneMember};
 ghost use Rattle.certs.specs.Checks.{IsSetOf};
 ghost use Rattle.certs.specs.Violation.{rigid_members};
 ghost use Rattle.quick_oracle.specs.Alone.{stands_alone as is_alone};
 ghost use Rattle.relaxation.specs.Relaxed.{IsRelaxed};
 
-use crate::spending::left;
 use bound_checks::right_side;
 use certs::{Combo, Dual, are_in_order};
 use frac128::Frac;
@@ -21,7 +20,7 @@ use std::alloc::Global;
 /// `least_checks` confirm it: the point satisfies the rigid members, and its weighted violation is the total that the dual
 /// shows; or a combination of the rigid members. Where some members are rigid the run goes on from where the whole set was
 /// settled. Where what was kept gives nothing, it is tried once more from nothing. None where nothing was confirmed, and where
-/// the set stands alone: it is small, limits cross, or it has a mark.
+/// the set stands alone: it is tiny, or it has a mark.
 pub fn quick_least<S: Suggest>(
     alloc: Global,
     model: &Model,
@@ -32,27 +31,23 @@ pub fn quick_least<S: Suggest>(
     requires same { IsSetOf model.now set.now }
     ensures found { IfSome result (IsRelaxed model.now set.now.members) }
     ensures alone { is_alone model.now set.now.members 0 ≡ true → result ≡ None }
-    ensures counted { kept.old.made ≤ kept.new.made }
-    ensures spent { kept.new.made ≤ kept.old.made + pivots }
 {
     if stands_alone(model, set, 0) {
         return None;
     }
     let rigid = rigid_set(alloc, model, set).ok()?;
-    let before = kept.pivots_made();
+    let mut left = pivots;
     if rigid.count() > 0 {
-        // The table of the whole set stands nearer to what is least than that of the rigid members alone.
-        let _settled = kept.suggest(alloc, model, set, pivots);
+        // The basis of the whole set stands nearer to what is least than that of the rigid members alone.
+        let _settled = kept.run().suggest(alloc, model, set, &[], &mut left);
     }
-    let rest = left(kept, before, pivots);
-    if let Some(found) = least_once(alloc, model, set, &rigid, kept, rest) {
+    if let Some(found) = least_once(alloc, model, set, &rigid, kept, &mut left) {
         return Some(found);
     }
-    if !kept.restart() {
+    if !kept.run().restart() {
         return None;
     }
-    let rest = left(kept, before, pivots);
-    least_once(alloc, model, set, &rigid, kept, rest)
+    least_once(alloc, model, set, &rigid, kept, &mut left)
 }
 
 // The same by what is kept: the rigid members are settled, or where there are none the set, and then the violation is made least.
@@ -62,24 +57,23 @@ fn least_once<S: Suggest>(
     set: &MemberSet,
     rigid: &MemberSet,
     kept: &mut Kept<S>,
-    pivots: u64,
+    pivots: &mut u64,
 ) -> Option<Relaxed>
     requires same { IsSetOf model.now set.now }
     requires rigid { IsSetOf model.now rigid.now }
     requires rigid_are { rigid.now.members ≡ rigid_members model.now set.now.members }
-    ensures found { IfSome result (IsRelaxed model.now set.now.members) }
-    ensures counted { kept.old.made ≤ kept.new.made }
-    ensures spent { kept.new.made ≤ kept.old.made + pivots }
+    ensures { IfSome result (IsRelaxed model.now set.now.members) }
 {
-    let before = kept.pivots_made();
     let has_rigid = rigid.count() > 0;
     let first = if has_rigid { rigid } else { set };
-    let settled = kept.suggest(alloc, model, first, pivots)?;
+    let settled = kept.run().suggest(alloc, model, first, &[], pivots)?;
     if has_rigid && let Suggestion::Combo(combo) = settled {
         return rigid_refuted(alloc, model, rigid, combo);
     }
-    let pivots = left(kept, before, pivots);
-    let found = kept.suggest_least(alloc, model, set, rigid, Costs::Weights, pivots)?;
+    let weights = Costs::Weights;
+    let found = kept
+        .run()
+        .suggest_least(alloc, model, set, rigid, weights, pivots)?;
     confirmed(alloc, model, set, rigid, found)
 }
 

@@ -5,7 +5,6 @@ mod best;
 mod cheapest;
 mod least;
 mod rounds;
-mod spending;
 mod stretching;
 mod witnesses;
 

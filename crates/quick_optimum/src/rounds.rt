@@ -1,24 +1,22 @@
 //! One round of the elastic filter, by quick runs.
-ghost use Rattle.std.specs.Prelude.{◌≡◌, ◌+◌, ◌≤◌, ◌&&◌, not, IfSome, List, None, length, true};
-ghost use Rattle.rational.specs.Rational.{lt_q, one_ℚ, zero_ℚ, ◌≤ℚ◌};
+ghost use Rattle.std.specs.List.{list_all};
+ghost use Rattle.std.specs.Prelude.{◌≡◌, ◌&&◌, not, All, IfSome, List, None, length, true};
+ghost use Rattle.rational.specs.Rational.{lt_q, zero_ℚ};
 ghost use Rattle.lp_model.specs.declared.members.Member.{Member as OneMember};
 ghost use Rattle.lp_model.specs.Members.{has};
 ghost use Rattle.lp_model.specs.MemberSets.{IsPossibleIn};
 ghost use Rattle.lp_model.specs.Satisfaction.{values_at};
 ghost use Rattle.certs.specs.Checks.{IsSetOf};
-ghost use Rattle.certs.specs.Named.{IsOfSize};
+ghost use Rattle.certs.specs.Named.{IsKnownSource};
 ghost use Rattle.certs.specs.Tales.{IsStretched};
-ghost use Rattle.certs.specs.Violation.{IsWithinWeight, weight_on as weight_given};
-ghost use Rattle.evidence_laws.specs.Weighed.{weight_beside};
 ghost use Rattle.quick_oracle.specs.Alone.{stands_alone as is_alone};
-ghost use Rattle.quick_optimum.specs.Stretching.{AreWithin, IsMissedAt};
+ghost use Rattle.quick_optimum.specs.Stretching.{IsMissedAt, is_enforced as source_is_enforced, is_share_within as share_is_within};
 
-use crate::spending::left;
 use bound_checks::right_side;
-use certs::{Point, Share, Stretched};
+use certs::{Point, Share, Source, Stretched};
 use evidence_laws::total_is_bounded;
 use frac128::Frac;
-use least_checks::{member_violation, weight_on};
+use least_checks::member_violation;
 use lp_model::{Member, MemberSet, Model};
 use quick_oracle::{Kept, is_combo, is_point, stands_alone};
 use quick_run::{Costs, LeastSuggestion, Suggest, Suggestion};
@@ -35,7 +33,7 @@ struct Missed {
 /// enforced members; a point of the set; or the members that are violated and not enforced at a point that satisfies the
 /// enforced ones, where a combination of the set shows that no such point has a smaller total violation. Where what was kept
 /// gives nothing, it is tried once more from nothing. None where nothing was confirmed, and where the set stands alone: it
-/// is small, limits cross, or it has a mark.
+/// is tiny, or it has a mark.
 pub(crate) fn quick_round<S: Suggest>(
     alloc: Global,
     model: &Model,
@@ -49,21 +47,18 @@ pub(crate) fn quick_round<S: Suggest>(
     ensures found { let enforced = enforced.now.members in
         IfSome result (IsStretched model.now set.now.members enforced) }
     ensures alone { is_alone model.now set.now.members 0 ≡ true → result ≡ None }
-    ensures counted { kept.old.made ≤ kept.new.made }
-    ensures spent { kept.new.made ≤ kept.old.made + pivots }
 {
     if stands_alone(model, set, 0) {
         return None;
     }
-    let before = kept.pivots_made();
-    if let Some(found) = round_once(alloc, model, set, enforced, kept, pivots) {
+    let mut left = pivots;
+    if let Some(found) = round_once(alloc, model, set, enforced, kept, &mut left) {
         return Some(found);
     }
-    if !kept.restart() {
+    if !kept.run().restart() {
         return None;
     }
-    let pivots = left(kept, before, pivots);
-    round_once(alloc, model, set, enforced, kept, pivots)
+    round_once(alloc, model, set, enforced, kept, &mut left)
 }
 
 // The same by what is kept: the enforced members are settled, or where there are none the set, and then the total
@@ -74,24 +69,23 @@ fn round_once<S: Suggest>(
     set: &MemberSet,
     enforced: &MemberSet,
     kept: &mut Kept<S>,
-    pivots: u64,
+    pivots: &mut u64,
 ) -> Option<Stretched>
     requires same { IsSetOf model.now set.now }
     requires enforced { IsSetOf model.now enforced.now }
-    ensures found { let enforced = enforced.now.members in
+    ensures { let enforced = enforced.now.members in
         IfSome result (IsStretched model.now set.now.members enforced) }
-    ensures counted { kept.old.made ≤ kept.new.made }
-    ensures spent { kept.new.made ≤ kept.old.made + pivots }
 {
-    let before = kept.pivots_made();
     let has_enforced = enforced.count() > 0;
     let first = if has_enforced { enforced } else { set };
-    let settled = kept.suggest(alloc, model, first, pivots)?;
+    let settled = kept.run().suggest(alloc, model, first, &[], pivots)?;
     if let Some(end) = confirmed_end(alloc, model, set, enforced, settled) {
         return Some(end);
     }
-    let pivots = left(kept, before, pivots);
-    let found = kept.suggest_least(alloc, model, set, enforced, Costs::Ones, pivots)?;
+    let ones = Costs::Ones;
+    let found = kept
+        .run()
+        .suggest_least(alloc, model, set, enforced, ones, pivots)?;
     confirmed_least(alloc, model, set, enforced, found)
 }
 
@@ -145,6 +139,7 @@ fn confirmed_least(
         IfSome result (IsStretched model.now set.now.members enforced) }
 {
     total_is_bounded();
+    set.stands_in_order();
     let LeastSuggestion { point, combo } = found;
     if !is_point(model, enforced, &point) {
         return None;
@@ -153,7 +148,7 @@ fn confirmed_least(
     if missed.further.count() == 0 {
         return met(model, set, point);
     }
-    if !is_combo(alloc, model, set, &combo) || !are_within(set, enforced, combo.shares.as_slice()) {
+    if !is_combo(alloc, model, set, &combo) || !are_within(enforced, combo.shares.as_slice()) {
         return None;
     }
     let Ok(right) = right_side(model, combo.shares.as_slice()) else {
@@ -165,40 +160,37 @@ fn confirmed_least(
     Some(Stretched::Stretched(missed.further))
 }
 
-// Whether no member of the set that is not enforced is given more than 1.
-fn are_within(set: &MemberSet, enforced: &MemberSet, shares: &[Share]) -> bool
-    requires { IsOfSize set.now enforced.now }
-    ensures { result ≡ true → AreWithin set.now.members enforced.now.members shares.now }
+// Whether no share gives a member that is not enforced more than 1.
+fn are_within(enforced: &MemberSet, shares: &[Share]) -> bool
+    requires { All (λ s. IsKnownSource enforced.now s.source) shares.now }
+    ensures { result ≡ list_all (share_is_within enforced.now.members) shares.now }
 {
-    set.stands_in_order();
-    for member in set.iter() {
-        if !is_within(enforced, shares, member) {
+    for share in shares {
+        if !is_share_within(enforced, *share) {
             return false;
         }
     }
     true
 }
 
-// Whether a member is enforced, or given at most 1.
-fn is_within(enforced: &MemberSet, shares: &[Share], member: Member) -> bool
-    requires { IsPossibleIn enforced.now member }
-    ensures { let weight = weight_beside enforced.now.members member in
-        result ≡ true → IsWithinWeight (weight_given shares.now member) weight }
+// Whether a share does not.
+fn is_share_within(enforced: &MemberSet, share: Share) -> bool
+    requires { IsKnownSource enforced.now share.source }
+    ensures { result ≡ share_is_within enforced.now.members share }
 {
-    if enforced.contains(member) {
-        return true;
-    }
-    is_at_most_one(shares, member)
+    share.weight <= Frac::whole(1) || is_enforced(enforced, share.source)
 }
 
-// Whether the shares give a member at most 1.
-fn is_at_most_one(shares: &[Share], member: Member) -> bool
-    ensures { result ≡ true → weight_given shares.now member ≤ℚ one_ℚ }
+// Whether a source is an enforced member.
+fn is_enforced(enforced: &MemberSet, source: Source) -> bool
+    requires { IsKnownSource enforced.now source }
+    ensures { result ≡ source_is_enforced enforced.now.members source }
 {
-    let Ok(given) = weight_on(shares, member) else {
-        return false;
-    };
-    given <= Frac::whole(1)
+    match source {
+        Source::Member(member) => enforced.contains(member),
+        Source::Below(_) => false,
+        Source::Above(_) => false,
+    }
 }
 
 // The total violation of a set at a point, and its members that are violated there and not enforced.
@@ -241,12 +233,5 @@ fn is_further(enforced: &MemberSet, member: Member, missed: Frac) -> bool
     requires { IsPossibleIn enforced.now member }
     ensures { result ≡ (not (has enforced.now.members member) && lt_q zero_ℚ missed) }
 {
-    !enforced.contains(member) && is_above_zero(missed)
-}
-
-// Whether a number is above 0.
-fn is_above_zero(number: Frac) -> bool
-    ensures { result ≡ lt_q zero_ℚ number }
-{
-    Frac::whole(0) < number
+    !enforced.contains(member) && Frac::whole(0) < missed
 }

@@ -1,24 +1,24 @@
 //! Rounds of the elastic filter, by quick runs where they show what a round gives.
-ghost use Rattle.std.specs.Prelude.{◌≡◌, ◌+◌, ◌<◌, ◌≤◌, ◌^◌, [], false, true, All, IfErr};
+ghost use Rattle.std.specs.Prelude.{◌≡◌, ◌<◌, ◌^◌, [], false, true, All, IfErr};
 ghost use Rattle.lp_model.specs.Members.{is_mark};
 ghost use Rattle.lp_model.specs.Satisfaction.{IsPart};
 ghost use Rattle.certs.specs.Checks.{IsSetOf};
 ghost use Rattle.certs.specs.Tales.{one_more, stops_after};
-ghost use Rattle.quick_oracle.specs.Alone.{stands_alone};
+ghost use Rattle.quick_oracle.specs.Alone.{is_small, stands_alone};
 ghost use Rattle.relaxation.specs.Stretching.{IsRound, round_holds, round_stopped};
 ghost use Rattle.quick_optimum.specs.Stretching.{budgets_of};
 
 use crate::rounds::quick_round;
-use certs::{MemberSet, Stop, Stretched, Stretcher};
+use certs::{MemberSet, Stop, StopRecord, Stretched, Stretcher, told_stop};
 use lp_model::Model;
-use quick_oracle::Kept;
+use quick_oracle::{Kept, is_small};
 use quick_run::{QuickRun, Suggest};
 use relaxation::ElasticStretcher;
 use std::alloc::Global;
 
 /// What makes rounds of the elastic filter: each by quick runs of at most so many pivots where what they suggest is confirmed,
-/// and else as the reference makes it, by a run of the elastic system of the set with its enforced part, all weights 1. Only
-/// such a run stops a round.
+/// and else as the reference makes it, by a run of the elastic system of the set with its enforced part, all weights 1; of a
+/// small set this comes first. Only such a run stops a round.
 #[derive(Drop)]
 pub struct QuickStretcher<'a, S: Suggest = QuickRun> {
     model: &'a Model,
@@ -26,6 +26,7 @@ pub struct QuickStretcher<'a, S: Suggest = QuickRun> {
     inner: ElasticStretcher<'a>,
     pivots: u64,
     rounds: u64,
+    stops: Vec<StopRecord>,
 }
 
 impl<'a, S: Suggest> std::marker::Model for QuickStretcher<'a, S> {
@@ -34,7 +35,7 @@ impl<'a, S: Suggest> std::marker::Model for QuickStretcher<'a, S> {
 
     ghost Value = { QuickStretcherValue };
 
-    ghost view = { λ s. record { inner = s.inner; pivots = s.pivots; rounds = s.rounds; made = s.kept.made; taken = s.kept.taken } };
+    ghost view = { λ s. record { inner = s.inner; pivots = s.pivots; rounds = s.rounds; stops = s.stops.items } };
 
     ghost invariant = { λ s. s.inner.model ≡ s.model.now };
 }
@@ -47,8 +48,7 @@ impl<'a, S: Suggest> QuickStretcher<'a, S> {
           inner = record { model = model.now; pivots = pivots; rounds = 0; stops = [] };
           pivots = pivots;
           rounds = 0;
-          made = kept.made;
-          taken = kept.taken;
+          stops = [];
         } }
     {
         QuickStretcher {
@@ -57,13 +57,12 @@ impl<'a, S: Suggest> QuickStretcher<'a, S> {
             inner: ElasticStretcher::new(alloc, model, pivots),
             pivots,
             rounds: 0,
+            stops: Vec::new(alloc),
         }
     }
 
     /// What is kept of the program, for the next command.
-    pub fn into_kept(self) -> Kept<S>
-        ensures { result ≡ record { made = self.entry.made; taken = self.entry.taken } }
-    {
+    pub fn into_kept(self) -> Kept<S> {
         self.kept
     }
 }
@@ -75,7 +74,7 @@ impl<S: Suggest> Stretcher for QuickStretcher<'_, S> {
 
     ghost rounds = { λ s. s.rounds };
 
-    ghost stops = { λ s. s.inner.stops };
+    ghost stops = { λ s. s.stops };
 
     ghost answers = { IsRound };
 
@@ -97,32 +96,43 @@ impl<S: Suggest> Stretcher for QuickStretcher<'_, S> {
             IsRound self.old.inner.model budgets set.now.members enforced.now.members result }
         ensures rounds { self.new.rounds ≡ one_more self.old.rounds }
         ensures stops { let enforced = enforced.now.members in
-            self.new.inner.stops ≡ stops_after self.old.inner.stops set.now.members enforced result }
+            self.new.stops ≡ stops_after self.old.stops set.now.members enforced result }
         ensures model { self.new.inner.model ≡ self.old.inner.model }
         ensures budgets { budgets_of self.new ≡ budgets_of self.old }
-        // Only a round of the reference stops, and where the set stands alone the reference makes the round.
+        // Only a round of the reference stops; where the set is small the reference makes the round first, and where it stands
+        // alone no other is made.
         ensures stopped { let before = self.old.inner.rounds in
             IfErr result (λ stop. self.new.inner.rounds ≡ one_more before) }
+        ensures first { let before = self.old.inner.rounds in
+            is_small self.old.inner.model set.now.members ≡ true
+            → self.new.inner.rounds ≡ one_more before }
         ensures alone { let before = self.old.inner.rounds in
             stands_alone self.old.inner.model set.now.members 0 ≡ true
             → self.new.inner.rounds ≡ one_more before }
-        // The quick runs' count never falls, and so many pivots are left to those of one round.
-        ensures counted { self.old.made ≤ self.new.made }
-        ensures spent { self.new.made ≤ self.old.made + self.old.pivots }
         ensures budget { self.new.pivots ≡ self.old.pivots }
     {
         self.rounds = self.rounds.saturating_add(1);
-        let quick = quick_round(
-            alloc,
-            self.model,
-            set,
-            enforced,
-            &mut self.kept,
-            self.pivots,
-        );
-        match quick {
-            Some(stretched) => Ok(stretched),
-            None => self.inner.stretch(alloc, set, enforced),
+        let is_small = is_small(self.model, set);
+        let pivots = self.pivots;
+        let kept = &mut self.kept;
+        if !is_small
+            && let Some(found) = quick_round(alloc, self.model, set, enforced, kept, pivots)
+        {
+            return Ok(found);
+        }
+        match self.inner.stretch(alloc, set, enforced) {
+            Ok(stretched) => Ok(stretched),
+            Err(stop) => {
+                if is_small
+                    && matches!(stop, Stop::Wide(..))
+                    && let Some(found) = quick_round(
+                        alloc, self.model, set, enforced, kept, pivots,
+                    )
+                {
+                    return Ok(found);
+                }
+                Err(told_stop(alloc, &mut self.stops, set, enforced, stop))
+            }
         }
     }
 }

@@ -9,7 +9,7 @@ use Rattle.certs.specs.declared.solving.Stop.TheVariants.{Memory}
 use Rattle.certs.specs.declared.solving.Verdict.{Verdict}
 use Rattle.certs.specs.Tales.{IsKnownVerdict, IsVerdict, OracleState}
 use Rattle.certs.proofs.Possible.{known_verdict}
-use Rattle.quick_oracle.specs.Answers.{Came, IsQuickAnswer, Relation, asked, unasked, quick_holds}
+use Rattle.quick_oracle.specs.Answers.{Came, IsConfirmedAnswer, IsQuickAnswer, IsWide, Relation, asked, unasked, quick_holds}
 
 -- what came is an answer
 came_answered : (answers : Relation) (before after : OracleState) (set : List Member) (result : Result Verdict Stop) → Came answers before after set result → IsQuickAnswer answers before.model before.budgets set result
@@ -17,11 +17,13 @@ came_answered answers before after set (Ok verdict) (unasked same h) = inr h
 came_answered answers before after set (Err stop) (unasked same h) = inr h
 came_answered answers before after set result (asked h) = by result h.given
   where
-    by : (r : Result Verdict Stop) → (r ≡ h.answer) ⊎ (r ≡ Err Memory) → IsQuickAnswer answers before.model before.budgets set r
+    by : (r : Result Verdict Stop) → (r ≡ h.answer) ⊎ (IsWide h.answer × IsConfirmedAnswer before.model set r) ⊎ (r ≡ Err Memory) → IsQuickAnswer answers before.model before.budgets set r
     by (Ok verdict) (inl e) = inl (subst (answers before.model before.budgets set) (sym e) h.answered)
-    by (Ok verdict) (inr e) = absurd (let impossible : ⊥ = cc in impossible)
+    by (Ok verdict) (inr (inl k)) = inr k.1
+    by (Ok verdict) (inr (inr e)) = absurd (let impossible : ⊥ = cc in impossible)
     by (Err stop) (inl e) = inl (subst (answers before.model before.budgets set) (sym e) h.answered)
-    by (Err stop) (inr e) = inr (let memory : stop ≡ Memory = cc in memory)
+    by (Err stop) (inr (inl k)) = inr k.1
+    by (Err stop) (inr (inr e)) = inr (let memory : stop ≡ Memory = cc in memory)
 
 -- and names members that the set may have
 pub known_answer : (answers : Relation) (before after : OracleState) (set : SetValue) (result : Result Verdict Stop)

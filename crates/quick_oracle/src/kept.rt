@@ -1,20 +1,17 @@
 //! What is kept from ask to ask, and what it gives.
-ghost use Rattle.std.specs.Prelude.{◌≡◌, ◌+◌, ◌*◌, ◌≤◌, IfSome, None, true};
+ghost use Rattle.std.specs.Prelude.{IfSome};
 ghost use Rattle.certs.specs.Checks.{IsSetOf};
-ghost use Rattle.quick_oracle.specs.Alone.{stands_alone as is_alone};
+ghost use Rattle.certs.specs.Tales.{IsPointOf};
 ghost use Rattle.quick_oracle.specs.Answers.{IsConfirmed};
-ghost use Rattle.quick_oracle.specs.Value.{most_pivots};
 
 use crate::alone::{has_mark, stands_alone};
 use crate::confirmed::{
     copied_combo, copied_point, copied_proof, is_combo, is_point, leaf_verdict,
 };
 use crate::trees::quick_tree;
-use certs::{Combo, MemberSet, Node, Point, Proof, Verdict};
+use certs::{Combo, MemberSet, Point, Proof, Verdict};
 use lp_model::Model;
-use quick_run::{
-    BestSuggestion, CheapestSuggestion, Costs, LeastSuggestion, QuickRun, Suggest, Suggestion,
-};
+use quick_run::{QuickRun, Suggest, Suggestion};
 use std::alloc::Global;
 
 // After so many asks in a row that gave nothing, no quick run is made.
@@ -28,9 +25,8 @@ pub(crate) struct Budget {
     pub nodes: u64,
 }
 
-/// What is kept from ask to ask, and from one oracle to the next, on one program: what suggests, as the table of the quick
-/// runs, and the last point, the last combination and the last proof by a tree that were confirmed. Contracts see how many
-/// pivots the quick runs made, and how many nodes the trees took.
+/// What is kept from ask to ask, and from one oracle to the next, on one program: what suggests, as the basis of the quick
+/// runs, and the last point, the last combination and the last proof by a tree that were confirmed.
 #[derive(Drop)]
 pub struct Kept<S: Suggest = QuickRun> {
     run: S,
@@ -39,31 +35,27 @@ pub struct Kept<S: Suggest = QuickRun> {
     proof: Option<Proof>,
     failures: u32,
     tree_failures: u32,
-    taken: u64,
 }
 
+// Contracts see nothing of it.
 impl<S: Suggest> std::marker::Model for Kept<S> {
-    ghost use Rattle.quick_oracle.specs.Value.{KeptValue};
+    ghost use Rattle.std.specs.Prelude.{⊤};
 
-    ghost Value = { KeptValue };
+    ghost Value = { ⊤ };
 
-    ghost view = { λ k. record { made = S.made k.run; taken = k.taken } };
+    ghost view = { λ k. tt };
 }
 
 impl Kept<QuickRun> {
     /// Nothing was run and nothing confirmed yet.
-    pub fn new() -> Kept<QuickRun>
-        ensures { result ≡ record { made = 0; taken = 0 } }
-    {
+    pub fn new() -> Kept<QuickRun> {
         Kept::with_run(QuickRun::new())
     }
 }
 
 impl<S: Suggest> Kept<S> {
     /// Suggestions are asked of this, and nothing was confirmed yet.
-    pub fn with_run(run: S) -> Kept<S>
-        ensures { result ≡ record { made = S.made run; taken = 0 } }
-    {
+    pub fn with_run(run: S) -> Kept<S> {
         Kept {
             run,
             point: None,
@@ -71,107 +63,40 @@ impl<S: Suggest> Kept<S> {
             proof: None,
             failures: 0,
             tree_failures: 0,
-            taken: 0,
         }
     }
 
-    /// How many pivots the quick runs made so far; it stays at its greatest value once there.
-    pub fn pivots_made(&self) -> u64
-        ensures { result ≡ self.now.made }
-    {
-        self.run.pivots_made()
+    /// What suggests.
+    pub fn run(&mut self) -> &mut S {
+        &mut self.run
     }
 
-    /// How many nodes quick trees took so far; it stays at its greatest value once there.
-    pub fn nodes_taken(&self) -> u64
-        ensures { result ≡ self.now.taken }
-    {
-        self.taken
-    }
-
-    /// What may show whether a set can be satisfied, marks left out, by a quick run of at most so many pivots. It has not been
-    /// checked.
-    pub fn suggest(
+    /// A confirmed point of a set, by what is kept or by quick runs of so many pivots, and where the set has a mark a quick tree of
+    /// at most so many nodes. None where nothing was confirmed, and where the set stands alone.
+    pub fn find_point(
         &mut self,
         alloc: Global,
         model: &Model,
         set: &MemberSet,
         pivots: u64,
-    ) -> Option<Suggestion>
-        requires same { IsSetOf model.now set.now }
-        ensures counted { self.old.made ≤ self.new.made }
-        ensures spent { self.new.made ≤ self.old.made + pivots }
-        ensures taken { self.new.taken ≡ self.old.taken }
+        nodes: u64,
+    ) -> Option<Point>
+        requires { IsSetOf model.now set.now }
+        ensures { IfSome result (IsPointOf model.now set.now.members) }
     {
-        self.run.suggest(alloc, model, set, &[], pivots)
-    }
-
-    /// What may show how little of a set must give way, the rigid members kept, by a quick run of at most so many pivots that
-    /// goes on from the last one, which was for the rigid members or, where there are none, for the set. It has not been
-    /// checked.
-    pub fn suggest_least(
-        &mut self,
-        alloc: Global,
-        model: &Model,
-        set: &MemberSet,
-        rigid: &MemberSet,
-        costs: Costs,
-        pivots: u64,
-    ) -> Option<LeastSuggestion>
-        requires same { IsSetOf model.now set.now }
-        requires rigid { IsSetOf model.now rigid.now }
-        ensures counted { self.old.made ≤ self.new.made }
-        ensures spent { self.new.made ≤ self.old.made + pivots }
-        ensures taken { self.new.taken ≡ self.old.taken }
-    {
-        self.run
-            .suggest_least(alloc, model, set, rigid, costs, pivots)
-    }
-
-    /// What may be the cheapest weighting of a set that refutes it, by a quick run of at most so many pivots that goes on from
-    /// the last one, which was for the set and gave a combination. It has not been checked.
-    pub fn suggest_cheapest(
-        &mut self,
-        alloc: Global,
-        model: &Model,
-        set: &MemberSet,
-        pivots: u64,
-    ) -> Option<CheapestSuggestion>
-        requires same { IsSetOf model.now set.now }
-        ensures counted { self.old.made ≤ self.new.made }
-        ensures spent { self.new.made ≤ self.old.made + pivots }
-        ensures taken { self.new.taken ≡ self.old.taken }
-    {
-        self.run.suggest_cheapest(alloc, model, set, pivots)
-    }
-
-    /// What may show how far the objective can go over a set, by a quick run of at most so many pivots that goes on from the
-    /// last one, which was for the set and gave a point. It has not been checked.
-    pub fn suggest_best(
-        &mut self,
-        alloc: Global,
-        model: &Model,
-        set: &MemberSet,
-        pivots: u64,
-    ) -> Option<BestSuggestion>
-        requires same { IsSetOf model.now set.now }
-        ensures counted { self.old.made ≤ self.new.made }
-        ensures spent { self.new.made ≤ self.old.made + pivots }
-        ensures taken { self.new.taken ≡ self.old.taken }
-    {
-        self.run.suggest_best(alloc, model, set, pivots)
-    }
-
-    /// Gives up what quick runs keep from one to the next. True where one from nothing may suggest something else.
-    pub fn restart(&mut self) -> bool
-        ensures { self.new ≡ self.old }
-    {
-        self.run.restart()
+        if stands_alone(model, set, nodes) {
+            return None;
+        }
+        let budget = Budget { pivots, nodes };
+        match self.verdict(alloc, model, set, budget, true)? {
+            Verdict::Feasible(point) => Some(point),
+            Verdict::Infeasible(_) => None,
+        }
     }
 
     /// A confirmed verdict for a set, by what is kept where it is the first ask, or else by quick runs: one for a set without
-    /// marks, and a tree of them for one with a mark. None where nothing was confirmed, where the set stands alone, and once
-    /// two asks in a row for sets of its kind gave nothing.
+    /// marks, and a tree of them for one with a mark. None where nothing was confirmed, and once two asks in a row for sets of
+    /// its kind gave nothing.
     pub(crate) fn verdict(
         &mut self,
         alloc: Global,
@@ -181,170 +106,92 @@ impl<S: Suggest> Kept<S> {
         is_first: bool,
     ) -> Option<Verdict>
         requires { IsSetOf model.now set.now }
-        ensures confirmed { IfSome result (IsConfirmed model.now set.now.members) }
-        ensures alone { is_alone model.now set.now.members budget.nodes ≡ true → result ≡ None }
-        ensures counted { self.old.made ≤ self.new.made }
-        ensures spent { self.new.made ≤ self.old.made
-            + most_pivots budget.pivots budget.nodes set.now.members }
-        ensures added { self.old.taken ≤ self.new.taken }
-        ensures taken { self.new.taken ≤ self.old.taken + budget.nodes }
+        ensures { IfSome result (IsConfirmed model.now set.now.members) }
     {
-        if stands_alone(model, set, budget.nodes) {
+        let is_marked = has_mark(set, model.column_count());
+        let before = if is_marked {
+            self.tree_failures
+        } else {
+            self.failures
+        };
+        if before >= MOST_FAILURES {
             return None;
         }
-        if has_mark(set, model.column_count()) {
-            return self.marked_verdict(alloc, model, set, budget, is_first);
+        let found = self.found(alloc, model, set, budget, is_first, is_marked);
+        let failures = match &found {
+            Some(_) => 0,
+            None => before.saturating_add(1),
+        };
+        if is_marked {
+            self.tree_failures = failures;
+        } else {
+            self.failures = failures;
         }
-        self.plain_verdict(alloc, model, set, budget.pivots, is_first)
+        found
     }
 
-    // That for a set with a mark, by a quick tree.
-    fn marked_verdict(
+    // A confirmed verdict by what is kept where it is the first ask, or else by a quick tree or by quick runs.
+    fn found(
         &mut self,
         alloc: Global,
         model: &Model,
         set: &MemberSet,
         budget: Budget,
         is_first: bool,
+        is_marked: bool,
     ) -> Option<Verdict>
         requires { IsSetOf model.now set.now }
-        ensures confirmed { IfSome result (IsConfirmed model.now set.now.members) }
-        ensures counted { self.old.made ≤ self.new.made }
-        ensures spent { self.new.made ≤ self.old.made + budget.pivots * budget.nodes }
-        ensures added { self.old.taken ≤ self.new.taken }
-        ensures taken { self.new.taken ≤ self.old.taken + budget.nodes }
+        ensures { IfSome result (IsConfirmed model.now set.now.members) }
     {
-        if self.tree_failures >= MOST_FAILURES {
+        if is_first && let Some(verdict) = self.remembered(alloc, model, set) {
+            return Some(verdict);
+        }
+        if is_marked {
+            return self.found_by_tree(alloc, model, set, budget);
+        }
+        let mut pivots = budget.pivots;
+        if let Some(verdict) = self.run_once(alloc, model, set, &mut pivots) {
+            return Some(verdict);
+        }
+        if !self.run.restart() {
             return None;
         }
-        let found = self.found_by_tree(alloc, model, set, budget, is_first);
-        self.tree_failures = match found {
-            Some(_) => 0,
-            None => self.tree_failures.saturating_add(1),
-        };
-        found
+        self.run_once(alloc, model, set, &mut pivots)
     }
 
-    // A confirmed verdict by what is kept where it is the first ask, or else by a quick tree.
+    // A confirmed verdict by a quick tree.
     fn found_by_tree(
         &mut self,
         alloc: Global,
         model: &Model,
         set: &MemberSet,
         budget: Budget,
-        is_first: bool,
     ) -> Option<Verdict>
         requires { IsSetOf model.now set.now }
-        ensures confirmed { IfSome result (IsConfirmed model.now set.now.members) }
-        ensures counted { self.old.made ≤ self.new.made }
-        ensures spent { self.new.made ≤ self.old.made + budget.pivots * budget.nodes }
-        ensures added { self.old.taken ≤ self.new.taken }
-        ensures taken { self.new.taken ≤ self.old.taken + budget.nodes }
+        ensures { IfSome result (IsConfirmed model.now set.now.members) }
     {
-        if is_first && let Some(verdict) = self.remembered(alloc, model, set) {
-            return Some(verdict);
-        }
-        let last = nodes_of(&self.proof);
-        let mut left = budget.nodes;
-        let found = quick_tree(
-            alloc,
-            model,
-            set,
-            &mut self.run,
-            last,
-            budget.pivots,
-            &mut left,
-        );
-        let taken = budget.nodes.saturating_sub(left);
-        self.taken = self.taken.saturating_add(taken);
-        let verdict = found?;
+        let last = match &self.proof {
+            Some(proof) => proof.nodes.as_slice(),
+            None => &[],
+        };
+        let verdict = quick_tree(alloc, model, set, &mut self.run, last, budget)?;
         keep(alloc, &verdict, &mut self.point, &mut self.proof);
         Some(verdict)
     }
 
-    // That for a set without marks, by a quick run of so many pivots.
-    fn plain_verdict(
-        &mut self,
-        alloc: Global,
-        model: &Model,
-        set: &MemberSet,
-        pivots: u64,
-        is_first: bool,
-    ) -> Option<Verdict>
-        requires { IsSetOf model.now set.now }
-        ensures confirmed { IfSome result (IsConfirmed model.now set.now.members) }
-        ensures counted { self.old.made ≤ self.new.made }
-        ensures spent { self.new.made ≤ self.old.made + pivots }
-        ensures taken { self.new.taken ≡ self.old.taken }
-    {
-        if self.failures >= MOST_FAILURES {
-            return None;
-        }
-        let found = self.found(alloc, model, set, pivots, is_first);
-        self.failures = match found {
-            Some(_) => 0,
-            None => self.failures.saturating_add(1),
-        };
-        found
-    }
-
-    // A confirmed verdict, by what is kept where it is the first ask, or else by a quick run.
-    fn found(
-        &mut self,
-        alloc: Global,
-        model: &Model,
-        set: &MemberSet,
-        pivots: u64,
-        is_first: bool,
-    ) -> Option<Verdict>
-        requires { IsSetOf model.now set.now }
-        ensures confirmed { IfSome result (IsConfirmed model.now set.now.members) }
-        ensures counted { self.old.made ≤ self.new.made }
-        ensures spent { self.new.made ≤ self.old.made + pivots }
-        ensures taken { self.new.taken ≡ self.old.taken }
-    {
-        if is_first && let Some(verdict) = self.remembered(alloc, model, set) {
-            return Some(verdict);
-        }
-        self.suggested(alloc, model, set, pivots)
-    }
-
     // A confirmed verdict by what is kept: the combination, or else the point.
-    fn remembered(&self, alloc: Global, model: &Model, set: &MemberSet) -> Option<Verdict>
+    fn remembered(&mut self, alloc: Global, model: &Model, set: &MemberSet) -> Option<Verdict>
         requires { IsSetOf model.now set.now }
         ensures { IfSome result (IsConfirmed model.now set.now.members) }
     {
-        if let Some(combo) = &self.combo
-            && let Some(verdict) = refuted_again(alloc, model, set, combo)
-        {
-            return Some(verdict);
+        if let Some(combo) = &self.combo {
+            let combo = copied_combo(alloc, combo).ok()?;
+            if let Some(verdict) = refuted(alloc, model, set, combo, &mut self.combo) {
+                return Some(verdict);
+            }
         }
-        satisfied_again(alloc, model, set, self.point.as_ref()?)
-    }
-
-    // A confirmed verdict by a quick run; where what was kept gave none, by one from nothing with the pivots left.
-    fn suggested(
-        &mut self,
-        alloc: Global,
-        model: &Model,
-        set: &MemberSet,
-        pivots: u64,
-    ) -> Option<Verdict>
-        requires { IsSetOf model.now set.now }
-        ensures confirmed { IfSome result (IsConfirmed model.now set.now.members) }
-        ensures counted { self.old.made ≤ self.new.made }
-        ensures spent { self.new.made ≤ self.old.made + pivots }
-        ensures taken { self.new.taken ≡ self.old.taken }
-    {
-        let before = self.run.pivots_made();
-        if let Some(verdict) = self.run_once(alloc, model, set, pivots) {
-            return Some(verdict);
-        }
-        if !self.run.restart() {
-            return None;
-        }
-        let made = self.run.pivots_made().saturating_sub(before);
-        self.run_once(alloc, model, set, pivots.saturating_sub(made))
+        let point = copied_point(alloc, self.point.as_ref()?).ok()?;
+        satisfied(alloc, model, set, point, &mut self.point)
     }
 
     // A confirmed verdict by one quick run.
@@ -353,26 +200,15 @@ impl<S: Suggest> Kept<S> {
         alloc: Global,
         model: &Model,
         set: &MemberSet,
-        pivots: u64,
+        pivots: &mut u64,
     ) -> Option<Verdict>
         requires { IsSetOf model.now set.now }
-        ensures confirmed { IfSome result (IsConfirmed model.now set.now.members) }
-        ensures counted { self.old.made ≤ self.new.made }
-        ensures spent { self.new.made ≤ self.old.made + pivots }
-        ensures taken { self.new.taken ≡ self.old.taken }
+        ensures { IfSome result (IsConfirmed model.now set.now.members) }
     {
         match self.run.suggest(alloc, model, set, &[], pivots)? {
             Suggestion::Point(point) => satisfied(alloc, model, set, point, &mut self.point),
             Suggestion::Combo(combo) => refuted(alloc, model, set, combo, &mut self.combo),
         }
-    }
-}
-
-// The nodes of the proof that was kept, or none.
-fn nodes_of(kept: &Option<Proof>) -> &[Node] {
-    match kept {
-        Some(proof) => proof.nodes.as_slice(),
-        None => &[],
     }
 }
 
@@ -416,30 +252,5 @@ fn refuted(
         return None;
     }
     *kept = copied_combo(alloc, &combo).ok();
-    leaf_verdict(alloc, combo)
-}
-
-// The verdict of a point that was confirmed for another set, where it is confirmed for this one.
-fn satisfied_again(alloc: Global, model: &Model, set: &MemberSet, kept: &Point) -> Option<Verdict>
-    ensures { IfSome result (IsConfirmed model.now set.now.members) }
-{
-    if !is_point(model, set, kept) {
-        return None;
-    }
-    let point = copied_point(alloc, kept).ok()?;
-    Some(Verdict::Feasible(point))
-}
-
-// The verdict of a combination that was confirmed for another set, where it is confirmed for this one.
-fn refuted_again(alloc: Global, model: &Model, set: &MemberSet, kept: &Combo) -> Option<Verdict>
-    requires { IsSetOf model.now set.now }
-    ensures { IfSome result (IsConfirmed model.now set.now.members) }
-{
-    if !is_combo(alloc, model, set, kept) {
-        return None;
-    }
-    let Ok(combo) = copied_combo(alloc, kept) else {
-        return None;
-    };
     leaf_verdict(alloc, combo)
 }

@@ -9,7 +9,7 @@ mod oracle;
 mod splits;
 mod trees;
 
-pub use alone::stands_alone;
+pub use alone::{is_small, stands_alone};
 pub use confirmed::{is_combo, is_point, is_yes};
 pub use kept::Kept;
 pub use oracle::QuickOracle;

@@ -1,11 +1,12 @@
 //! The oracle.
-ghost use Rattle.std.specs.Prelude.{◌≡◌, ◌+◌, ◌≤◌, true};
+ghost use Rattle.std.specs.Prelude.{◌≡◌, true};
 ghost use Rattle.certs.specs.Checks.{IsSetOf};
 ghost use Rattle.certs.specs.Tales.{asked_after, no_tale};
-ghost use Rattle.quick_oracle.specs.Alone.{stands_alone};
-ghost use Rattle.quick_oracle.specs.Answers.{Came, IsAsked, IsQuickAnswer, quick_holds, quick_ordered, quick_within};
-ghost use Rattle.quick_oracle.specs.Value.{QuickValue, most_pivots, state_with};
+ghost use Rattle.quick_oracle.specs.Alone.{is_small, stands_alone};
+ghost use Rattle.quick_oracle.specs.Answers.{Came, IsAsked, IsAskedFirst, IsQuickAnswer, quick_holds, quick_ordered, quick_within};
+ghost use Rattle.quick_oracle.specs.Value.{QuickValue, state_with};
 
+use crate::alone::{is_small, stands_alone};
 use crate::kept::{Budget, Kept};
 use certs::{MemberSet, Oracle, Stop, Tale, Verdict};
 use lp_model::Model;
@@ -29,7 +30,7 @@ impl<'a, O: Oracle, S: Suggest> std::marker::Model for QuickOracle<'a, O, S> {
 
     ghost Value = { QuickValue O };
 
-    ghost view = { λ o. record { inner = o.inner; pivots = o.pivots; nodes = o.nodes; made = o.kept.made; taken = o.kept.taken; tale = o.tale } };
+    ghost view = { λ o. record { inner = o.inner; pivots = o.pivots; nodes = o.nodes; tale = o.tale } };
 
     ghost invariant = { λ o. (O.state o.inner).model ≡ o.model.now };
 }
@@ -50,8 +51,6 @@ impl<'a, O: Oracle, S: Suggest> QuickOracle<'a, O, S> {
           inner = inner;
           pivots = pivots;
           nodes = nodes;
-          made = kept.made;
-          taken = kept.taken;
           tale = no_tale;
         } }
     {
@@ -78,27 +77,11 @@ impl<'a, O: Oracle, S: Suggest> QuickOracle<'a, O, S> {
     {
         &self.tale
     }
-
-    /// How many pivots the quick runs made so far, for measurements; it stays at its greatest value once there.
-    pub fn pivots_made(&self) -> u64
-        ensures { result ≡ self.now.made }
-    {
-        self.kept.pivots_made()
-    }
-
-    /// How many nodes the quick trees took so far, for measurements; it stays at its greatest value once there.
-    pub fn nodes_taken(&self) -> u64
-        ensures { result ≡ self.now.taken }
-    {
-        self.kept.nodes_taken()
-    }
 }
 
 impl<'a, O: Oracle + Drop, S: Suggest> QuickOracle<'a, O, S> {
     /// What is kept of the program, for the next oracle.
-    pub fn into_kept(self) -> Kept<S>
-        ensures { result ≡ record { made = self.entry.made; taken = self.entry.taken } }
-    {
+    pub fn into_kept(self) -> Kept<S> {
         self.kept
     }
 }
@@ -123,22 +106,18 @@ impl<O: Oracle, S: Suggest> Oracle for QuickOracle<'_, O, S> {
             (O.state self.old.inner).budgets set.now.members result }
         ensures told { state_with (O.state self.new.inner) self.new.tale
             ≡ asked_after (state_with (O.state self.old.inner) self.old.tale) set.now.members result }
-        // A confirmed verdict comes without an ask of the inner oracle; all else is what it answers to this one.
+        // A confirmed verdict comes without an ask of the inner oracle, or after one that met a number that does not fit; all
+        // else is what the inner oracle answers.
         ensures came { Came O.answers (O.state self.old.inner) (O.state self.new.inner)
             set.now.members result }
-        // Where the set is small, where limits cross, and where it has a mark and quick trees may have no nodes, the inner
-        // oracle is asked.
+        // Where the set is small, the inner oracle is asked first.
+        ensures first { is_small (O.state self.old.inner).model set.now.members ≡ true
+            → IsAskedFirst O.answers (O.state self.old.inner) (O.state self.new.inner)
+            set.now.members result }
+        // Where the set is tiny, and where it has a mark and quick trees may have no nodes, it alone is asked.
         ensures alone { stands_alone (O.state self.old.inner).model set.now.members self.old.nodes ≡ true
             → IsAsked O.answers (O.state self.old.inner) (O.state self.new.inner)
             set.now.members result }
-        // The quick runs' count never falls, and so many pivots are left to those of one ask: for each node, where the set
-        // has a mark.
-        ensures counted { self.old.made ≤ self.new.made }
-        ensures spent { self.new.made ≤ self.old.made
-            + most_pivots self.old.pivots self.old.nodes set.now.members }
-        // The quick trees' count of nodes never falls, and so many are left to the trees of one ask.
-        ensures added { self.old.taken ≤ self.new.taken }
-        ensures taken { self.new.taken ≤ self.old.taken + self.old.nodes }
         ensures budget { self.new.pivots ≡ self.old.pivots }
         ensures nodes { self.new.nodes ≡ self.old.nodes }
     {
@@ -160,7 +139,7 @@ impl<O: Oracle, S: Suggest> Oracle for QuickOracle<'_, O, S> {
     }
 }
 
-// A confirmed verdict by quick runs, or else what the inner oracle answers.
+// A confirmed verdict by quick runs, or else what the inner oracle answers; of a small set the inner oracle is asked first.
 fn answered<O: Oracle, S: Suggest>(
     alloc: Global,
     model: &Model,
@@ -174,16 +153,24 @@ fn answered<O: Oracle, S: Suggest>(
     requires program { (O.state inner.old).model ≡ model.now }
     requires served { (O.state inner.old).serves set.now.members ≡ true }
     ensures came { Came O.answers (O.state inner.old) (O.state inner.new) set.now.members result }
+    ensures first { is_small model.now set.now.members ≡ true
+        → IsAskedFirst O.answers (O.state inner.old) (O.state inner.new) set.now.members result }
     ensures alone { stands_alone model.now set.now.members budget.nodes ≡ true
         → IsAsked O.answers (O.state inner.old) (O.state inner.new) set.now.members result }
-    ensures counted { kept.old.made ≤ kept.new.made }
-    ensures spent { kept.new.made ≤ kept.old.made
-        + most_pivots budget.pivots budget.nodes set.now.members }
-    ensures added { kept.old.taken ≤ kept.new.taken }
-    ensures taken { kept.new.taken ≤ kept.old.taken + budget.nodes }
 {
-    if let Some(verdict) = kept.verdict(alloc, model, set, budget, is_first) {
+    if stands_alone(model, set, budget.nodes) {
+        return inner.ask(alloc, set);
+    }
+    let is_small = is_small(model, set);
+    if !is_small && let Some(verdict) = kept.verdict(alloc, model, set, budget, is_first) {
         return Ok(verdict);
     }
-    inner.ask(alloc, set)
+    let answer = inner.ask(alloc, set);
+    if is_small
+        && let Err(Stop::Wide(..)) = &answer
+        && let Some(verdict) = kept.verdict(alloc, model, set, budget, is_first)
+    {
+        return Ok(verdict);
+    }
+    answer
 }

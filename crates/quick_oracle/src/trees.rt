@@ -1,5 +1,5 @@
 //! Trees of sets with marks, whose nodes are quick runs.
-ghost use Rattle.std.specs.Prelude.{◌+◌, ◌*◌, ◌≤◌, All, IfSome, length};
+ghost use Rattle.std.specs.Prelude.{All, IfSome, length};
 ghost use Rattle.certs.specs.Checks.{IsSetOf};
 ghost use Rattle.certs.specs.Proof.{IsFittingNode};
 ghost use Rattle.quick_oracle.specs.Answers.{IsConfirmed};
@@ -8,6 +8,7 @@ ghost use Rattle.quick_oracle.specs.Walks.{IsStep, IsWalkPath};
 
 use crate::confirmed::{is_point, proof_verdict};
 use crate::guides::Guide;
+use crate::kept::Budget;
 use crate::splits::broken_split;
 use branch_proof::go_on;
 use certs::{Branch, BranchPath, MemberSet, Node, Nodes, Point, Proof, Verdict};
@@ -23,32 +24,29 @@ pub(crate) enum Step {
 }
 
 /// A confirmed verdict by a walk that follows the nodes of another proof, or else by one that follows none. Both together take
-/// at most so many nodes as are left, with quick runs of so many pivots for each; those that they take are taken off.
+/// at most so many nodes, with quick runs of so many pivots for each.
 pub(crate) fn quick_tree<S: Suggest>(
     alloc: Global,
     model: &Model,
     set: &MemberSet,
     run: &mut S,
     last: &[Node],
-    pivots: u64,
-    left: &mut u64,
+    budget: Budget,
 ) -> Option<Verdict>
     requires same { IsSetOf model.now set.now }
-    ensures confirmed { IfSome result (IsConfirmed model.now set.now.members) }
-    ensures counted { S.made run.old ≤ S.made run.new }
-    ensures taken { left.new ≤ left.old }
-    ensures spent { S.made run.new + pivots * left.new ≤ S.made run.old + pivots * left.old }
+    ensures { IfSome result (IsConfirmed model.now set.now.members) }
 {
-    if let Some(verdict) = walk(alloc, model, set, run, last, pivots, left) {
+    let Budget { pivots, mut nodes } = budget;
+    if let Some(verdict) = walk(alloc, model, set, run, last, pivots, &mut nodes) {
         return Some(verdict);
     }
     if last.is_empty() {
         return None;
     }
-    walk(alloc, model, set, run, &[], pivots, left)
+    walk(alloc, model, set, run, &[], pivots, &mut nodes)
 }
 
-// A confirmed verdict by a walk over the tree in preorder, of at most so many nodes; those that it takes are taken off. At
+// A confirmed verdict by a walk over the tree in preorder, of as many nodes as are left; those that it takes are taken off. At
 // each node the walk follows another proof's nodes where they still serve, and else there are quick runs of so many pivots
 // in all. Nothing that is taken on the way is trusted: the nodes are checked once they are all there.
 fn walk<S: Suggest>(
@@ -61,10 +59,7 @@ fn walk<S: Suggest>(
     left: &mut u64,
 ) -> Option<Verdict>
     requires same { IsSetOf model.now set.now }
-    ensures confirmed { IfSome result (IsConfirmed model.now set.now.members) }
-    ensures counted { S.made run.old ≤ S.made run.new }
-    ensures taken { left.new ≤ left.old }
-    ensures spent { S.made run.new + pivots * left.new ≤ S.made run.old + pivots * left.old }
+    ensures { IfSome result (IsConfirmed model.now set.now.members) }
 {
     let mut guide = Guide::new(ahead);
     let mut path = BranchPath::new(alloc);
@@ -117,9 +112,7 @@ fn next_step<S: Suggest>(
 ) -> Option<Step>
     requires same { IsSetOf model.now set.now }
     requires path { IsWalkPath model.now path.now }
-    ensures step { IfSome result (IsStep model.now set.now.members) }
-    ensures counted { S.made run.old ≤ S.made run.new }
-    ensures spent { S.made run.new ≤ S.made run.old + pivots }
+    ensures { IfSome result (IsStep model.now set.now.members) }
 {
     if let Some(node) = guide.followed(alloc, model, set, path) {
         return Some(Step::Further(node));
@@ -137,19 +130,16 @@ fn step_by_runs<S: Suggest>(
     pivots: u64,
 ) -> Option<Step>
     requires same { IsSetOf model.now set.now }
-    ensures step { IfSome result (IsStep model.now set.now.members) }
-    ensures counted { S.made run.old ≤ S.made run.new }
-    ensures spent { S.made run.new ≤ S.made run.old + pivots }
+    ensures { IfSome result (IsStep model.now set.now.members) }
 {
-    let before = run.pivots_made();
-    if let Some(step) = step_by_run(alloc, model, set, run, path, pivots) {
+    let mut left = pivots;
+    if let Some(step) = step_by_run(alloc, model, set, run, path, &mut left) {
         return Some(step);
     }
     if !run.restart() {
         return None;
     }
-    let made = run.pivots_made().saturating_sub(before);
-    step_by_run(alloc, model, set, run, path, pivots.saturating_sub(made))
+    step_by_run(alloc, model, set, run, path, &mut left)
 }
 
 // What one quick run gives at a node.
@@ -159,12 +149,10 @@ fn step_by_run<S: Suggest>(
     set: &MemberSet,
     run: &mut S,
     path: &[Branch],
-    pivots: u64,
+    pivots: &mut u64,
 ) -> Option<Step>
     requires same { IsSetOf model.now set.now }
-    ensures step { IfSome result (IsStep model.now set.now.members) }
-    ensures counted { S.made run.old ≤ S.made run.new }
-    ensures spent { S.made run.new ≤ S.made run.old + pivots }
+    ensures { IfSome result (IsStep model.now set.now.members) }
 {
     match run.suggest(alloc, model, set, path, pivots)? {
         Suggestion::Point(point) => step_at(model, set, point),

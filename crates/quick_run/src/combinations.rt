@@ -1,4 +1,4 @@
-//! Combinations that the table shows.
+//! Combinations that the basis shows.
 ghost use Rattle.std.specs.Prelude.{◌≡◌, ◌<◌, true, All, IfOk, IfSome, IsTrue, List};
 ghost use Rattle.lp_model.specs.declared.members.Member.{Member as OneMember};
 ghost use Rattle.certs.specs.declared.evidence.Branch.{Branch as OneBranch};
@@ -8,53 +8,18 @@ ghost use Rattle.certs.specs.Order.{AreSharesInOrder, source_before};
 ghost use Rattle.rational.specs.Rational.{◌<ℚ◌, zero_ℚ};
 ghost use Rattle.quick_run.specs.Shape.{IsLimitOf, IsShareOf, IsSourceOf, has_least, has_most};
 
-use certs::{Branch, Combo, Share, Shares, Side, Source, stands_before};
+use certs::{Branch, Combo, Share, Shares, Side, Source, is_member_there, stands_before};
 use frac128::Frac;
 use lp_model::{Member, MemberSet, Model};
-use quick_table::{Blocked, Table, TableRow, side_of, variable_of};
+use quick_basis::{Basis, Blocked, LimitWeight, member_of, row_weights, variable_of, whole_times};
 use std::alloc::{AllocError, Global};
 
-// A limit of a variable, so many times, and whether a branch gives it.
-#[derive(Clone, Copy)]
-struct Weighed {
-    side: Side,
-    weight: Frac,
-    is_branched: bool,
-}
-
-// A blocked row, and the side that its basic variable misses. Which limits it takes, and how often, is looked up in the row: a
-// list of that by variable would take 80 bytes for each variable of the table.
-#[derive(Clone, Copy)]
-struct BlockedRow<'a> {
-    table: &'a Table,
-    row: &'a TableRow,
-    side: Side,
-}
-
-impl BlockedRow<'_> {
-    // The limit of a variable that the row takes; none where the variable does not count in it.
-    fn weighed(self, variable: u32) -> Option<Weighed> {
-        let (side, weight) = if variable == self.row.base {
-            (self.side, Frac::whole(1))
-        } else {
-            let factor = self.row.entries.factor_of(variable)?;
-            let weight = Frac::new(factor.checked_abs()?, self.row.scale).ok()?;
-            (side_of(factor, self.side), weight)
-        };
-        Some(Weighed {
-            side,
-            weight,
-            is_branched: self.table.is_branched(variable, side),
-        })
-    }
-}
-
 /// The combination that a blocked row is: its basic variable once, on the side that it misses, and each nonbasic one by its
-/// factor, on the side at which it stands. Only members of the set and branches of the path are taken.
+/// factor, on the side at which it stands, all in whole numbers where these have 64 bits. Only members of the set and branches of
+/// the path are taken.
 pub(crate) fn combo(
     alloc: Global,
-    table: &Table,
-    columns: u32,
+    basis: &Basis,
     set: &MemberSet,
     path: &[Branch],
     blocked: Blocked,
@@ -62,40 +27,32 @@ pub(crate) fn combo(
     ensures order { IfSome result (λ combo. AreSharesInOrder combo.shares) }
     ensures shares { IfSome result (λ combo. All (IsShareOf set.now.members path.now) combo.shares) }
 {
-    let row = table.rows.get(blocked.place)?;
-    if !row.entries.have_magnitudes() {
-        return None;
-    }
-    let row = BlockedRow {
-        table,
-        row,
-        side: blocked.side,
-    };
-    let shares = shares(alloc, columns, row, set, path).ok()?;
+    let weights = row_weights(alloc, basis, blocked, whole_times(basis))?;
+    let shares = shares(alloc, basis, weights.as_slice(), set, path).ok()?;
     Some(Combo { shares })
 }
 
 // The shares of the members of the set and of the branches that are taken, in order.
 fn shares(
     alloc: Global,
-    columns: u32,
-    row: BlockedRow<'_>,
+    basis: &Basis,
+    weights: &[Option<LimitWeight>],
     set: &MemberSet,
     path: &[Branch],
 ) -> Result<Shares, AllocError>
     ensures order { IfOk result AreSharesInOrder }
     ensures shares { IfOk result (All (IsShareOf set.now.members path.now)) }
 {
-    let mut shares = member_shares(alloc, columns, row, set)?;
-    push_branches(columns, row, path, &mut shares)?;
+    let mut shares = member_shares(alloc, basis, weights, set)?;
+    push_branches(basis, weights, path, &mut shares)?;
     Ok(Shares::new(shares))
 }
 
 // The shares of the members of the set that are taken, in member order.
 fn member_shares(
     alloc: Global,
-    columns: u32,
-    row: BlockedRow<'_>,
+    basis: &Basis,
+    weights: &[Option<LimitWeight>],
     set: &MemberSet,
 ) -> Result<Vec<Share>, AllocError>
     ensures order { IfOk result (λ shares. AreSharesInOrder shares.items) }
@@ -105,7 +62,7 @@ fn member_shares(
     set.stands_in_order();
     let mut shares = Vec::new(alloc);
     for member in set.iter() {
-        if let Some(weight) = weight_of(columns, row, member) {
+        if let Some(weight) = weight_of(basis, weights, member) {
             let source = Source::Member(member);
             shares.push(Share { source, weight })?;
         }
@@ -114,13 +71,14 @@ fn member_shares(
 }
 
 // How often a member is taken; none where it is not.
-fn weight_of(columns: u32, row: BlockedRow<'_>, member: Member) -> Option<Frac>
+fn weight_of(basis: &Basis, weights: &[Option<LimitWeight>], member: Member) -> Option<Frac>
     ensures { IfSome result (λ weight. zero_ℚ <ℚ weight) }
 {
-    let weighed = row.weighed(variable_of(columns, member)?)?;
-    let is_taken = weighed.side == member.side() && !weighed.is_branched;
-    if is_taken && is_positive(weighed.weight) {
-        Some(weighed.weight)
+    let variable = variable_of(basis.columns, member)?;
+    let limit = (*weights.get(variable as usize)?)?;
+    let is_taken = limit.side == member.side() && !basis.is_branched(variable, limit.side);
+    if is_taken && is_positive(limit.weight) {
+        Some(limit.weight)
     } else {
         None
     }
@@ -128,8 +86,8 @@ fn weight_of(columns: u32, row: BlockedRow<'_>, member: Member) -> Option<Frac>
 
 // Puts the shares of the branches that are taken behind those of members, by column.
 fn push_branches(
-    columns: u32,
-    row: BlockedRow<'_>,
+    basis: &Basis,
+    weights: &[Option<LimitWeight>],
     path: &[Branch],
     shares: &mut Vec<Share>,
 ) -> Result<(), AllocError>
@@ -139,8 +97,8 @@ fn push_branches(
     ensures shares { (set : List OneMember) → All (IsShareOf set path.now) shares.old.items
         → IfOk result (λ done. All (IsShareOf set path.now) shares.new.items) }
 {
-    for column in 0..columns {
-        if let Some(share) = branch_share(row, path, column) {
+    for column in 0..basis.columns {
+        if let Some(share) = branch_share(basis, weights, path, column) {
             shares.push(share)?;
         }
     }
@@ -148,16 +106,21 @@ fn push_branches(
 }
 
 // The share of the branches of a column, where they are taken.
-fn branch_share(row: BlockedRow<'_>, path: &[Branch], column: u32) -> Option<Share>
+fn branch_share(
+    basis: &Basis,
+    weights: &[Option<LimitWeight>],
+    path: &[Branch],
+    column: u32,
+) -> Option<Share>
     ensures { IfSome result (λ share. IsLimitOf path.now column share.source × zero_ℚ <ℚ share.weight) }
 {
-    let weighed = row.weighed(column)?;
-    if !weighed.is_branched || !is_positive(weighed.weight) {
+    let limit = (*weights.get(column as usize)?)?;
+    if !basis.is_branched(column, limit.side) || !is_positive(limit.weight) {
         return None;
     }
     Some(Share {
-        source: branch_source(path, column, weighed.side)?,
-        weight: weighed.weight,
+        source: branch_source(path, column, limit.side)?,
+        weight: limit.weight,
     })
 }
 
@@ -205,49 +168,44 @@ fn has_branch_above(path: &[Branch], column: u32) -> bool
     false
 }
 
-/// The combination of the two limits of a column, each once: where they cross they contradict one another.
+/// The combination of the two limits of a variable, each once: where they cross they contradict one another.
 pub(crate) fn crossing(
     alloc: Global,
     model: &Model,
-    table: &Table,
+    basis: &Basis,
     set: &MemberSet,
     path: &[Branch],
-    column: u32,
+    variable: u32,
 ) -> Option<Combo>
     requires same { IsSetOf model.now set.now }
     ensures order { IfSome result (λ combo. AreSharesInOrder combo.shares) }
     ensures shares { IfSome result (λ combo. All (IsShareOf set.now.members path.now) combo.shares) }
 {
-    if column >= model.column_count() {
-        return None;
-    }
-    let lower = limit_source(table, set, path, column, Side::Lo)?;
-    let upper = limit_source(table, set, path, column, Side::Up)?;
+    let lower = limit_source(model, basis, set, path, variable, Side::Lo)?;
+    let upper = limit_source(model, basis, set, path, variable, Side::Up)?;
     if stands_before(lower, upper) {
         return pair(alloc, lower, upper);
     }
     pair(alloc, upper, lower)
 }
 
-// What gives the limit of a column on a side: the path or a member of the set.
+// What gives the limit of a variable on a side: the path or a member of the set.
 fn limit_source(
-    table: &Table,
+    model: &Model,
+    basis: &Basis,
     set: &MemberSet,
     path: &[Branch],
-    column: u32,
+    variable: u32,
     side: Side,
 ) -> Option<Source>
-    requires { column < set.now.columns }
+    requires { IsSetOf model.now set.now }
     ensures { IfSome result (IsSourceOf set.now.members path.now) }
 {
-    if table.is_branched(column, side) {
-        return branch_source(path, column, side);
+    if basis.is_branched(variable, side) {
+        return branch_source(path, variable, side);
     }
-    let member = match side {
-        Side::Lo => Member::Lower(column),
-        Side::Up => Member::Upper(column),
-    };
-    if !set.contains(member) {
+    let member = member_of(basis.columns, variable, side);
+    if !is_member_there(model, set, member) {
         return None;
     }
     Some(Source::Member(member))

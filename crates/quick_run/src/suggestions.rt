@@ -1,11 +1,11 @@
 //! What is suggested, and what suggests it.
-ghost use Rattle.std.specs.Prelude.{◌≡◌, ◌+◌, ◌≤◌, ℕ};
+ghost use Rattle.std.specs.Prelude.{◌≤◌};
 ghost use Rattle.certs.specs.Checks.{IsSetOf};
 
+use basis_optima::{BestSuggestion, CheapestSuggestion, Costs, LeastSuggestion};
 use certs::{Branch, Combo, MemberSet, Point};
 use lp_model::Model;
 use std::alloc::Global;
-use table_optima::{BestSuggestion, CheapestSuggestion, Costs, LeastSuggestion};
 
 /// What may show whether a set can be satisfied: a point, or a combination. Neither has been checked.
 #[derive(Drop)]
@@ -15,28 +15,23 @@ pub enum Suggestion {
 }
 
 /// What suggests whether sets of one program's members can be satisfied on paths, and what is least or best of them. Nothing is
-/// promised of a suggestion, so all of it is to be checked; what is counted is its work.
+/// promised of a suggestion, so all of it is to be checked. Each call has as many pivots as are left, and takes off those that it
+/// makes.
 pub trait Suggest {
-    /// How many pivots were made so far.
-    ghost made: { Self → ℕ };
-
-    /// What may show whether some point on a path satisfies the set's members, marks left out, found with at most so many
-    /// pivots.
+    /// What may show whether some point on a path satisfies the set's members, marks left out.
     fn suggest(
         &mut self,
         alloc: Global,
         model: &Model,
         set: &MemberSet,
         path: &[Branch],
-        pivots: u64,
+        pivots: &mut u64,
     ) -> Option<Suggestion>
         requires same { IsSetOf model.now set.now }
-        ensures counted { made self.old ≤ made self.new }
-        ensures spent { made self.new ≤ made self.old + pivots };
+        ensures spent { pivots.new ≤ pivots.old };
 
-    /// What may show how little of a set must give way, where the rigid members may not be missed, found with at most so many
-    /// pivots. It goes on from the last suggestion, which was for the rigid members or, where there are none, for the set; none
-    /// where nothing is kept of that.
+    /// What may show how little of a set must give way, where the rigid members may not be missed. It goes on from the last
+    /// suggestion, which was for the rigid members or, where there are none, for the set; none where nothing is kept of that.
     fn suggest_least(
         &mut self,
         alloc: Global,
@@ -44,44 +39,35 @@ pub trait Suggest {
         set: &MemberSet,
         rigid: &MemberSet,
         costs: Costs,
-        pivots: u64,
+        pivots: &mut u64,
     ) -> Option<LeastSuggestion>
         requires same { IsSetOf model.now set.now }
-        requires rigid { IsSetOf model.now rigid.now }
-        ensures counted { made self.old ≤ made self.new }
-        ensures spent { made self.new ≤ made self.old + pivots };
+        ensures spent { pivots.new ≤ pivots.old };
 
-    /// What may be the cheapest weighting of a set that refutes it, found with at most so many pivots. It goes on from the last
-    /// suggestion, which was a combination of the set; none where nothing is kept of that.
+    /// What may be the cheapest weighting of a set that refutes it. It goes on from the last suggestion, which was a combination
+    /// of the set; none where nothing is kept of that.
     fn suggest_cheapest(
         &mut self,
         alloc: Global,
         model: &Model,
         set: &MemberSet,
-        pivots: u64,
+        pivots: &mut u64,
     ) -> Option<CheapestSuggestion>
         requires same { IsSetOf model.now set.now }
-        ensures counted { made self.old ≤ made self.new }
-        ensures spent { made self.new ≤ made self.old + pivots };
+        ensures spent { pivots.new ≤ pivots.old };
 
-    /// What may show how far the objective can go over a set, found with at most so many pivots. It goes on from the last
-    /// suggestion, which was a point of the set; none where nothing is kept of that.
+    /// What may show how far the objective can go over a set. It goes on from the last suggestion, which was a point of the set;
+    /// none where nothing is kept of that.
     fn suggest_best(
         &mut self,
         alloc: Global,
         model: &Model,
         set: &MemberSet,
-        pivots: u64,
+        pivots: &mut u64,
     ) -> Option<BestSuggestion>
         requires same { IsSetOf model.now set.now }
-        ensures counted { made self.old ≤ made self.new }
-        ensures spent { made self.new ≤ made self.old + pivots };
+        ensures spent { pivots.new ≤ pivots.old };
 
     /// Gives up what is kept from one suggestion to the next. True where one that is made from nothing may be another.
-    fn restart(&mut self) -> bool
-        ensures { made self.new ≡ made self.old };
-
-    /// How many pivots were made so far; it stays at its greatest value once there.
-    fn pivots_made(&self) -> u64
-        ensures { result ≡ made self.now };
+    fn restart(&mut self) -> bool;
 }

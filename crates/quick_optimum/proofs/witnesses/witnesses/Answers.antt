@@ -1,4 +1,4 @@
-use Rattle.std.proofs.Common.{sym, ◌∙◌, ap, subst, List, arith}
+use Rattle.std.proofs.Common.{sym, ◌∙◌, ap, subst, List}
 use Rattle.lp_model.specs.declared.members.Member.{Member}
 use Rattle.lp_model.specs.MemberSets.{SetValue, IsPossibleIn, set_without}
 use Rattle.certs.specs.Tales.{IsPointOf}
@@ -10,7 +10,7 @@ remove-requires g c =
     let model = c.args.model.now in
     let set = c.args.set.now in
     let points = c.loop-member.points.items in
-    let w = subst (λ (l : List Member). IsWitnessed model set.members l points) c.in-Some.ensures.steps c.loop-member.invariant.witnessed in
+    let w = subst (λ (l : List Member). IsWitnessed model set.members l points) c.in-Some.ensures.steps c.loop-member.invariant in
     subst (λ (s : SetValue). IsPossibleIn s c.in-Some.member) (sym c.in-Ok.ensures) (next_possible model set c.in-Some.member c.next.new.self points w c.stands_in_order.ensures.possible)
 
 pub loop-member-preserved : goal.loop-member-preserved
@@ -19,25 +19,14 @@ loop-member-preserved g c =
     let set = c.args.set.now in
     let points = c.loop-member.points.items in
     let point = c.in_ok-point.point in
-    let w = subst (λ (l : List Member). IsWitnessed model set.members l points) c.in-Some.ensures.steps c.loop-member.invariant.witnessed in
+    let w = subst (λ (l : List Member). IsWitnessed model set.members l points) c.in-Some.ensures.steps c.loop-member.invariant in
     let others = c.remove.ensures ∙ ap (λ (s : SetValue). set_without s c.in-Some.member) c.in-Ok.ensures in
-    let found = subst (λ (s : SetValue). IsPointOf model s.members point) others c.in_ok-point.ensures.found in
-    record {
-      witnessed = subst (IsWitnessed model set.members c.next.new.self) (sym c.in-Ok-push.ensures.items) (witnessed_next model set c.in-Some.member c.next.new.self points w point c.stands_in_order.ensures.in_order found);
-      counted = (let a = c.loop-member.invariant.counted in let b = c.in_ok-point.ensures.counted in omega (arith, a, b));
-      spent = (
-          let a = c.loop-member.invariant.counted in
-          let b = c.loop-member.invariant.spent in
-          let e = c.pivots_made-before.ensures in
-          let rest = c.left-pivots.ensures (omega (arith, a, e)) (omega (arith, b, e)) in
-          let d = c.in_ok-point.ensures.spent in
-          omega (arith, rest, d, e)
-          );
-    }
+    let found = subst (λ (s : SetValue). IsPointOf model s.members point) others c.in_ok-point.ensures in
+    subst (IsWitnessed model set.members c.next.new.self) (sym c.in-Ok-push.ensures.items) (witnessed_next model set c.in-Some.member c.next.new.self points w point c.stands_in_order.ensures.in_order found)
 
-pub returns-clause-found : goal.returns-clause-found
-returns-clause-found g c =
+pub returns : goal.returns
+returns g c =
     let model = c.args.model.now in
     let set = c.args.set.now.members in
     let points = c.loop-member.points.items in
-    witnessed_last model set points (subst (λ (l : List Member). IsWitnessed model set l points) c.in-None.ensures.steps.0 c.loop-member.invariant.witnessed)
+    witnessed_last model set points (subst (λ (l : List Member). IsWitnessed model set l points) c.in-None.ensures.steps.0 c.loop-member.invariant)

@@ -1,11 +1,6 @@
-use Rattle.std.proofs.Common.{◌+◌, ◌≤◌}
 use Rattle.quick_optimum.proofs.Witnessing.{IsWitnessed}
 use Rattle.quick_optimum.proofs.witnesses.witnesses.Given as goal
 
--- the members that follow have no witness yet, and the pivots so far are among those that are allowed
+-- the members that follow have no witness yet
 abbrev pub invariant-loop-member : goal.invariant-loop-member
-invariant-loop-member g l = record {
-  witnessed : IsWitnessed l.model l.set.members l.member-iterator l.points.items;
-  counted : l.fn.kept.made ≤ l.kept.made;
-  spent : l.kept.made ≤ l.fn.kept.made + l.fn.pivots;
-}
+invariant-loop-member g l = IsWitnessed l.model l.set.members l.member-iterator l.points.items

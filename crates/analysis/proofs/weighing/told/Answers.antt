@@ -1,0 +1,15 @@
+use Rattle.std.proofs.Common.{sym, subst}
+use Rattle.lp_model.specs.Members.{active_members}
+use Rattle.quick_optimum.specs.declared.cheapest.Weighed.{Weighed}
+use Rattle.quick_optimum.specs.Cores.{IsQuickCore, IsWeighed}
+use Rattle.analysis.specs.Right.{IsWeighedTold}
+use Rattle.analysis.proofs.Weighed.{weighed_right}
+use Rattle.analysis.proofs.weighing.told.Goals as goal
+
+pub returns-in-Core : goal.returns-in-Core
+returns-in-Core c budgets =
+    let model = c.args.model.now in
+    let core = c.in-Core.core in
+    let h : IsQuickCore model (active_members model) core = subst (λ (w : Weighed). IsWeighed model (active_members model) w) c.in-Core.is c.requires in
+    subst (IsWeighedTold model budgets) (sym c.weighed_core.ensures)
+    (weighed_right model core.members h.combo core.total core.price h.cheapest budgets core.witnesses.items core.proof c.stands_in_order.ensures.in_order h.leaf h.witnesses)
