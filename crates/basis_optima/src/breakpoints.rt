@@ -1,7 +1,7 @@
 //! The long step: a nonbasic variable moves on past the limits of others as long as the sum of all costs falls.
 use crate::slopes::{Descent, Way, missed_on_the_way};
 use certs::Side;
-use factors::{is_zero, quotient, signed, size, width};
+use factors::{Entry, is_zero, quotient, signed, size, width};
 use frac128::Frac;
 use quick_basis::{Basis, opposite};
 use std::alloc::Global;
@@ -146,23 +146,25 @@ fn breakpoints(
         rank: rank(is_stuck, way.variable, 0, u32::MAX),
     };
     push_limits(&mut found, basis, descent, own)?;
-    for slot in basis.solved.places() {
-        let factor = basis.solved.value(*slot)?;
-        if is_zero(factor) {
-            continue;
+    for entry in basis.solved.entries() {
+        if !is_zero(entry.value) {
+            let motion = motion_of(basis.base(entry.place)?, *entry, way.rises, is_stuck);
+            push_limits(&mut found, basis, descent, motion)?;
         }
-        let variable = basis.base(*slot)?;
-        let speed = size(factor);
-        let motion = Motion {
-            variable,
-            slot: Some(*slot),
-            rises: way.rises == (factor.num() < 0),
-            speed,
-            rank: rank(is_stuck, variable, width(speed), *slot),
-        };
-        push_limits(&mut found, basis, descent, motion)?;
     }
     Some(found)
+}
+
+// How a basic variable moves, of whose slot this was solved, as the one that enters rises or falls.
+fn motion_of(variable: u32, entry: Entry, rises: bool, is_stuck: bool) -> Motion {
+    let speed = size(entry.value);
+    Motion {
+        variable,
+        slot: Some(entry.place),
+        rises: rises == (entry.value.num() < 0),
+        speed,
+        rank: rank(is_stuck, variable, width(speed), entry.place),
+    }
 }
 
 // The place of a variable among those that come to a limit at the same time: the one whose factor is least wide is first, and

@@ -120,7 +120,7 @@ impl Candidates {
         };
         if !is_stuck {
             let rate = self.known.get(variable as usize)?.rate;
-            let entries = columns.column(variable)?.places.len();
+            let entries = columns.column(variable)?.len();
             choice.square = match self.pricing {
                 Pricing::Steepest => rate.saturating_mul(rate),
                 Pricing::Shortest => 1,

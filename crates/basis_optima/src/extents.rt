@@ -2,7 +2,7 @@
 use crate::optima::Costs;
 use crate::prices::Prices;
 use certs::Side;
-use factors::{SparseVector, is_zero, quotient};
+use factors::{Entry, SparseVector, is_zero, quotient};
 use frac128::Frac;
 use lp_model::Model;
 use quick_basis::{Basis, Blocked, side_of, take_off};
@@ -54,9 +54,8 @@ impl Extents {
     /// Keeps the row that was solved for last as that of the vertex.
     pub(crate) fn keep_row(&mut self, basis: &Basis) -> Option<()> {
         self.vertex_row.clear();
-        for variable in basis.row.places() {
-            let factor = basis.row.value(*variable)?;
-            self.vertex_row.set(*variable, factor)?;
+        for entry in basis.row.entries() {
+            self.vertex_row.set(entry.place, entry.value)?;
         }
         Some(())
     }
@@ -64,36 +63,38 @@ impl Extents {
     // Puts the rates of the nonbasic variables that count in the row of a vertex, and those of the basic ones by them.
     fn put_rates(&mut self, alloc: Global, basis: &mut Basis, missed: Side) -> Option<()> {
         let right = self.put_limits(alloc, basis, missed)?;
-        basis.solve_sum(alloc, &right)?;
+        basis.solve_sum(&right)?;
         self.shift_basics(basis, Frac::whole(-1))
     }
 
     // Puts those of the nonbasic ones, and gives the right side that the basic ones are to add up to.
     fn put_limits(&mut self, alloc: Global, basis: &Basis, missed: Side) -> Option<SparseVector> {
         let mut right = SparseVector::new(alloc, basis.head.len())?;
-        for variable in basis.row.places() {
-            let factor = basis.row.value(*variable)?;
-            if is_zero(factor) {
-                continue;
+        for entry in basis.row.entries() {
+            if !is_zero(entry.value) {
+                let rate = self.limit_rate(basis, *entry, missed)?;
+                *self.rates.get_mut(entry.place as usize)? = rate;
+                take_off(&mut right, &basis.by_column, entry.place, rate)?;
             }
-            let side = side_of(factor, missed);
-            if !basis.variable(*variable)?.is_at(side) {
-                return None;
-            }
-            let rate = self.costs.slope(*variable, Some(side))?;
-            *self.rates.get_mut(*variable as usize)? = rate;
-            take_off(&mut right, &basis.by_column, *variable, rate)?;
         }
         Some(right)
     }
 
+    // The rate of the limit at which a variable of the row stands; none where it stands at none that blocks.
+    fn limit_rate(&self, basis: &Basis, entry: Entry, missed: Side) -> Option<Frac> {
+        let side = side_of(entry.value, missed);
+        if !basis.variable(entry.place)?.is_at(side) {
+            return None;
+        }
+        self.costs.slope(entry.place, Some(side))
+    }
+
     // Changes the rates of the basic variables against so many times what was solved for.
     fn shift_basics(&mut self, basis: &Basis, step: Frac) -> Option<()> {
-        for slot in basis.solved.places() {
-            let factor = basis.solved.value(*slot)?;
-            if !is_zero(factor) {
-                let rate = self.rates.get_mut(basis.base(*slot)? as usize)?;
-                *rate = rate.minus(factor.times(step).ok()?).ok()?;
+        for entry in basis.solved.entries() {
+            if !is_zero(entry.value) {
+                let rate = self.rates.get_mut(basis.base(entry.place)? as usize)?;
+                *rate = rate.minus(entry.value.times(step).ok()?).ok()?;
             }
         }
         Some(())
@@ -117,9 +118,8 @@ impl Extents {
         if is_zero(times) {
             return Some(());
         }
-        for variable in basis.row.places() {
-            let factor = basis.row.value(*variable)?;
-            self.vertex_row.subtract(*variable, factor, times)?;
+        for entry in basis.row.entries() {
+            self.vertex_row.subtract(entry.place, entry.value, times)?;
         }
         self.vertex_row.set(leaves, times.negate())
     }

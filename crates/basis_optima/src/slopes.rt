@@ -103,11 +103,10 @@ impl Descent {
     /// Solves for how the reduced costs change by the changed slopes of basic variables in `costs`, and changes them.
     pub(crate) fn solve(&mut self, basis: &mut Basis) -> Option<()> {
         basis.solve_row()?;
-        for variable in basis.row.places() {
-            let change = basis.row.value(*variable)?;
-            if !is_zero(change) {
-                let reduced = *self.reduced.get(*variable as usize)?;
-                self.put(basis, *variable, reduced.minus(change).ok()?)?;
+        for entry in basis.row.entries() {
+            if !is_zero(entry.value) {
+                let reduced = *self.reduced.get(entry.place as usize)?;
+                self.put(basis, entry.place, reduced.minus(entry.value).ok()?)?;
             }
         }
         Some(())

@@ -61,7 +61,7 @@ fn choose(basis: &mut Basis, extents: &Extents, extent: Frac, idle: u64) -> Opti
         return Some(Turn::Cheapest);
     };
     basis.solve_unit_row(leaves.slot)?;
-    let length = basis.row.places().len() as u64;
+    let length = basis.row.entries().len() as u64;
     *basis.lengths.get_mut(leaves.slot as usize)? = length;
     match entering(basis, extents, leaves, is_stuck)? {
         Some(variable) => Some(Turn::Pivot(leaves, variable)),
@@ -104,18 +104,18 @@ fn entering(
     is_stuck: bool,
 ) -> Option<Option<u32>> {
     let mut best: Option<(Frac, u64, u32)> = None;
-    for variable in basis.row.places() {
-        let factor = basis.row.value(*variable)?;
-        if is_zero(factor) || extents.is_at(basis, *variable, side_of(factor, leaves.side))? {
+    for entry in basis.row.entries() {
+        let (variable, factor) = (entry.place, entry.value);
+        if is_zero(factor) || extents.is_at(basis, variable, side_of(factor, leaves.side))? {
             continue;
         }
         let count = if is_stuck {
             0
         } else {
-            *basis.counts.get(*variable as usize)?
+            *basis.counts.get(variable as usize)?
         };
-        let own = extents.vertex_row.value(*variable)?;
-        let key = (quotient(size(own), size(factor))?, count, *variable);
+        let own = extents.vertex_row.value(variable)?;
+        let key = (quotient(size(own), size(factor))?, count, variable);
         if best.is_none_or(|least| key < least) {
             best = Some(key);
         }

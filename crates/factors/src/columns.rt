@@ -3,19 +3,18 @@ use crate::arithmetic::is_zero;
 use frac128::Frac;
 use std::alloc::Global;
 
-/// Columns of numbers: of each its places, each once, and in the same order their values, none of which is 0.
+/// A value at a place.
+#[derive(Clone, Copy)]
+pub struct Entry {
+    pub place: u32,
+    pub value: Frac,
+}
+
+/// Columns of numbers: of each its entries, at each place one at most, none of which is 0.
 #[derive(Drop)]
 pub struct Columns {
     starts: Vec<u32>,
-    places: Vec<u32>,
-    values: Vec<Frac>,
-}
-
-/// The places and the values of a column.
-#[derive(Clone, Copy)]
-pub struct Column<'a> {
-    pub places: &'a [u32],
-    pub values: &'a [Frac],
+    entries: Vec<Entry>,
 }
 
 impl Columns {
@@ -23,8 +22,7 @@ impl Columns {
     pub fn new(alloc: Global) -> Option<Columns> {
         Some(Columns {
             starts: vec![in alloc; 0u32].ok()?,
-            places: Vec::new(alloc),
-            values: Vec::new(alloc),
+            entries: Vec::new(alloc),
         })
     }
 
@@ -34,13 +32,12 @@ impl Columns {
         if is_zero(value) {
             return Some(());
         }
-        self.places.push(place).ok()?;
-        self.values.push(value).ok()
+        self.entries.push(Entry { place, value }).ok()
     }
 
     /// Ends the column that is being made.
     pub fn end(&mut self) -> Option<()> {
-        let end = u32::try_from(self.places.len()).ok()?;
+        let end = u32::try_from(self.entries.len()).ok()?;
         self.starts.push(end).ok()
     }
 
@@ -51,28 +48,24 @@ impl Columns {
 
     /// How many entries they have.
     pub(crate) fn entry_count(&self) -> usize {
-        self.places.len()
+        self.entries.len()
     }
 
-    /// A column.
+    /// The entries of a column.
     #[inline(always)]
-    pub fn column(&self, index: u32) -> Option<Column<'_>> {
+    pub fn column(&self, index: u32) -> Option<&[Entry]> {
         let [start, end, ..] = self.starts.as_slice().get(index as usize..)? else {
             return None;
         };
-        let (start, end) = (*start as usize, *end as usize);
-        let places = self.places.as_slice().get(start..end)?;
-        let values = self.values.as_slice().get(start..end)?;
-        Some(Column { places, values })
+        self.entries.as_slice().get(*start as usize..*end as usize)
     }
 
     /// Some of them, in this order.
     pub(crate) fn chosen(&self, alloc: Global, indices: &[u32]) -> Option<Columns> {
         let mut chosen = Columns::new(alloc)?;
         for index in indices {
-            let column = self.column(*index)?;
-            chosen.places.extend_from_slice(column.places).ok()?;
-            chosen.values.extend_from_slice(column.values).ok()?;
+            let entries = self.column(*index)?;
+            chosen.entries.extend_from_slice(entries).ok()?;
             chosen.end()?;
         }
         Some(chosen)
@@ -80,32 +73,38 @@ impl Columns {
 
     /// The rows as columns, places ascending, where there are so many rows and each column is ended.
     pub fn transposed(&self, alloc: Global, rows: usize) -> Option<Columns> {
-        let mut starts = self.starts_of_rows(alloc, rows)?;
-        let mut places = vec![in alloc; 0u32; self.places.len()].ok()?;
-        let mut values = vec![in alloc; Frac::whole(0); self.places.len()].ok()?;
-        for index in 0..u32::try_from(self.count()).ok()? {
-            let column = self.column(index)?;
-            for (row, value) in column.places.iter().zip(column.values.iter()) {
-                let end = starts.get_mut(*row as usize + 1)?;
-                let at = *end as usize;
-                *end = end.checked_add(1)?;
-                *places.get_mut(at)? = index;
-                *values.get_mut(at)? = *value;
+        let nothing = Entry {
+            place: 0,
+            value: Frac::whole(0),
+        };
+        let mut transposed = Columns {
+            starts: self.starts_of_rows(alloc, rows)?,
+            entries: vec![in alloc; nothing; self.entries.len()].ok()?,
+        };
+        for place in 0..u32::try_from(self.count()).ok()? {
+            for entry in self.column(place)? {
+                let value = entry.value;
+                transposed.put(entry.place, Entry { place, value })?;
             }
         }
-        starts.pop();
-        Some(Columns {
-            starts,
-            places,
-            values,
-        })
+        transposed.starts.pop();
+        Some(transposed)
+    }
+
+    // Puts an entry at the end of a row, which is then one further on. It stands one further on in the starts.
+    fn put(&mut self, row: u32, entry: Entry) -> Option<()> {
+        let end = self.starts.get_mut(row as usize + 1)?;
+        let at = *end as usize;
+        *end = end.checked_add(1)?;
+        *self.entries.get_mut(at)? = entry;
+        Some(())
     }
 
     // Where each row starts, one further on than in columns: so what counts up to its end leaves the starts.
     fn starts_of_rows(&self, alloc: Global, rows: usize) -> Option<Vec<u32>> {
         let mut starts = vec![in alloc; 0u32; rows.checked_add(2)?].ok()?;
-        for row in self.places.iter() {
-            let count = starts.get_mut(*row as usize + 2)?;
+        for entry in self.entries.iter() {
+            let count = starts.get_mut(entry.place as usize + 2)?;
             *count = count.checked_add(1)?;
         }
         let mut sum: u32 = 0;
@@ -118,8 +117,8 @@ impl Columns {
 
     /// Puts other places for all, by a list.
     pub(crate) fn move_places(&mut self, places: &[u32]) -> Option<()> {
-        for place in self.places.iter_mut() {
-            *place = *places.get(*place as usize)?;
+        for entry in self.entries.iter_mut() {
+            entry.place = *places.get(entry.place as usize)?;
         }
         Some(())
     }

@@ -44,36 +44,24 @@ impl Elimination {
             return Some(());
         }
         let slots = self.slots.open(alloc, false)?;
-        let mut nucleus = self.nucleus(alloc, rows.as_slice(), slots.as_slice())?;
+        let mut nucleus = self.nucleus(alloc, rows.as_slice())?;
         for _ in 0..rows.len() {
-            let pivot = nucleus.choose(alloc)?;
-            self.rows.take(*rows.get(pivot.row as usize)?)?;
-            self.slots.take(*slots.get(pivot.slot as usize)?)?;
+            let pivot = nucleus.choose(alloc, rows.as_slice(), slots.as_slice())?;
+            self.rows.take(pivot.row)?;
+            self.slots.take(pivot.slot)?;
             self.pivots.push(pivot.value).ok()?;
-            self.eliminate(
-                alloc,
-                &mut nucleus,
-                pivot,
-                rows.as_slice(),
-                slots.as_slice(),
-            )?;
+            self.eliminate(alloc, &mut nucleus, pivot)?;
         }
         Some(())
     }
 
-    // The entries of these rows in these slots, which have the places in the lists as indices.
-    fn nucleus(&self, alloc: Global, rows: &[u32], slots: &[u32]) -> Option<Nucleus> {
-        let mut nucleus = Nucleus::new(alloc, rows.len())?;
-        let mut indices = vec![in alloc; u32::MAX; self.slots.lines.count()].ok()?;
-        for (index, slot) in slots.iter().enumerate() {
-            *indices.get_mut(*slot as usize)? = u32::try_from(index).ok()?;
-        }
-        for (index, row) in rows.iter().enumerate() {
-            let index = u32::try_from(index).ok()?;
-            let entries = self.rows.lines.column(*row)?;
-            for (slot, value) in entries.places.iter().zip(entries.values.iter()) {
-                if self.slots.is_open(*slot)? {
-                    nucleus.put(index, *indices.get(*slot as usize)?, *value)?;
+    // The entries of these rows in slots that are not taken.
+    fn nucleus(&self, alloc: Global, rows: &[u32]) -> Option<Nucleus> {
+        let mut nucleus = Nucleus::new(alloc, self.slots.lines.count())?;
+        for row in rows {
+            for entry in self.rows.lines.column(*row)? {
+                if self.slots.is_open(entry.place)? {
+                    nucleus.put(*row, *entry)?;
                 }
             }
         }
@@ -81,23 +69,15 @@ impl Elimination {
     }
 
     // Eliminates by a pivot of the nucleus.
-    fn eliminate(
-        &mut self,
-        alloc: Global,
-        nucleus: &mut Nucleus,
-        pivot: Pivot,
-        rows: &[u32],
-        slots: &[u32],
-    ) -> Option<()> {
+    fn eliminate(&mut self, alloc: Global, nucleus: &mut Nucleus, pivot: Pivot) -> Option<()> {
         let entries = nucleus.take_row(alloc, pivot)?;
         for entry in entries.iter() {
-            let slot = *slots.get(entry.place as usize)?;
-            self.upper.push(slot, entry.value)?;
+            self.upper.push(entry.place, entry.value)?;
         }
         self.upper.end()?;
         for row in nucleus.take_slot(alloc, pivot)?.iter() {
             let times = nucleus.reduce(*row, pivot, entries.as_slice())?;
-            self.lower.push(*rows.get(*row as usize)?, times)?;
+            self.lower.push(*row, times)?;
         }
         self.lower.end()
     }

@@ -1,6 +1,6 @@
 //! The factors of a basis.
 use crate::arithmetic::{is_zero, quotient, reduced};
-use crate::columns::{Column, Columns};
+use crate::columns::{Columns, Entry};
 use crate::elimination::Elimination;
 use crate::triangles::Work;
 use crate::vectors::SparseVector;
@@ -10,9 +10,11 @@ use std::alloc::Global;
 // The fewest exchanges after which factors may be stale.
 const FEWEST_EXCHANGES: usize = 64;
 
-// A slot whose column was exchanged, with the value there of the solved column. Its other values are a column of the etas.
+// A slot whose column was exchanged, with the value there of the solved column. Its other values are the column of the etas at
+// the index.
 #[derive(Clone, Copy)]
 struct Exchange {
+    index: u32,
     slot: u32,
     pivot: Frac,
 }
@@ -71,21 +73,15 @@ impl Factors {
     }
 
     /// FTRAN: B x = column; x over slots into `out`, which is cleared first.
-    pub fn solve(&mut self, column: Column<'_>, out: &mut SparseVector) -> Option<()> {
+    pub fn solve(&mut self, column: &[Entry], out: &mut SparseVector) -> Option<()> {
         out.clear();
-        for (row, value) in column.places.iter().zip(column.values.iter()) {
-            let position = *self.row_positions.get(*row as usize)?;
-            self.work.put(position, *value)?;
-        }
+        self.work.put_all(column, self.row_positions.as_slice())?;
         let pivots = self.pivots.as_slice();
         self.work.solve_forward(&self.lower_columns, &[])?;
         self.work
             .solve_back(&self.upper_columns, pivots, self.slots.as_slice(), out)?;
-        for (index, exchange) in self.exchanges.iter().enumerate() {
-            if !is_zero(out.value(exchange.slot)?) {
-                let eta = self.etas.column(u32::try_from(index).ok()?)?;
-                exchange.solve(eta, out)?;
-            }
+        for exchange in self.exchanges.iter() {
+            exchange.solve(&self.etas, out)?;
         }
         Some(())
     }
@@ -97,14 +93,11 @@ impl Factors {
         out: &mut SparseVector,
     ) -> Option<()> {
         out.clear();
-        for (index, exchange) in self.exchanges.iter().enumerate().rev() {
-            let eta = self.etas.column(u32::try_from(index).ok()?)?;
-            exchange.solve_transposed(eta, costs)?;
+        for exchange in self.exchanges.iter().rev() {
+            exchange.solve_transposed(&self.etas, costs)?;
         }
-        for slot in costs.places() {
-            let position = *self.slot_positions.get(*slot as usize)?;
-            self.work.put(position, costs.value(*slot)?)?;
-        }
+        let positions = self.slot_positions.as_slice();
+        self.work.put_all(costs.entries(), positions)?;
         let pivots = self.pivots.as_slice();
         self.work.solve_forward(&self.upper_rows, pivots)?;
         self.work
@@ -117,13 +110,14 @@ impl Factors {
         if is_zero(pivot) {
             return None;
         }
-        for place in solved.places() {
-            if *place != slot {
-                self.etas.push(*place, solved.value(*place)?)?;
+        for entry in solved.entries() {
+            if entry.place != slot {
+                self.etas.push(entry.place, entry.value)?;
             }
         }
         self.etas.end()?;
-        self.exchanges.push(Exchange { slot, pivot }).ok()
+        let index = u32::try_from(self.exchanges.len()).ok()?;
+        self.exchanges.push(Exchange { index, slot, pivot }).ok()
     }
 
     /// Whether factors made anew would serve better: as many exchanges as max(64, rows / 32), or entries of exchanges above 3
@@ -140,23 +134,27 @@ impl Factors {
 
 impl Exchange {
     // Brings a solution from before the exchange behind it.
-    fn solve(&self, eta: Column<'_>, solution: &mut SparseVector) -> Option<()> {
-        let times = quotient(solution.value(self.slot)?, self.pivot)?;
+    fn solve(&self, etas: &Columns, solution: &mut SparseVector) -> Option<()> {
+        let own = solution.value(self.slot)?;
+        if is_zero(own) {
+            return Some(());
+        }
+        let times = quotient(own, self.pivot)?;
         solution.set(self.slot, times)?;
-        for (slot, factor) in eta.places.iter().zip(eta.values.iter()) {
-            solution.subtract(*slot, *factor, times)?;
+        for entry in etas.column(self.index)? {
+            solution.subtract(entry.place, entry.value, times)?;
         }
         Some(())
     }
 
     // Brings costs from behind the exchange before it.
-    fn solve_transposed(&self, eta: Column<'_>, costs: &mut SparseVector) -> Option<()> {
+    fn solve_transposed(&self, etas: &Columns, costs: &mut SparseVector) -> Option<()> {
         let own = costs.value(self.slot)?;
         let mut rest = own;
-        for (slot, factor) in eta.places.iter().zip(eta.values.iter()) {
-            let cost = costs.value(*slot)?;
+        for entry in etas.column(self.index)? {
+            let cost = costs.value(entry.place)?;
             if !is_zero(cost) {
-                rest = reduced(rest, *factor, cost)?;
+                rest = reduced(rest, entry.value, cost)?;
             }
         }
         if is_zero(own) && is_zero(rest) {

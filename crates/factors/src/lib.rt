@@ -13,6 +13,6 @@ mod triangles;
 mod vectors;
 
 pub use arithmetic::{is_zero, quotient, signed, size, width};
-pub use columns::{Column, Columns};
+pub use columns::{Columns, Entry};
 pub use factors::Factors;
 pub use vectors::SparseVector;

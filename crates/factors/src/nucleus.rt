@@ -1,6 +1,6 @@
 //! The nucleus of a basis: the rows and slots that are left after those with one entry.
 use crate::arithmetic::{is_zero, quotient, width};
-use crate::sides::Entry;
+use crate::columns::Entry;
 use crate::vectors::SparseVector;
 use frac128::Frac;
 use std::alloc::Global;
@@ -8,7 +8,7 @@ use std::alloc::Global;
 // How many rows and slots are looked at for a pivot.
 const CANDIDATES: usize = 4;
 
-// How many entries a row or a slot has, whether it is a row, and its index.
+// How many entries a row or a slot has, whether it is a row, and its index with all bits turned: so the last comes first.
 type Candidate = (usize, bool, u32);
 
 /// The entries of each row, and the rows of each slot. What was a pivot's has none.
@@ -43,43 +43,45 @@ impl Nucleus {
     }
 
     /// Puts an entry in.
-    pub(crate) fn put(&mut self, row: u32, slot: u32, value: Frac) -> Option<()> {
-        let entry = Entry { place: slot, value };
+    pub(crate) fn put(&mut self, row: u32, entry: Entry) -> Option<()> {
         self.rows.get_mut(row as usize)?.push(entry).ok()?;
-        self.slots.get_mut(slot as usize)?.push(row).ok()
+        self.slots.get_mut(entry.place as usize)?.push(row).ok()
     }
 
-    /// Of the entries of the shortest rows and slots the one that makes the fewest entries as a pivot, the narrowest of these
+    /// Of the entries of the shortest of these rows and slots the one that makes the fewest entries as a pivot, the narrowest of these
     /// (Markowitz, *The elimination form of the inverse and its application to linear programming*, 1957).
-    pub(crate) fn choose(&self, alloc: Global) -> Option<Pivot> {
+    pub(crate) fn choose(&self, alloc: Global, rows: &[u32], slots: &[u32]) -> Option<Pivot> {
         let mut best: Option<Pivot> = None;
-        for (count, is_row, index) in self.shortest(alloc)?.iter() {
+        for (count, is_row, turned) in self.shortest(alloc, rows, slots)?.iter() {
+            let index = !*turned;
             let others = count.saturating_sub(1);
             let least = others.saturating_mul(others);
             if best.is_some_and(|found| found.cost <= least) {
                 break;
             }
             if *is_row {
-                for entry in self.rows.get(*index as usize)?.iter() {
-                    best = self.better(best, *index, entry.place)?;
+                for entry in self.rows.get(index as usize)?.iter() {
+                    best = self.better(best, index, entry.place)?;
                 }
             } else {
-                for row in self.slots.get(*index as usize)?.iter() {
-                    best = self.better(best, *row, *index)?;
+                for row in self.slots.get(index as usize)?.iter() {
+                    best = self.better(best, *row, index)?;
                 }
             }
         }
         best
     }
 
-    // The rows and slots that have the fewest entries.
-    fn shortest(&self, alloc: Global) -> Option<Vec<Candidate>> {
+    // Those of these rows and slots that have the fewest entries.
+    fn shortest(&self, alloc: Global, rows: &[u32], slots: &[u32]) -> Option<Vec<Candidate>> {
         let mut shortest = Vec::new(alloc);
-        for index in 0..u32::try_from(self.rows.len()).ok()? {
-            let rows = self.slots.get(index as usize)?.len();
-            keep(&mut shortest, (rows, false, index))?;
-            let entries = self.rows.get(index as usize)?.len();
-            keep(&mut shortest, (entries, true, index))?;
+        for slot in slots {
+            let rows = self.slots.get(*slot as usize)?.len();
+            keep(&mut shortest, (rows, false, !*slot))?;
+        }
+        for row in rows {
+            let entries = self.rows.get(*row as usize)?.len();
+            keep(&mut shortest, (entries, true, !*row))?;
         }
         Some(shortest)
     }
@@ -154,15 +156,13 @@ impl Nucleus {
         let own = self.rows.get_mut(row as usize)?;
         let before = own.len();
         own.clear();
-        for (index, place) in self.sum.places().iter().enumerate() {
-            let value = self.sum.value(*place)?;
-            let rows = self.slots.get_mut(*place as usize)?;
-            if is_zero(value) {
+        for (index, entry) in self.sum.entries().iter().enumerate() {
+            let rows = self.slots.get_mut(entry.place as usize)?;
+            if is_zero(entry.value) {
                 rows.retain(|other| *other != row);
                 continue;
             }
-            let place = *place;
-            own.push(Entry { place, value }).ok()?;
+            own.push(*entry).ok()?;
             if index >= before {
                 rows.push(row).ok()?;
             }

@@ -1,6 +1,6 @@
 //! The rows and the slots of a basis, and the pivots in those that have one entry left.
 use crate::arithmetic::quotient;
-use crate::columns::Columns;
+use crate::columns::{Columns, Entry};
 use frac128::Frac;
 use std::alloc::Global;
 
@@ -18,19 +18,12 @@ pub(crate) struct Side {
     pub positions: Vec<u32>,
 }
 
-/// An entry of a line.
-#[derive(Clone, Copy)]
-pub(crate) struct Entry {
-    pub place: u32,
-    pub value: Frac,
-}
-
 impl Side {
     /// Lines, none of which is taken.
     pub(crate) fn new(alloc: Global, lines: Columns) -> Option<Side> {
         let mut counts = Vec::with_capacity(alloc, lines.count()).ok()?;
         for index in 0..u32::try_from(lines.count()).ok()? {
-            let count = u32::try_from(lines.column(index)?.places.len()).ok()?;
+            let count = u32::try_from(lines.column(index)?.len()).ok()?;
             counts.push(count).ok()?;
         }
         let taken = Vec::with_capacity(alloc, lines.count()).ok()?;
@@ -69,13 +62,9 @@ impl Side {
 
     // The first entry of a line that stands in a line of the other side that is not taken.
     fn open_entry(&self, line: u32, other: &Side) -> Option<Entry> {
-        let entries = self.lines.column(line)?;
-        for (place, value) in entries.places.iter().zip(entries.values.iter()) {
-            if other.is_open(*place)? {
-                return Some(Entry {
-                    place: *place,
-                    value: *value,
-                });
+        for entry in self.lines.column(line)? {
+            if other.is_open(entry.place)? {
+                return Some(*entry);
             }
         }
         None
@@ -118,14 +107,14 @@ impl Side {
         triangle: &mut Columns,
         singles: &mut Vec<u32>,
     ) -> Option<()> {
-        let entries = other.lines.column(line)?;
-        for (place, value) in entries.places.iter().zip(entries.values.iter()) {
-            if self.is_open(*place)? {
-                triangle.push(*place, quotient(*value, divisor)?)?;
-                let count = self.counts.get_mut(*place as usize)?;
+        for entry in other.lines.column(line)? {
+            let place = entry.place;
+            if self.is_open(place)? {
+                triangle.push(place, quotient(entry.value, divisor)?)?;
+                let count = self.counts.get_mut(place as usize)?;
                 *count = count.saturating_sub(1);
                 if *count == 1 {
-                    singles.push(*place).ok()?;
+                    singles.push(place).ok()?;
                 }
             }
         }

@@ -1,6 +1,6 @@
 //! Triangular solves.
 use crate::arithmetic::{is_zero, quotient, reduced};
-use crate::columns::{Column, Columns};
+use crate::columns::{Columns, Entry};
 use crate::places::Places;
 use crate::vectors::SparseVector;
 use frac128::Frac;
@@ -26,20 +26,29 @@ impl Work {
         })
     }
 
-    /// Puts a value at a place.
+    // Puts a value at a place.
     #[inline(always)]
-    pub(crate) fn put(&mut self, place: u32, value: Frac) -> Option<()> {
+    fn put(&mut self, place: u32, value: Frac) -> Option<()> {
         *self.values.get_mut(place as usize)? = value;
         self.places.insert(place)
     }
 
+    /// Puts all values of a vector, each at the position of its place.
+    pub(crate) fn put_all(&mut self, entries: &[Entry], positions: &[u32]) -> Option<()> {
+        for entry in entries {
+            let position = *positions.get(entry.place as usize)?;
+            self.put(position, entry.value)?;
+        }
+        Some(())
+    }
+
     // Takes so many times a column off.
     #[inline(always)]
-    fn subtract(&mut self, column: Column<'_>, times: Frac) -> Option<()> {
-        for (place, factor) in column.places.iter().zip(column.values.iter()) {
-            let value = self.values.get_mut(*place as usize)?;
-            *value = reduced(*value, *factor, times)?;
-            self.places.insert(*place)?;
+    fn subtract(&mut self, column: &[Entry], times: Frac) -> Option<()> {
+        for entry in column {
+            let value = self.values.get_mut(entry.place as usize)?;
+            *value = reduced(*value, entry.value, times)?;
+            self.places.insert(entry.place)?;
         }
         Some(())
     }

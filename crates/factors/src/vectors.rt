@@ -1,77 +1,77 @@
 //! Sparse vectors.
 use crate::arithmetic::reduced;
+use crate::columns::Entry;
 use frac128::Frac;
 use std::alloc::Global;
 
-/// A vector most of whose values are 0: its touched places are listed, so that clearing and walking it follow them.
+// Where the entry of a place is that has none.
+const NOWHERE: u32 = u32::MAX;
+
+/// A vector most of whose values are 0: its touched places have entries, so that clearing and walking it follow them.
 #[derive(Drop)]
 pub struct SparseVector {
-    values: Vec<Frac>,
-    marks: Vec<bool>,
-    places: Vec<u32>,
+    entries: Vec<Entry>,
+    indices: Vec<u32>,
 }
 
 impl SparseVector {
     /// So many zeros.
     pub fn new(alloc: Global, len: usize) -> Option<SparseVector> {
         Some(SparseVector {
-            values: vec![in alloc; Frac::whole(0); len].ok()?,
-            marks: vec![in alloc; false; len].ok()?,
-            places: Vec::new(alloc),
+            entries: Vec::new(alloc),
+            indices: vec![in alloc; NOWHERE; len].ok()?,
         })
     }
 
-    /// The touched places, each once; a value may have become 0.
-    pub fn places(&self) -> &[u32] {
-        self.places.as_slice()
+    /// The entries of the touched places, each once; a value may have become 0.
+    pub fn entries(&self) -> &[Entry] {
+        self.entries.as_slice()
     }
 
     /// The value at a place: 0 where it is untouched, and none where it is out of range.
     #[inline(always)]
     pub fn value(&self, place: u32) -> Option<Frac> {
-        if *self.marks.get(place as usize)? {
-            self.values.get(place as usize).copied()
-        } else {
-            Some(Frac::whole(0))
+        let index = *self.indices.get(place as usize)?;
+        match self.entries.get(index as usize) {
+            Some(entry) => Some(entry.value),
+            None => Some(Frac::whole(0)),
         }
     }
 
     /// Puts a value at a place.
     #[inline(always)]
     pub fn set(&mut self, place: u32, value: Frac) -> Option<()> {
-        *self.touched(place)? = value;
+        self.touched(place)?.value = value;
         Some(())
     }
 
     /// Takes so many times a factor off the value at a place.
     #[inline(always)]
     pub fn subtract(&mut self, place: u32, factor: Frac, times: Frac) -> Option<()> {
-        let value = self.touched(place)?;
-        *value = reduced(*value, factor, times)?;
+        let entry = self.touched(place)?;
+        entry.value = reduced(entry.value, factor, times)?;
         Some(())
     }
 
-    // The value at a place, which is touched now.
+    // The entry of a place, which is touched now.
     #[inline(always)]
-    fn touched(&mut self, place: u32) -> Option<&mut Frac> {
-        let mark = self.marks.get_mut(place as usize)?;
-        if !*mark {
-            *mark = true;
-            self.places.push(place).ok()?;
+    fn touched(&mut self, place: u32) -> Option<&mut Entry> {
+        let index = self.indices.get_mut(place as usize)?;
+        if *index == NOWHERE {
+            *index = u32::try_from(self.entries.len()).ok()?;
+            let value = Frac::whole(0);
+            self.entries.push(Entry { place, value }).ok()?;
         }
-        self.values.get_mut(place as usize)
+        self.entries.get_mut(*index as usize)
     }
 
     /// Makes all values 0 and untouched.
     pub fn clear(&mut self) {
-        for place in self.places.iter() {
-            if let Some(value) = self.values.get_mut(*place as usize)
-                && let Some(mark) = self.marks.get_mut(*place as usize)
-            {
-                *value = Frac::whole(0);
-                *mark = false;
+        for entry in self.entries.iter() {
+            if let Some(index) = self.indices.get_mut(entry.place as usize) {
+                *index = NOWHERE;
             }
         }
-        self.places.clear();
+        self.entries.clear();
     }
 }

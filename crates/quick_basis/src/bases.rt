@@ -5,7 +5,7 @@ use crate::limits::{column_limits, row_limits};
 use crate::numbers::is_narrow;
 use crate::variables::Variable;
 use certs::{Branch, MemberSet, Side};
-use factors::{Columns, Factors, SparseVector, is_zero};
+use factors::{Columns, Entry, Factors, SparseVector, is_zero};
 use frac128::Frac;
 use lp_model::Model;
 use std::alloc::Global;
@@ -130,7 +130,7 @@ impl Basis {
         }
         match &right {
             Some(right) => {
-                self.solve_sum(alloc, right)?;
+                self.solve_sum(right)?;
                 self.shift_basics(Frac::whole(-1))
             }
             None => Some(()),
@@ -138,13 +138,8 @@ impl Basis {
     }
 
     /// Solves for the columns of the basic variables that add up to a right side over rows.
-    pub fn solve_sum(&mut self, alloc: Global, right: &SparseVector) -> Option<()> {
-        let mut column = Columns::new(alloc)?;
-        for place in right.places() {
-            column.push(*place, right.value(*place)?)?;
-        }
-        column.end()?;
-        self.factors.solve(column.column(0)?, &mut self.solved)
+    pub fn solve_sum(&mut self, right: &SparseVector) -> Option<()> {
+        self.factors.solve(right.entries(), &mut self.solved)
     }
 
     /// Solves for how the basic variables change as a nonbasic one rises: so many times `solved` they fall.
@@ -167,16 +162,10 @@ impl Basis {
             .solve_transposed(&mut self.costs, &mut self.prices)?;
         self.costs.clear();
         self.row.clear();
-        for place in self.prices.places() {
-            let price = self.prices.value(*place)?;
-            if !is_zero(price) {
-                add_row(
-                    &mut self.row,
-                    &self.variables,
-                    &self.by_row,
-                    *place,
-                    price.negate(),
-                )?;
+        for entry in self.prices.entries() {
+            if !is_zero(entry.value) {
+                let row = self.by_row.column(entry.place)?;
+                add_row(&mut self.row, &self.variables, row, entry.value.negate())?;
             }
         }
         Some(())
@@ -195,20 +184,19 @@ impl Basis {
 
     // Moves the basic variables against so many times `solved`.
     fn shift_basics(&mut self, step: Frac) -> Option<()> {
-        for slot in self.solved.places() {
-            let factor = self.solved.value(*slot)?;
-            if is_zero(factor) {
+        for entry in self.solved.entries() {
+            if is_zero(entry.value) {
                 continue;
             }
-            let base = *self.head.get(*slot as usize)?;
+            let base = *self.head.get(entry.place as usize)?;
             let known = self.variables.get_mut(base as usize)?;
-            let value = known.value.minus(factor.times(step).ok()?).ok()?;
+            let value = known.value.minus(entry.value.times(step).ok()?).ok()?;
             if self.is_narrow && !is_narrow(value) {
                 return None;
             }
             known.put_at(value);
             if known.missed.is_some() {
-                list(&mut self.outside, &mut self.is_listed, *slot)?;
+                list(&mut self.outside, &mut self.is_listed, entry.place)?;
             }
         }
         Some(())
@@ -227,8 +215,14 @@ impl Basis {
             list(&mut self.outside, &mut self.is_listed, slot)?;
         }
         if self.factors.are_stale() {
-            self.factors = Factors::new(alloc, &self.by_column, self.head.as_slice())?;
+            return self.refactor(alloc);
         }
+        Some(())
+    }
+
+    /// Makes the factors anew, whose numbers are often less wide then. Where none is returned, the basis is of no more use.
+    pub fn refactor(&mut self, alloc: Global) -> Option<()> {
+        self.factors = Factors::new(alloc, &self.by_column, self.head.as_slice())?;
         Some(())
     }
 
@@ -263,9 +257,8 @@ pub fn take_off(
     variable: u32,
     times: Frac,
 ) -> Option<()> {
-    let column = columns.column(variable)?;
-    for (place, value) in column.places.iter().zip(column.values.iter()) {
-        right.subtract(*place, *value, times)?;
+    for entry in columns.column(variable)? {
+        right.subtract(entry.place, entry.value, times)?;
     }
     Some(())
 }
@@ -274,14 +267,12 @@ pub fn take_off(
 fn add_row(
     row: &mut SparseVector,
     variables: &[Variable],
-    rows: &Columns,
-    place: u32,
+    entries: &[Entry],
     times: Frac,
 ) -> Option<()> {
-    let entries = rows.column(place)?;
-    for (variable, value) in entries.places.iter().zip(entries.values.iter()) {
-        if variables.get(*variable as usize)?.slot.is_none() {
-            row.subtract(*variable, *value, times)?;
+    for entry in entries {
+        if variables.get(entry.place as usize)?.slot.is_none() {
+            row.subtract(entry.place, entry.value, times)?;
         }
     }
     Some(())

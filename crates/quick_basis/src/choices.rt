@@ -45,16 +45,16 @@ pub(crate) fn helping(
 ) -> Option<Vec<(u64, u32)>> {
     let mut best = Vec::new(alloc);
     let most = if rule == Rule::Bland { 1 } else { CANDIDATES };
-    for variable in basis.row.places() {
-        let factor = basis.row.value(*variable)?;
-        if is_zero(factor) || basis.variable(*variable)?.is_at(side_of(factor, side)) {
+    for entry in basis.row.entries() {
+        let (variable, factor) = (entry.place, entry.value);
+        if is_zero(factor) || basis.variable(variable)?.is_at(side_of(factor, side)) {
             continue;
         }
         let count = match rule {
             Rule::Bland => 0,
-            Rule::Shortest | Rule::Least => *basis.counts.get(*variable as usize)?,
+            Rule::Shortest | Rule::Least => *basis.counts.get(variable as usize)?,
         };
-        keep(&mut best, (count, *variable), most)?;
+        keep(&mut best, (count, variable), most)?;
     }
     Some(best)
 }
@@ -83,7 +83,7 @@ pub(crate) fn entering(
     for (_, variable) in candidates {
         solved = Some(*variable);
         basis.solve_column(*variable)?;
-        *basis.counts.get_mut(*variable as usize)? = basis.solved.places().len() as u64;
+        *basis.counts.get_mut(*variable as usize)? = basis.solved.entries().len() as u64;
         let Some(step) = basis.step_of(leaving) else {
             continue;
         };
@@ -123,14 +123,13 @@ impl Basis {
         let known = self.variable(variable)?;
         let value = known.value.plus(step).ok()?;
         let mut count = u32::from(known.missed_at(value).is_some());
-        for slot in self.solved.places() {
+        for entry in self.solved.entries() {
             if count >= most {
                 break;
             }
-            let factor = self.solved.value(*slot)?;
-            let basic = self.basic(*slot)?;
-            if !is_zero(factor) && basic.is_limited() {
-                let value = basic.value.minus(factor.times(step).ok()?).ok()?;
+            let basic = self.basic(entry.place)?;
+            if !is_zero(entry.value) && basic.is_limited() {
+                let value = basic.value.minus(entry.value.times(step).ok()?).ok()?;
                 count = count.saturating_add(u32::from(basic.missed_at(value).is_some()));
             }
         }

@@ -54,9 +54,8 @@ fn value_after(basis: &Basis, variable: u32, step: Option<Step>) -> Option<Frac>
 pub fn whole_times(basis: &Basis) -> Frac {
     let one = Frac::whole(1);
     let mut multiple = one;
-    for variable in basis.row.places() {
-        let value = basis.row.value(*variable).unwrap_or(one);
-        match common_multiple(multiple, value) {
+    for entry in basis.row.entries() {
+        match common_multiple(multiple, entry.value) {
             Some(times) if i64::try_from(times.num()).is_ok() => multiple = times,
             _ => return one,
         }
@@ -95,14 +94,14 @@ pub fn take_over(basis: &mut Basis) -> Option<()> {
 // The one variable of the blocked row whose limit is gone; none where it is not just one.
 fn freed(basis: &Basis, side: Side) -> Option<u32> {
     let mut freed = None;
-    for variable in basis.row.places() {
-        let factor = basis.row.value(*variable)?;
-        let limit = basis.variable(*variable)?.limit_on(side_of(factor, side));
-        if !is_zero(factor) && limit.is_none() {
+    for entry in basis.row.entries() {
+        let side = side_of(entry.value, side);
+        let limit = basis.variable(entry.place)?.limit_on(side);
+        if !is_zero(entry.value) && limit.is_none() {
             if freed.is_some() {
                 return None;
             }
-            freed = Some(*variable);
+            freed = Some(entry.place);
         }
     }
     freed
@@ -112,8 +111,8 @@ impl Basis {
     // How many of the basic variables that move with the one that was solved for miss a limit.
     fn moving_outside(&self) -> Option<usize> {
         let mut count: usize = 0;
-        for slot in self.solved.places() {
-            if !is_zero(self.solved.value(*slot)?) && self.basic(*slot)?.missed.is_some() {
+        for entry in self.solved.entries() {
+            if !is_zero(entry.value) && self.basic(entry.place)?.missed.is_some() {
                 count = count.saturating_add(1);
             }
         }

@@ -1,16 +1,8 @@
 //! A basis that is kept while runs go on from it, to come back to it.
 use crate::bases::{Basis, Blocked};
 use crate::variables::Variable;
-use factors::Factors;
-use frac128::Frac;
+use factors::Entry;
 use std::alloc::Global;
-
-/// What a variable is taken, so many times.
-#[derive(Clone, Copy)]
-struct Entry {
-    variable: u32,
-    factor: Frac,
-}
 
 /// A basis, with the row that was blocked.
 #[derive(Drop)]
@@ -24,17 +16,10 @@ pub struct Saved {
 impl Basis {
     /// The basis as it is.
     pub fn save(&self, alloc: Global) -> Option<Saved> {
-        let mut row = Vec::new(alloc);
-        for variable in self.row.places() {
-            let factor = self.row.value(*variable)?;
-            let variable = *variable;
-            row.push(Entry { variable, factor }).ok()?;
-        }
-        let head = Vec::from_slice(alloc, self.head.as_slice()).ok()?;
         Some(Saved {
             variables: Vec::from_slice(alloc, self.variables.as_slice()).ok()?,
-            head,
-            row,
+            head: Vec::from_slice(alloc, self.head.as_slice()).ok()?,
+            row: Vec::from_slice(alloc, self.row.entries()).ok()?,
             blocked: self.blocked,
         })
     }
@@ -43,10 +28,10 @@ impl Basis {
     pub fn restore(&mut self, alloc: Global, saved: &Saved) -> Option<()> {
         self.variables = Vec::from_slice(alloc, saved.variables.as_slice()).ok()?;
         self.head = Vec::from_slice(alloc, saved.head.as_slice()).ok()?;
-        self.factors = Factors::new(alloc, &self.by_column, saved.head.as_slice())?;
+        self.refactor(alloc)?;
         self.row.clear();
         for entry in saved.row.iter() {
-            self.row.set(entry.variable, entry.factor)?;
+            self.row.set(entry.place, entry.value)?;
         }
         self.blocked = saved.blocked;
         Some(())

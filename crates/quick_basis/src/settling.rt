@@ -83,7 +83,7 @@ fn leaving(basis: &mut Basis, rule: Rule) -> Option<Option<u32>> {
             return Some(None);
         };
         basis.solve_unit_row(slot)?;
-        let length = basis.row.places().len() as u64;
+        let length = basis.row.entries().len() as u64;
         let known = basis.lengths.get_mut(slot as usize)?;
         let is_longer = length > known.saturating_mul(2).saturating_add(4);
         *known = length;
@@ -97,9 +97,9 @@ fn leaving(basis: &mut Basis, rule: Rule) -> Option<Option<u32>> {
 // Makes a pivot, for whose variable `solved` was solved.
 fn make_pivot(alloc: Global, basis: &mut Basis, pivot: Pivot) -> Option<()> {
     let half = *basis.lengths.get(pivot.slot as usize)? / 2;
-    for slot in basis.solved.places() {
-        let length = basis.lengths.get_mut(*slot as usize)?;
-        if *slot != pivot.slot {
+    for entry in basis.solved.entries() {
+        let length = basis.lengths.get_mut(entry.place as usize)?;
+        if entry.place != pivot.slot {
             *length = length.saturating_add(half);
         }
     }

@@ -23,11 +23,10 @@ pub fn row_weights(
     times: Frac,
 ) -> Option<Vec<Option<LimitWeight>>> {
     let mut weights = vec![in alloc; None; basis.variables.len()].ok()?;
-    for variable in basis.row.places() {
-        let factor = basis.row.value(*variable)?;
-        let side = side_of(factor, blocked.side);
-        let weight = size(factor).times(times).ok()?;
-        *weights.get_mut(*variable as usize)? = Some(LimitWeight { side, weight });
+    for entry in basis.row.entries() {
+        let side = side_of(entry.value, blocked.side);
+        let weight = size(entry.value).times(times).ok()?;
+        *weights.get_mut(entry.place as usize)? = Some(LimitWeight { side, weight });
     }
     let base = basis.base(blocked.slot)?;
     *weights.get_mut(base as usize)? = Some(LimitWeight {

@@ -17,34 +17,56 @@ pub fn start(alloc: Global, model: &Model, set: &MemberSet) -> Option<Basis>
 {
     let variables = variables(alloc, model, set)?;
     let by_row = rows(alloc, model)?;
+    let mut basis = basis_of_rows(alloc, model.column_count(), variables, by_row)?;
+    basis.put_sums(model)?;
+    Some(basis)
+}
+
+// The basis that the variables of the rows are, of which there are these behind so many columns.
+fn basis_of_rows(
+    alloc: Global,
+    columns: u32,
+    variables: Vec<Variable>,
+    by_row: Columns,
+) -> Option<Basis> {
     let by_column = by_row.transposed(alloc, variables.len())?;
-    let mut head = Vec::new(alloc);
-    for index in 0..model.row_count() {
-        head.push(model.column_count().checked_add(index)?).ok()?;
-    }
+    let head = head(alloc, columns, by_row.count())?;
     let factors = Factors::new(alloc, &by_column, head.as_slice())?;
-    let slots = head.len();
-    let mut basis = Basis {
-        columns: model.column_count(),
-        lengths: lengths(alloc, &by_row)?,
-        counts: lengths(alloc, &by_column)?,
-        solved: SparseVector::new(alloc, slots)?,
-        costs: SparseVector::new(alloc, slots)?,
-        prices: SparseVector::new(alloc, slots)?,
-        row: SparseVector::new(alloc, variables.len())?,
-        outside: Vec::new(alloc),
-        is_listed: vec![in alloc; false; slots].ok()?,
-        blocked: None,
-        crossed: None,
-        is_narrow: false,
+    let counts = lengths(alloc, &by_column)?;
+    let lengths = lengths(alloc, &by_row)?;
+    let is_listed = vec![in alloc; false; head.len()].ok()?;
+    let solved = SparseVector::new(alloc, head.len())?;
+    let costs = SparseVector::new(alloc, head.len())?;
+    let prices = SparseVector::new(alloc, head.len())?;
+    let row = SparseVector::new(alloc, variables.len())?;
+    Some(Basis {
         variables,
+        columns,
         by_row,
         by_column,
         head,
         factors,
-    };
-    basis.put_sums(model)?;
-    Some(basis)
+        solved,
+        costs,
+        prices,
+        row,
+        lengths,
+        counts,
+        outside: Vec::new(alloc),
+        is_listed,
+        blocked: None,
+        crossed: None,
+        is_narrow: false,
+    })
+}
+
+// The variables of so many rows, behind so many columns.
+fn head(alloc: Global, columns: u32, rows: usize) -> Option<Vec<u32>> {
+    let mut head = Vec::new(alloc);
+    for index in 0..u32::try_from(rows).ok()? {
+        head.push(columns.checked_add(index)?).ok()?;
+    }
+    Some(head)
 }
 
 // The columns and then the rows, the columns at limits.
@@ -89,8 +111,7 @@ fn put_row(rows: &mut Columns, terms: &[Term], variable: u32) -> Option<()> {
 fn lengths(alloc: Global, columns: &Columns) -> Option<Vec<u64>> {
     let mut lengths = Vec::new(alloc);
     for index in 0..u32::try_from(columns.count()).ok()? {
-        let places = columns.column(index)?.places;
-        lengths.push(places.len() as u64).ok()?;
+        lengths.push(columns.column(index)?.len() as u64).ok()?;
     }
     Some(lengths)
 }
