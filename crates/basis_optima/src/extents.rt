@@ -63,7 +63,7 @@ impl Extents {
     // Puts the rates of the nonbasic variables that count in the row of a vertex, and those of the basic ones by them.
     fn put_rates(&mut self, alloc: Global, basis: &mut Basis, missed: Side) -> Option<()> {
         let right = self.put_limits(alloc, basis, missed)?;
-        basis.solve_sum(&right)?;
+        basis.factors.solve(right.entries(), &mut basis.solved)?;
         self.shift_basics(basis, Frac::whole(-1))
     }
 

@@ -28,6 +28,7 @@ pub fn best(
     ensures shape { IfSome result (HasShape (length model.now.columns)) }
     ensures spent { pivots.new ≤ pivots.old }
 {
+    basis.refactor(alloc)?;
     take_over(basis)?;
     let costs = costs(alloc, model)?;
     let prices = Prices::of_rows(alloc, model, None)?;

@@ -18,5 +18,4 @@ mod widening;
 pub use alternative::cheapest;
 pub use improving::best;
 pub use optima::{BestSuggestion, CheapestSuggestion, Costs, LeastSuggestion, Pricing};
-pub use prices::Prices;
 pub use relaxing::{descend_first, least};

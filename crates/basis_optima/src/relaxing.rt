@@ -3,7 +3,7 @@ ghost use Rattle.std.specs.Prelude.{◌≡◌, ◌≤◌, IfSome, length};
 ghost use Rattle.certs.specs.Checks.{IsSetOf};
 
 use crate::descending::{End, descend, shares};
-use crate::optima::{LeastSuggestion, Pricing};
+use crate::optima::{Costs, LeastSuggestion, Pricing};
 use crate::prices::Prices;
 use crate::slopes::Descent;
 use certs::MemberSet;
@@ -12,13 +12,15 @@ use lp_model::Model;
 use quick_basis::{Basis, point, take_over};
 use std::alloc::Global;
 
-/// A point at which the sum of all costs of a set is least, and shares of members that show it, found from where the
-/// basis stands with as many pivots as are left, of which those that it makes are taken off: no wall may be missed there.
+/// A point at which the sum of all costs of a set is least, where the rigid members are walls, and shares of members that show it,
+/// found from where the basis stands with as many pivots as are left, of which those that it makes are taken off: no wall may be
+/// missed there.
 pub fn least(
     alloc: Global,
     model: &Model,
     set: &MemberSet,
-    prices: Prices,
+    rigid: &MemberSet,
+    costs: Costs,
     basis: &mut Basis,
     pricing: Pricing,
     pivots: &mut u64,
@@ -27,8 +29,10 @@ pub fn least(
     ensures shape { IfSome result (λ least. length least.point.values ≡ length model.now.columns) }
     ensures spent { pivots.new ≤ pivots.old }
 {
+    basis.refactor(alloc)?;
     take_over(basis)?;
     basis.put_all_limits(model, set)?;
+    let prices = Prices::new(alloc, model, rigid, costs)?;
     let mut descent = Descent::new(alloc, basis, prices, &[], pricing)?;
     let End::Least = descend(alloc, basis, &mut descent, pivots)? else {
         return None;

@@ -130,16 +130,11 @@ impl Basis {
         }
         match &right {
             Some(right) => {
-                self.solve_sum(right)?;
+                self.factors.solve(right.entries(), &mut self.solved)?;
                 self.shift_basics(Frac::whole(-1))
             }
             None => Some(()),
         }
-    }
-
-    /// Solves for the columns of the basic variables that add up to a right side over rows.
-    pub fn solve_sum(&mut self, right: &SparseVector) -> Option<()> {
-        self.factors.solve(right.entries(), &mut self.solved)
     }
 
     /// Solves for how the basic variables change as a nonbasic one rises: so many times `solved` they fall.

@@ -16,12 +16,13 @@ use Rattle.evidence_laws.specs.Weighed.{weight_beside}
 use Rattle.relaxation.specs.Stretching.{StretcherValue}
 use Rattle.quick_optimum.specs.declared.rounds.Missed.{Missed}
 
--- The stretcher that makes the rounds of which quick runs show nothing, how many pivots the quick runs of a round may make, the rounds made so far and their stops
+-- The stretcher that makes the rounds of which quick runs show nothing, how many pivots the quick runs of a round may make, the rounds made so far and their stops, and how many pivots were allowed so far
 pub record QuickStretcherValue : Type 0 where
   pub inner : StretcherValue
   pub pivots : ℕ
   pub rounds : ℕ
   pub stops : List Stopped
+  pub allowed : ℕ
 
 -- what each of its rounds may spend
 abbrev pub budgets_of : QuickStretcherValue → Budgets

@@ -2,6 +2,7 @@
 ghost use Rattle.std.specs.Prelude.{◌≡◌, IfSome, None, false, true};
 ghost use Rattle.certs.specs.Checks.{IsSetOf};
 ghost use Rattle.certs.specs.Trees.{has_mark};
+ghost use Rattle.quick_run.specs.Pivots.{Allows};
 ghost use Rattle.quick_oracle.specs.Alone.{stands_alone as is_alone};
 ghost use Rattle.quick_optimum.specs.Best.{IsBestOf};
 
@@ -28,18 +29,17 @@ pub fn quick_best<S: Suggest>(
     requires same { IsSetOf model.now set.now }
     ensures found { IfSome result (IsBestOf model.now set.now.members) }
     ensures alone { is_alone model.now set.now.members 0 ≡ true → result ≡ None }
+    ensures allowed { Allows kept.old kept.new pivots }
 {
     if stands_alone(model, set, 0) {
         return None;
     }
-    let mut left = pivots;
-    if let Some(found) = best_once(alloc, model, set, kept, &mut left) {
+    kept.run.allow(pivots);
+    if let Some(found) = best_once(alloc, model, set, kept) {
         return Some(found);
     }
-    if !kept.run().restart() {
-        return None;
-    }
-    best_once(alloc, model, set, kept, &mut left)
+    kept.run.restart();
+    best_once(alloc, model, set, kept)
 }
 
 // The same by what is kept: the set is settled, and then the objective is improved.
@@ -48,16 +48,16 @@ fn best_once<S: Suggest>(
     model: &Model,
     set: &MemberSet,
     kept: &mut Kept<S>,
-    pivots: &mut u64,
 ) -> Option<Diagnosis>
     requires same { IsSetOf model.now set.now }
     requires linear { has_mark set.now.members ≡ false }
-    ensures { IfSome result (IsBestOf model.now set.now.members) }
+    ensures found { IfSome result (IsBestOf model.now set.now.members) }
+    ensures kept { kept.new ≡ kept.old }
 {
-    let Suggestion::Point(_) = kept.run().suggest(alloc, model, set, &[], pivots)? else {
+    let Suggestion::Point(_) = kept.run.suggest(alloc, model, set, &[])? else {
         return None;
     };
-    match kept.run().suggest_best(alloc, model, set, pivots)? {
+    match kept.run.suggest_best(alloc, model, set)? {
         BestSuggestion::Bounded(point, combo) => bounded(alloc, model, set, point, combo),
         BestSuggestion::Unbounded(point, ray) => unbounded(model, set, point, ray),
     }

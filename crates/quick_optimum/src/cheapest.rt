@@ -7,6 +7,7 @@ ghost use Rattle.certs.specs.Order.{AreSharesInOrder};
 ghost use Rattle.certs.specs.Proof.{IsProof};
 ghost use Rattle.lp_model.specs.Satisfaction.{values_at};
 ghost use Rattle.price_checks.specs.Costs.{HasCost};
+ghost use Rattle.quick_run.specs.Pivots.{Allows};
 ghost use Rattle.quick_oracle.specs.Alone.{stands_alone as is_alone};
 ghost use Rattle.quick_optimum.specs.Cores.{IsListed, IsQuickCore, IsWeighed};
 
@@ -54,18 +55,17 @@ pub fn quick_cheapest<S: Suggest>(
     requires same { IsSetOf model.now set.now }
     ensures found { IfSome result (IsWeighed model.now set.now.members) }
     ensures alone { is_alone model.now set.now.members 0 ≡ true → result ≡ None }
+    ensures allowed { Allows kept.old kept.new pivots }
 {
     if stands_alone(model, set, 0) {
         return None;
     }
-    let mut left = pivots;
-    if let Some(found) = cheapest_once(alloc, model, set, kept, &mut left) {
+    kept.run.allow(pivots);
+    if let Some(found) = cheapest_once(alloc, model, set, kept) {
         return Some(found);
     }
-    if !kept.run().restart() {
-        return None;
-    }
-    cheapest_once(alloc, model, set, kept, &mut left)
+    kept.run.restart();
+    cheapest_once(alloc, model, set, kept)
 }
 
 // The same by what is kept: the set is settled, and a row that refutes it is made the cheapest.
@@ -74,27 +74,17 @@ fn cheapest_once<S: Suggest>(
     model: &Model,
     set: &MemberSet,
     kept: &mut Kept<S>,
-    pivots: &mut u64,
 ) -> Option<Weighed>
     requires same { IsSetOf model.now set.now }
-    ensures { IfSome result (IsWeighed model.now set.now.members) }
+    ensures found { IfSome result (IsWeighed model.now set.now.members) }
+    ensures kept { kept.new ≡ kept.old }
 {
-    if let Suggestion::Point(point) = kept.run().suggest(alloc, model, set, &[], pivots)? {
-        return satisfied(model, set, point);
+    if let Suggestion::Point(point) = kept.run.suggest(alloc, model, set, &[])? {
+        return is_point(model, set, &point).then_some(Weighed::Feasible(point));
     }
-    let found = kept.run().suggest_cheapest(alloc, model, set, pivots)?;
-    let core = core(alloc, model, set, kept, found, pivots)?;
+    let found = kept.run.suggest_cheapest(alloc, model, set)?;
+    let core = core(alloc, model, set, kept, found)?;
     Some(Weighed::Core(core))
-}
-
-// A point, where it is confirmed.
-fn satisfied(model: &Model, set: &MemberSet, point: Point) -> Option<Weighed>
-    ensures { IfSome result (IsWeighed model.now set.now.members) }
-{
-    if !is_point(model, set, &point) {
-        return None;
-    }
-    Some(Weighed::Feasible(point))
 }
 
 // The members of a weighting, where it is confirmed, with their witnesses.
@@ -104,10 +94,10 @@ fn core<S: Suggest>(
     set: &MemberSet,
     kept: &mut Kept<S>,
     found: CheapestSuggestion,
-    pivots: &mut u64,
 ) -> Option<QuickCore>
     requires same { IsSetOf model.now set.now }
-    ensures { IfSome result (IsQuickCore model.now set.now.members) }
+    ensures found { IfSome result (IsQuickCore model.now set.now.members) }
+    ensures kept { kept.new ≡ kept.old }
 {
     let CheapestSuggestion {
         combo,
@@ -123,7 +113,7 @@ fn core<S: Suggest>(
         return None;
     };
     let members = members_of_leaf(alloc, model, set, &proof)?;
-    let witnesses = witnesses(alloc, model, &members, kept, pivots)?;
+    let witnesses = witnesses(alloc, model, &members, kept)?;
     Some(QuickCore {
         members,
         proof,

@@ -1,8 +1,8 @@
 //! How little of a set must give way, by quick runs.
-ghost use Rattle.std.specs.Prelude.{◌≡◌, IfSome, List, None, true};
-ghost use Rattle.lp_model.specs.declared.members.Member.{Member as OneMember};
+ghost use Rattle.std.specs.Prelude.{◌≡◌, IfSome, None, true};
 ghost use Rattle.certs.specs.Checks.{IsSetOf};
 ghost use Rattle.certs.specs.Violation.{rigid_members};
+ghost use Rattle.quick_run.specs.Pivots.{Allows};
 ghost use Rattle.quick_oracle.specs.Alone.{stands_alone as is_alone};
 ghost use Rattle.relaxation.specs.Relaxed.{IsRelaxed};
 
@@ -31,23 +31,22 @@ pub fn quick_least<S: Suggest>(
     requires same { IsSetOf model.now set.now }
     ensures found { IfSome result (IsRelaxed model.now set.now.members) }
     ensures alone { is_alone model.now set.now.members 0 ≡ true → result ≡ None }
+    ensures allowed { Allows kept.old kept.new pivots }
 {
     if stands_alone(model, set, 0) {
         return None;
     }
     let rigid = rigid_set(alloc, model, set).ok()?;
-    let mut left = pivots;
+    kept.run.allow(pivots);
     if rigid.count() > 0 {
         // The basis of the whole set stands nearer to what is least than that of the rigid members alone.
-        let _settled = kept.run().suggest(alloc, model, set, &[], &mut left);
+        let _settled = kept.run.suggest(alloc, model, set, &[]);
     }
-    if let Some(found) = least_once(alloc, model, set, &rigid, kept, &mut left) {
+    if let Some(found) = least_once(alloc, model, set, &rigid, kept) {
         return Some(found);
     }
-    if !kept.run().restart() {
-        return None;
-    }
-    least_once(alloc, model, set, &rigid, kept, &mut left)
+    kept.run.restart();
+    least_once(alloc, model, set, &rigid, kept)
 }
 
 // The same by what is kept: the rigid members are settled, or where there are none the set, and then the violation is made least.
@@ -57,36 +56,23 @@ fn least_once<S: Suggest>(
     set: &MemberSet,
     rigid: &MemberSet,
     kept: &mut Kept<S>,
-    pivots: &mut u64,
 ) -> Option<Relaxed>
     requires same { IsSetOf model.now set.now }
     requires rigid { IsSetOf model.now rigid.now }
     requires rigid_are { rigid.now.members ≡ rigid_members model.now set.now.members }
-    ensures { IfSome result (IsRelaxed model.now set.now.members) }
+    ensures found { IfSome result (IsRelaxed model.now set.now.members) }
+    ensures kept { kept.new ≡ kept.old }
 {
     let has_rigid = rigid.count() > 0;
     let first = if has_rigid { rigid } else { set };
-    let settled = kept.run().suggest(alloc, model, first, &[], pivots)?;
+    let settled = kept.run.suggest(alloc, model, first, &[])?;
     if has_rigid && let Suggestion::Combo(combo) = settled {
-        return rigid_refuted(alloc, model, rigid, combo);
+        let is_refuted = is_combo(alloc, model, rigid, &combo);
+        return is_refuted.then_some(Relaxed::RigidInfeasible(combo));
     }
     let weights = Costs::Weights;
-    let found = kept
-        .run()
-        .suggest_least(alloc, model, set, rigid, weights, pivots)?;
+    let found = kept.run.suggest_least(alloc, model, set, rigid, weights)?;
     confirmed(alloc, model, set, rigid, found)
-}
-
-// A combination of the rigid members, where it is confirmed.
-fn rigid_refuted(alloc: Global, model: &Model, rigid: &MemberSet, combo: Combo) -> Option<Relaxed>
-    requires rigid { IsSetOf model.now rigid.now }
-    ensures { (set : List OneMember) → rigid.now.members ≡ rigid_members model.now set
-        → IfSome result (IsRelaxed model.now set) }
-{
-    if !is_combo(alloc, model, rigid, &combo) {
-        return None;
-    }
-    Some(Relaxed::RigidInfeasible(combo))
 }
 
 // A point and the dual of the shares, where the checks confirm that they show the same total.

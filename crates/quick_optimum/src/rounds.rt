@@ -1,14 +1,14 @@
 //! One round of the elastic filter, by quick runs.
 ghost use Rattle.std.specs.List.{list_all};
-ghost use Rattle.std.specs.Prelude.{◌≡◌, ◌&&◌, not, All, IfSome, List, None, length, true};
+ghost use Rattle.std.specs.Prelude.{◌≡◌, ◌&&◌, not, All, IfSome, None, length, true};
 ghost use Rattle.rational.specs.Rational.{lt_q, zero_ℚ};
-ghost use Rattle.lp_model.specs.declared.members.Member.{Member as OneMember};
 ghost use Rattle.lp_model.specs.Members.{has};
 ghost use Rattle.lp_model.specs.MemberSets.{IsPossibleIn};
 ghost use Rattle.lp_model.specs.Satisfaction.{values_at};
 ghost use Rattle.certs.specs.Checks.{IsSetOf};
 ghost use Rattle.certs.specs.Named.{IsKnownSource};
 ghost use Rattle.certs.specs.Tales.{IsStretched};
+ghost use Rattle.quick_run.specs.Pivots.{Allows};
 ghost use Rattle.quick_oracle.specs.Alone.{stands_alone as is_alone};
 ghost use Rattle.quick_optimum.specs.Stretching.{IsMissedAt, is_enforced as source_is_enforced, is_share_within as share_is_within};
 
@@ -47,18 +47,17 @@ pub(crate) fn quick_round<S: Suggest>(
     ensures found { let enforced = enforced.now.members in
         IfSome result (IsStretched model.now set.now.members enforced) }
     ensures alone { is_alone model.now set.now.members 0 ≡ true → result ≡ None }
+    ensures allowed { Allows kept.old kept.new pivots }
 {
     if stands_alone(model, set, 0) {
         return None;
     }
-    let mut left = pivots;
-    if let Some(found) = round_once(alloc, model, set, enforced, kept, &mut left) {
+    kept.run.allow(pivots);
+    if let Some(found) = round_once(alloc, model, set, enforced, kept) {
         return Some(found);
     }
-    if !kept.run().restart() {
-        return None;
-    }
-    round_once(alloc, model, set, enforced, kept, &mut left)
+    kept.run.restart();
+    round_once(alloc, model, set, enforced, kept)
 }
 
 // The same by what is kept: the enforced members are settled, or where there are none the set, and then the total
@@ -69,23 +68,21 @@ fn round_once<S: Suggest>(
     set: &MemberSet,
     enforced: &MemberSet,
     kept: &mut Kept<S>,
-    pivots: &mut u64,
 ) -> Option<Stretched>
     requires same { IsSetOf model.now set.now }
     requires enforced { IsSetOf model.now enforced.now }
-    ensures { let enforced = enforced.now.members in
+    ensures found { let enforced = enforced.now.members in
         IfSome result (IsStretched model.now set.now.members enforced) }
+    ensures kept { kept.new ≡ kept.old }
 {
     let has_enforced = enforced.count() > 0;
     let first = if has_enforced { enforced } else { set };
-    let settled = kept.run().suggest(alloc, model, first, &[], pivots)?;
+    let settled = kept.run.suggest(alloc, model, first, &[])?;
     if let Some(end) = confirmed_end(alloc, model, set, enforced, settled) {
         return Some(end);
     }
     let ones = Costs::Ones;
-    let found = kept
-        .run()
-        .suggest_least(alloc, model, set, enforced, ones, pivots)?;
+    let found = kept.run.suggest_least(alloc, model, set, enforced, ones)?;
     confirmed_least(alloc, model, set, enforced, found)
 }
 
@@ -103,24 +100,10 @@ fn confirmed_end(
 {
     match settled {
         Suggestion::Combo(combo) => {
-            if !is_combo(alloc, model, enforced, &combo) {
-                return None;
-            }
-            Some(Stretched::Cut(combo))
+            is_combo(alloc, model, enforced, &combo).then_some(Stretched::Cut(combo))
         }
-        Suggestion::Point(point) => met(model, set, point),
+        Suggestion::Point(point) => is_point(model, set, &point).then_some(Stretched::Met(point)),
     }
-}
-
-// A point of the whole set, where it is confirmed.
-fn met(model: &Model, set: &MemberSet, point: Point) -> Option<Stretched>
-    ensures { (enforced : List OneMember)
-        → IfSome result (IsStretched model.now set.now.members enforced) }
-{
-    if !is_point(model, set, &point) {
-        return None;
-    }
-    Some(Stretched::Met(point))
 }
 
 // The members to be enforced besides, or the point where there are none, where the checks confirm that the point has the
@@ -146,7 +129,7 @@ fn confirmed_least(
     }
     let missed = missed_at(alloc, model, set, enforced, &point)?;
     if missed.further.count() == 0 {
-        return met(model, set, point);
+        return is_point(model, set, &point).then_some(Stretched::Met(point));
     }
     if !is_combo(alloc, model, set, &combo) || !are_within(enforced, combo.shares.as_slice()) {
         return None;

@@ -5,6 +5,7 @@ ghost use Rattle.lp_model.specs.Satisfaction.{IsPart};
 ghost use Rattle.certs.specs.Checks.{IsSetOf};
 ghost use Rattle.certs.specs.Tales.{one_more, stops_after};
 ghost use Rattle.quick_oracle.specs.Alone.{is_small, stands_alone};
+ghost use Rattle.quick_run.specs.Pivots.{Allows};
 ghost use Rattle.relaxation.specs.Stretching.{IsRound, round_holds, round_stopped};
 ghost use Rattle.quick_optimum.specs.Stretching.{budgets_of};
 
@@ -35,7 +36,7 @@ impl<'a, S: Suggest> std::marker::Model for QuickStretcher<'a, S> {
 
     ghost Value = { QuickStretcherValue };
 
-    ghost view = { λ s. record { inner = s.inner; pivots = s.pivots; rounds = s.rounds; stops = s.stops.items } };
+    ghost view = { λ s. record { inner = s.inner; pivots = s.pivots; rounds = s.rounds; stops = s.stops.items; allowed = s.kept } };
 
     ghost invariant = { λ s. s.inner.model ≡ s.model.now };
 }
@@ -49,6 +50,7 @@ impl<'a, S: Suggest> QuickStretcher<'a, S> {
           pivots = pivots;
           rounds = 0;
           stops = [];
+          allowed = kept;
         } }
     {
         QuickStretcher {
@@ -62,7 +64,9 @@ impl<'a, S: Suggest> QuickStretcher<'a, S> {
     }
 
     /// What is kept of the program, for the next command.
-    pub fn into_kept(self) -> Kept<S> {
+    pub fn into_kept(self) -> Kept<S>
+        ensures { result ≡ self.entry.allowed }
+    {
         self.kept
     }
 }
@@ -109,6 +113,8 @@ impl<S: Suggest> Stretcher for QuickStretcher<'_, S> {
         ensures alone { let before = self.old.inner.rounds in
             stands_alone self.old.inner.model set.now.members 0 ≡ true
             → self.new.inner.rounds ≡ one_more before }
+        // Its quick runs are allowed no more pivots than so many.
+        ensures allowed { Allows self.old.allowed self.new.allowed self.old.pivots }
         ensures budget { self.new.pivots ≡ self.old.pivots }
     {
         self.rounds = self.rounds.saturating_add(1);

@@ -1,5 +1,5 @@
 //! Witnesses of members, by quick runs.
-ghost use Rattle.std.specs.Prelude.{IfSome};
+ghost use Rattle.std.specs.Prelude.{◌≡◌, IfSome};
 ghost use Rattle.certs.specs.Checks.{IsSetOf};
 ghost use Rattle.certs.specs.Tales.{IsPointOf};
 ghost use Rattle.filter_steps.specs.Isolated.{AreWitnesses};
@@ -11,16 +11,16 @@ use quick_run::{Suggest, Suggestion};
 use std::alloc::Global;
 
 /// A point for each member of a set, in member order, which satisfies all the others, where quick runs suggest them
-/// with as many pivots as are left in all, and the check confirms each.
+/// with the pivots that are left, and the check confirms each.
 pub(crate) fn witnesses<S: Suggest>(
     alloc: Global,
     model: &Model,
     set: &MemberSet,
     kept: &mut Kept<S>,
-    pivots: &mut u64,
 ) -> Option<Vec<Point>>
     requires same { IsSetOf model.now set.now }
-    ensures { IfSome result (λ points. AreWitnesses model.now set.now.members points.items) }
+    ensures found { IfSome result (λ points. AreWitnesses model.now set.now.members points.items) }
+    ensures kept { kept.new ≡ kept.old }
 {
     set.stands_in_order();
     let mut points = Vec::new(alloc);
@@ -29,7 +29,7 @@ pub(crate) fn witnesses<S: Suggest>(
             return None;
         };
         others.remove(member);
-        let point = witness(alloc, model, &others, kept, pivots)?;
+        let point = witness(alloc, model, &others, kept)?;
         let Ok(()) = points.push(point) else {
             return None;
         };
@@ -43,12 +43,12 @@ fn witness<S: Suggest>(
     model: &Model,
     set: &MemberSet,
     kept: &mut Kept<S>,
-    pivots: &mut u64,
 ) -> Option<Point>
     requires same { IsSetOf model.now set.now }
-    ensures { IfSome result (IsPointOf model.now set.now.members) }
+    ensures found { IfSome result (IsPointOf model.now set.now.members) }
+    ensures kept { kept.new ≡ kept.old }
 {
-    let Suggestion::Point(point) = kept.run().suggest(alloc, model, set, &[], pivots)? else {
+    let Suggestion::Point(point) = kept.run.suggest(alloc, model, set, &[])? else {
         return None;
     };
     is_point(model, set, &point).then_some(point)

@@ -3,7 +3,7 @@ ghost use Rattle.std.specs.Prelude.{◌≡◌, ◌<◌, length, not};
 ghost use Rattle.certs.specs.Answers.{is_linear};
 ghost use Rattle.certs.specs.Checks.{IsSetOf};
 ghost use Rattle.certs.specs.Plain.{has_row as has_side, rows_in};
-ghost use Rattle.quick_oracle.specs.Alone.{is_small as has_few_rows, size_of as size, stands_alone as is_alone, wants_nodes as has_no_nodes};
+ghost use Rattle.quick_oracle.specs.Alone.{is_small as has_few_rows, size_of as size, stands_alone as is_alone};
 
 use certs::{Member, MemberSet};
 use lp_model::Model;
@@ -19,15 +19,7 @@ pub fn stands_alone(model: &Model, set: &MemberSet, nodes: u64) -> bool
     requires { IsSetOf model.now set.now }
     ensures { result ≡ is_alone model.now set.now.members nodes }
 {
-    size_of(model, set) <= TINY || wants_nodes(model, set, nodes)
-}
-
-// Whether the set has a mark, and a quick tree may have no nodes.
-fn wants_nodes(model: &Model, set: &MemberSet, nodes: u64) -> bool
-    requires { IsSetOf model.now set.now }
-    ensures { result ≡ has_no_nodes set.now.members nodes }
-{
-    has_mark(set, model.column_count()) && nodes == 0
+    size_of(model, set) <= TINY || has_mark(set, model.column_count()) && nodes == 0
 }
 
 /// Whether a set is small: the rows of which it has a side, times the columns, are at most 1,000. A quick run is made of it only

@@ -1,5 +1,5 @@
 //! Points, combinations and proofs that are confirmed by their checks, and copies of them.
-ghost use Rattle.std.specs.Prelude.{◌≡◌, ◌<◌, ◌∷◌, [], All, IfOk, IfSome, List, length, true};
+ghost use Rattle.std.specs.Prelude.{◌≡◌, ◌<◌, [], All, IfSome, List, length, true};
 ghost use Rattle.lp_model.specs.declared.members.Member.{Member as OneMember};
 ghost use Rattle.lp_model.specs.Program.{Program};
 ghost use Rattle.certs.specs.Checks.{IsSetOf};
@@ -15,6 +15,7 @@ use certs::{
     are_in_order, check_combo, check_point,
 };
 use frac128::Frac;
+use linear_oracle::leaf_proof;
 use lp_model::Model;
 use std::alloc::{AllocError, Global};
 
@@ -78,17 +79,6 @@ pub(crate) fn leaf_verdict(alloc: Global, combo: Combo) -> Option<Verdict>
         return None;
     };
     Some(Verdict::Infeasible(proof))
-}
-
-// The proof whose one node is a leaf.
-fn leaf_proof(alloc: Global, combo: Combo) -> Result<Proof, AllocError>
-    ensures { IfOk result (λ proof. proof.nodes ≡ Node.Leaf combo ∷ []) }
-{
-    let mut nodes = Vec::new(alloc);
-    nodes.push(Node::Leaf(combo))?;
-    Ok(Proof {
-        nodes: Nodes::new(nodes),
-    })
 }
 
 /// The verdict of a proof, where its check says that it proves the set, and the shares of each leaf stand in order. Where

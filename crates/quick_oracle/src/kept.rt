@@ -1,8 +1,11 @@
 //! What is kept from ask to ask, and what it gives.
-ghost use Rattle.std.specs.Prelude.{IfSome};
+ghost use Rattle.std.specs.Prelude.{◌≡◌, ◌*◌, not, IfSome};
+ghost use Rattle.certs.specs.Answers.{is_linear};
 ghost use Rattle.certs.specs.Checks.{IsSetOf};
 ghost use Rattle.certs.specs.Tales.{IsPointOf};
 ghost use Rattle.quick_oracle.specs.Answers.{IsConfirmed};
+ghost use Rattle.quick_oracle.specs.Value.{most_pivots};
+ghost use Rattle.quick_run.specs.Pivots.{Allows};
 
 use crate::alone::{has_mark, stands_alone};
 use crate::confirmed::{
@@ -29,7 +32,8 @@ pub(crate) struct Budget {
 /// runs, and the last point, the last combination and the last proof by a tree that were confirmed.
 #[derive(Drop)]
 pub struct Kept<S: Suggest = QuickRun> {
-    run: S,
+    /// What suggests.
+    pub run: S,
     point: Option<Point>,
     combo: Option<Combo>,
     proof: Option<Proof>,
@@ -37,27 +41,20 @@ pub struct Kept<S: Suggest = QuickRun> {
     tree_failures: u32,
 }
 
-// Contracts see nothing of it.
+// Contracts see how many pivots were allowed.
 impl<S: Suggest> std::marker::Model for Kept<S> {
-    ghost use Rattle.std.specs.Prelude.{⊤};
+    ghost use Rattle.std.specs.Prelude.{ℕ};
 
-    ghost Value = { ⊤ };
+    ghost Value = { ℕ };
 
-    ghost view = { λ k. tt };
+    ghost view = { λ k. S.allowed k.run };
 }
 
 impl Kept<QuickRun> {
     /// Nothing was run and nothing confirmed yet.
     pub fn new() -> Kept<QuickRun> {
-        Kept::with_run(QuickRun::new())
-    }
-}
-
-impl<S: Suggest> Kept<S> {
-    /// Suggestions are asked of this, and nothing was confirmed yet.
-    pub fn with_run(run: S) -> Kept<S> {
         Kept {
-            run,
+            run: QuickRun::new(),
             point: None,
             combo: None,
             proof: None,
@@ -65,12 +62,9 @@ impl<S: Suggest> Kept<S> {
             tree_failures: 0,
         }
     }
+}
 
-    /// What suggests.
-    pub fn run(&mut self) -> &mut S {
-        &mut self.run
-    }
-
+impl<S: Suggest> Kept<S> {
     /// A confirmed point of a set, by what is kept or by quick runs of so many pivots, and where the set has a mark a quick tree of
     /// at most so many nodes. None where nothing was confirmed, and where the set stands alone.
     pub fn find_point(
@@ -82,7 +76,8 @@ impl<S: Suggest> Kept<S> {
         nodes: u64,
     ) -> Option<Point>
         requires { IsSetOf model.now set.now }
-        ensures { IfSome result (IsPointOf model.now set.now.members) }
+        ensures found { IfSome result (IsPointOf model.now set.now.members) }
+        ensures allowed { Allows self.old self.new (most_pivots set.now.members pivots nodes) }
     {
         if stands_alone(model, set, nodes) {
             return None;
@@ -106,7 +101,9 @@ impl<S: Suggest> Kept<S> {
         is_first: bool,
     ) -> Option<Verdict>
         requires { IsSetOf model.now set.now }
-        ensures { IfSome result (IsConfirmed model.now set.now.members) }
+        ensures confirmed { IfSome result (IsConfirmed model.now set.now.members) }
+        ensures allowed { let most = most_pivots set.now.members budget.pivots budget.nodes in
+            Allows self.old self.new most }
     {
         let is_marked = has_mark(set, model.column_count());
         let before = if is_marked {
@@ -140,8 +137,11 @@ impl<S: Suggest> Kept<S> {
         is_first: bool,
         is_marked: bool,
     ) -> Option<Verdict>
-        requires { IsSetOf model.now set.now }
-        ensures { IfSome result (IsConfirmed model.now set.now.members) }
+        requires same { IsSetOf model.now set.now }
+        requires marked { is_marked ≡ not (is_linear set.now.members) }
+        ensures confirmed { IfSome result (IsConfirmed model.now set.now.members) }
+        ensures allowed { let most = most_pivots set.now.members budget.pivots budget.nodes in
+            Allows self.old self.new most }
     {
         if is_first && let Some(verdict) = self.remembered(alloc, model, set) {
             return Some(verdict);
@@ -149,14 +149,14 @@ impl<S: Suggest> Kept<S> {
         if is_marked {
             return self.found_by_tree(alloc, model, set, budget);
         }
-        let mut pivots = budget.pivots;
-        if let Some(verdict) = self.run_once(alloc, model, set, &mut pivots) {
+        self.run.allow(budget.pivots);
+        if let Some(verdict) = self.run_once(alloc, model, set) {
             return Some(verdict);
         }
         if !self.run.restart() {
             return None;
         }
-        self.run_once(alloc, model, set, &mut pivots)
+        self.run_once(alloc, model, set)
     }
 
     // A confirmed verdict by a quick tree.
@@ -168,7 +168,8 @@ impl<S: Suggest> Kept<S> {
         budget: Budget,
     ) -> Option<Verdict>
         requires { IsSetOf model.now set.now }
-        ensures { IfSome result (IsConfirmed model.now set.now.members) }
+        ensures confirmed { IfSome result (IsConfirmed model.now set.now.members) }
+        ensures allowed { Allows self.old self.new (budget.pivots * budget.nodes) }
     {
         let last = match &self.proof {
             Some(proof) => proof.nodes.as_slice(),
@@ -182,7 +183,8 @@ impl<S: Suggest> Kept<S> {
     // A confirmed verdict by what is kept: the combination, or else the point.
     fn remembered(&mut self, alloc: Global, model: &Model, set: &MemberSet) -> Option<Verdict>
         requires { IsSetOf model.now set.now }
-        ensures { IfSome result (IsConfirmed model.now set.now.members) }
+        ensures confirmed { IfSome result (IsConfirmed model.now set.now.members) }
+        ensures kept { self.new ≡ self.old }
     {
         if let Some(combo) = &self.combo {
             let combo = copied_combo(alloc, combo).ok()?;
@@ -195,17 +197,12 @@ impl<S: Suggest> Kept<S> {
     }
 
     // A confirmed verdict by one quick run.
-    fn run_once(
-        &mut self,
-        alloc: Global,
-        model: &Model,
-        set: &MemberSet,
-        pivots: &mut u64,
-    ) -> Option<Verdict>
+    fn run_once(&mut self, alloc: Global, model: &Model, set: &MemberSet) -> Option<Verdict>
         requires { IsSetOf model.now set.now }
-        ensures { IfSome result (IsConfirmed model.now set.now.members) }
+        ensures confirmed { IfSome result (IsConfirmed model.now set.now.members) }
+        ensures kept { self.new ≡ self.old }
     {
-        match self.run.suggest(alloc, model, set, &[], pivots)? {
+        match self.run.suggest(alloc, model, set, &[])? {
             Suggestion::Point(point) => satisfied(alloc, model, set, point, &mut self.point),
             Suggestion::Combo(combo) => refuted(alloc, model, set, combo, &mut self.combo),
         }

@@ -4,7 +4,8 @@ ghost use Rattle.certs.specs.Checks.{IsSetOf};
 ghost use Rattle.certs.specs.Tales.{asked_after, no_tale};
 ghost use Rattle.quick_oracle.specs.Alone.{is_small, stands_alone};
 ghost use Rattle.quick_oracle.specs.Answers.{Came, IsAsked, IsAskedFirst, IsQuickAnswer, quick_holds, quick_ordered, quick_within};
-ghost use Rattle.quick_oracle.specs.Value.{QuickValue, state_with};
+ghost use Rattle.quick_oracle.specs.Value.{QuickValue, most_pivots, state_with};
+ghost use Rattle.quick_run.specs.Pivots.{Allows};
 
 use crate::alone::{is_small, stands_alone};
 use crate::kept::{Budget, Kept};
@@ -30,7 +31,7 @@ impl<'a, O: Oracle, S: Suggest> std::marker::Model for QuickOracle<'a, O, S> {
 
     ghost Value = { QuickValue O };
 
-    ghost view = { λ o. record { inner = o.inner; pivots = o.pivots; nodes = o.nodes; tale = o.tale } };
+    ghost view = { λ o. record { inner = o.inner; pivots = o.pivots; nodes = o.nodes; allowed = o.kept; tale = o.tale } };
 
     ghost invariant = { λ o. (O.state o.inner).model ≡ o.model.now };
 }
@@ -51,6 +52,7 @@ impl<'a, O: Oracle, S: Suggest> QuickOracle<'a, O, S> {
           inner = inner;
           pivots = pivots;
           nodes = nodes;
+          allowed = kept;
           tale = no_tale;
         } }
     {
@@ -81,7 +83,9 @@ impl<'a, O: Oracle, S: Suggest> QuickOracle<'a, O, S> {
 
 impl<'a, O: Oracle + Drop, S: Suggest> QuickOracle<'a, O, S> {
     /// What is kept of the program, for the next oracle.
-    pub fn into_kept(self) -> Kept<S> {
+    pub fn into_kept(self) -> Kept<S>
+        ensures { result ≡ self.entry.allowed }
+    {
         self.kept
     }
 }
@@ -118,6 +122,9 @@ impl<O: Oracle, S: Suggest> Oracle for QuickOracle<'_, O, S> {
         ensures alone { stands_alone (O.state self.old.inner).model set.now.members self.old.nodes ≡ true
             → IsAsked O.answers (O.state self.old.inner) (O.state self.new.inner)
             set.now.members result }
+        // Its quick runs are allowed no more pivots than so many: for each node, where the set has a mark.
+        ensures allowed { let most = most_pivots set.now.members self.old.pivots self.old.nodes in
+            Allows self.old.allowed self.new.allowed most }
         ensures budget { self.new.pivots ≡ self.old.pivots }
         ensures nodes { self.new.nodes ≡ self.old.nodes }
     {
@@ -157,6 +164,8 @@ fn answered<O: Oracle, S: Suggest>(
         → IsAskedFirst O.answers (O.state inner.old) (O.state inner.new) set.now.members result }
     ensures alone { stands_alone model.now set.now.members budget.nodes ≡ true
         → IsAsked O.answers (O.state inner.old) (O.state inner.new) set.now.members result }
+    ensures allowed { let most = most_pivots set.now.members budget.pivots budget.nodes in
+        Allows kept.old kept.new most }
 {
     if stands_alone(model, set, budget.nodes) {
         return inner.ask(alloc, set);

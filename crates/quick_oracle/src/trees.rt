@@ -1,10 +1,12 @@
 //! Trees of sets with marks, whose nodes are quick runs.
-ghost use Rattle.std.specs.Prelude.{All, IfSome, length};
+ghost use Rattle.std.specs.Prelude.{◌≡◌, ◌*◌, All, IfSome, length};
 ghost use Rattle.certs.specs.Checks.{IsSetOf};
 ghost use Rattle.certs.specs.Proof.{IsFittingNode};
 ghost use Rattle.quick_oracle.specs.Answers.{IsConfirmed};
 ghost use Rattle.branch_proof.specs.Pending.{IsKnown};
+ghost use Rattle.quick_oracle.specs.Value.{AllowsEach};
 ghost use Rattle.quick_oracle.specs.Walks.{IsStep, IsWalkPath};
+ghost use Rattle.quick_run.specs.Pivots.{Allows};
 
 use crate::confirmed::{is_point, proof_verdict};
 use crate::guides::Guide;
@@ -34,7 +36,8 @@ pub(crate) fn quick_tree<S: Suggest>(
     budget: Budget,
 ) -> Option<Verdict>
     requires same { IsSetOf model.now set.now }
-    ensures { IfSome result (IsConfirmed model.now set.now.members) }
+    ensures confirmed { IfSome result (IsConfirmed model.now set.now.members) }
+    ensures allowed { Allows (S.allowed run.old) (S.allowed run.new) (budget.pivots * budget.nodes) }
 {
     let Budget { pivots, mut nodes } = budget;
     if let Some(verdict) = walk(alloc, model, set, run, last, pivots, &mut nodes) {
@@ -59,7 +62,8 @@ fn walk<S: Suggest>(
     left: &mut u64,
 ) -> Option<Verdict>
     requires same { IsSetOf model.now set.now }
-    ensures { IfSome result (IsConfirmed model.now set.now.members) }
+    ensures confirmed { IfSome result (IsConfirmed model.now set.now.members) }
+    ensures allowed { AllowsEach (S.allowed run.old) (S.allowed run.new) pivots left.old left.new }
 {
     let mut guide = Guide::new(ahead);
     let mut path = BranchPath::new(alloc);
@@ -112,7 +116,8 @@ fn next_step<S: Suggest>(
 ) -> Option<Step>
     requires same { IsSetOf model.now set.now }
     requires path { IsWalkPath model.now path.now }
-    ensures { IfSome result (IsStep model.now set.now.members) }
+    ensures step { IfSome result (IsStep model.now set.now.members) }
+    ensures allowed { Allows (S.allowed run.old) (S.allowed run.new) pivots }
 {
     if let Some(node) = guide.followed(alloc, model, set, path) {
         return Some(Step::Further(node));
@@ -130,16 +135,17 @@ fn step_by_runs<S: Suggest>(
     pivots: u64,
 ) -> Option<Step>
     requires same { IsSetOf model.now set.now }
-    ensures { IfSome result (IsStep model.now set.now.members) }
+    ensures step { IfSome result (IsStep model.now set.now.members) }
+    ensures allowed { Allows (S.allowed run.old) (S.allowed run.new) pivots }
 {
-    let mut left = pivots;
-    if let Some(step) = step_by_run(alloc, model, set, run, path, &mut left) {
+    run.allow(pivots);
+    if let Some(step) = step_by_run(alloc, model, set, run, path) {
         return Some(step);
     }
     if !run.restart() {
         return None;
     }
-    step_by_run(alloc, model, set, run, path, &mut left)
+    step_by_run(alloc, model, set, run, path)
 }
 
 // What one quick run gives at a node.
@@ -149,12 +155,12 @@ fn step_by_run<S: Suggest>(
     set: &MemberSet,
     run: &mut S,
     path: &[Branch],
-    pivots: &mut u64,
 ) -> Option<Step>
     requires same { IsSetOf model.now set.now }
-    ensures { IfSome result (IsStep model.now set.now.members) }
+    ensures step { IfSome result (IsStep model.now set.now.members) }
+    ensures kept { S.allowed run.new ≡ S.allowed run.old }
 {
-    match run.suggest(alloc, model, set, path, pivots)? {
+    match run.suggest(alloc, model, set, path)? {
         Suggestion::Point(point) => step_at(model, set, point),
         Suggestion::Combo(combo) => Some(Step::Further(Node::Leaf(combo))),
     }

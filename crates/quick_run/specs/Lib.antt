@@ -1,1 +1,2 @@
+pub mod Pivots
 pub mod Shape

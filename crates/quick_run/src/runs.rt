@@ -1,20 +1,22 @@
 //! Runs on a basis that is kept.
-ghost use Rattle.std.specs.Prelude.{◌≡◌, ◌≤◌, IfSome, length};
+ghost use Rattle.std.specs.Prelude.{◌≡◌, ◌+◌, ◌-◌, ◌^◌, ◌<◌, ◌≤◌, IfSome, length};
 ghost use Rattle.basis_optima.specs.Shape.{HasShape};
 ghost use Rattle.certs.specs.Checks.{IsSetOf};
+ghost use Rattle.quick_run.specs.Pivots.{Allows, IsSpent};
 ghost use Rattle.quick_run.specs.Shape.{IsSuggestion};
 
 use crate::combinations::{combo, crossing};
 use crate::suggestions::{Suggest, Suggestion};
 use basis_optima::Pricing::{Shortest, Steepest};
 use basis_optima::{
-    BestSuggestion, CheapestSuggestion, Costs, LeastSuggestion, Prices, best, cheapest,
+    BestSuggestion, CheapestSuggestion, Costs, LeastSuggestion, Pricing, best, cheapest,
     descend_first, least,
 };
 use certs::{Branch, MemberSet};
 use lp_model::Model;
 use quick_basis::{Basis, End, Saved, point, read_off, settle, start};
 use std::alloc::Global;
+use std::mem;
 
 /// Runs on one program, with the basis that is kept from one to the next, and the last one that refuted a set without branches,
 /// where runs went on from it.
@@ -24,25 +26,33 @@ pub struct QuickRun {
     refuted: Option<Saved>,
     is_away: bool,
     was_kept: bool,
+    pricing: Pricing,
+    left: u64,
+    allowed: u64,
 }
 
-// Contracts see nothing of it.
+// Contracts see how many pivots are left, and how many were allowed.
 impl std::marker::Model for QuickRun {
-    ghost use Rattle.std.specs.Prelude.{⊤};
+    ghost use Rattle.quick_run.specs.Pivots.{PivotsValue};
 
-    ghost Value = { ⊤ };
+    ghost Value = { PivotsValue };
 
-    ghost view = { λ r. tt };
+    ghost view = { λ r. record { left = r.left; allowed = r.allowed } };
 }
 
 impl QuickRun {
     /// Nothing was run yet.
-    pub fn new() -> QuickRun {
+    pub fn new() -> QuickRun
+        ensures { result ≡ record { left = 0; allowed = 0 } }
+    {
         QuickRun {
             basis: None,
             refuted: None,
             is_away: false,
             was_kept: false,
+            pricing: Steepest,
+            left: 0,
+            allowed: 0,
         }
     }
 
@@ -54,15 +64,14 @@ impl QuickRun {
         model: &Model,
         set: &MemberSet,
         path: &[Branch],
-        pivots: &mut u64,
     ) -> Option<Basis>
         requires same { IsSetOf model.now set.now }
-        ensures { pivots.new ≤ pivots.old }
+        ensures { IsSpent self.old self.new }
     {
         let kept = self.basis.take();
         self.was_kept = kept.is_some();
         let Some(kept) = kept else {
-            return first_basis(alloc, model, set, path, pivots);
+            return first_basis(alloc, model, set, path, &mut self.left);
         };
         let mut basis = kept;
         if path.is_empty()
@@ -76,7 +85,9 @@ impl QuickRun {
     }
 
     // Keeps the basis where it refutes a set without branches, and no run has kept it so before.
-    fn remember(&mut self, alloc: Global, basis: &Basis, is_moved: bool) {
+    fn remember(&mut self, alloc: Global, basis: &Basis, is_moved: bool)
+        ensures { self.new ≡ self.old }
+    {
         self.is_away = basis.blocked.is_none();
         if !self.is_away && (is_moved || self.refuted.is_none()) {
             self.refuted = basis.save(alloc);
@@ -85,6 +96,16 @@ impl QuickRun {
 }
 
 impl Suggest for QuickRun {
+    ghost allowed = { λ r. r.allowed };
+
+    fn allow(&mut self, pivots: u64)
+        ensures allowed { Allows self.old.allowed self.new.allowed pivots }
+        ensures counted { self.new.allowed < 2 ^ 64 - 1 → self.old.allowed + pivots ≤ self.new.allowed }
+    {
+        self.left = pivots;
+        self.allowed = self.allowed.saturating_add(pivots);
+    }
+
     /// A point or a combination that may show whether some point on a path satisfies the set's members, marks left out; none
     /// where a number does not fit, more pivots are wanted, memory is refused, or a branch is on no column. Nothing is promised of
     /// it but its shape, so what it shows is to be checked: a point with a value for each column, or shares of members of the set
@@ -101,17 +122,17 @@ impl Suggest for QuickRun {
         model: &Model,
         set: &MemberSet,
         path: &[Branch],
-        pivots: &mut u64,
     ) -> Option<Suggestion>
         requires same { IsSetOf model.now set.now }
         ensures shape { IfSome result (IsSuggestion model.now set.now.members path.now) }
-        ensures spent { pivots.new ≤ pivots.old }
+        ensures kept { self.new.allowed ≡ self.old.allowed }
+        ensures spent { self.new.left ≤ self.old.left }
     {
-        let before = *pivots;
-        let mut basis = self.begun(alloc, model, set, path, pivots)?;
-        let suggestion = suggested(alloc, model, set, path, &mut basis, pivots)?;
+        let before = self.left;
+        let mut basis = self.begun(alloc, model, set, path)?;
+        let suggestion = suggested(alloc, model, set, path, &mut basis, &mut self.left)?;
         if path.is_empty() {
-            self.remember(alloc, &basis, *pivots < before);
+            self.remember(alloc, &basis, self.left < before);
         }
         self.basis = Some(basis);
         Some(suggestion)
@@ -123,9 +144,8 @@ impl Suggest for QuickRun {
     ///
     /// The run is a primal simplex on the sum of weight times violation, which is piecewise linear: a basic variable that misses
     /// a limit has its weight as its slope, and a variable that enters passes the limits of others as long as the sum falls
-    /// (the long step; Maros, *Computational Techniques of the Simplex Method*, 2003, chapter 9). Where the steepest of those that
-    /// can enter lead to no end, it is run once more from there by the shortest columns. Where none is returned the basis is
-    /// thrown away.
+    /// (the long step; Maros, *Computational Techniques of the Simplex Method*, 2003, chapter 9). Of those that can enter the
+    /// steepest is taken, or after a restart that of the shortest column. Where none is returned the basis is thrown away.
     fn suggest_least(
         &mut self,
         alloc: Global,
@@ -133,15 +153,17 @@ impl Suggest for QuickRun {
         set: &MemberSet,
         rigid: &MemberSet,
         costs: Costs,
-        pivots: &mut u64,
     ) -> Option<LeastSuggestion>
         requires same { IsSetOf model.now set.now }
         ensures shape { IfSome result (λ least. length least.point.values ≡ length model.now.columns) }
-        ensures spent { pivots.new ≤ pivots.old }
+        ensures kept { self.new.allowed ≡ self.old.allowed }
+        ensures spent { self.new.left ≤ self.old.left }
     {
         let mut basis = self.basis.take()?;
         self.refuted = None;
-        let found = least_of(alloc, model, set, rigid, costs, &mut basis, pivots)?;
+        let pricing = mem::replace(&mut self.pricing, Steepest);
+        let left = &mut self.left;
+        let found = least(alloc, model, set, rigid, costs, &mut basis, pricing, left)?;
         self.basis = Some(basis);
         Some(found)
     }
@@ -159,14 +181,14 @@ impl Suggest for QuickRun {
         alloc: Global,
         model: &Model,
         set: &MemberSet,
-        pivots: &mut u64,
     ) -> Option<CheapestSuggestion>
         requires same { IsSetOf model.now set.now }
         ensures shape { IfSome result (λ cheapest. length cheapest.price.values ≡ length model.now.columns) }
-        ensures spent { pivots.new ≤ pivots.old }
+        ensures kept { self.new.allowed ≡ self.old.allowed }
+        ensures spent { self.new.left ≤ self.old.left }
     {
         let mut basis = self.basis.take()?;
-        let found = cheapest(alloc, model, set, &mut basis, pivots)?;
+        let found = cheapest(alloc, model, set, &mut basis, &mut self.left)?;
         self.remember(alloc, &basis, true);
         self.basis = Some(basis);
         Some(found)
@@ -175,77 +197,38 @@ impl Suggest for QuickRun {
     /// A point with shares that may show how far the objective can go over a set, or with a ray that may show that it has no
     /// end, from the basis that the last suggestion left, which was a point of the set; none where there is no basis, where a
     /// number does not fit, or where more pivots are wanted or memory is refused. Nothing is promised of them but that the point
-    /// and the ray have a value for each column. Where the steepest of those that can enter lead to no end, it is run once more
-    /// from there by the shortest columns. Where none is returned the basis is thrown away.
+    /// and the ray have a value for each column. Of the variables that can enter the steepest is taken, or after a restart that of
+    /// the shortest column. Where none is returned the basis is thrown away.
     fn suggest_best(
         &mut self,
         alloc: Global,
         model: &Model,
         set: &MemberSet,
-        pivots: &mut u64,
     ) -> Option<BestSuggestion>
         requires same { IsSetOf model.now set.now }
         ensures shape { IfSome result (HasShape (length model.now.columns)) }
-        ensures spent { pivots.new ≤ pivots.old }
+        ensures kept { self.new.allowed ≡ self.old.allowed }
+        ensures spent { self.new.left ≤ self.old.left }
     {
         let mut basis = self.basis.take()?;
         self.refuted = None;
-        let found = best_of(alloc, model, set, &mut basis, pivots)?;
+        let pricing = mem::replace(&mut self.pricing, Steepest);
+        let found = best(alloc, model, set, &mut basis, pricing, &mut self.left)?;
         self.basis = Some(basis);
         Some(found)
     }
 
-    /// Throws the basis away. True where the last suggestion was asked of a basis that had been kept, and the basis was not
-    /// thrown away since: then a suggestion of a basis that is built anew may be another.
-    fn restart(&mut self) -> bool {
+    /// Throws the basis away, and has the next run that optimises price by the shortest columns. True where the last suggestion was
+    /// asked of a basis that had been kept, and the basis was not thrown away since: then a suggestion of a basis that is built
+    /// anew may be another.
+    fn restart(&mut self) -> bool
+        ensures { self.new.allowed ≡ self.old.allowed }
+    {
         self.basis = None;
         self.refuted = None;
-        std::mem::replace(&mut self.was_kept, false)
+        self.pricing = Shortest;
+        mem::replace(&mut self.was_kept, false)
     }
-}
-
-// How little of a set must give way, by the steepest of the variables that can enter, or else once more by the shortest columns.
-fn least_of(
-    alloc: Global,
-    model: &Model,
-    set: &MemberSet,
-    rigid: &MemberSet,
-    costs: Costs,
-    basis: &mut Basis,
-    pivots: &mut u64,
-) -> Option<LeastSuggestion>
-    requires same { IsSetOf model.now set.now }
-    ensures shape { IfSome result (λ least. length least.point.values ≡ length model.now.columns) }
-    ensures spent { pivots.new ≤ pivots.old }
-{
-    let saved = basis.save(alloc)?;
-    let prices = Prices::new(alloc, model, rigid, costs)?;
-    if let Some(found) = least(alloc, model, set, prices, basis, Steepest, pivots) {
-        return Some(found);
-    }
-    basis.restore(alloc, &saved)?;
-    let prices = Prices::new(alloc, model, rigid, costs)?;
-    least(alloc, model, set, prices, basis, Shortest, pivots)
-}
-
-// How far the objective can go over a set, in the same two ways.
-fn best_of(
-    alloc: Global,
-    model: &Model,
-    set: &MemberSet,
-    basis: &mut Basis,
-    pivots: &mut u64,
-) -> Option<BestSuggestion>
-    requires same { IsSetOf model.now set.now }
-    ensures shape { IfSome result (HasShape (length model.now.columns)) }
-    ensures spent { pivots.new ≤ pivots.old }
-{
-    let saved = basis.save(alloc)?;
-    if let Some(found) = best(alloc, model, set, basis, Steepest, pivots) {
-        return Some(found);
-    }
-    basis.restore(alloc, &saved)?;
-    best(alloc, model, set, basis, Shortest, pivots)
 }
 
 // The basis of a first run, under the limits of a set and a path: without branches that at which violations add up to least, as

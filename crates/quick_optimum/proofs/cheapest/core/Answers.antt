@@ -5,8 +5,8 @@ pub members_of_leaf-requires-clause-refutes : goal.members_of_leaf-requires-clau
 members_of_leaf-requires-clause-refutes g c =
     leaf_proves c.args.model.now c.args.set.now.members c.args.found.combo c.in-Ok.proof (c.is_priced.ensures.combination c.if-not-is_priced.false) c.in-Ok.ensures
 
-pub returns : goal.returns
-returns g c =
+pub returns-clause-found : goal.returns-clause-found
+returns-clause-found g c =
     let yes = c.if-not-is_priced.false in
     let priced = c.is_priced.ensures in
     let model = c.args.model.now in
@@ -14,7 +14,7 @@ returns g c =
     let combo = c.args.found.combo in
     let proof = c.in-Ok.proof in
     let members = c.in_ok-members.members in
-    let witnesses = c.in_ok-witnesses.ensures in
+    let witnesses = c.in_ok-witnesses.ensures.found in
     record {
       combo = combo;
       leaf = c.in-Ok.ensures;

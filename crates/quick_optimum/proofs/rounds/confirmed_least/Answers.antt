@@ -10,9 +10,6 @@ use Rattle.quick_optimum.specs.Stretching.{is_share_within}
 use Rattle.quick_optimum.proofs.Further.{all_known, all_within, round_shown, same_by, some_there}
 use Rattle.quick_optimum.proofs.rounds.confirmed_least.Goals as goal
 
-pub returns-then-count-eq0 : goal.returns-then-count-eq0
-returns-then-count-eq0 c = c.met.ensures c.args.enforced.now.members
-
 pub are_within-requires : goal.are_within-requires
 are_within-requires c =
     let set = c.args.set.now in

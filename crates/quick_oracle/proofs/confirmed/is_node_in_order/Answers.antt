@@ -1,5 +1,4 @@
 use Rattle.std.proofs.Common.{sym, ◌∙◌}
-use Rattle.certs.specs.Order.{are_in_order}
 use Rattle.quick_oracle.proofs.Confirming.{node_ordered}
 use Rattle.quick_oracle.proofs.confirmed.is_node_in_order.Goals as goal
 
