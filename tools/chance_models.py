@@ -47,11 +47,11 @@ def box(source):
     return low, low + source.randint(0, 3)
 
 
-def dense(source, is_large, places=0, count=1, crossing=0.0, is_marked=False):
+def dense(source, is_large, places=0, count=1, crossing=0.0, is_marked=False, most=7):
     """Rows over a few columns, with about every second entry."""
-    columns = [Column(f"x{j}", *(box(source) if is_marked else bounds(source, crossing)), is_marked) for j in range(source.randint(2, 7))]
+    columns = [Column(f"x{j}", *(box(source) if is_marked else bounds(source, crossing)), is_marked) for j in range(source.randint(2, most))]
     rows = []
-    for _ in range(source.randint(2, 8)):
+    for _ in range(source.randint(2, most + 1)):
         form = {j: digits(source, places, count) for j in range(len(columns)) if source.random() < 0.5}
         rows.append(({j: a for j, a in form.items() if a}, *ends(source, digits(source, places, count))))
     return model(source, rows, columns, is_large)
@@ -140,6 +140,9 @@ KINDS = {
     "wide": (350, lambda source: dense(source, True)),
     "crossing": (100, lambda source: dense(source, True, crossing=0.3)),
     "tenths": (150, lambda source: dense(source, True, 1, 2)),
+    "hundredths": (150, lambda source: dense(source, source.random() < 0.5, 2, 3)),
+    "marked tenths": (60, lambda source: dense(source, True, 1, 2, is_marked=True)),
+    "many digits in many rows": (60, lambda source: dense(source, source.random() < 0.5, 2, 4, most=14)),
     "many digits": (60, lambda source: dense(source, True, 3, 9)),
     "marked": (80, lambda source: dense(source, True, is_marked=True)),
     "degenerate": (250, lambda source: sparse(source, source.randint(2, 13), source.randint(2, 6), False, False)),

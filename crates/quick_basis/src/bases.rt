@@ -221,6 +221,42 @@ impl Basis {
         Some(())
     }
 
+    /// Takes another basis, by the variable of each slot; each variable without one stands at its limit on a side, where there is
+    /// one. The values of the basic ones stay as they are. Where none is returned, the basis is of no more use.
+    pub fn stand(&mut self, alloc: Global, head: &[u32], sides: &[Option<Side>]) -> Option<()> {
+        self.blocked = None;
+        self.head = Vec::from_slice(alloc, head).ok()?;
+        self.refactor(alloc)?;
+        for (known, side) in self.variables.iter_mut().zip(sides.iter()) {
+            known.slot = None;
+            if let Some(side) = side
+                && let Some(limit) = known.limit_on(*side)
+            {
+                known.put_at(limit);
+            }
+        }
+        for (slot, base) in (0..).zip(head.iter()) {
+            self.variables.get_mut(*base as usize)?.slot = Some(slot);
+        }
+        Some(())
+    }
+
+    /// Solves for the values of the basic variables by those of the others.
+    pub fn solve_values(&mut self, alloc: Global) -> Option<()> {
+        let mut right = SparseVector::new(alloc, self.head.len())?;
+        for (variable, known) in (0..).zip(self.variables.iter()) {
+            if known.slot.is_none() && !is_zero(known.value) {
+                take_off(&mut right, &self.by_column, variable, known.value)?;
+            }
+        }
+        self.factors.solve(right.entries(), &mut self.solved)?;
+        for (slot, base) in (0..).zip(self.head.iter()) {
+            let value = self.solved.value(slot)?;
+            self.variables.get_mut(*base as usize)?.put_at(value);
+        }
+        Some(())
+    }
+
     /// Lists the slots whose variables miss a limit.
     pub fn list_outside(&mut self) -> Option<()> {
         self.outside.clear();

@@ -14,7 +14,7 @@ use crate::confirmed::{
 use crate::trees::quick_tree;
 use certs::{Combo, MemberSet, Point, Proof, Verdict};
 use lp_model::Model;
-use quick_run::{QuickRun, Suggest, Suggestion};
+use quick_run::{Guess, QuickRun, Suggest, Suggestion};
 use std::alloc::Global;
 
 // After so many asks in a row that gave nothing, no quick run is made.
@@ -39,6 +39,7 @@ pub struct Kept<S: Suggest = QuickRun> {
     proof: Option<Proof>,
     failures: u32,
     tree_failures: u32,
+    is_guided: bool,
 }
 
 // Contracts see how many pivots were allowed.
@@ -60,6 +61,7 @@ impl Kept<QuickRun> {
             proof: None,
             failures: 0,
             tree_failures: 0,
+            is_guided: false,
         }
     }
 }
@@ -150,13 +152,49 @@ impl<S: Suggest> Kept<S> {
             return self.found_by_tree(alloc, model, set, budget);
         }
         self.run.allow(budget.pivots);
-        if let Some(verdict) = self.run_once(alloc, model, set) {
+        if let Some(verdict) = self.found_alone(alloc, model, set) {
+            return Some(verdict);
+        }
+        self.is_guided = !self.is_guided;
+        self.found_alone(alloc, model, set)
+    }
+
+    // A confirmed verdict by exact quick runs, or by a guide where it gave the last one.
+    fn found_alone(&mut self, alloc: Global, model: &Model, set: &MemberSet) -> Option<Verdict>
+        requires { IsSetOf model.now set.now }
+        ensures confirmed { IfSome result (IsConfirmed model.now set.now.members) }
+        ensures kept { self.new ≡ self.old }
+    {
+        if self.is_guided {
+            return self.found_by_guide(alloc, model, set);
+        }
+        let suggestion = self.run.suggest(alloc, model, set, &[]);
+        if let Some(verdict) = self.confirmed(alloc, model, set, suggestion) {
             return Some(verdict);
         }
         if !self.run.restart() {
             return None;
         }
-        self.run_once(alloc, model, set)
+        let suggestion = self.run.suggest(alloc, model, set, &[]);
+        self.confirmed(alloc, model, set, suggestion)
+    }
+
+    // A confirmed verdict by a guide: the vertex or the row of its basis, or what is near.
+    fn found_by_guide(&mut self, alloc: Global, model: &Model, set: &MemberSet) -> Option<Verdict>
+        requires { IsSetOf model.now set.now }
+        ensures confirmed { IfSome result (IsConfirmed model.now set.now.members) }
+        ensures kept { self.new ≡ self.old }
+    {
+        let vertex = self
+            .run
+            .suggest_by_guide(alloc, model, set, &[], Guess::Vertex);
+        if let Some(verdict) = self.confirmed(alloc, model, set, vertex) {
+            return Some(verdict);
+        }
+        let near = self
+            .run
+            .suggest_by_guide(alloc, model, set, &[], Guess::Near);
+        self.confirmed(alloc, model, set, near)
     }
 
     // A confirmed verdict by a quick tree.
@@ -196,13 +234,19 @@ impl<S: Suggest> Kept<S> {
         satisfied(alloc, model, set, point, &mut self.point)
     }
 
-    // A confirmed verdict by one quick run.
-    fn run_once(&mut self, alloc: Global, model: &Model, set: &MemberSet) -> Option<Verdict>
+    // The verdict of a suggestion, where it is confirmed.
+    fn confirmed(
+        &mut self,
+        alloc: Global,
+        model: &Model,
+        set: &MemberSet,
+        suggestion: Option<Suggestion>,
+    ) -> Option<Verdict>
         requires { IsSetOf model.now set.now }
         ensures confirmed { IfSome result (IsConfirmed model.now set.now.members) }
         ensures kept { self.new ≡ self.old }
     {
-        match self.run.suggest(alloc, model, set, &[])? {
+        match suggestion? {
             Suggestion::Point(point) => satisfied(alloc, model, set, point, &mut self.point),
             Suggestion::Combo(combo) => refuted(alloc, model, set, combo, &mut self.combo),
         }

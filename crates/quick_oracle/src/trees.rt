@@ -8,14 +8,14 @@ ghost use Rattle.quick_oracle.specs.Value.{AllowsEach};
 ghost use Rattle.quick_oracle.specs.Walks.{IsStep, IsWalkPath};
 ghost use Rattle.quick_run.specs.Pivots.{Allows};
 
-use crate::confirmed::{is_point, proof_verdict};
+use crate::confirmed::{is_combo_on, is_point, proof_verdict};
 use crate::guides::Guide;
 use crate::kept::Budget;
 use crate::splits::broken_split;
 use branch_proof::go_on;
 use certs::{Branch, BranchPath, MemberSet, Node, Nodes, Point, Proof, Verdict};
 use lp_model::Model;
-use quick_run::{Suggest, Suggestion};
+use quick_run::{Guess, Suggest, Suggestion};
 use std::alloc::Global;
 
 /// What a node gives: a point of the set, or a node at which the walk goes on.
@@ -122,30 +122,36 @@ fn next_step<S: Suggest>(
     if let Some(node) = guide.followed(alloc, model, set, path) {
         return Some(Step::Further(node));
     }
-    step_by_runs(alloc, model, set, run, path.as_slice(), pivots)
+    step_by_runs(alloc, model, set, run, path, pivots)
 }
 
-// What a quick run gives at a node; where what was kept gave nothing, one from nothing with the pivots left.
+// What a quick run gives at a node; where what was kept gave nothing, one from nothing, and then a guide, all with the pivots left.
 fn step_by_runs<S: Suggest>(
     alloc: Global,
     model: &Model,
     set: &MemberSet,
     run: &mut S,
-    path: &[Branch],
+    path: &BranchPath,
     pivots: u64,
 ) -> Option<Step>
     requires same { IsSetOf model.now set.now }
+    requires path { IsWalkPath model.now path.now }
     ensures step { IfSome result (IsStep model.now set.now.members) }
     ensures allowed { Allows (S.allowed run.old) (S.allowed run.new) pivots }
 {
     run.allow(pivots);
-    if let Some(step) = step_by_run(alloc, model, set, run, path) {
+    if let Some(step) = step_by_run(alloc, model, set, run, path.as_slice()) {
         return Some(step);
     }
-    if !run.restart() {
-        return None;
+    if run.restart()
+        && let Some(step) = step_by_run(alloc, model, set, run, path.as_slice())
+    {
+        return Some(step);
     }
-    step_by_run(alloc, model, set, run, path)
+    if let Some(step) = step_by_guide(alloc, model, set, run, path, Guess::Vertex) {
+        return Some(step);
+    }
+    step_by_guide(alloc, model, set, run, path, Guess::Near)
 }
 
 // What one quick run gives at a node.
@@ -163,6 +169,28 @@ fn step_by_run<S: Suggest>(
     match run.suggest(alloc, model, set, path)? {
         Suggestion::Point(point) => step_at(model, set, point),
         Suggestion::Combo(combo) => Some(Step::Further(Node::Leaf(combo))),
+    }
+}
+
+// What a guide gives at a node, whose combination is checked, since rounded numbers were compared on the way.
+fn step_by_guide<S: Suggest>(
+    alloc: Global,
+    model: &Model,
+    set: &MemberSet,
+    run: &mut S,
+    path: &BranchPath,
+    guess: Guess,
+) -> Option<Step>
+    requires same { IsSetOf model.now set.now }
+    requires path { IsWalkPath model.now path.now }
+    ensures step { IfSome result (IsStep model.now set.now.members) }
+    ensures kept { S.allowed run.new ≡ S.allowed run.old }
+{
+    match run.suggest_by_guide(alloc, model, set, path.as_slice(), guess)? {
+        Suggestion::Point(point) => step_at(model, set, point),
+        Suggestion::Combo(combo) => {
+            is_combo_on(alloc, model, set, path, &combo).then_some(Step::Further(Node::Leaf(combo)))
+        }
     }
 }
 

@@ -32,8 +32,8 @@ pub(crate) fn combo(
     Some(Combo { shares })
 }
 
-// The shares of the members of the set and of the branches that are taken, in order.
-fn shares(
+/// The shares of the members of the set and of the branches that are taken, in order.
+pub(crate) fn shares(
     alloc: Global,
     basis: &Basis,
     weights: &[Option<LimitWeight>],

@@ -2,9 +2,10 @@
 #![tactic(auto)]
 
 mod combinations;
+mod guesses;
 mod runs;
 mod suggestions;
 
 pub use basis_optima::{BestSuggestion, CheapestSuggestion, Costs, LeastSuggestion};
 pub use runs::QuickRun;
-pub use suggestions::{Suggest, Suggestion};
+pub use suggestions::{Guess, Suggest, Suggestion};

@@ -6,14 +6,17 @@ ghost use Rattle.quick_run.specs.Pivots.{Allows, IsSpent};
 ghost use Rattle.quick_run.specs.Shape.{IsSuggestion};
 
 use crate::combinations::{combo, crossing};
-use crate::suggestions::{Suggest, Suggestion};
+use crate::guesses::{near_guess, settled, vertex_guess};
+use crate::suggestions::{Guess, Suggest, Suggestion};
 use basis_optima::Pricing::{Shortest, Steepest};
 use basis_optima::{
     BestSuggestion, CheapestSuggestion, Costs, LeastSuggestion, Pricing, best, cheapest,
     descend_first, least,
 };
 use certs::{Branch, MemberSet};
+use guide::Guide;
 use lp_model::Model;
+use near::system_of;
 use quick_basis::{Basis, End, Saved, point, read_off, settle, start};
 use std::alloc::Global;
 use std::mem;
@@ -27,6 +30,7 @@ pub struct QuickRun {
     is_away: bool,
     was_kept: bool,
     pricing: Pricing,
+    guide: Option<Guide>,
     left: u64,
     allowed: u64,
 }
@@ -51,6 +55,7 @@ impl QuickRun {
             is_away: false,
             was_kept: false,
             pricing: Steepest,
+            guide: None,
             left: 0,
             allowed: 0,
         }
@@ -136,6 +141,41 @@ impl Suggest for QuickRun {
         }
         self.basis = Some(basis);
         Some(suggestion)
+    }
+
+    /// A point or a combination that may show the same, by a guide, which is kept from one to the next. A vertex is that of its
+    /// basis; what is near is so to what it finds with limits drawn in, of a guide that ran for a vertex just before.
+    fn suggest_by_guide(
+        &mut self,
+        alloc: Global,
+        model: &Model,
+        set: &MemberSet,
+        path: &[Branch],
+        guess: Guess,
+    ) -> Option<Suggestion>
+        requires same { IsSetOf model.now set.now }
+        ensures kept { self.new.allowed ≡ self.old.allowed }
+        ensures spent { self.new.left ≤ self.old.left }
+    {
+        let basis = limited_start(alloc, model, set, path)?;
+        let system = system_of(alloc, model, &basis)?;
+        let mut guide = match (self.guide.take(), guess) {
+            (Some(kept), _) => kept,
+            (None, Guess::Vertex) => Guide::new(alloc, &system)?,
+            (None, Guess::Near) => return None,
+        };
+        let left = &mut self.left;
+        let found = match guess {
+            Guess::Vertex => {
+                settled(alloc, &system, &mut guide, left)?;
+                vertex_guess(alloc, model, set, path, basis, &guide)
+            }
+            Guess::Near => Some(near_guess(
+                alloc, model, set, path, &basis, &system, &mut guide, left,
+            )?),
+        };
+        self.guide = Some(guide);
+        found
     }
 
     /// A point and shares that may show how little of a set must give way, where the rigid members may not be missed, from the

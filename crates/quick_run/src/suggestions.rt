@@ -15,6 +15,14 @@ pub enum Suggestion {
     Combo(Combo),
 }
 
+/// How a suggestion is made of rounded numbers: the vertex or the row of the guide's last basis, exactly, or evidence of few
+/// digits near what the guide found.
+#[derive(Clone, Copy, PartialEq, Eq)]
+pub enum Guess {
+    Vertex,
+    Near,
+}
+
 /// What suggests whether sets of one program's members can be satisfied on paths, and what is least or best of them. Nothing is
 /// promised of a suggestion, so all of it is to be checked. Calls make as many pivots as are left of those last allowed, and take
 /// off those that they make.
@@ -34,6 +42,18 @@ pub trait Suggest {
         model: &Model,
         set: &MemberSet,
         path: &[Branch],
+    ) -> Option<Suggestion>
+        requires same { IsSetOf model.now set.now }
+        ensures kept { allowed self.new ≡ allowed self.old };
+
+    /// What may show the same by a guide that runs on rounded numbers, where exact ones do not fit.
+    fn suggest_by_guide(
+        &mut self,
+        alloc: Global,
+        model: &Model,
+        set: &MemberSet,
+        path: &[Branch],
+        guess: Guess,
     ) -> Option<Suggestion>
         requires same { IsSetOf model.now set.now }
         ensures kept { allowed self.new ≡ allowed self.old };
