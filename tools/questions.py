@@ -90,7 +90,8 @@ class Question:
     def ask_round(self) -> tuple[Optional[Answer], bool]:
         """The answer with marks plain, and where these have a part in it the one with them."""
         methods = [self.method] if self.method else None
-        answer = self.first_answer(self.plain, [f"iis {it}" for it in methods or WITHOUT_MARKS], 2 if self.plain else 0)
+        commands = [f"iis {it}" for it in methods or WITHOUT_MARKS] + ([] if methods else ["check"])
+        answer = self.first_answer(self.plain, commands, 2 if self.plain else 0)
         if not self.plain or answer and answer.members:
             return answer, True
         self.stops = [(f"{what}, whole numbers aside", stop) for what, stop in self.stops]
