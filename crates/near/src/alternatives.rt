@@ -112,11 +112,16 @@ impl Alternative {
             least = least.plus(term.factor.times(shift).ok()?).ok()?;
             top = top.max(Rounded::of(term.factor).top());
         }
+        let scale = if terms.is_empty() {
+            0
+        } else {
+            top.saturating_neg()
+        };
         for (limit, side) in [(limits.lo, Side::Lo), (limits.up, Side::Up)] {
             let Some(limit) = limit else {
                 continue;
             };
-            let times = power(top.saturating_neg(), side == Side::Lo)?;
+            let times = power(scale, side == Side::Lo)?;
             let price = limit.minus(least).ok()?.times(times).ok()?;
             let column = self.put(Some(variable), times, price)?;
             for term in terms {
