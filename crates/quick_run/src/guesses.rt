@@ -3,22 +3,64 @@ ghost use Rattle.std.specs.Prelude.{◌≡◌, ◌≤◌, IfSome, length};
 ghost use Rattle.certs.specs.Checks.{IsSetOf};
 
 use crate::combinations::{combo, shares};
-use crate::suggestions::Suggestion;
+use crate::runs::{limited_start, put};
+use crate::suggestions::{Guess, Suggestion};
 use certs::{Branch, Combo, MemberSet, Point, Values};
 use frac128::Frac;
 use guide::{Guide, System};
 use lp_model::Model;
-use near::{far, near};
+use near::{far, near, system_of};
 use quick_basis::{Basis, Blocked, point};
 use std::alloc::Global;
 
-/// Runs the guide under the limits of a system; none where it comes to no end.
-pub(crate) fn settled(
+/// What a guide suggests: that which is kept, or for a vertex a new one, which is kept then. None where it comes to no end, and
+/// the guide is of no more use.
+pub(crate) fn guided(
     alloc: Global,
-    system: &System,
-    guide: &mut Guide,
+    model: &Model,
+    set: &MemberSet,
+    path: &[Branch],
+    guess: Guess,
+    kept: &mut Option<Guide>,
     pivots: &mut u64,
-) -> Option<()>
+) -> Option<Option<Suggestion>>
+    requires same { IsSetOf model.now set.now }
+    ensures { pivots.new ≤ pivots.old }
+{
+    let mut basis = limited_start(alloc, model, set, path)?;
+    guided_from(alloc, model, set, path, guess, &mut basis, kept, pivots)
+}
+
+// The same, where the basis so far has the limits.
+fn guided_from(
+    alloc: Global,
+    model: &Model,
+    set: &MemberSet,
+    path: &[Branch],
+    guess: Guess,
+    basis: &mut Basis,
+    kept: &mut Option<Guide>,
+    pivots: &mut u64,
+) -> Option<Option<Suggestion>>
+    requires same { IsSetOf model.now set.now }
+    ensures { pivots.new ≤ pivots.old }
+{
+    let system = system_of(alloc, model, basis)?;
+    if guess == Guess::Near {
+        let guide = kept.as_mut()?;
+        let found = near_guess(alloc, model, set, path, basis, &system, guide, pivots)?;
+        return Some(Some(found));
+    }
+    if kept.is_none() {
+        put(kept, Guide::new(alloc, &system));
+    }
+    let guide = kept.as_mut()?;
+    settled(alloc, &system, guide, pivots)?;
+    Some(vertex_guess(alloc, model, set, path, basis, guide))
+}
+
+// Runs the guide under the limits of a system; none where it comes to no end.
+fn settled(alloc: Global, system: &System, guide: &mut Guide, pivots: &mut u64) -> Option<()>
     ensures { pivots.new ≤ pivots.old }
 {
     guide.rest();
@@ -27,34 +69,33 @@ pub(crate) fn settled(
     Some(())
 }
 
-/// The point or the row of the guide's basis, exactly, where the basis so far has the limits; none where a number does not fit.
-pub(crate) fn vertex_guess(
+// The point or the row of the guide's basis, exactly, where the basis so far has the limits; none where a number does not fit.
+fn vertex_guess(
     alloc: Global,
     model: &Model,
     set: &MemberSet,
     path: &[Branch],
-    basis: Basis,
+    basis: &mut Basis,
     guide: &Guide,
 ) -> Option<Suggestion>
     requires same { IsSetOf model.now set.now }
 {
-    let mut basis = basis;
     basis.stand(alloc, guide.head(), guide.sides())?;
     match guide.blocked() {
         Some((slot, side)) => {
             basis.solve_unit_row(slot)?;
             let blocked = Blocked { slot, side };
-            Some(Suggestion::Combo(combo(alloc, &basis, set, path, blocked)?))
+            Some(Suggestion::Combo(combo(alloc, basis, set, path, blocked)?))
         }
         None => {
             basis.solve_values(alloc)?;
-            Some(Suggestion::Point(point(alloc, model, &basis, None)?))
+            Some(Suggestion::Point(point(alloc, model, basis, None)?))
         }
     }
 }
 
-/// Evidence of few digits near what the guide found: a point, or a combination where its last run ended at a blocked row.
-pub(crate) fn near_guess(
+// Evidence of few digits near what the guide found: a point, or a combination where its last run ended at a blocked row.
+fn near_guess(
     alloc: Global,
     model: &Model,
     set: &MemberSet,

@@ -6,7 +6,7 @@ ghost use Rattle.quick_run.specs.Pivots.{Allows, IsSpent};
 ghost use Rattle.quick_run.specs.Shape.{IsSuggestion};
 
 use crate::combinations::{combo, crossing};
-use crate::guesses::{near_guess, settled, vertex_guess};
+use crate::guesses::guided;
 use crate::suggestions::{Guess, Suggest, Suggestion};
 use basis_optima::Pricing::{Shortest, Steepest};
 use basis_optima::{
@@ -16,7 +16,6 @@ use basis_optima::{
 use certs::{Branch, MemberSet};
 use guide::Guide;
 use lp_model::Model;
-use near::system_of;
 use quick_basis::{Basis, End, Saved, point, read_off, settle, start};
 use std::alloc::Global;
 use std::mem;
@@ -61,38 +60,49 @@ impl QuickRun {
         }
     }
 
-    // The basis of a run, under the limits of a set and a path: the one that is kept, or where the last run went away from it
-    // the one that refuted a set without branches, or a first one. It is taken out.
-    fn begun(
+    // A suggestion by the basis under the limits of a set and a path: the one that is kept, or where the last run went away from it
+    // the one that refuted a set without branches, or a first one. Where none is returned, it is of no more use.
+    fn suggested(
         &mut self,
         alloc: Global,
         model: &Model,
         set: &MemberSet,
         path: &[Branch],
-    ) -> Option<Basis>
+    ) -> Option<Suggestion>
         requires same { IsSetOf model.now set.now }
-        ensures { IsSpent self.old self.new }
+        ensures shape { IfSome result (IsSuggestion model.now set.now.members path.now) }
+        ensures spent { IsSpent self.old self.new }
     {
-        let kept = self.basis.take();
-        self.was_kept = kept.is_some();
-        let Some(kept) = kept else {
-            return first_basis(alloc, model, set, path, &mut self.left);
-        };
-        let mut basis = kept;
-        if path.is_empty()
-            && self.is_away
-            && let Some(saved) = &self.refuted
-        {
-            basis.restore(alloc, saved)?;
+        self.was_kept = self.basis.is_some();
+        if let Some(basis) = &mut self.basis {
+            if path.is_empty()
+                && self.is_away
+                && let Some(saved) = &self.refuted
+            {
+                basis.restore(alloc, saved)?;
+            }
+            basis.limit(alloc, model, set, path)?;
+        } else {
+            let first = first_basis(alloc, model, set, path, &mut self.left)?;
+            put(&mut self.basis, Some(first));
         }
-        basis.limit(alloc, model, set, path)?;
-        Some(basis)
+        suggested(
+            alloc,
+            model,
+            set,
+            path,
+            self.basis.as_mut()?,
+            &mut self.left,
+        )
     }
 
-    // Keeps the basis where it refutes a set without branches, and no run has kept it so before.
-    fn remember(&mut self, alloc: Global, basis: &Basis, is_moved: bool)
+    // Keeps the basis once more where it refutes a set without branches, and no run has kept it so before.
+    fn remember(&mut self, alloc: Global, is_moved: bool)
         ensures { self.new ≡ self.old }
     {
+        let Some(basis) = &self.basis else {
+            return;
+        };
         self.is_away = basis.blocked.is_none();
         if !self.is_away && (is_moved || self.refuted.is_none()) {
             self.refuted = basis.save(alloc);
@@ -106,6 +116,7 @@ impl Suggest for QuickRun {
     fn allow(&mut self, pivots: u64)
         ensures allowed { Allows self.old.allowed self.new.allowed pivots }
         ensures counted { self.new.allowed < 2 ^ 64 - 1 → self.old.allowed + pivots ≤ self.new.allowed }
+        ensures left { self.new.left ≤ pivots }
     {
         self.left = pivots;
         self.allowed = self.allowed.saturating_add(pivots);
@@ -134,13 +145,13 @@ impl Suggest for QuickRun {
         ensures spent { self.new.left ≤ self.old.left }
     {
         let before = self.left;
-        let mut basis = self.begun(alloc, model, set, path)?;
-        let suggestion = suggested(alloc, model, set, path, &mut basis, &mut self.left)?;
-        if path.is_empty() {
-            self.remember(alloc, &basis, self.left < before);
+        let found = self.suggested(alloc, model, set, path);
+        if found.is_none() {
+            put(&mut self.basis, None);
+        } else if path.is_empty() {
+            self.remember(alloc, self.left < before);
         }
-        self.basis = Some(basis);
-        Some(suggestion)
+        found
     }
 
     /// A point or a combination that may show the same, by a guide, which is kept from one to the next. A vertex is that of its
@@ -157,25 +168,12 @@ impl Suggest for QuickRun {
         ensures kept { self.new.allowed ≡ self.old.allowed }
         ensures spent { self.new.left ≤ self.old.left }
     {
-        let basis = limited_start(alloc, model, set, path)?;
-        let system = system_of(alloc, model, &basis)?;
-        let mut guide = match (self.guide.take(), guess) {
-            (Some(kept), _) => kept,
-            (None, Guess::Vertex) => Guide::new(alloc, &system)?,
-            (None, Guess::Near) => return None,
-        };
-        let left = &mut self.left;
-        let found = match guess {
-            Guess::Vertex => {
-                settled(alloc, &system, &mut guide, left)?;
-                vertex_guess(alloc, model, set, path, basis, &guide)
-            }
-            Guess::Near => Some(near_guess(
-                alloc, model, set, path, &basis, &system, &mut guide, left,
-            )?),
-        };
-        self.guide = Some(guide);
-        found
+        let QuickRun { guide, left, .. } = self;
+        let found = guided(alloc, model, set, path, guess, guide, left);
+        if found.is_none() {
+            put(guide, None);
+        }
+        found?
     }
 
     /// A point and shares that may show how little of a set must give way, where the rigid members may not be missed, from the
@@ -199,13 +197,15 @@ impl Suggest for QuickRun {
         ensures kept { self.new.allowed ≡ self.old.allowed }
         ensures spent { self.new.left ≤ self.old.left }
     {
-        let mut basis = self.basis.take()?;
+        let basis = self.basis.as_mut()?;
         self.refuted = None;
         let pricing = mem::replace(&mut self.pricing, Steepest);
         let left = &mut self.left;
-        let found = least(alloc, model, set, rigid, costs, &mut basis, pricing, left)?;
-        self.basis = Some(basis);
-        Some(found)
+        let found = least(alloc, model, set, rigid, costs, basis, pricing, left);
+        if found.is_none() {
+            put(&mut self.basis, None);
+        }
+        found
     }
 
     /// Shares, their cost and a price that may show the cheapest weighting of a set that refutes it (Gleeson and Ryan 1990), from
@@ -227,11 +227,12 @@ impl Suggest for QuickRun {
         ensures kept { self.new.allowed ≡ self.old.allowed }
         ensures spent { self.new.left ≤ self.old.left }
     {
-        let mut basis = self.basis.take()?;
-        let found = cheapest(alloc, model, set, &mut basis, &mut self.left)?;
-        self.remember(alloc, &basis, true);
-        self.basis = Some(basis);
-        Some(found)
+        let found = cheapest(alloc, model, set, self.basis.as_mut()?, &mut self.left);
+        if found.is_none() {
+            put(&mut self.basis, None);
+        }
+        self.remember(alloc, true);
+        found
     }
 
     /// A point with shares that may show how far the objective can go over a set, or with a ray that may show that it has no
@@ -250,25 +251,33 @@ impl Suggest for QuickRun {
         ensures kept { self.new.allowed ≡ self.old.allowed }
         ensures spent { self.new.left ≤ self.old.left }
     {
-        let mut basis = self.basis.take()?;
+        let basis = self.basis.as_mut()?;
         self.refuted = None;
         let pricing = mem::replace(&mut self.pricing, Steepest);
-        let found = best(alloc, model, set, &mut basis, pricing, &mut self.left)?;
-        self.basis = Some(basis);
-        Some(found)
+        let found = best(alloc, model, set, basis, pricing, &mut self.left);
+        if found.is_none() {
+            put(&mut self.basis, None);
+        }
+        found
     }
 
     /// Throws the basis away, and has the next run that optimises price by the shortest columns. True where the last suggestion was
     /// asked of a basis that had been kept, and the basis was not thrown away since: then a suggestion of a basis that is built
     /// anew may be another.
     fn restart(&mut self) -> bool
-        ensures { self.new.allowed ≡ self.old.allowed }
+        ensures kept { self.new.allowed ≡ self.old.allowed }
+        ensures spent { self.new.left ≤ self.old.left }
     {
-        self.basis = None;
+        put(&mut self.basis, None);
         self.refuted = None;
         self.pricing = Shortest;
         mem::replace(&mut self.was_kept, false)
     }
+}
+
+/// Puts a value, or none, in place of one that was kept.
+pub(crate) fn put<T: Drop>(kept: &mut Option<T>, value: Option<T>) {
+    *kept = value;
 }
 
 // The basis of a first run, under the limits of a set and a path: without branches that at which violations add up to least, as
@@ -295,8 +304,13 @@ fn first_basis(
     Some(basis)
 }
 
-// The basis of the rows, under the limits of a set and a path.
-fn limited_start(alloc: Global, model: &Model, set: &MemberSet, path: &[Branch]) -> Option<Basis>
+/// The basis of the rows, under the limits of a set and a path.
+pub(crate) fn limited_start(
+    alloc: Global,
+    model: &Model,
+    set: &MemberSet,
+    path: &[Branch],
+) -> Option<Basis>
     requires same { IsSetOf model.now set.now }
 {
     let mut basis = start(alloc, model, set)?;
