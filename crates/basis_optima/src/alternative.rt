@@ -5,11 +5,11 @@ ghost use Rattle.certs.specs.Checks.{IsSetOf};
 use crate::extents::Extents;
 use crate::optima::CheapestSuggestion;
 use crate::widening::widen;
-use certs::{MemberSet, Point, Values};
-use factors::quotient;
+use certs::{Combo, MemberSet, Point, Values};
+use factors::{at, quotient};
 use frac128::Frac;
 use lp_model::Model;
-use quick_basis::{Basis, row_weights, weighed_combo};
+use quick_basis::{Basis, Blocked, row_weights, weighed_combo};
 use std::alloc::Global;
 
 /// The cheapest weighting, with its cost and its price, from the row that the last run left blocked, with as many pivots as
@@ -34,18 +34,45 @@ pub fn cheapest(
     let start = basis.blocked?;
     let mut extents = Extents::at_vertex(alloc, model, basis, start)?;
     let vertex = widen(alloc, basis, &mut extents, start, pivots)?;
+    suggestion(alloc, model, set, basis, &extents, vertex)
+}
+
+// What a vertex suggests, whose row is solved for and is the blocked one then.
+fn suggestion(
+    alloc: Global,
+    model: &Model,
+    set: &MemberSet,
+    basis: &mut Basis,
+    extents: &Extents,
+    vertex: Blocked,
+) -> Option<CheapestSuggestion>
+    ensures { IfSome result (λ cheapest. length cheapest.price.values ≡ length model.now.columns) }
+{
     basis.solve_unit_row(vertex.slot)?;
     basis.blocked = Some(vertex);
-    let base = basis.base(vertex.slot)?;
-    let one = Frac::whole(1);
-    let times = quotient(one, extents.gap(basis, base, vertex.side)?.now)?;
-    let weights = row_weights(alloc, basis, vertex, times)?;
-    let total = quotient(one, extents.extent(basis, vertex)?)?;
+    let total = quotient(Frac::whole(1), extents.extent(basis, vertex)?)?;
+    let price = price(alloc, model, basis, extents, total)?;
+    let combo = combo(alloc, set, basis, extents, vertex)?;
     Some(CheapestSuggestion {
-        combo: weighed_combo(alloc, basis.columns, set, weights.as_slice())?,
+        combo,
         total,
-        price: price(alloc, model, basis, &extents, total)?,
+        price,
     })
+}
+
+// The weighting of a vertex, whose row was solved for.
+fn combo(
+    alloc: Global,
+    set: &MemberSet,
+    basis: &Basis,
+    extents: &Extents,
+    vertex: Blocked,
+) -> Option<Combo> {
+    let base = basis.base(vertex.slot)?;
+    let gap = extents.gap(basis, base, vertex.side)?;
+    let times = quotient(Frac::whole(1), gap.now)?;
+    let weights = row_weights(alloc, basis, vertex, times)?;
+    weighed_combo(alloc, basis.columns, set, weights.as_slice())
 }
 
 // The price for a cost: where the columns stand, times the cost.
@@ -61,7 +88,8 @@ fn price(
     let mut values = Vec::new(alloc);
     for column in 0..model.column_count() {
         let value = basis.variable(column)?.value.times(total).ok()?;
-        values.push(value.plus(extents.rate(column)?).ok()?).ok()?;
+        let rate = at(&extents.rates, column)?;
+        values.push(value.plus(rate).ok()?).ok()?;
     }
     Some(Point {
         values: Values::new(values),

@@ -1,7 +1,7 @@
 //! The long step: a nonbasic variable moves on past the limits of others as long as the sum of all costs falls.
 use crate::slopes::{Descent, Way, missed_on_the_way};
 use certs::Side;
-use factors::{Entry, is_zero, quotient, signed, size, width};
+use factors::{is_zero, put, quotient, signed, size, width};
 use frac128::Frac;
 use quick_basis::{Basis, opposite};
 use std::alloc::Global;
@@ -38,8 +38,9 @@ pub(crate) fn make_step(
 ) -> Option<bool> {
     basis.solve_column(way.variable)?;
     let missed = missed_on_the_way(basis.variable(way.variable)?, way.rises);
-    *descent.missed.get_mut(way.variable as usize)? = missed;
-    let mut breakpoints = breakpoints(alloc, basis, descent, way)?;
+    put(&mut descent.missed, way.variable, missed)?;
+    let mut breakpoints = Vec::new(alloc);
+    push_all(&mut breakpoints, basis, descent, way)?;
     breakpoints.sort_unstable_by_key(|it| (it.distance, it.motion.rank, it.leads_out));
     let Some((last, rate)) = pass(basis, descent, breakpoints.as_slice(), way.rate)? else {
         return Some(false);
@@ -50,33 +51,33 @@ pub(crate) fn make_step(
         0
     };
     basis.shift(way.variable, signed(last.distance, way.rises))?;
-    match last.motion.slot {
-        Some(slot) => pivot(alloc, basis, descent, way, slot, rate)?,
-        None => {
-            descent.solve(basis)?;
-            descent.rate_anew(basis, way.variable)?;
-        }
-    }
+    let slot = last.motion.slot;
+    pivot(alloc, basis, descent, way, slot, rate)?;
     Some(true)
 }
 
-// Puts the variable that moved into a slot. The reduced costs change by the slopes that changed and by as much more of the
-// leaving variable's as makes the reduced cost of the other 0.
+// Puts the variable that moved into a slot, where there is one. The reduced costs change by the slopes that changed and, by
+// a pivot, by as much more of the leaving variable's as makes the reduced cost of the other 0.
 fn pivot(
     alloc: Global,
     basis: &mut Basis,
     descent: &mut Descent,
     way: Way,
-    slot: u32,
+    slot: Option<u32>,
     rate: Frac,
 ) -> Option<()> {
+    let Some(slot) = slot else {
+        descent.solve(basis)?;
+        return descent.rate_anew(basis, way.variable);
+    };
     let leaves = basis.base(slot)?;
     let more = quotient(signed(rate, !way.rises), basis.solved.value(slot)?)?;
     basis.costs.subtract(slot, more, Frac::whole(-1))?;
     descent.solve(basis)?;
     let slope = descent.basic_slope(leaves)?.plus(more).ok()?;
     basis.exchange(alloc, slot, way.variable)?;
-    descent.exchange(basis, way.variable, leaves, slope.negate())
+    descent.candidates.put(way.variable, Frac::whole(0))?;
+    descent.put(basis, leaves, slope.negate())
 }
 
 // Passes limits as long as the sum falls, and gives that at which it falls no more, or which is a wall, with the rate just
@@ -92,51 +93,29 @@ fn pass(
     let mut rate = rate;
     basis.costs.clear();
     for breakpoint in breakpoints {
-        let Motion {
-            variable,
-            speed,
-            ..
-        } = breakpoint.motion;
-        let Some(cost) = descent.prices.cost(variable, breakpoint.side) else {
+        let motion = breakpoint.motion;
+        let Some(cost) = descent.prices.cost(motion.variable, breakpoint.side) else {
             return Some(Some((*breakpoint, rate)));
         };
-        let after = rate.minus(speed.times(cost).ok()?).ok()?;
+        let after = rate.minus(motion.speed.times(cost).ok()?).ok()?;
         if is_stuck || after.num() <= 0 {
             return Some(Some((*breakpoint, rate)));
         }
         rate = after;
-        cross(basis, descent, *breakpoint, cost)?;
+        // Its variable misses the limit from now on, or no more, and its slope changes by the cost.
+        let beyond = breakpoint.leads_out.then_some(breakpoint.side);
+        put(&mut descent.missed, motion.variable, beyond)?;
+        if let Some(slot) = motion.slot {
+            let slope = signed(cost, !motion.rises);
+            basis.costs.subtract(slot, slope, Frac::whole(1))?;
+        }
     }
     Some(None)
 }
 
-// Passes a limit: its variable misses it from now on, or no more, and its slope changes by the cost.
-fn cross(
-    basis: &mut Basis,
-    descent: &mut Descent,
-    breakpoint: Breakpoint,
-    cost: Frac,
-) -> Option<()> {
-    let motion = breakpoint.motion;
-    let beyond = breakpoint.leads_out.then_some(breakpoint.side);
-    *descent.missed.get_mut(motion.variable as usize)? = beyond;
-    if let Some(slot) = motion.slot {
-        basis
-            .costs
-            .subtract(slot, signed(cost, !motion.rises), Frac::whole(1))?;
-    }
-    Some(())
-}
-
-// The limits to which the variable that enters comes, for which `solved` was solved, and those to which basic ones come with
-// it.
-fn breakpoints(
-    alloc: Global,
-    basis: &Basis,
-    descent: &Descent,
-    way: Way,
-) -> Option<Vec<Breakpoint>> {
-    let mut found = Vec::new(alloc);
+// Puts the limits to which the variable that enters comes, for which `solved` was solved, and those to which basic ones come
+// with it.
+fn push_all(found: &mut Vec<Breakpoint>, basis: &Basis, descent: &Descent, way: Way) -> Option<()> {
     let is_stuck = descent.is_stuck(basis);
     let own = Motion {
         variable: way.variable,
@@ -145,26 +124,22 @@ fn breakpoints(
         speed: Frac::whole(1),
         rank: rank(is_stuck, way.variable, 0, u32::MAX),
     };
-    push_limits(&mut found, basis, descent, own)?;
+    push_limits(found, basis, descent, own)?;
     for entry in basis.solved.entries() {
         if !is_zero(entry.value) {
-            let motion = motion_of(basis.base(entry.place)?, *entry, way.rises, is_stuck);
-            push_limits(&mut found, basis, descent, motion)?;
+            let variable = basis.base(entry.place)?;
+            let speed = size(entry.value);
+            let motion = Motion {
+                variable,
+                slot: Some(entry.place),
+                rises: way.rises == (entry.value.num() < 0),
+                speed,
+                rank: rank(is_stuck, variable, width(speed), entry.place),
+            };
+            push_limits(found, basis, descent, motion)?;
         }
     }
-    Some(found)
-}
-
-// How a basic variable moves, of whose slot this was solved, as the one that enters rises or falls.
-fn motion_of(variable: u32, entry: Entry, rises: bool, is_stuck: bool) -> Motion {
-    let speed = size(entry.value);
-    Motion {
-        variable,
-        slot: Some(entry.place),
-        rises: rises == (entry.value.num() < 0),
-        speed,
-        rank: rank(is_stuck, variable, width(speed), entry.place),
-    }
+    Some(())
 }
 
 // The place of a variable among those that come to a limit at the same time: the one whose factor is least wide is first, and

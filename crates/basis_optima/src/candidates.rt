@@ -1,6 +1,6 @@
 //! The variables that can enter, and which of them is taken.
 use crate::optima::Pricing;
-use factors::Columns;
+use factors::{Columns, at, put};
 use frac128::Frac;
 use std::alloc::Global;
 
@@ -60,10 +60,10 @@ impl Candidates {
     /// Puts down at what rate the sum falls by a variable; at 0 or below it does not.
     pub(crate) fn put(&mut self, variable: u32, rate: Frac) -> Option<()> {
         let rate = parts_of(rate);
-        let known = self.known.get_mut(variable as usize)?;
-        known.rate = rate;
-        if rate > 0 && !known.is_listed {
-            known.is_listed = true;
+        let was_listed = at(&self.known, variable)?.is_listed;
+        let is_listed = was_listed || rate > 0;
+        put(&mut self.known, variable, Candidate { rate, is_listed })?;
+        if is_listed && !was_listed {
             self.list.push(variable).ok()?;
         }
         Some(())
@@ -100,9 +100,10 @@ impl Candidates {
             self.at = 0;
         }
         let variable = *self.list.get(self.at)?;
-        let known = self.known.get_mut(variable as usize)?;
-        if known.rate == 0 {
-            known.is_listed = false;
+        let rate = at(&self.known, variable)?.rate;
+        if rate == 0 {
+            let is_listed = false;
+            put(&mut self.known, variable, Candidate { rate, is_listed })?;
             self.list.swap_remove(self.at);
             return Some(None);
         }
@@ -126,7 +127,10 @@ impl Candidates {
                 Pricing::Shortest => 1,
             };
             choice.length = (entries as u128).saturating_add(1);
-            choice.number = scattered(variable, self.turn);
+            // The last 64 bits of products with odd numbers whose bits are mixed well: another order in each turn.
+            let place = choice.number.wrapping_mul(0x9E37_79B9_7F4A_7C15);
+            let time = self.turn.wrapping_mul(0xD1B5_4A32_D192_ED03);
+            choice.number = (place ^ time).wrapping_mul(0x94D0_49BB_1331_11EB);
         }
         Some(choice)
     }
@@ -142,14 +146,6 @@ fn parts_of(rate: Frac) -> u128 {
         parts = parts.checked_div(rate.den().unsigned_abs()).unwrap_or(1);
     }
     parts.clamp(1, MOST)
-}
-
-// A number of a variable in a turn, by which the variables come in another order in each turn: the last 64 bits of products
-// with odd numbers whose bits are mixed well.
-fn scattered(variable: u32, turn: u64) -> u64 {
-    let place = u64::from(variable).wrapping_mul(0x9E37_79B9_7F4A_7C15);
-    let time = turn.wrapping_mul(0xD1B5_4A32_D192_ED03);
-    (place ^ time).wrapping_mul(0x94D0_49BB_1331_11EB)
 }
 
 // Whether a choice is to be taken before another.

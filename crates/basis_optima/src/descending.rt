@@ -4,7 +4,7 @@ ghost use Rattle.std.specs.Prelude.{◌≤◌};
 use crate::breakpoints::make_step;
 use crate::slopes::{Descent, Way};
 use certs::{Combo, MemberSet, Side};
-use factors::size;
+use factors::{at, size};
 use quick_basis::{Basis, LimitWeight, most_turns, weighed_combo};
 use std::alloc::Global;
 
@@ -44,12 +44,12 @@ pub(crate) fn shares(
     descent: &Descent,
     set: &MemberSet,
 ) -> Option<Combo> {
-    let mut weights = Vec::with_capacity(alloc, basis.variables.len()).ok()?;
+    let mut weights = Vec::new(alloc);
     for (variable, known) in (0..).zip(basis.variables.iter()) {
         let rise = if known.slot.is_some() {
             descent.basic_slope(variable)?.negate()
         } else {
-            *descent.reduced.get(variable as usize)?
+            at(&descent.reduced, variable)?
         };
         let side = if rise.num() < 0 { Side::Up } else { Side::Lo };
         let weight = size(rise);

@@ -2,7 +2,7 @@
 use crate::optima::Costs;
 use crate::prices::Prices;
 use certs::Side;
-use factors::{Entry, SparseVector, is_zero, quotient};
+use factors::{SparseVector, at, is_zero, put, quotient, signed};
 use frac128::Frac;
 use lp_model::Model;
 use quick_basis::{Basis, Blocked, side_of, take_off};
@@ -21,7 +21,7 @@ pub(crate) struct Gap {
 #[derive(Drop)]
 pub(crate) struct Extents {
     pub costs: Prices,
-    rates: Vec<Frac>,
+    pub rates: Vec<Frac>,
     pub vertex_row: SparseVector,
 }
 
@@ -37,16 +37,12 @@ impl Extents {
         if basis.basic(vertex.slot)?.missed != Some(vertex.side) {
             return None;
         }
-        let count = basis.variables.len();
-        let costs = Prices::of_weights(alloc, model, Costs::Weights)?;
-        let rates = vec![in alloc; Frac::whole(0); count].ok()?;
-        let vertex_row = SparseVector::new(alloc, count)?;
+        let vertex_row = SparseVector::new(alloc, basis.variables.len())?;
         let mut extents = Extents {
-            costs,
-            rates,
+            costs: Prices::of_weights(alloc, model, Costs::Weights)?,
+            rates: Vec::new(alloc),
             vertex_row,
         };
-        extents.keep_row(basis)?;
         extents.put_rates(alloc, basis, vertex.side)?;
         Some(extents)
     }
@@ -60,41 +56,43 @@ impl Extents {
         Some(())
     }
 
-    // Puts the rates of the nonbasic variables that count in the row of a vertex, and those of the basic ones by them.
+    // Keeps the row of a vertex, and puts the rates of the nonbasic variables that count in it, and those of the basic ones by
+    // them.
     fn put_rates(&mut self, alloc: Global, basis: &mut Basis, missed: Side) -> Option<()> {
-        let right = self.put_limits(alloc, basis, missed)?;
+        self.keep_row(basis)?;
+        let count = basis.variables.len();
+        self.rates.resize(count, Frac::whole(0)).ok()?;
+        let mut right = SparseVector::new(alloc, basis.head.len())?;
+        self.put_limits(&mut right, basis, missed)?;
         basis.factors.solve(right.entries(), &mut basis.solved)?;
         self.shift_basics(basis, Frac::whole(-1))
     }
 
-    // Puts those of the nonbasic ones, and gives the right side that the basic ones are to add up to.
-    fn put_limits(&mut self, alloc: Global, basis: &Basis, missed: Side) -> Option<SparseVector> {
-        let mut right = SparseVector::new(alloc, basis.head.len())?;
+    // Puts those of the nonbasic ones, each of which must stand at the limit that blocks, and the right side that the basic ones
+    // are to add up to.
+    fn put_limits(&mut self, right: &mut SparseVector, basis: &Basis, missed: Side) -> Option<()> {
         for entry in basis.row.entries() {
             if !is_zero(entry.value) {
-                let rate = self.limit_rate(basis, *entry, missed)?;
-                *self.rates.get_mut(entry.place as usize)? = rate;
-                take_off(&mut right, &basis.by_column, entry.place, rate)?;
+                let side = side_of(entry.value, missed);
+                if !basis.variable(entry.place)?.is_at(side) {
+                    return None;
+                }
+                let rate = self.costs.slope(entry.place, Some(side))?;
+                put(&mut self.rates, entry.place, rate)?;
+                take_off(right, &basis.by_column, entry.place, rate)?;
             }
         }
-        Some(right)
-    }
-
-    // The rate of the limit at which a variable of the row stands; none where it stands at none that blocks.
-    fn limit_rate(&self, basis: &Basis, entry: Entry, missed: Side) -> Option<Frac> {
-        let side = side_of(entry.value, missed);
-        if !basis.variable(entry.place)?.is_at(side) {
-            return None;
-        }
-        self.costs.slope(entry.place, Some(side))
+        Some(())
     }
 
     // Changes the rates of the basic variables against so many times what was solved for.
     fn shift_basics(&mut self, basis: &Basis, step: Frac) -> Option<()> {
         for entry in basis.solved.entries() {
             if !is_zero(entry.value) {
-                let rate = self.rates.get_mut(basis.base(entry.place)? as usize)?;
-                *rate = rate.minus(entry.value.times(step).ok()?).ok()?;
+                let base = basis.base(entry.place)?;
+                let rate = at(&self.rates, base)?;
+                let product = entry.value.times(step).ok()?;
+                put(&mut self.rates, base, rate.minus(product).ok()?)?;
             }
         }
         Some(())
@@ -106,9 +104,8 @@ impl Extents {
             return Some(());
         }
         self.shift_basics(basis, step)?;
-        let rate = self.rates.get_mut(variable as usize)?;
-        *rate = rate.plus(step).ok()?;
-        Some(())
+        let rate = at(&self.rates, variable)?.plus(step).ok()?;
+        put(&mut self.rates, variable, rate)
     }
 
     /// Puts the variable that enters in the row of the vertex for the one that leaves, whose row was solved for last.
@@ -124,25 +121,16 @@ impl Extents {
         self.vertex_row.set(leaves, times.negate())
     }
 
-    /// The rate of a variable.
-    pub(crate) fn rate(&self, variable: u32) -> Option<Frac> {
-        self.rates.get(variable as usize).copied()
-    }
-
     /// How far a variable stands outside its limit on a side; none where it has none there.
     pub(crate) fn gap(&self, basis: &Basis, variable: u32, side: Side) -> Option<Gap> {
         let known = basis.variable(variable)?;
         let limit = known.limit_on(side)?;
         let now = limit.minus(known.value).ok()?;
         let limit_rate = self.costs.slope(variable, Some(side))?;
-        let rate = limit_rate.minus(self.rate(variable)?).ok()?;
-        match side {
-            Side::Lo => Some(Gap { now, rate }),
-            Side::Up => Some(Gap {
-                now: now.negate(),
-                rate: rate.negate(),
-            }),
-        }
+        let rate = limit_rate.minus(at(&self.rates, variable)?).ok()?;
+        let is_below = side == Side::Lo;
+        let (now, rate) = (signed(now, is_below), signed(rate, is_below));
+        Some(Gap { now, rate })
     }
 
     /// The extent of a vertex, above 0: the one at which its basic variable comes to its wider limit.
@@ -150,10 +138,7 @@ impl Extents {
         let base = basis.base(vertex.slot)?;
         let Gap { now, rate } = self.gap(basis, base, vertex.side)?;
         let extent = quotient(now, rate.negate())?;
-        if extent.num() <= 0 {
-            return None;
-        }
-        Some(extent)
+        (extent.num() > 0).then_some(extent)
     }
 
     /// The side on which a variable is outside its wider limit, where it is so.
@@ -178,7 +163,7 @@ impl Extents {
             return Some(false);
         }
         let is_outside = known.missed == Some(side);
-        let rate = self.rate(variable)?;
+        let rate = at(&self.rates, variable)?;
         let limit_rate = self.costs.slope(variable, Some(side))?;
         let recedes = match side {
             Side::Lo => rate < limit_rate,
@@ -201,6 +186,6 @@ impl Extents {
         if !basis.variable(variable)?.is_at(side) {
             return Some(false);
         }
-        Some(self.rate(variable)? == self.costs.slope(variable, Some(side))?)
+        Some(at(&self.rates, variable)? == self.costs.slope(variable, Some(side))?)
     }
 }

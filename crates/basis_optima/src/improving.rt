@@ -8,7 +8,7 @@ use crate::optima::{BestSuggestion, Pricing};
 use crate::prices::Prices;
 use crate::slopes::{Descent, Way};
 use certs::{MemberSet, Ray, Values};
-use factors::signed;
+use factors::{put, signed};
 use frac128::Frac;
 use lp_model::Model;
 use quick_basis::{Basis, point, take_over};
@@ -28,28 +28,36 @@ pub fn best(
     ensures shape { IfSome result (HasShape (length model.now.columns)) }
     ensures spent { pivots.new ≤ pivots.old }
 {
-    basis.refactor(alloc)?;
-    take_over(basis)?;
-    let costs = costs(alloc, model)?;
-    let prices = Prices::of_rows(alloc, model, None)?;
-    let mut descent = Descent::new(alloc, basis, prices, costs.as_slice(), pricing)?;
-    match descend(alloc, basis, &mut descent, pivots)? {
+    let mut descent = begin(alloc, model, basis, pricing)?;
+    let end = descend(alloc, basis, &mut descent, pivots)?;
+    let point = point(alloc, model, basis, None)?;
+    match end {
         End::Least => {
             let combo = shares(alloc, basis, &descent, set)?;
-            Some(BestSuggestion::Bounded(point(alloc, model, basis, None)?, combo))
+            Some(BestSuggestion::Bounded(point, combo))
         }
         End::Endless(way) => {
             let ray = ray(alloc, model, basis, way)?;
-            Some(BestSuggestion::Unbounded(point(alloc, model, basis, None)?, ray))
+            Some(BestSuggestion::Unbounded(point, ray))
         }
     }
+}
+
+// The run from where the basis stands, with factors made anew.
+fn begin(alloc: Global, model: &Model, basis: &mut Basis, pricing: Pricing) -> Option<Descent> {
+    basis.refactor(alloc)?;
+    take_over(basis)?;
+    let prices = Prices::of_rows(alloc, model, None)?;
+    let costs = costs(alloc, model)?;
+    Descent::new(alloc, basis, prices, costs.as_slice(), pricing)
 }
 
 // What the columns cost where the objective is made least.
 fn costs(alloc: Global, model: &Model) -> Option<Vec<Frac>> {
     let mut costs = vec![in alloc; Frac::whole(0); model.column_count() as usize].ok()?;
     for term in model.objective() {
-        *costs.get_mut(term.column as usize)? = signed(term.factor, !model.maximise());
+        let cost = signed(term.factor, !model.maximise());
+        put(&mut costs, term.column, cost)?;
     }
     Some(costs)
 }

@@ -1,6 +1,7 @@
 //! What it costs to miss the limits of variables.
 use crate::optima::Costs;
 use certs::{MemberSet, Side};
+use factors::{at, put};
 use frac128::Frac;
 use lp_model::{Model, Weight};
 use quick_basis::variable_of;
@@ -19,28 +20,18 @@ pub struct Prices {
     limits: Vec<LimitPrices>,
 }
 
-// The same price for both.
-fn both(price: Option<Frac>) -> LimitPrices {
-    match price {
-        Some(cost) => LimitPrices {
-            lo: Some(cost),
-            up: Some(cost),
-        },
-        None => LimitPrices { lo: None, up: None },
-    }
-}
-
 impl Prices {
     /// The prices where the rigid members are walls, and a limit that has no weight of its own under these costs counts 1.
     pub fn new(alloc: Global, model: &Model, rigid: &MemberSet, costs: Costs) -> Option<Prices> {
         let mut prices = Prices::of_weights(alloc, model, costs)?;
         for member in rigid.iter() {
             if let Some(variable) = variable_of(model.column_count(), member) {
-                let limits = prices.limits.get_mut(variable as usize)?;
+                let mut limits = at(&prices.limits, variable)?;
                 match member.side() {
                     Side::Lo => limits.lo = None,
                     Side::Up => limits.up = None,
                 }
+                put(&mut prices.limits, variable, limits)?;
             }
         }
         Some(prices)
@@ -68,8 +59,10 @@ impl Prices {
     pub(crate) fn of_rows(alloc: Global, model: &Model, row: Option<Frac>) -> Option<Prices> {
         let columns = model.column_count();
         let count = columns.checked_add(model.row_count())?;
-        let mut limits = vec![in alloc; both(None); columns as usize].ok()?;
-        limits.resize(count as usize, both(row)).ok()?;
+        let walls = LimitPrices { lo: None, up: None };
+        let mut limits = vec![in alloc; walls; columns as usize].ok()?;
+        let (lo, up) = (row, row);
+        limits.resize(count as usize, LimitPrices { lo, up }).ok()?;
         Some(Prices { limits })
     }
 

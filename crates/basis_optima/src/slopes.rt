@@ -3,7 +3,7 @@ use crate::candidates::Candidates;
 use crate::optima::Pricing;
 use crate::prices::Prices;
 use certs::Side;
-use factors::{is_zero, signed};
+use factors::{at, is_zero, put, signed};
 use frac128::Frac;
 use quick_basis::{Basis, Variable, is_narrow};
 use std::alloc::Global;
@@ -28,7 +28,7 @@ pub(crate) struct Descent {
     pub missed: Vec<Option<Side>>,
     pub reduced: Vec<Frac>,
     pub idle: u64,
-    candidates: Candidates,
+    pub candidates: Candidates,
 }
 
 impl Descent {
@@ -41,46 +41,53 @@ impl Descent {
         costs: &[Frac],
         pricing: Pricing,
     ) -> Option<Descent> {
-        let count = basis.variables.len();
-        let candidates = Candidates::new(alloc, count, pricing)?;
-        let mut missed = Vec::with_capacity(alloc, count).ok()?;
-        let mut reduced = Vec::with_capacity(alloc, count).ok()?;
-        for (variable, known) in (0..).zip(basis.variables.iter()) {
-            if known.is_crossed() || prices.slope(variable, known.missed).is_none() {
-                return None;
-            }
-            missed.push(known.missed).ok()?;
-            reduced.push(cost(costs, variable)).ok()?;
-        }
+        let candidates = Candidates::new(alloc, basis.variables.len(), pricing)?;
         let mut descent = Descent {
             prices,
-            missed,
-            reduced,
+            missed: Vec::new(alloc),
+            reduced: Vec::new(alloc),
             idle: 0,
             candidates,
         };
-        descent.begin(basis, costs)?;
+        descent.take_in(&basis.variables, costs)?;
+        descent.begin(basis)?;
         Some(descent)
     }
 
-    // Finds the reduced costs of all nonbasic variables, and the rates by them.
-    fn begin(&mut self, basis: &mut Basis, costs: &[Frac]) -> Option<()> {
-        basis.costs.clear();
-        for (slot, base) in (0..).zip(basis.head.iter()) {
-            let slope = self.basic_slope(*base)?.plus(cost(costs, *base)).ok()?;
-            if !is_zero(slope) {
-                basis.costs.set(slot, slope)?;
+    // Takes all variables in, the reduced cost of each of which is what it costs.
+    fn take_in(&mut self, variables: &[Variable], costs: &[Frac]) -> Option<()> {
+        for (variable, known) in (0..).zip(variables.iter()) {
+            if known.is_crossed() {
+                return None;
             }
+            self.prices.slope(variable, known.missed)?;
+            self.missed.push(known.missed).ok()?;
         }
-        self.solve(basis)?;
-        self.rate_all(basis)
+        self.reduced.extend_from_slice(costs).ok()?;
+        self.reduced.resize(variables.len(), Frac::whole(0)).ok()
     }
 
-    // Puts down for the candidates at what rate the sum falls by each nonbasic variable.
-    fn rate_all(&mut self, basis: &Basis) -> Option<()> {
+    // Finds the reduced costs of all nonbasic variables, and the rates by them.
+    fn begin(&mut self, basis: &mut Basis) -> Option<()> {
+        self.put_slopes(basis)?;
+        self.solve(basis)?;
         for (variable, known) in (0..).zip(basis.variables.iter()) {
             if known.slot.is_none() {
                 self.rate_anew(basis, variable)?;
+            }
+        }
+        Some(())
+    }
+
+    // Puts how the sum rises with the basic variable of each slot, whose reduced cost is what it costs.
+    fn put_slopes(&self, basis: &mut Basis) -> Option<()> {
+        basis.costs.clear();
+        for slot in 0..u32::try_from(basis.head.len()).ok()? {
+            let base = basis.base(slot)?;
+            let cost = at(&self.reduced, base)?;
+            let slope = self.basic_slope(base)?.plus(cost).ok()?;
+            if !is_zero(slope) {
+                basis.costs.set(slot, slope)?;
             }
         }
         Some(())
@@ -96,7 +103,7 @@ impl Descent {
 
     /// By how much what it costs to miss limits rises with a basic variable.
     pub(crate) fn basic_slope(&self, variable: u32) -> Option<Frac> {
-        let missed = *self.missed.get(variable as usize)?;
+        let missed = at(&self.missed, variable)?;
         self.prices.slope(variable, missed)
     }
 
@@ -105,19 +112,19 @@ impl Descent {
         basis.solve_row()?;
         for entry in basis.row.entries() {
             if !is_zero(entry.value) {
-                let reduced = *self.reduced.get(entry.place as usize)?;
+                let reduced = at(&self.reduced, entry.place)?;
                 self.put(basis, entry.place, reduced.minus(entry.value).ok()?)?;
             }
         }
         Some(())
     }
 
-    // Puts down the reduced cost of a nonbasic variable, and the rate by it.
-    fn put(&mut self, basis: &Basis, variable: u32, reduced: Frac) -> Option<()> {
+    /// Puts down the reduced cost of a nonbasic variable, and the rate by it.
+    pub(crate) fn put(&mut self, basis: &Basis, variable: u32, reduced: Frac) -> Option<()> {
         if basis.is_narrow && !is_narrow(reduced) {
             return None;
         }
-        *self.reduced.get_mut(variable as usize)? = reduced;
+        put(&mut self.reduced, variable, reduced)?;
         self.rate_anew(basis, variable)
     }
 
@@ -126,18 +133,6 @@ impl Descent {
         let way = self.way(variable, basis.variable(variable)?)?;
         let rate = way.map_or(Frac::whole(0), |way| way.rate);
         self.candidates.put(variable, rate)
-    }
-
-    /// A variable has left the basis, with its reduced cost, and another one has entered.
-    pub(crate) fn exchange(
-        &mut self,
-        basis: &Basis,
-        enters: u32,
-        leaves: u32,
-        reduced: Frac,
-    ) -> Option<()> {
-        self.candidates.put(enters, Frac::whole(0))?;
-        self.put(basis, leaves, reduced)
     }
 
     /// How the next variable that enters moves; none in it where the sum falls by none.
@@ -166,7 +161,7 @@ impl Descent {
 
     // At what rate the sum falls as a nonbasic variable rises or falls; 0 where a wall is in the way.
     fn rate(&self, variable: u32, known: &Variable, rises: bool) -> Option<Frac> {
-        let reduced = *self.reduced.get(variable as usize)?;
+        let reduced = at(&self.reduced, variable)?;
         if is_zero(reduced) && known.missed.is_none() {
             return Some(reduced);
         }
@@ -176,14 +171,6 @@ impl Descent {
         };
         Some(signed(slope.plus(reduced).ok()?, !rises))
     }
-}
-
-// What a variable costs in an objective, of whose columns the costs are given.
-fn cost(costs: &[Frac], variable: u32) -> Frac {
-    costs
-        .get(variable as usize)
-        .copied()
-        .unwrap_or(Frac::whole(0))
 }
 
 /// The side that a nonbasic variable misses as soon as it moves up or down.

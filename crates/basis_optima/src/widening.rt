@@ -1,8 +1,9 @@
 //! The run that makes a vertex of the alternative polyhedron cheaper: limits grow wider until no variable is outside them.
 ghost use Rattle.std.specs.Prelude.{◌≤◌};
 
-use crate::extents::Extents;
-use factors::{is_zero, quotient, size};
+use crate::extents::{Extents, Gap};
+use certs::Side;
+use factors::{at, is_zero, put, quotient, signed, size};
 use frac128::Frac;
 use quick_basis::{Basis, Blocked, most_turns, side_of};
 use std::alloc::Global;
@@ -62,7 +63,7 @@ fn choose(basis: &mut Basis, extents: &Extents, extent: Frac, idle: u64) -> Opti
     };
     basis.solve_unit_row(leaves.slot)?;
     let length = basis.row.entries().len() as u64;
-    *basis.lengths.get_mut(leaves.slot as usize)? = length;
+    put(&mut basis.lengths, leaves.slot, length)?;
     match entering(basis, extents, leaves, is_stuck)? {
         Some(variable) => Some(Turn::Pivot(leaves, variable)),
         None => Some(Turn::Vertex(leaves)),
@@ -85,11 +86,14 @@ fn leaving(
         let key = if is_stuck {
             u64::from(*base)
         } else {
-            *basis.lengths.get(slot as usize)?
+            at(&basis.lengths, slot)?
         };
-        if best.is_none_or(|least| key < least.0) {
-            best = Some((key, Blocked { slot, side }));
+        if let Some((least, _)) = best
+            && least <= key
+        {
+            continue;
         }
+        best = Some((key, Blocked { slot, side }));
     }
     Some(best.map(|least| least.1))
 }
@@ -112,7 +116,7 @@ fn entering(
         let count = if is_stuck {
             0
         } else {
-            *basis.counts.get(variable as usize)?
+            at(&basis.counts, variable)?
         };
         let own = extents.vertex_row.value(variable)?;
         let key = (quotient(size(own), size(factor))?, count, variable);
@@ -134,11 +138,10 @@ fn pivot(
     let Blocked { slot, side } = leaves;
     basis.solve_column(variable)?;
     let base = basis.base(slot)?;
-    let known = basis.variable(base)?;
+    let Gap { now, rate } = extents.gap(basis, base, side)?;
     let factor = basis.solved.value(slot)?;
-    let step = quotient(known.value.minus(known.limit_on(side)?).ok()?, factor)?;
-    let limit_rate = extents.costs.slope(base, Some(side))?;
-    let rate_step = quotient(extents.rate(base)?.minus(limit_rate).ok()?, factor)?;
+    let step = quotient(signed(now, side == Side::Up), factor)?;
+    let rate_step = quotient(signed(rate, side == Side::Up), factor)?;
     extents.shift(basis, variable, rate_step)?;
     extents.exchange(basis, variable, base)?;
     basis.shift(variable, step)?;

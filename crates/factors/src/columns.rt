@@ -1,4 +1,5 @@
 //! Columns of numbers.
+use crate::access::put;
 use crate::arithmetic::is_zero;
 use frac128::Frac;
 use std::alloc::Global;
@@ -14,7 +15,7 @@ pub struct Entry {
 #[derive(Drop)]
 pub struct Columns {
     starts: Vec<u32>,
-    entries: Vec<Entry>,
+    pub(crate) entries: Vec<Entry>,
 }
 
 impl Columns {
@@ -41,14 +42,24 @@ impl Columns {
         self.starts.push(end).ok()
     }
 
+    /// Puts these entries as a column.
+    pub(crate) fn push_column(&mut self, entries: &[Entry]) -> Option<()> {
+        self.entries.extend_from_slice(entries).ok()?;
+        self.end()
+    }
+
     /// How many there are.
     pub fn count(&self) -> usize {
         self.starts.len().saturating_sub(1)
     }
 
-    /// How many entries they have.
-    pub(crate) fn entry_count(&self) -> usize {
-        self.entries.len()
+    /// How many entries each has.
+    pub fn lengths(&self, alloc: Global) -> Option<Vec<u64>> {
+        let mut lengths = Vec::new(alloc);
+        for index in 0..u32::try_from(self.count()).ok()? {
+            lengths.push(self.column(index)?.len() as u64).ok()?;
+        }
+        Some(lengths)
     }
 
     /// The entries of a column.
@@ -64,62 +75,52 @@ impl Columns {
     pub(crate) fn chosen(&self, alloc: Global, indices: &[u32]) -> Option<Columns> {
         let mut chosen = Columns::new(alloc)?;
         for index in indices {
-            let entries = self.column(*index)?;
-            chosen.entries.extend_from_slice(entries).ok()?;
-            chosen.end()?;
+            chosen.push_column(self.column(*index)?)?;
         }
         Some(chosen)
     }
 
     /// The rows as columns, places ascending, where there are so many rows and each column is ended.
     pub fn transposed(&self, alloc: Global, rows: usize) -> Option<Columns> {
+        let count = u32::try_from(self.count()).ok()?;
         let nothing = Entry {
             place: 0,
             value: Frac::whole(0),
         };
-        let mut transposed = Columns {
-            starts: self.starts_of_rows(alloc, rows)?,
-            entries: vec![in alloc; nothing; self.entries.len()].ok()?,
-        };
-        for place in 0..u32::try_from(self.count()).ok()? {
-            for entry in self.column(place)? {
-                let value = entry.value;
-                transposed.put(entry.place, Entry { place, value })?;
-            }
+        let starts = self.starts_of_rows(alloc, rows)?;
+        let entries = vec![in alloc; nothing; self.entries.len()].ok()?;
+        let mut transposed = Columns { starts, entries };
+        for place in 0..count {
+            transposed.put_across(place, self.column(place)?)?;
         }
         transposed.starts.pop();
         Some(transposed)
     }
 
-    // Puts an entry at the end of a row, which is then one further on. It stands one further on in the starts.
-    fn put(&mut self, row: u32, entry: Entry) -> Option<()> {
-        let end = self.starts.get_mut(row as usize + 1)?;
-        let at = *end as usize;
-        *end = end.checked_add(1)?;
-        *self.entries.get_mut(at)? = entry;
+    // Puts each entry of a column at the end of its row, which is then one further on. It stands one further on in the starts.
+    fn put_across(&mut self, place: u32, entries: &[Entry]) -> Option<()> {
+        for entry in entries {
+            let end = self.starts.get_mut(entry.place as usize + 1)?;
+            let value = entry.value;
+            put(&mut self.entries, *end, Entry { place, value })?;
+            *end = end.saturating_add(1);
+        }
         Some(())
     }
 
     // Where each row starts, one further on than in columns: so what counts up to its end leaves the starts.
     fn starts_of_rows(&self, alloc: Global, rows: usize) -> Option<Vec<u32>> {
-        let mut starts = vec![in alloc; 0u32; rows.checked_add(2)?].ok()?;
+        let mut starts = vec![in alloc; 0u32; rows.saturating_add(2)].ok()?;
         for entry in self.entries.iter() {
-            let count = starts.get_mut(entry.place as usize + 2)?;
-            *count = count.checked_add(1)?;
+            if let Some(count) = starts.get_mut(entry.place as usize + 2) {
+                *count = count.saturating_add(1);
+            }
         }
         let mut sum: u32 = 0;
         for start in starts.iter_mut() {
-            sum = sum.checked_add(*start)?;
+            sum = sum.saturating_add(*start);
             *start = sum;
         }
         Some(starts)
-    }
-
-    /// Puts other places for all, by a list.
-    pub(crate) fn move_places(&mut self, places: &[u32]) -> Option<()> {
-        for entry in self.entries.iter_mut() {
-            entry.place = *places.get(entry.place as usize)?;
-        }
-        Some(())
     }
 }

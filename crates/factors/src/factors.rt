@@ -25,15 +25,7 @@ struct Exchange {
 /// its columns and by its rows. After a call that returns none, the factors are of no more use.
 #[derive(Drop)]
 pub struct Factors {
-    row_positions: Vec<u32>,
-    slot_positions: Vec<u32>,
-    rows: Vec<u32>,
-    slots: Vec<u32>,
-    pivots: Vec<Frac>,
-    lower_columns: Columns,
-    lower_rows: Columns,
-    upper_columns: Columns,
-    upper_rows: Columns,
+    basis: Elimination,
     exchanges: Vec<Exchange>,
     etas: Columns,
     work: Work,
@@ -43,29 +35,12 @@ impl Factors {
     /// `head` has for each slot the index of its column in `columns`; there are as many rows as slots. None where the basis is
     /// singular, a number does not fit, or memory is refused.
     pub fn new(alloc: Global, columns: &Columns, head: &[u32]) -> Option<Factors> {
-        let Elimination {
-            rows,
-            slots,
-            pivots,
-            upper: mut upper_rows,
-            lower: mut lower_columns,
-        } = Elimination::of(alloc, columns.chosen(alloc, head)?)?;
-        upper_rows.move_places(slots.positions.as_slice())?;
-        lower_columns.move_places(rows.positions.as_slice())?;
-        let upper_columns = upper_rows.transposed(alloc, head.len())?;
-        let lower_rows = lower_columns.transposed(alloc, head.len())?;
+        let mut basis = Elimination::new(alloc, columns.chosen(alloc, head)?)?;
+        basis.eliminate(alloc)?;
         let etas = Columns::new(alloc)?;
         let work = Work::new(alloc, head.len())?;
         Some(Factors {
-            row_positions: rows.positions,
-            slot_positions: slots.positions,
-            rows: rows.taken,
-            slots: slots.taken,
-            pivots,
-            lower_columns,
-            lower_rows,
-            upper_columns,
-            upper_rows,
+            basis,
             exchanges: Vec::new(alloc),
             etas,
             work,
@@ -75,11 +50,15 @@ impl Factors {
     /// FTRAN: B x = column; x over slots into `out`, which is cleared first.
     pub fn solve(&mut self, column: &[Entry], out: &mut SparseVector) -> Option<()> {
         out.clear();
-        self.work.put_all(column, self.row_positions.as_slice())?;
-        let pivots = self.pivots.as_slice();
-        self.work.solve_forward(&self.lower_columns, &[])?;
+        let Elimination {
+            rows,
+            slots,
+            pivots,
+        } = &self.basis;
+        self.work.put_all(column, &rows.positions)?;
+        self.work.solve_forward(&slots.triangle, &[])?;
         self.work
-            .solve_back(&self.upper_columns, pivots, self.slots.as_slice(), out)?;
+            .solve_back(&rows.lines, pivots, &slots.taken, out)?;
         for exchange in self.exchanges.iter() {
             exchange.solve(&self.etas, out)?;
         }
@@ -96,12 +75,14 @@ impl Factors {
         for exchange in self.exchanges.iter().rev() {
             exchange.solve_transposed(&self.etas, costs)?;
         }
-        let positions = self.slot_positions.as_slice();
-        self.work.put_all(costs.entries(), positions)?;
-        let pivots = self.pivots.as_slice();
-        self.work.solve_forward(&self.upper_rows, pivots)?;
-        self.work
-            .solve_back(&self.lower_rows, &[], self.rows.as_slice(), out)
+        let Elimination {
+            rows,
+            slots,
+            pivots,
+        } = &self.basis;
+        self.work.put_all(costs.entries(), &slots.positions)?;
+        self.work.solve_forward(&rows.triangle, pivots)?;
+        self.work.solve_back(&slots.lines, &[], &rows.taken, out)
     }
 
     /// The solved column (as `solve` gives it) comes into a slot in place of the one that is there.
@@ -123,12 +104,12 @@ impl Factors {
     /// Whether factors made anew would serve better: as many exchanges as max(64, rows / 32), or entries of exchanges above 3
     /// times those of the factors plus the rows.
     pub fn are_stale(&self) -> bool {
-        let rows = self.pivots.len();
+        let rows = self.basis.pivots.len();
         let entries = rows
-            .saturating_add(self.lower_columns.entry_count())
-            .saturating_add(self.upper_columns.entry_count());
+            .saturating_add(self.basis.slots.triangle.entries.len())
+            .saturating_add(self.basis.rows.triangle.entries.len());
         let most = entries.saturating_mul(3).saturating_add(rows);
-        self.exchanges.len() >= FEWEST_EXCHANGES.max(rows / 32) || self.etas.entry_count() > most
+        self.exchanges.len() >= FEWEST_EXCHANGES.max(rows / 32) || self.etas.entries.len() > most
     }
 }
 
@@ -141,10 +122,7 @@ impl Exchange {
         }
         let times = quotient(own, self.pivot)?;
         solution.set(self.slot, times)?;
-        for entry in etas.column(self.index)? {
-            solution.subtract(entry.place, entry.value, times)?;
-        }
-        Some(())
+        solution.subtract_all(etas.column(self.index)?, times)
     }
 
     // Brings costs from behind the exchange before it.

@@ -2,6 +2,7 @@
 //! Nothing is promised of what they solve but its form.
 #![tactic(auto)]
 
+mod access;
 mod arithmetic;
 mod columns;
 mod elimination;
@@ -12,6 +13,7 @@ mod sides;
 mod triangles;
 mod vectors;
 
+pub use access::{at, keep, put};
 pub use arithmetic::{is_zero, quotient, signed, size, width};
 pub use columns::{Columns, Entry};
 pub use factors::Factors;

@@ -1,6 +1,8 @@
 //! The nucleus of a basis: the rows and slots that are left after those with one entry.
+use crate::access::{at, keep};
 use crate::arithmetic::{is_zero, quotient, width};
 use crate::columns::Entry;
+use crate::sides::{OPEN, Side};
 use crate::vectors::SparseVector;
 use frac128::Frac;
 use std::alloc::Global;
@@ -42,10 +44,18 @@ impl Nucleus {
         Some(Nucleus { rows, slots, sum })
     }
 
-    /// Puts an entry in.
-    pub(crate) fn put(&mut self, row: u32, entry: Entry) -> Option<()> {
-        self.rows.get_mut(row as usize)?.push(entry).ok()?;
-        self.slots.get_mut(entry.place as usize)?.push(row).ok()
+    /// Puts the entries of these rows in that stand in slots that are not taken.
+    pub(crate) fn put_rows(&mut self, rows: &[u32], from: &Side, slots: &Side) -> Option<()> {
+        for row in rows {
+            let own = self.rows.get_mut(*row as usize)?;
+            for entry in from.lines.column(*row)? {
+                if at(&slots.positions, entry.place)? == OPEN {
+                    own.push(*entry).ok()?;
+                    self.slots.get_mut(entry.place as usize)?.push(*row).ok()?;
+                }
+            }
+        }
+        Some(())
     }
 
     /// Of the entries of the shortest of these rows and slots the one that makes the fewest entries as a pivot, the narrowest of these
@@ -72,16 +82,20 @@ impl Nucleus {
         best
     }
 
-    // Those of these rows and slots that have the fewest entries.
+    // Of these rows and slots those that have entries and the fewest of them.
     fn shortest(&self, alloc: Global, rows: &[u32], slots: &[u32]) -> Option<Vec<Candidate>> {
         let mut shortest = Vec::new(alloc);
         for slot in slots {
             let rows = self.slots.get(*slot as usize)?.len();
-            keep(&mut shortest, (rows, false, !*slot))?;
+            if rows > 0 {
+                keep(&mut shortest, (rows, false, !*slot), CANDIDATES)?;
+            }
         }
         for row in rows {
             let entries = self.rows.get(*row as usize)?.len();
-            keep(&mut shortest, (entries, true, !*row))?;
+            if entries > 0 {
+                keep(&mut shortest, (entries, true, !*row), CANDIDATES)?;
+            }
         }
         Some(shortest)
     }
@@ -115,38 +129,36 @@ impl Nucleus {
 
     /// Takes out the row of a pivot, and gives its entries in other slots.
     pub(crate) fn take_row(&mut self, alloc: Global, pivot: Pivot) -> Option<Vec<Entry>> {
+        self.take_entry(pivot.row, pivot.slot)?;
         let row = self.rows.get_mut(pivot.row as usize)?;
-        let mut entries = std::mem::replace(row, Vec::new(alloc));
-        entries.retain(|entry| entry.place != pivot.slot);
+        let entries = std::mem::replace(row, Vec::new(alloc));
         for entry in entries.iter() {
-            let rows = self.slots.get_mut(entry.place as usize)?;
-            rows.retain(|row| *row != pivot.row);
+            leave(&mut self.slots, entry.place, pivot.row)?;
         }
         Some(entries)
     }
 
+    // Takes the entry of a row in a slot out, and gives its value.
+    fn take_entry(&mut self, row: u32, slot: u32) -> Option<Frac> {
+        let entries = self.rows.get_mut(row as usize)?;
+        let value = value_of(entries.as_slice(), slot)?;
+        entries.retain(|entry| entry.place != slot);
+        Some(value)
+    }
+
     /// Takes out the slot of a pivot, and gives its other rows.
     pub(crate) fn take_slot(&mut self, alloc: Global, pivot: Pivot) -> Option<Vec<u32>> {
+        leave(&mut self.slots, pivot.slot, pivot.row)?;
         let slot = self.slots.get_mut(pivot.slot as usize)?;
-        let mut rows = std::mem::replace(slot, Vec::new(alloc));
-        rows.retain(|row| *row != pivot.row);
-        Some(rows)
+        Some(std::mem::replace(slot, Vec::new(alloc)))
     }
 
     /// Takes the row of a pivot, of which these are the other entries, off another row as many times as clears its slot there,
     /// and gives how many.
     pub(crate) fn reduce(&mut self, row: u32, pivot: Pivot, entries: &[Entry]) -> Option<Frac> {
-        let own = self.rows.get_mut(row as usize)?;
-        let value = value_of(own.as_slice(), pivot.slot)?;
-        let times = quotient(value, pivot.value)?;
-        own.retain(|entry| entry.place != pivot.slot);
-        self.sum.clear();
-        for entry in own.iter() {
-            self.sum.set(entry.place, entry.value)?;
-        }
-        for entry in entries {
-            self.sum.subtract(entry.place, entry.value, times)?;
-        }
+        let times = quotient(self.take_entry(row, pivot.slot)?, pivot.value)?;
+        self.sum.assign(self.rows.get(row as usize)?)?;
+        self.sum.subtract_all(entries, times)?;
         self.store(row)?;
         Some(times)
     }
@@ -157,30 +169,23 @@ impl Nucleus {
         let before = own.len();
         own.clear();
         for (index, entry) in self.sum.entries().iter().enumerate() {
-            let rows = self.slots.get_mut(entry.place as usize)?;
             if is_zero(entry.value) {
-                rows.retain(|other| *other != row);
+                leave(&mut self.slots, entry.place, row)?;
                 continue;
             }
             own.push(*entry).ok()?;
             if index >= before {
-                rows.push(row).ok()?;
+                self.slots.get_mut(entry.place as usize)?.push(row).ok()?;
             }
         }
         Some(())
     }
 }
 
-// Keeps a row or a slot that has entries among the first ones.
-#[inline(always)]
-fn keep(first: &mut Vec<Candidate>, candidate: Candidate) -> Option<()> {
-    let is_full = first.len() >= CANDIDATES;
-    if candidate.0 == 0 || is_full && first.last().is_some_and(|last| *last < candidate) {
-        return Some(());
-    }
-    first.push(candidate).ok()?;
-    first.sort_unstable();
-    first.truncate(CANDIDATES);
+// Takes a row off those of a slot.
+fn leave(slots: &mut [Vec<u32>], slot: u32, row: u32) -> Option<()> {
+    let rows = slots.get_mut(slot as usize)?;
+    rows.retain(|other| *other != row);
     Some(())
 }
 

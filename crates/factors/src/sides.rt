@@ -1,50 +1,49 @@
 //! The rows and the slots of a basis, and the pivots in those that have one entry left.
+use crate::access::{at, put};
 use crate::arithmetic::quotient;
 use crate::columns::{Columns, Entry};
 use frac128::Frac;
 use std::alloc::Global;
 
 // The position of what is not taken.
-const OPEN: u32 = u32::MAX;
+pub(crate) const OPEN: u32 = u32::MAX;
 
 /// One side of a basis, its rows or its slots: the entries of each line; how many of them stand in lines of the other side that
-/// are not taken, as long as lines are taken by these counts; the lines in the order in which they were taken; and their
-/// positions in this order.
+/// are not taken, as long as lines are taken by these counts; the lines for which this is 1, as far as they are listed; the
+/// lines in the order in which they were taken; their positions in this order; and in this order, as a triangle without its
+/// diagonal, what each had left when it was taken.
+///
+/// When the side is closed, the triangle is over positions, and its lines the other way stand in place of those of the basis.
 #[derive(Drop)]
 pub(crate) struct Side {
     pub lines: Columns,
-    counts: Vec<u32>,
+    counts: Vec<u64>,
+    singles: Vec<u32>,
     pub taken: Vec<u32>,
     pub positions: Vec<u32>,
+    pub triangle: Columns,
 }
 
 impl Side {
     /// Lines, none of which is taken.
     pub(crate) fn new(alloc: Global, lines: Columns) -> Option<Side> {
-        let mut counts = Vec::with_capacity(alloc, lines.count()).ok()?;
-        for index in 0..u32::try_from(lines.count()).ok()? {
-            let count = u32::try_from(lines.column(index)?.len()).ok()?;
-            counts.push(count).ok()?;
-        }
-        let taken = Vec::with_capacity(alloc, lines.count()).ok()?;
+        let counts = lines.lengths(alloc)?;
         let positions = vec![in alloc; OPEN; lines.count()].ok()?;
+        let triangle = Columns::new(alloc)?;
         Some(Side {
             lines,
             counts,
-            taken,
+            singles: Vec::new(alloc),
+            taken: Vec::new(alloc),
             positions,
+            triangle,
         })
-    }
-
-    /// Whether a line is not taken.
-    #[inline(always)]
-    pub(crate) fn is_open(&self, line: u32) -> Option<bool> {
-        Some(*self.positions.get(line as usize)? == OPEN)
     }
 
     /// Takes a line.
     pub(crate) fn take(&mut self, line: u32) -> Option<()> {
-        *self.positions.get_mut(line as usize)? = u32::try_from(self.taken.len()).ok()?;
+        let position = u32::try_from(self.taken.len()).ok()?;
+        put(&mut self.positions, line, position)?;
         self.taken.push(line).ok()
     }
 
@@ -52,8 +51,8 @@ impl Side {
     pub(crate) fn open(&self, alloc: Global, singles: bool) -> Option<Vec<u32>> {
         let mut open = Vec::new(alloc);
         for line in (0..u32::try_from(self.counts.len()).ok()?).rev() {
-            let count = *self.counts.get(line as usize)?;
-            if self.is_open(line)? && (count == 1 || !singles) {
+            let count = at(&self.counts, line)?;
+            if at(&self.positions, line)? == OPEN && (count == 1 || !singles) {
                 open.push(line).ok()?;
             }
         }
@@ -63,7 +62,7 @@ impl Side {
     // The first entry of a line that stands in a line of the other side that is not taken.
     fn open_entry(&self, line: u32, other: &Side) -> Option<Entry> {
         for entry in self.lines.column(line)? {
-            if other.is_open(entry.place)? {
+            if at(&other.positions, entry.place)? == OPEN {
                 return Some(*entry);
             }
         }
@@ -71,20 +70,17 @@ impl Side {
     }
 
     /// Takes the lines that have one entry left, as long as there are any, each with the other side's line of this entry, the
-    /// pivot. What the latter has left goes to a triangle, divided by the pivot where this has ones on its diagonal, and nothing
-    /// to the other one.
+    /// pivot. What the latter has left goes to its triangle, divided by the pivot where this has ones on its diagonal.
     pub(crate) fn take_singles(
         &mut self,
         alloc: Global,
         other: &mut Side,
         pivots: &mut Vec<Frac>,
-        triangle: &mut Columns,
-        empty: &mut Columns,
         divides: bool,
     ) -> Option<()> {
-        let mut singles = self.open(alloc, true)?;
+        self.singles = self.open(alloc, true)?;
         for _ in 0..self.counts.len() {
-            let Some(line) = singles.pop() else {
+            let Some(line) = self.singles.pop() else {
                 break;
             };
             let entry = self.open_entry(line, other)?;
@@ -92,32 +88,34 @@ impl Side {
             other.take(entry.place)?;
             pivots.push(entry.value).ok()?;
             let divisor = if divides { entry.value } else { Frac::whole(1) };
-            self.leave(other, entry.place, divisor, triangle, &mut singles)?;
-            empty.end()?;
+            self.leave(other, entry.place, divisor)?;
+            self.triangle.end()?;
         }
         Some(())
     }
 
-    // Puts what a line of the other side has left to a triangle, and lists the lines that have one entry left by this.
-    fn leave(
-        &mut self,
-        other: &Side,
-        line: u32,
-        divisor: Frac,
-        triangle: &mut Columns,
-        singles: &mut Vec<u32>,
-    ) -> Option<()> {
+    // Puts what a line of the other side has left to its triangle, and lists the lines that have one entry left by this.
+    fn leave(&mut self, other: &mut Side, line: u32, divisor: Frac) -> Option<()> {
         for entry in other.lines.column(line)? {
             let place = entry.place;
-            if self.is_open(place)? {
-                triangle.push(place, quotient(entry.value, divisor)?)?;
+            if at(&self.positions, place)? == OPEN {
+                other.triangle.push(place, quotient(entry.value, divisor)?)?;
                 let count = self.counts.get_mut(place as usize)?;
                 *count = count.saturating_sub(1);
                 if *count == 1 {
-                    singles.push(place).ok()?;
+                    self.singles.push(place).ok()?;
                 }
             }
         }
-        triangle.end()
+        other.triangle.end()
+    }
+
+    /// Closes the side, by the positions of the other one's lines.
+    pub(crate) fn close(&mut self, alloc: Global, positions: &[u32]) -> Option<()> {
+        for entry in self.triangle.entries.iter_mut() {
+            entry.place = at(positions, entry.place)?;
+        }
+        self.lines = self.triangle.transposed(alloc, positions.len())?;
+        Some(())
     }
 }

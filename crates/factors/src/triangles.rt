@@ -1,12 +1,13 @@
 //! Triangular solves.
+use crate::access::{at, put};
 use crate::arithmetic::{is_zero, quotient, reduced};
 use crate::columns::{Columns, Entry};
-use crate::places::Places;
+use crate::places::{insert, next, take_previous};
 use crate::vectors::SparseVector;
 use frac128::Frac;
 use std::alloc::Global;
 
-/// The vector on which triangular solves work: its values, and the places of all that are not 0.
+/// The vector on which triangular solves work: its values, and the set of the places of all that are not 0.
 ///
 /// A solve takes these places in order, and puts in those that come to have values: so its time goes by the entries that it
 /// meets (Gilbert and Peierls, *Sparse partial pivoting in time proportional to arithmetic operations*, 1988, who find the
@@ -14,7 +15,7 @@ use std::alloc::Global;
 #[derive(Drop)]
 pub(crate) struct Work {
     values: Vec<Frac>,
-    places: Places,
+    places: Vec<u64>,
 }
 
 impl Work {
@@ -22,33 +23,39 @@ impl Work {
     pub(crate) fn new(alloc: Global, len: usize) -> Option<Work> {
         Some(Work {
             values: vec![in alloc; Frac::whole(0); len].ok()?,
-            places: Places::new(alloc, len)?,
+            places: vec![in alloc; 0u64; len / 64 + 1].ok()?,
         })
-    }
-
-    // Puts a value at a place.
-    #[inline(always)]
-    fn put(&mut self, place: u32, value: Frac) -> Option<()> {
-        *self.values.get_mut(place as usize)? = value;
-        self.places.insert(place)
     }
 
     /// Puts all values of a vector, each at the position of its place.
     pub(crate) fn put_all(&mut self, entries: &[Entry], positions: &[u32]) -> Option<()> {
         for entry in entries {
-            let position = *positions.get(entry.place as usize)?;
-            self.put(position, entry.value)?;
+            let position = at(positions, entry.place)?;
+            put(&mut self.values, position, entry.value)?;
+            insert(&mut self.places, position)?;
         }
         Some(())
     }
 
+    // Divides the value at a place by the pivot there, where there is one, and gives it.
+    #[inline(always)]
+    fn divide(&mut self, place: u32, diagonal: &[Frac]) -> Option<Frac> {
+        let value = self.values.get_mut(place as usize)?;
+        if !is_zero(*value)
+            && let Some(pivot) = diagonal.get(place as usize)
+        {
+            *value = quotient(*value, *pivot)?;
+        }
+        Some(*value)
+    }
+
     // Takes so many times a column off.
     #[inline(always)]
-    fn subtract(&mut self, column: &[Entry], times: Frac) -> Option<()> {
-        for entry in column {
+    fn subtract(&mut self, triangle: &Columns, index: u32, times: Frac) -> Option<()> {
+        for entry in triangle.column(index)? {
             let value = self.values.get_mut(entry.place as usize)?;
             *value = reduced(*value, entry.value, times)?;
-            self.places.insert(entry.place)?;
+            insert(&mut self.places, entry.place)?;
         }
         Some(())
     }
@@ -57,15 +64,13 @@ impl Work {
     pub(crate) fn solve_forward(&mut self, triangle: &Columns, diagonal: &[Frac]) -> Option<()> {
         let mut first: u32 = 0;
         for _ in 0..triangle.count() {
-            let Some(place) = self.places.next(first) else {
+            let Some(place) = next(&self.places, first) else {
                 break;
             };
             first = place.saturating_add(1);
-            let value = self.values.get_mut(place as usize)?;
-            if !is_zero(*value) {
-                *value = over_pivot(*value, diagonal, place)?;
-                let times = *value;
-                self.subtract(triangle.column(place)?, times)?;
+            let times = self.divide(place, diagonal)?;
+            if !is_zero(times) {
+                self.subtract(triangle, place, times)?;
             }
         }
         Some(())
@@ -82,28 +87,17 @@ impl Work {
     ) -> Option<()> {
         let mut last = u32::try_from(triangle.count()).ok()?;
         for _ in 0..triangle.count() {
-            let Some(place) = self.places.previous(last) else {
+            let Some(place) = take_previous(&mut self.places, last) else {
                 break;
             };
             last = place;
-            self.places.remove(place)?;
-            let value = self.values.get_mut(place as usize)?;
-            if !is_zero(*value) {
-                let times = over_pivot(*value, diagonal, place)?;
-                *value = Frac::whole(0);
-                out.set(*names.get(place as usize)?, times)?;
-                self.subtract(triangle.column(place)?, times)?;
+            let times = self.divide(place, diagonal)?;
+            if !is_zero(times) {
+                put(&mut self.values, place, Frac::whole(0))?;
+                out.set(at(names, place)?, times)?;
+                self.subtract(triangle, place, times)?;
             }
         }
         Some(())
-    }
-}
-
-// The value over the pivot at its place.
-#[inline(always)]
-fn over_pivot(value: Frac, diagonal: &[Frac], place: u32) -> Option<Frac> {
-    match diagonal.get(place as usize) {
-        Some(pivot) => quotient(value, *pivot),
-        None => Some(value),
     }
 }

@@ -1,4 +1,5 @@
 //! Sparse vectors.
+use crate::access::at;
 use crate::arithmetic::reduced;
 use crate::columns::Entry;
 use frac128::Frac;
@@ -31,7 +32,7 @@ impl SparseVector {
     /// The value at a place: 0 where it is untouched, and none where it is out of range.
     #[inline(always)]
     pub fn value(&self, place: u32) -> Option<Frac> {
-        let index = *self.indices.get(place as usize)?;
+        let index = at(&self.indices, place)?;
         match self.entries.get(index as usize) {
             Some(entry) => Some(entry.value),
             None => Some(Frac::whole(0)),
@@ -53,6 +54,14 @@ impl SparseVector {
         Some(())
     }
 
+    /// Takes so many times these entries off.
+    pub fn subtract_all(&mut self, entries: &[Entry], times: Frac) -> Option<()> {
+        for entry in entries {
+            self.subtract(entry.place, entry.value, times)?;
+        }
+        Some(())
+    }
+
     // The entry of a place, which is touched now.
     #[inline(always)]
     fn touched(&mut self, place: u32) -> Option<&mut Entry> {
@@ -63,6 +72,15 @@ impl SparseVector {
             self.entries.push(Entry { place, value }).ok()?;
         }
         self.entries.get_mut(*index as usize)
+    }
+
+    /// Makes these entries all that are touched.
+    pub fn assign(&mut self, entries: &[Entry]) -> Option<()> {
+        self.clear();
+        for entry in entries {
+            self.set(entry.place, entry.value)?;
+        }
+        Some(())
     }
 
     /// Makes all values 0 and untouched.

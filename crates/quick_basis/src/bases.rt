@@ -2,10 +2,9 @@
 ghost use Rattle.certs.specs.Checks.{IsSetOf};
 
 use crate::limits::{column_limits, row_limits};
-use crate::numbers::is_narrow;
 use crate::variables::Variable;
 use certs::{Branch, MemberSet, Side};
-use factors::{Columns, Entry, Factors, SparseVector, is_zero};
+use factors::{Columns, Entry, Factors, SparseVector, at, is_zero, put};
 use frac128::Frac;
 use lp_model::Model;
 use std::alloc::Global;
@@ -54,7 +53,7 @@ impl Basis {
 
     /// The variable of a slot.
     pub fn base(&self, slot: u32) -> Option<u32> {
-        self.head.get(slot as usize).copied()
+        at(&self.head, slot)
     }
 
     /// What is known of the variable of a slot.
@@ -104,13 +103,17 @@ impl Basis {
 
     /// Whether a branch gives the limit of a variable on a side.
     pub fn is_branched(&self, variable: u32, side: Side) -> bool {
-        self.variable(variable)
-            .is_some_and(|known| known.is_branched(side))
+        match (self.variable(variable), side) {
+            (None, _) => false,
+            (Some(known), Side::Lo) => known.is_raised,
+            (Some(known), Side::Up) => known.is_lowered,
+        }
     }
 
     // Moves the nonbasic variables that are outside their limits to those that they miss, and the basic ones with them.
     fn bring_inside(&mut self, alloc: Global) -> Option<()> {
-        let mut right = None;
+        let mut right = SparseVector::new(alloc, self.head.len())?;
+        let mut moved = false;
         self.crossed = None;
         for variable in 0..u32::try_from(self.variables.len()).ok()? {
             let known = self.variables.get_mut(variable as usize)?;
@@ -122,19 +125,15 @@ impl Basis {
                 let limit = known.limit_on(side)?;
                 let step = limit.minus(known.value).ok()?;
                 known.put_at(limit);
-                if right.is_none() {
-                    right = Some(SparseVector::new(alloc, self.head.len())?);
-                }
-                take_off(right.as_mut()?, &self.by_column, variable, step)?;
+                take_off(&mut right, &self.by_column, variable, step)?;
+                moved = true;
             }
         }
-        match &right {
-            Some(right) => {
-                self.factors.solve(right.entries(), &mut self.solved)?;
-                self.shift_basics(Frac::whole(-1))
-            }
-            None => Some(()),
+        if !moved {
+            return Some(());
         }
+        self.factors.solve(right.entries(), &mut self.solved)?;
+        self.shift_basics(Frac::whole(-1))
     }
 
     /// Solves for how the basic variables change as a nonbasic one rises: so many times `solved` they fall.
@@ -183,14 +182,9 @@ impl Basis {
             if is_zero(entry.value) {
                 continue;
             }
-            let base = *self.head.get(entry.place as usize)?;
+            let base = at(&self.head, entry.place)?;
             let known = self.variables.get_mut(base as usize)?;
-            let value = known.value.minus(entry.value.times(step).ok()?).ok()?;
-            if self.is_narrow && !is_narrow(value) {
-                return None;
-            }
-            known.put_at(value);
-            if known.missed.is_some() {
+            if known.fall(entry.value, step, self.is_narrow)? {
                 list(&mut self.outside, &mut self.is_listed, entry.place)?;
             }
         }
@@ -201,8 +195,8 @@ impl Basis {
     pub fn exchange(&mut self, alloc: Global, slot: u32, variable: u32) -> Option<()> {
         self.blocked = None;
         self.factors.exchange(slot, &self.solved)?;
-        let base = self.head.get_mut(slot as usize)?;
-        let leaves = std::mem::replace(base, variable);
+        let leaves = at(&self.head, slot)?;
+        put(&mut self.head, slot, variable)?;
         self.variables.get_mut(leaves as usize)?.slot = None;
         let known = self.variables.get_mut(variable as usize)?;
         known.slot = Some(slot);
@@ -227,16 +221,19 @@ impl Basis {
         self.blocked = None;
         self.head = Vec::from_slice(alloc, head).ok()?;
         self.refactor(alloc)?;
-        for (known, side) in self.variables.iter_mut().zip(sides.iter()) {
+        let count = self.variables.len().min(sides.len());
+        for variable in 0..u32::try_from(count).ok()? {
+            let known = self.variables.get_mut(variable as usize)?;
             known.slot = None;
-            if let Some(side) = side
-                && let Some(limit) = known.limit_on(*side)
+            if let Some(Some(side)) = at(sides, variable)
+                && let Some(limit) = known.limit_on(side)
             {
                 known.put_at(limit);
             }
         }
-        for (slot, base) in (0..).zip(head.iter()) {
-            self.variables.get_mut(*base as usize)?.slot = Some(slot);
+        for slot in 0..u32::try_from(head.len()).ok()? {
+            let base = at(head, slot)?;
+            self.variables.get_mut(base as usize)?.slot = Some(slot);
         }
         Some(())
     }
@@ -244,15 +241,17 @@ impl Basis {
     /// Solves for the values of the basic variables by those of the others.
     pub fn solve_values(&mut self, alloc: Global) -> Option<()> {
         let mut right = SparseVector::new(alloc, self.head.len())?;
-        for (variable, known) in (0..).zip(self.variables.iter()) {
+        for variable in 0..u32::try_from(self.variables.len()).ok()? {
+            let known = self.variable(variable)?;
             if known.slot.is_none() && !is_zero(known.value) {
                 take_off(&mut right, &self.by_column, variable, known.value)?;
             }
         }
         self.factors.solve(right.entries(), &mut self.solved)?;
-        for (slot, base) in (0..).zip(self.head.iter()) {
+        for slot in 0..u32::try_from(self.head.len()).ok()? {
             let value = self.solved.value(slot)?;
-            self.variables.get_mut(*base as usize)?.put_at(value);
+            let base = at(&self.head, slot)?;
+            self.variables.get_mut(base as usize)?.put_at(value);
         }
         Some(())
     }
@@ -260,9 +259,9 @@ impl Basis {
     /// Lists the slots whose variables miss a limit.
     pub fn list_outside(&mut self) -> Option<()> {
         self.outside.clear();
-        for (slot, base) in (0..).zip(self.head.iter()) {
-            let misses = self.variables.get(*base as usize)?.missed.is_some();
-            *self.is_listed.get_mut(slot as usize)? = misses;
+        for slot in 0..u32::try_from(self.head.len()).ok()? {
+            let misses = self.basic(slot)?.missed.is_some();
+            put(&mut self.is_listed, slot, misses)?;
             if misses {
                 self.outside.push(slot).ok()?;
             }
@@ -273,12 +272,11 @@ impl Basis {
 
 // Lists a slot, where it is not listed yet.
 fn list(outside: &mut Vec<u32>, is_listed: &mut Vec<bool>, slot: u32) -> Option<()> {
-    let listed = is_listed.get_mut(slot as usize)?;
-    if !*listed {
-        *listed = true;
-        outside.push(slot).ok()?;
+    if at(is_listed, slot)? {
+        return Some(());
     }
-    Some(())
+    put(is_listed, slot, true)?;
+    outside.push(slot).ok()
 }
 
 /// Takes so many times the column of a variable off a right side.
@@ -288,10 +286,7 @@ pub fn take_off(
     variable: u32,
     times: Frac,
 ) -> Option<()> {
-    for entry in columns.column(variable)? {
-        right.subtract(entry.place, entry.value, times)?;
-    }
-    Some(())
+    right.subtract_all(columns.column(variable)?, times)
 }
 
 // Takes so many times a row off that of the nonbasic variables.

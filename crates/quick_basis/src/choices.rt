@@ -2,7 +2,7 @@
 use crate::bases::Basis;
 use crate::limits::side_of;
 use certs::Side;
-use factors::{is_zero, quotient};
+use factors::{at, is_zero, keep, put, quotient};
 use frac128::Frac;
 use std::alloc::Global;
 
@@ -46,28 +46,15 @@ pub(crate) fn helping(
     let mut best = Vec::new(alloc);
     let most = if rule == Rule::Bland { 1 } else { CANDIDATES };
     for entry in basis.row.entries() {
-        let (variable, factor) = (entry.place, entry.value);
-        if is_zero(factor) || basis.variable(variable)?.is_at(side_of(factor, side)) {
+        let known = basis.variable(entry.place)?;
+        if is_zero(entry.value) || known.is_at(side_of(entry.value, side)) {
             continue;
         }
-        let count = match rule {
-            Rule::Bland => 0,
-            Rule::Shortest | Rule::Least => *basis.counts.get(variable as usize)?,
-        };
-        keep(&mut best, (count, variable), most)?;
+        let count = at(&basis.counts, entry.place)?;
+        let key = if rule == Rule::Bland { 0 } else { count };
+        keep(&mut best, (key, entry.place), most)?;
     }
     Some(best)
-}
-
-// Keeps a candidate, which is a count with a variable, among so many first ones.
-fn keep(best: &mut Vec<(u64, u32)>, candidate: (u64, u32), most: usize) -> Option<()> {
-    if best.len() >= most && best.last().is_some_and(|last| *last < candidate) {
-        return Some(());
-    }
-    best.push(candidate).ok()?;
-    best.sort().ok()?;
-    best.truncate(most);
-    Some(())
 }
 
 /// The pivot of a leaving variable with one of these: the one after whose step the fewest variables miss a limit, the first of
@@ -83,7 +70,8 @@ pub(crate) fn entering(
     for (_, variable) in candidates {
         solved = Some(*variable);
         basis.solve_column(*variable)?;
-        *basis.counts.get_mut(*variable as usize)? = basis.solved.entries().len() as u64;
+        let count = basis.solved.entries().len() as u64;
+        put(&mut basis.counts, *variable, count)?;
         let Some(step) = basis.step_of(leaving) else {
             continue;
         };
@@ -128,8 +116,8 @@ impl Basis {
                 break;
             }
             let basic = self.basic(entry.place)?;
-            if !is_zero(entry.value) && basic.is_limited() {
-                let value = basic.value.minus(entry.value.times(step).ok()?).ok()?;
+            if !is_zero(entry.value) && (basic.has_lo || basic.has_up) {
+                let value = basic.fallen(entry.value, step)?;
                 count = count.saturating_add(u32::from(basic.missed_at(value).is_some()));
             }
         }

@@ -47,7 +47,7 @@ fn value_after(basis: &Basis, variable: u32, step: Option<Step>) -> Option<Frac>
     if is_zero(factor) {
         return Some(known.value);
     }
-    known.value.minus(factor.times(step.step).ok()?).ok()
+    known.fallen(factor, step.step)
 }
 
 /// The least number of 64 bits above 0 that makes the values of the row that was solved for whole; 1 where it is wider.
@@ -67,19 +67,16 @@ pub fn whole_times(basis: &Basis) -> Frac {
 /// its variable then moves until the basic one of that row stands at its limit. The basis stays as it is.
 pub fn read_off(basis: &mut Basis) -> Option<Step> {
     let Blocked { slot, side } = basis.blocked?;
-    if basis.basic(slot)?.missed != Some(side) {
-        return None;
-    }
-    let variable = freed(basis, side)?;
-    basis.solve_column(variable)?;
-    let step = basis.step_of(Leaving { slot, side })?;
-    basis.list_outside()?;
-    if basis.moving_outside()? != basis.outside.len()
-        || basis.missed_after(variable, step, 1)? > 0
+    if let Some(variable) = freed(basis, slot, side)
+        && let Some(()) = basis.solve_column(variable)
+        && let Some(step) = basis.step_of(Leaving { slot, side })
+        && let Some(()) = basis.list_outside()
+        && basis.moving_outside() == Some(basis.outside.len())
+        && basis.missed_after(variable, step, 1) == Some(0)
     {
-        return None;
+        return Some(Step { variable, step });
     }
-    Some(Step { variable, step })
+    None
 }
 
 /// Moves the basis to the point that the last suggestion read off, where it did.
@@ -91,8 +88,11 @@ pub fn take_over(basis: &mut Basis) -> Option<()> {
     basis.shift(step.variable, step.step)
 }
 
-// The one variable of the blocked row whose limit is gone; none where it is not just one.
-fn freed(basis: &Basis, side: Side) -> Option<u32> {
+// The one variable of the blocked row whose limit is gone; none where it is not just one, or the basic one misses its no more.
+fn freed(basis: &Basis, slot: u32, side: Side) -> Option<u32> {
+    if basis.basic(slot)?.missed != Some(side) {
+        return None;
+    }
     let mut freed = None;
     for entry in basis.row.entries() {
         let side = side_of(entry.value, side);

@@ -29,10 +29,7 @@ impl Basis {
         self.variables = Vec::from_slice(alloc, saved.variables.as_slice()).ok()?;
         self.head = Vec::from_slice(alloc, saved.head.as_slice()).ok()?;
         self.refactor(alloc)?;
-        self.row.clear();
-        for entry in saved.row.iter() {
-            self.row.set(entry.place, entry.value)?;
-        }
+        self.row.assign(&saved.row)?;
         self.blocked = saved.blocked;
         Some(())
     }

@@ -3,6 +3,7 @@ ghost use Rattle.std.specs.Prelude.{◌≤◌};
 
 use crate::bases::{Basis, Blocked};
 use crate::choices::{Leaving, Pivot, Rule, entering, helping};
+use factors::{at, put};
 use std::alloc::Global;
 
 /// The end of a run: no variable misses a limit, or a row is blocked.
@@ -84,9 +85,9 @@ fn leaving(basis: &mut Basis, rule: Rule) -> Option<Option<u32>> {
         };
         basis.solve_unit_row(slot)?;
         let length = basis.row.entries().len() as u64;
-        let known = basis.lengths.get_mut(slot as usize)?;
+        let known = at(&basis.lengths, slot)?;
         let is_longer = length > known.saturating_mul(2).saturating_add(4);
-        *known = length;
+        put(&mut basis.lengths, slot, length)?;
         if rule != Rule::Shortest || attempt == TRIES || !is_longer {
             return Some(Some(slot));
         }
@@ -96,7 +97,7 @@ fn leaving(basis: &mut Basis, rule: Rule) -> Option<Option<u32>> {
 
 // Makes a pivot, for whose variable `solved` was solved.
 fn make_pivot(alloc: Global, basis: &mut Basis, pivot: Pivot) -> Option<()> {
-    let half = *basis.lengths.get(pivot.slot as usize)? / 2;
+    let half = at(&basis.lengths, pivot.slot)? / 2;
     for entry in basis.solved.entries() {
         let length = basis.lengths.get_mut(entry.place as usize)?;
         if entry.place != pivot.slot {
@@ -111,26 +112,25 @@ impl Basis {
     // The first of the slots whose variables miss a limit: by the rule that of the shortest row, as far as is known, or of the
     // least variable. Those that miss none any more are taken off the list.
     fn first_outside(&mut self, rule: Rule) -> Option<Option<u32>> {
-        let mut best: Option<(u64, u32)> = None;
-        let mut kept: usize = 0;
-        for index in 0..self.outside.len() {
-            let slot = *self.outside.get(index)?;
+        let mut best = (u64::MAX, u32::MAX);
+        let mut kept: u32 = 0;
+        for index in 0..u32::try_from(self.outside.len()).ok()? {
+            let slot = at(&self.outside, index)?;
             let base = self.base(slot)?;
             if self.variable(base)?.missed.is_none() {
-                *self.is_listed.get_mut(slot as usize)? = false;
+                put(&mut self.is_listed, slot, false)?;
                 continue;
             }
-            *self.outside.get_mut(kept)? = slot;
+            put(&mut self.outside, kept, slot)?;
             kept = kept.saturating_add(1);
-            let key = match rule {
-                Rule::Shortest => (*self.lengths.get(slot as usize)?, slot),
-                Rule::Least | Rule::Bland => (u64::from(base), slot),
-            };
-            if best.is_none_or(|least| key < least) {
-                best = Some(key);
+            let length = at(&self.lengths, slot)?;
+            let is_shortest = rule == Rule::Shortest;
+            let key = if is_shortest { length } else { u64::from(base) };
+            if (key, slot) < best {
+                best = (key, slot);
             }
         }
-        self.outside.truncate(kept);
-        Some(best.map(|least| least.1))
+        self.outside.truncate(kept as usize);
+        Some(if kept == 0 { None } else { Some(best.1) })
     }
 }

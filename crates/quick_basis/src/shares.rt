@@ -2,7 +2,7 @@
 use crate::bases::{Basis, Blocked};
 use crate::limits::side_of;
 use certs::{Combo, Share, Shares, Side, Source};
-use factors::size;
+use factors::{at, put, size};
 use frac128::Frac;
 use lp_model::{Member, MemberSet};
 use std::alloc::Global;
@@ -26,13 +26,14 @@ pub fn row_weights(
     for entry in basis.row.entries() {
         let side = side_of(entry.value, blocked.side);
         let weight = size(entry.value).times(times).ok()?;
-        *weights.get_mut(entry.place as usize)? = Some(LimitWeight { side, weight });
+        let limit = LimitWeight { side, weight };
+        put(&mut weights, entry.place, Some(limit))?;
     }
-    let base = basis.base(blocked.slot)?;
-    *weights.get_mut(base as usize)? = Some(LimitWeight {
+    let own = LimitWeight {
         side: blocked.side,
         weight: times,
-    });
+    };
+    put(&mut weights, basis.base(blocked.slot)?, Some(own))?;
     Some(weights)
 }
 
@@ -47,24 +48,18 @@ pub fn weighed_combo(
 ) -> Option<Combo> {
     let mut shares = Vec::new(alloc);
     for member in set.iter() {
-        if let Some(weight) = weight_of(columns, weights, member) {
+        if let Some(variable) = variable_of(columns, member)
+            && let Some(Some(limit)) = at(weights, variable)
+            && limit.side == member.side()
+            && limit.weight > Frac::whole(0)
+        {
             let source = Source::Member(member);
+            let weight = limit.weight;
             shares.push(Share { source, weight }).ok()?;
         }
     }
     let shares = Shares::new(shares);
     Some(Combo { shares })
-}
-
-// How often a member is taken; none where it is not.
-fn weight_of(columns: u32, weights: &[Option<LimitWeight>], member: Member) -> Option<Frac> {
-    let variable = variable_of(columns, member)?;
-    let limit = (*weights.get(variable as usize)?)?;
-    if limit.side == member.side() && limit.weight > Frac::whole(0) {
-        Some(limit.weight)
-    } else {
-        None
-    }
 }
 
 /// The member that is the limit of a variable on a side.

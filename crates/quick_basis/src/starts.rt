@@ -16,29 +16,47 @@ pub fn start(alloc: Global, model: &Model, set: &MemberSet) -> Option<Basis>
     requires same { IsSetOf model.now set.now }
 {
     let variables = variables(alloc, model, set)?;
-    let by_row = rows(alloc, model)?;
-    let mut basis = basis_of_rows(alloc, model.column_count(), variables, by_row)?;
-    basis.put_sums(model)?;
+    let mut head = Vec::new(alloc);
+    let by_row = rows(alloc, model, &mut head)?;
+    let mut basis = basis_of_rows(alloc, model.column_count(), variables, by_row, head)?;
+    basis.fill(alloc, model)?;
     Some(basis)
 }
 
-// The basis that the variables of the rows are, of which there are these behind so many columns.
+// What is solved for in a basis, all 0.
+#[derive(Drop)]
+struct Solved {
+    solved: SparseVector,
+    costs: SparseVector,
+    prices: SparseVector,
+    row: SparseVector,
+}
+
+// What is solved for in a basis of so many rows and variables.
+fn unsolved(alloc: Global, rows: usize, variables: usize) -> Option<Solved> {
+    let solved = SparseVector::new(alloc, rows)?;
+    let costs = SparseVector::new(alloc, rows)?;
+    let prices = SparseVector::new(alloc, rows)?;
+    let row = SparseVector::new(alloc, variables)?;
+    Some(Solved {
+        solved,
+        costs,
+        prices,
+        row,
+    })
+}
+
+// The basis of these variables of the rows, behind so many columns, which is still to be filled.
 fn basis_of_rows(
     alloc: Global,
     columns: u32,
     variables: Vec<Variable>,
     by_row: Columns,
+    head: Vec<u32>,
 ) -> Option<Basis> {
     let by_column = by_row.transposed(alloc, variables.len())?;
-    let head = head(alloc, columns, by_row.count())?;
     let factors = Factors::new(alloc, &by_column, head.as_slice())?;
-    let counts = lengths(alloc, &by_column)?;
-    let lengths = lengths(alloc, &by_row)?;
-    let is_listed = vec![in alloc; false; head.len()].ok()?;
-    let solved = SparseVector::new(alloc, head.len())?;
-    let costs = SparseVector::new(alloc, head.len())?;
-    let prices = SparseVector::new(alloc, head.len())?;
-    let row = SparseVector::new(alloc, variables.len())?;
+    let vectors = unsolved(alloc, head.len(), variables.len())?;
     Some(Basis {
         variables,
         columns,
@@ -46,27 +64,18 @@ fn basis_of_rows(
         by_column,
         head,
         factors,
-        solved,
-        costs,
-        prices,
-        row,
-        lengths,
-        counts,
+        solved: vectors.solved,
+        costs: vectors.costs,
+        prices: vectors.prices,
+        row: vectors.row,
+        lengths: Vec::new(alloc),
+        counts: Vec::new(alloc),
         outside: Vec::new(alloc),
-        is_listed,
+        is_listed: Vec::new(alloc),
         blocked: None,
         crossed: None,
         is_narrow: false,
     })
-}
-
-// The variables of so many rows, behind so many columns.
-fn head(alloc: Global, columns: u32, rows: usize) -> Option<Vec<u32>> {
-    let mut head = Vec::new(alloc);
-    for index in 0..u32::try_from(rows).ok()? {
-        head.push(columns.checked_add(index)?).ok()?;
-    }
-    Some(head)
 }
 
 // The columns and then the rows, the columns at limits.
@@ -87,12 +96,14 @@ fn variables(alloc: Global, model: &Model, set: &MemberSet) -> Option<Vec<Variab
     Some(variables)
 }
 
-// The rows as equations in whole numbers, each with its own variable.
-fn rows(alloc: Global, model: &Model) -> Option<Columns> {
+// The rows as equations in whole numbers, each with its own variable, which is put to the head.
+fn rows(alloc: Global, model: &Model, head: &mut Vec<u32>) -> Option<Columns> {
     let mut rows = Columns::new(alloc)?;
     for index in 0..model.row_count() {
         let terms = model.row(index).terms.as_slice();
-        put_row(&mut rows, terms, model.column_count().checked_add(index)?)?;
+        let variable = model.column_count().checked_add(index)?;
+        head.push(variable).ok()?;
+        put_row(&mut rows, terms, variable)?;
     }
     Some(rows)
 }
@@ -107,18 +118,12 @@ fn put_row(rows: &mut Columns, terms: &[Term], variable: u32) -> Option<()> {
     rows.end()
 }
 
-// How many entries each has.
-fn lengths(alloc: Global, columns: &Columns) -> Option<Vec<u64>> {
-    let mut lengths = Vec::new(alloc);
-    for index in 0..u32::try_from(columns.count()).ok()? {
-        lengths.push(columns.column(index)?.len() as u64).ok()?;
-    }
-    Some(lengths)
-}
-
 impl Basis {
-    // Puts the variable of each row at the sum of its terms.
-    fn put_sums(&mut self, model: &Model) -> Option<()> {
+    // Counts the entries, lists no slot, and puts the variable of each row at the sum of its terms.
+    fn fill(&mut self, alloc: Global, model: &Model) -> Option<()> {
+        self.counts = self.by_column.lengths(alloc)?;
+        self.lengths = self.by_row.lengths(alloc)?;
+        self.is_listed = vec![in alloc; false; self.head.len()].ok()?;
         for index in 0..model.row_count() {
             let sum = self.sum(model.row(index).terms.as_slice())?;
             let base = self.base(index)?;

@@ -1,4 +1,5 @@
 //! What the basis has of a variable.
+use crate::numbers::is_narrow;
 use certs::{Limits, Side};
 use frac128::Frac;
 
@@ -12,10 +13,10 @@ pub struct Variable {
     pub value: Frac,
     lo: Frac,
     up: Frac,
-    has_lo: bool,
-    has_up: bool,
-    is_raised: bool,
-    is_lowered: bool,
+    pub(crate) has_lo: bool,
+    pub(crate) has_up: bool,
+    pub(crate) is_raised: bool,
+    pub(crate) is_lowered: bool,
     pub missed: Option<Side>,
     pub slot: Option<u32>,
 }
@@ -76,6 +77,21 @@ impl Variable {
         self.missed = self.missed_at(value);
     }
 
+    /// Falls by so many times a step, and tells whether it misses a limit then; none where its value must be narrow and is not.
+    pub(crate) fn fall(&mut self, factor: Frac, step: Frac, must_be_narrow: bool) -> Option<bool> {
+        let value = self.fallen(factor, step)?;
+        if must_be_narrow && !is_narrow(value) {
+            return None;
+        }
+        self.put_at(value);
+        Some(self.missed.is_some())
+    }
+
+    /// Its value after it fell by so many times a step.
+    pub(crate) fn fallen(&self, factor: Frac, step: Frac) -> Option<Frac> {
+        self.value.minus(factor.times(step).ok()?).ok()
+    }
+
     /// The limit on a side.
     pub fn limit_on(&self, side: Side) -> Option<Frac> {
         match side {
@@ -88,19 +104,6 @@ impl Variable {
     /// Whether it stands at its limit on a side.
     pub fn is_at(&self, side: Side) -> bool {
         self.limit_on(side) == Some(self.value)
-    }
-
-    /// Whether it has a limit.
-    pub(crate) fn is_limited(&self) -> bool {
-        self.has_lo || self.has_up
-    }
-
-    /// Whether a branch gives the limit on a side.
-    pub(crate) fn is_branched(&self, side: Side) -> bool {
-        match side {
-            Side::Lo => self.is_raised,
-            Side::Up => self.is_lowered,
-        }
     }
 
     /// Whether the lower limit is above the upper one.
