@@ -5,11 +5,11 @@ ghost use Rattle.certs.specs.Checks.{IsSetOf};
 use crate::extents::Extents;
 use crate::optima::CheapestSuggestion;
 use crate::widening::widen;
-use certs::{Combo, MemberSet, Point, Values};
+use certs::{MemberSet, Point, Values};
 use factors::{at, quotient};
 use frac128::Frac;
 use lp_model::Model;
-use quick_basis::{Basis, Blocked, row_weights, weighed_combo};
+use quick_basis::{Basis, row_weights, weighed_combo};
 use std::alloc::Global;
 
 /// The cheapest weighting, with its cost and its price, from the row that the last run left blocked, with as many pivots as
@@ -34,45 +34,25 @@ pub fn cheapest(
     let start = basis.blocked?;
     let mut extents = Extents::at_vertex(alloc, model, basis, start)?;
     let vertex = widen(alloc, basis, &mut extents, start, pivots)?;
-    suggestion(alloc, model, set, basis, &extents, vertex)
-}
-
-// What a vertex suggests, whose row is solved for and is the blocked one then.
-fn suggestion(
-    alloc: Global,
-    model: &Model,
-    set: &MemberSet,
-    basis: &mut Basis,
-    extents: &Extents,
-    vertex: Blocked,
-) -> Option<CheapestSuggestion>
-    ensures { IfSome result (λ cheapest. length cheapest.price.values ≡ length model.now.columns) }
-{
     basis.solve_unit_row(vertex.slot)?;
     basis.blocked = Some(vertex);
-    let total = quotient(Frac::whole(1), extents.extent(basis, vertex)?)?;
-    let price = price(alloc, model, basis, extents, total)?;
-    let combo = combo(alloc, set, basis, extents, vertex)?;
-    Some(CheapestSuggestion {
-        combo,
-        total,
-        price,
-    })
-}
-
-// The weighting of a vertex, whose row was solved for.
-fn combo(
-    alloc: Global,
-    set: &MemberSet,
-    basis: &Basis,
-    extents: &Extents,
-    vertex: Blocked,
-) -> Option<Combo> {
-    let base = basis.base(vertex.slot)?;
-    let gap = extents.gap(basis, base, vertex.side)?;
-    let times = quotient(Frac::whole(1), gap.now)?;
-    let weights = row_weights(alloc, basis, vertex, times)?;
-    weighed_combo(alloc, basis.columns, set, weights.as_slice())
+    let one = Frac::whole(1);
+    if let Some(base) = basis.base(vertex.slot)
+        && let Some(gap) = extents.gap(basis, base, vertex.side)
+        && let Some(times) = quotient(one, gap.now)
+        && let Some(extent) = extents.extent(basis, vertex)
+        && let Some(total) = quotient(one, extent)
+        && let Some(weights) = row_weights(alloc, basis, vertex, times)
+        && let Some(combo) = weighed_combo(alloc, basis.columns, set, weights.as_slice())
+        && let Some(price) = price(alloc, model, basis, &extents, total)
+    {
+        return Some(CheapestSuggestion {
+            combo,
+            total,
+            price,
+        });
+    }
+    None
 }
 
 // The price for a cost: where the columns stand, times the cost.

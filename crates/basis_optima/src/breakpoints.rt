@@ -50,10 +50,15 @@ pub(crate) fn make_step(
     } else {
         0
     };
-    basis.shift(way.variable, signed(last.distance, way.rises))?;
     let slot = last.motion.slot;
-    pivot(alloc, basis, descent, way, slot, rate)?;
-    Some(true)
+    if basis
+        .shift(way.variable, signed(last.distance, way.rises))
+        .is_some()
+        && pivot(alloc, basis, descent, way, slot, rate).is_some()
+    {
+        return Some(true);
+    }
+    None
 }
 
 // Puts the variable that moved into a slot, where there is one. The reduced costs change by the slopes that changed and, by
@@ -70,14 +75,22 @@ fn pivot(
         descent.solve(basis)?;
         return descent.rate_anew(basis, way.variable);
     };
-    let leaves = basis.base(slot)?;
-    let more = quotient(signed(rate, !way.rises), basis.solved.value(slot)?)?;
-    basis.costs.subtract(slot, more, Frac::whole(-1))?;
-    descent.solve(basis)?;
-    let slope = descent.basic_slope(leaves)?.plus(more).ok()?;
-    basis.exchange(alloc, slot, way.variable)?;
-    descent.candidates.put(way.variable, Frac::whole(0))?;
-    descent.put(basis, leaves, slope.negate())
+    if let Some(leaves) = basis.base(slot)
+        && let Some(factor) = basis.solved.value(slot)
+        && let Some(more) = quotient(signed(rate, !way.rises), factor)
+        && basis.costs.subtract(slot, more, Frac::whole(-1)).is_some()
+        && descent.solve(basis).is_some()
+        && let Some(slope) = descent.basic_slope(leaves)
+        && let Ok(all) = slope.plus(more)
+        && basis.exchange(alloc, slot, way.variable).is_some()
+        && descent
+            .candidates
+            .put(way.variable, Frac::whole(0))
+            .is_some()
+    {
+        return descent.put(basis, leaves, all.negate());
+    }
+    None
 }
 
 // Passes limits as long as the sum falls, and gives that at which it falls no more, or which is a wall, with the rate just

@@ -1,6 +1,6 @@
 //! The variables that can enter, and which of them is taken.
 use crate::optima::Pricing;
-use factors::{Columns, at, put};
+use factors::Columns;
 use frac128::Frac;
 use std::alloc::Global;
 
@@ -60,10 +60,10 @@ impl Candidates {
     /// Puts down at what rate the sum falls by a variable; at 0 or below it does not.
     pub(crate) fn put(&mut self, variable: u32, rate: Frac) -> Option<()> {
         let rate = parts_of(rate);
-        let was_listed = at(&self.known, variable)?.is_listed;
-        let is_listed = was_listed || rate > 0;
-        put(&mut self.known, variable, Candidate { rate, is_listed })?;
-        if is_listed && !was_listed {
+        let known = self.known.get_mut(variable as usize)?;
+        known.rate = rate;
+        if rate > 0 && !known.is_listed {
+            known.is_listed = true;
             self.list.push(variable).ok()?;
         }
         Some(())
@@ -100,10 +100,9 @@ impl Candidates {
             self.at = 0;
         }
         let variable = *self.list.get(self.at)?;
-        let rate = at(&self.known, variable)?.rate;
-        if rate == 0 {
-            let is_listed = false;
-            put(&mut self.known, variable, Candidate { rate, is_listed })?;
+        let known = self.known.get_mut(variable as usize)?;
+        if known.rate == 0 {
+            known.is_listed = false;
             self.list.swap_remove(self.at);
             return Some(None);
         }

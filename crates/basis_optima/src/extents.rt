@@ -34,17 +34,19 @@ impl Extents {
         basis: &mut Basis,
         vertex: Blocked,
     ) -> Option<Extents> {
-        if basis.basic(vertex.slot)?.missed != Some(vertex.side) {
-            return None;
+        if basis.basic(vertex.slot)?.missed == Some(vertex.side)
+            && let Some(vertex_row) = SparseVector::new(alloc, basis.variables.len())
+            && let Some(costs) = Prices::of_weights(alloc, model, Costs::Weights)
+        {
+            let mut extents = Extents {
+                costs,
+                rates: Vec::new(alloc),
+                vertex_row,
+            };
+            extents.put_rates(alloc, basis, vertex.side)?;
+            return Some(extents);
         }
-        let vertex_row = SparseVector::new(alloc, basis.variables.len())?;
-        let mut extents = Extents {
-            costs: Prices::of_weights(alloc, model, Costs::Weights)?,
-            rates: Vec::new(alloc),
-            vertex_row,
-        };
-        extents.put_rates(alloc, basis, vertex.side)?;
-        Some(extents)
+        None
     }
 
     /// Keeps the row that was solved for last as that of the vertex.
@@ -59,13 +61,16 @@ impl Extents {
     // Keeps the row of a vertex, and puts the rates of the nonbasic variables that count in it, and those of the basic ones by
     // them.
     fn put_rates(&mut self, alloc: Global, basis: &mut Basis, missed: Side) -> Option<()> {
-        self.keep_row(basis)?;
         let count = basis.variables.len();
-        self.rates.resize(count, Frac::whole(0)).ok()?;
-        let mut right = SparseVector::new(alloc, basis.head.len())?;
-        self.put_limits(&mut right, basis, missed)?;
-        basis.factors.solve(right.entries(), &mut basis.solved)?;
-        self.shift_basics(basis, Frac::whole(-1))
+        if self.keep_row(basis).is_some()
+            && self.rates.resize(count, Frac::whole(0)).is_ok()
+            && let Some(mut right) = SparseVector::new(alloc, basis.head.len())
+            && self.put_limits(&mut right, basis, missed).is_some()
+            && let Some(()) = basis.factors.solve(right.entries(), &mut basis.solved)
+        {
+            return self.shift_basics(basis, Frac::whole(-1));
+        }
+        None
     }
 
     // Puts those of the nonbasic ones, each of which must stand at the limit that blocks, and the right side that the basic ones
@@ -89,10 +94,8 @@ impl Extents {
     fn shift_basics(&mut self, basis: &Basis, step: Frac) -> Option<()> {
         for entry in basis.solved.entries() {
             if !is_zero(entry.value) {
-                let base = basis.base(entry.place)?;
-                let rate = at(&self.rates, base)?;
-                let product = entry.value.times(step).ok()?;
-                put(&mut self.rates, base, rate.minus(product).ok()?)?;
+                let rate = self.rates.get_mut(basis.base(entry.place)? as usize)?;
+                *rate = rate.minus(entry.value.times(step).ok()?).ok()?;
             }
         }
         Some(())
@@ -104,8 +107,9 @@ impl Extents {
             return Some(());
         }
         self.shift_basics(basis, step)?;
-        let rate = at(&self.rates, variable)?.plus(step).ok()?;
-        put(&mut self.rates, variable, rate)
+        let rate = self.rates.get_mut(variable as usize)?;
+        *rate = rate.plus(step).ok()?;
+        Some(())
     }
 
     /// Puts the variable that enters in the row of the vertex for the one that leaves, whose row was solved for last.
@@ -123,14 +127,18 @@ impl Extents {
 
     /// How far a variable stands outside its limit on a side; none where it has none there.
     pub(crate) fn gap(&self, basis: &Basis, variable: u32, side: Side) -> Option<Gap> {
-        let known = basis.variable(variable)?;
-        let limit = known.limit_on(side)?;
-        let now = limit.minus(known.value).ok()?;
-        let limit_rate = self.costs.slope(variable, Some(side))?;
-        let rate = limit_rate.minus(at(&self.rates, variable)?).ok()?;
         let is_below = side == Side::Lo;
-        let (now, rate) = (signed(now, is_below), signed(rate, is_below));
-        Some(Gap { now, rate })
+        if let Some(known) = basis.variable(variable)
+            && let Some(limit) = known.limit_on(side)
+            && let Ok(now) = limit.minus(known.value)
+            && let Some(limit_rate) = self.costs.slope(variable, Some(side))
+            && let Some(own) = at(&self.rates, variable)
+            && let Ok(rate) = limit_rate.minus(own)
+        {
+            let (now, rate) = (signed(now, is_below), signed(rate, is_below));
+            return Some(Gap { now, rate });
+        }
+        None
     }
 
     /// The extent of a vertex, above 0: the one at which its basic variable comes to its wider limit.

@@ -28,28 +28,30 @@ pub fn best(
     ensures shape { IfSome result (HasShape (length model.now.columns)) }
     ensures spent { pivots.new ≤ pivots.old }
 {
-    let mut descent = begin(alloc, model, basis, pricing)?;
-    let end = descend(alloc, basis, &mut descent, pivots)?;
-    let point = point(alloc, model, basis, None)?;
-    match end {
-        End::Least => {
-            let combo = shares(alloc, basis, &descent, set)?;
-            Some(BestSuggestion::Bounded(point, combo))
-        }
-        End::Endless(way) => {
+    if let Some(mut descent) = begin(alloc, model, basis, pricing)
+        && let Some(end) = descend(alloc, basis, &mut descent, pivots)
+        && let Some(point) = point(alloc, model, basis, None)
+    {
+        if let End::Endless(way) = end {
             let ray = ray(alloc, model, basis, way)?;
-            Some(BestSuggestion::Unbounded(point, ray))
+            return Some(BestSuggestion::Unbounded(point, ray));
         }
+        let combo = shares(alloc, basis, &descent, set)?;
+        return Some(BestSuggestion::Bounded(point, combo));
     }
+    None
 }
 
 // The run from where the basis stands, with factors made anew.
 fn begin(alloc: Global, model: &Model, basis: &mut Basis, pricing: Pricing) -> Option<Descent> {
-    basis.refactor(alloc)?;
-    take_over(basis)?;
-    let prices = Prices::of_rows(alloc, model, None)?;
-    let costs = costs(alloc, model)?;
-    Descent::new(alloc, basis, prices, costs.as_slice(), pricing)
+    if basis.refactor(alloc).is_some()
+        && take_over(basis).is_some()
+        && let Some(costs) = costs(alloc, model)
+        && let Some(prices) = Prices::of_rows(alloc, model, None)
+    {
+        return Descent::new(alloc, basis, prices, costs.as_slice(), pricing);
+    }
+    None
 }
 
 // What the columns cost where the objective is made least.

@@ -1,7 +1,6 @@
 //! What it costs to miss the limits of variables.
 use crate::optima::Costs;
 use certs::{MemberSet, Side};
-use factors::{at, put};
 use frac128::Frac;
 use lp_model::{Model, Weight};
 use quick_basis::variable_of;
@@ -26,12 +25,11 @@ impl Prices {
         let mut prices = Prices::of_weights(alloc, model, costs)?;
         for member in rigid.iter() {
             if let Some(variable) = variable_of(model.column_count(), member) {
-                let mut limits = at(&prices.limits, variable)?;
+                let limits = prices.limits.get_mut(variable as usize)?;
                 match member.side() {
                     Side::Lo => limits.lo = None,
                     Side::Up => limits.up = None,
                 }
-                put(&mut prices.limits, variable, limits)?;
             }
         }
         Some(prices)

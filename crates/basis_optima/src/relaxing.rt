@@ -29,17 +29,18 @@ pub fn least(
     ensures shape { IfSome result (λ least. length least.point.values ≡ length model.now.columns) }
     ensures spent { pivots.new ≤ pivots.old }
 {
-    basis.refactor(alloc)?;
-    take_over(basis)?;
-    basis.put_all_limits(model, set)?;
-    let prices = Prices::new(alloc, model, rigid, costs)?;
-    let mut descent = Descent::new(alloc, basis, prices, &[], pricing)?;
-    let End::Least = descend(alloc, basis, &mut descent, pivots)? else {
-        return None;
-    };
-    let combo = shares(alloc, basis, &descent, set)?;
-    let point = point(alloc, model, basis, None)?;
-    Some(LeastSuggestion { point, combo })
+    if basis.refactor(alloc).is_some()
+        && take_over(basis).is_some()
+        && basis.put_all_limits(model, set).is_some()
+        && let Some(prices) = Prices::new(alloc, model, rigid, costs)
+        && let Some(mut descent) = Descent::new(alloc, basis, prices, &[], pricing)
+        && let Some(End::Least) = descend(alloc, basis, &mut descent, pivots)
+        && let Some(combo) = shares(alloc, basis, &descent, set)
+        && let Some(point) = point(alloc, model, basis, None)
+    {
+        return Some(LeastSuggestion { point, combo });
+    }
+    None
 }
 
 /// Makes the sum of what rows miss least, where no column may miss a bound, from where the basis stands; none where one
@@ -52,10 +53,11 @@ pub fn descend_first(
 ) -> Option<()>
     ensures spent { pivots.new ≤ pivots.old }
 {
-    let prices = Prices::of_rows(alloc, model, Some(Frac::whole(1)))?;
-    let mut descent = Descent::new(alloc, basis, prices, &[], Pricing::Steepest)?;
-    match descend(alloc, basis, &mut descent, pivots)? {
-        End::Least => Some(()),
-        End::Endless(_) => None,
+    if let Some(prices) = Prices::of_rows(alloc, model, Some(Frac::whole(1)))
+        && let Some(mut descent) = Descent::new(alloc, basis, prices, &[], Pricing::Steepest)
+        && let Some(End::Least) = descend(alloc, basis, &mut descent, pivots)
+    {
+        return Some(());
     }
+    None
 }

@@ -1,7 +1,7 @@
 //! The run that makes a vertex of the alternative polyhedron cheaper: limits grow wider until no variable is outside them.
 ghost use Rattle.std.specs.Prelude.{◌≤◌};
 
-use crate::extents::{Extents, Gap};
+use crate::extents::Extents;
 use certs::Side;
 use factors::{at, is_zero, put, quotient, signed, size};
 use frac128::Frac;
@@ -88,12 +88,10 @@ fn leaving(
         } else {
             at(&basis.lengths, slot)?
         };
-        if let Some((least, _)) = best
-            && least <= key
-        {
-            continue;
+        match best {
+            Some((least, _)) if least <= key => {}
+            _ => best = Some((key, Blocked { slot, side })),
         }
-        best = Some((key, Blocked { slot, side }));
     }
     Some(best.map(|least| least.1))
 }
@@ -136,14 +134,18 @@ fn pivot(
     variable: u32,
 ) -> Option<()> {
     let Blocked { slot, side } = leaves;
-    basis.solve_column(variable)?;
-    let base = basis.base(slot)?;
-    let Gap { now, rate } = extents.gap(basis, base, side)?;
-    let factor = basis.solved.value(slot)?;
-    let step = quotient(signed(now, side == Side::Up), factor)?;
-    let rate_step = quotient(signed(rate, side == Side::Up), factor)?;
-    extents.shift(basis, variable, rate_step)?;
-    extents.exchange(basis, variable, base)?;
-    basis.shift(variable, step)?;
-    basis.exchange(alloc, slot, variable)
+    let is_above = side == Side::Up;
+    if basis.solve_column(variable).is_some()
+        && let Some(base) = basis.base(slot)
+        && let Some(gap) = extents.gap(basis, base, side)
+        && let Some(factor) = basis.solved.value(slot)
+        && let Some(step) = quotient(signed(gap.now, is_above), factor)
+        && let Some(rate_step) = quotient(signed(gap.rate, is_above), factor)
+        && extents.shift(basis, variable, rate_step).is_some()
+        && extents.exchange(basis, variable, base).is_some()
+        && basis.shift(variable, step).is_some()
+    {
+        return basis.exchange(alloc, slot, variable);
+    }
+    None
 }

@@ -76,18 +76,20 @@ fn bounded(
     ensures { IfSome result (IsBestOf model.now set.now.members) }
 {
     checked_value();
-    if !are_in_order(combo.shares.as_slice()) || !is_point(model, set, &point) {
-        return None;
-    }
-    let bound = directed(model, right_side(model, combo.shares.as_slice()).ok()?);
-    let dual = Dual { combo, bound };
-    let mut sums = vec![in alloc; Frac::whole(0); model.column_count() as usize].ok()?;
-    if !is_yes(check_bound(model, set, &dual, sums.as_mut_slice()))
-        || !is_yes(check_value(model, &point, bound))
+    if are_in_order(combo.shares.as_slice())
+        && is_point(model, set, &point)
+        && let Ok(right) = right_side(model, combo.shares.as_slice())
+        && let Ok(mut sums) = vec![in alloc; Frac::whole(0); model.column_count() as usize]
     {
-        return None;
+        let bound = directed(model, right);
+        let dual = Dual { combo, bound };
+        if is_yes(check_bound(model, set, &dual, sums.as_mut_slice()))
+            && is_yes(check_value(model, &point, bound))
+        {
+            return Some(Diagnosis::Bounded(point, Some(bound), dual));
+        }
     }
-    Some(Diagnosis::Bounded(point, Some(bound), dual))
+    None
 }
 
 // A point and a ray, where the checks confirm them.

@@ -90,16 +90,18 @@ fn confirmed(
     checked_violation();
     reached_is_least();
     let LeastSuggestion { point, combo } = found;
-    if !are_in_order(combo.shares.as_slice()) || !is_point(model, rigid, &point) {
-        return None;
-    }
-    let bound = right_side(model, combo.shares.as_slice()).ok()?.negate();
-    let dual = Dual { combo, bound };
-    let mut sums = vec![in alloc; Frac::whole(0); model.column_count() as usize].ok()?;
-    if !is_yes(check_least(model, set, &dual, sums.as_mut_slice()))
-        || !is_yes(check_violation(model, set, &point, bound))
+    if are_in_order(combo.shares.as_slice())
+        && is_point(model, rigid, &point)
+        && let Ok(right) = right_side(model, combo.shares.as_slice())
+        && let Ok(mut sums) = vec![in alloc; Frac::whole(0); model.column_count() as usize]
     {
-        return None;
+        let bound = right.negate();
+        let dual = Dual { combo, bound };
+        if is_yes(check_least(model, set, &dual, sums.as_mut_slice()))
+            && is_yes(check_violation(model, set, &point, bound))
+        {
+            return Some(Relaxed::Least { point, dual });
+        }
     }
-    Some(Relaxed::Least { point, dual })
+    None
 }

@@ -8,20 +8,20 @@ use Rattle.certs.proofs.PlainOrder.{in_order_by_test}
 use Rattle.branch_oracle.proofs.Answering.{no_marks}
 use Rattle.quick_optimum.proofs.best.bounded.Goals as goal
 
-pub returns : goal.returns
-returns c =
+pub returns-then-is_yes-2 : goal.returns-then-is_yes-2
+returns-then-is_yes-2 c =
     let model = c.args.model.now in
     let set = c.args.set.now.members in
     let x = values_at c.args.point.values in
     let bound = c.directed-bound.result in
     let shares = c.args.combo.shares in
     let plain = sym (no_marks set c.requires.linear) in
-    let here = c.is_point.ensures c.if-not-is_point.false in
-    let value = c.checked_value.ensures model x bound (sym c.check_value.ensures ∙ c.is_yes-else-not-is_yes.ensures c.if-not-is_yes-2.false) in
+    let here = c.is_point.ensures c.if-is_point.true in
+    let value = c.checked_value.ensures model x bound (sym c.check_value.ensures ∙ c.is_yes-then-is_yes.ensures c.if-is_yes-2.true) in
     record {
       point_of = here;
-      dual_of = subst (λ (l : List Member). IsBoundDual model l shares bound) plain (c.check_bound.ensures.dual (c.is_yes.ensures c.if-not-is_yes.false));
-      ordered = in_order_by_test shares (subst (λ (l : List Share). are_in_order l ≡ true) c.as_slice.ensures (sym c.are_in_order.ensures ∙ c.if-not-are_in_order.false));
+      dual_of = subst (λ (l : List Member). IsBoundDual model l shares bound) plain (c.check_bound.ensures.dual (c.is_yes.ensures c.if-is_yes.true));
+      ordered = in_order_by_test shares (subst (λ (l : List Share). are_in_order l ≡ true) c.as_slice.ensures (sym c.are_in_order.ensures ∙ c.if-are_in_order.true));
       tight = record { at = x; satisfies = subst (λ (l : List Member). Satisfies model l x) plain here.satisfies; value = value };
       reached = λ none. (refl, value);
       marked = λ some. absurd (true≢false (sym some ∙ c.requires.linear));
