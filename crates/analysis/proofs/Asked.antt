@@ -24,8 +24,8 @@ use Rattle.branch_proof.proofs.TreeAnswers.{tree_holds, tree_ordered}
 use Rattle.branch_oracle.specs.Answers.{IsBranchAnswer}
 use Rattle.presolve_laws.specs.Answers.{IsPresolvedAnswer, IsPresolvedReference, IsPresolvedVerdict}
 use Rattle.presolve_laws.proofs.PresolveAnswers.{presolved_fits, presolved_holds, presolved_ordered}
-use Rattle.quick_oracle.specs.Alone.{is_tiny, stands_alone, wants_nodes}
-use Rattle.quick_oracle.specs.Answers.{IsAsked, IsQuickAnswer, quick_holds, quick_ordered}
+use Rattle.quick_answers.specs.Alone.{is_tiny, stands_alone, wants_nodes}
+use Rattle.quick_answers.specs.Answers.{IsAsked, IsQuickAnswer, quick_holds, quick_ordered}
 use Rattle.analysis.specs.Right.{IsWhole}
 use Rattle.analysis.proofs.Stopping.{IsRunOf}
 

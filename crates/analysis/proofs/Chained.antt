@@ -25,7 +25,7 @@ use Rattle.elastic_filter.specs.Enforced.{IsAnsweredRound, IsEnforcedBy}
 use Rattle.relaxation.specs.Stretching.{IsRound}
 use Rattle.presolve_oracle.specs.Value.{PresolveValue}
 use Rattle.branch_oracle.specs.Value.{BranchValue}
-use Rattle.quick_oracle.specs.Value.{state_with}
+use Rattle.quick_answers.specs.Value.{state_with}
 use Rattle.report_text.specs.declared.report.Answer.{Answer}
 use Rattle.analysis.specs.Answers.{IsAnswerOf, IsPossibleSite, IsToldStop, fresh_oracle, oracle_state}
 use Rattle.analysis.specs.Right.{IsEnforcedTold, IsIsolated, IsLateOfRounds, IsPrintedSite, IsRoundStop, IsRoundsTest, IsStoppedBy}

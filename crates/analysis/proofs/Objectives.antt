@@ -31,7 +31,7 @@ use Rattle.report_text.specs.declared.report.Answer.{Answer}
 use Rattle.report_printer.specs.Printing.{IsKnownSource}
 use Rattle.branch_oracle.specs.Value.{BranchValue}
 use Rattle.presolve_oracle.specs.Value.{PresolveValue}
-use Rattle.quick_optimum.specs.Best.{IsBestOf}
+use Rattle.quick_answers.specs.Best.{IsBestOf}
 use Rattle.analysis.specs.Answers.{IsPossibleSite, IsRefutedBy, IsToldStop, fresh_oracle, oracle_state}
 use Rattle.analysis.specs.Objectives.{IsFoundBy, IsTold}
 use Rattle.analysis.specs.Right.{IsPrintedSite, IsWhole}

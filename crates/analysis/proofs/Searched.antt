@@ -22,9 +22,9 @@ use Rattle.certs.specs.Trees.{has_mark}
 use Rattle.filter_steps.specs.Isolated.{IsIsolation, IsStoppedAt}
 use Rattle.presolve_oracle.specs.Value.{PresolveValue}
 use Rattle.branch_oracle.specs.Value.{BranchValue}
-use Rattle.quick_oracle.specs.Alone.{stands_alone}
-use Rattle.quick_oracle.specs.Answers.{IsAsked}
-use Rattle.quick_oracle.specs.Value.{state_with}
+use Rattle.quick_answers.specs.Alone.{stands_alone}
+use Rattle.quick_answers.specs.Answers.{IsAsked}
+use Rattle.quick_answers.specs.Value.{state_with}
 use Rattle.sensitivity_filter.specs.Cores.{IsLateOfCore as IsLateOfTold}
 use Rattle.sensitivity_filter.specs.Pairs.{IsStoppedWith, at_core, at_whole, either}
 use Rattle.report_text.specs.declared.report.Answer.{Answer}

@@ -11,7 +11,7 @@ use Rattle.certs.specs.declared.solving.Stop.{Stop}
 use Rattle.certs.specs.declared.solving.Verdict.{Verdict}
 use Rattle.certs.specs.Answers.{IsAnsweredStop}
 use Rattle.certs.specs.Sites.{Budgets}
-use Rattle.quick_optimum.proofs.Witnessing.{IsWitnessed, others_are}
+use Rattle.quick_answers.proofs.Witnessing.{IsWitnessed, others_are}
 use Rattle.presolve_laws.specs.Answers.{IsPresolvedReference}
 use Rattle.presolve_oracle.specs.Value.{PresolveValue}
 use Rattle.branch_oracle.specs.Value.{BranchValue}

@@ -16,7 +16,7 @@ use crate::relaxing::relaxation;
 use crate::searching::{search, stopped};
 use certs::{MemberSet, Oracle, Proof, Verdict, members_used};
 use lp_model::Model;
-use quick_oracle::{Kept, QuickOracle};
+use quick_answers::{Kept, QuickOracle};
 use report_text::{Answer, Command, Session};
 use std::alloc::{AllocError, Global};
 

@@ -7,7 +7,7 @@ use crate::answering::Budgets;
 use branch_oracle::BranchOracle;
 use lp_model::Model;
 use presolve_oracle::PresolveOracle;
-use quick_oracle::{Kept, QuickOracle};
+use quick_answers::{Kept, QuickOracle};
 use std::alloc::Global;
 use std::mem;
 

@@ -7,7 +7,7 @@ ghost use Rattle.analysis.specs.Right.{Right, first_budgets as budgets_at_first}
 use crate::answering::first_budgets;
 use crate::searching::search;
 use lp_model::Model;
-use quick_oracle::Kept;
+use quick_answers::Kept;
 use report_text::{Answer, Method};
 use std::alloc::{AllocError, Global};
 

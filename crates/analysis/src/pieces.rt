@@ -13,7 +13,7 @@ ghost use Rattle.analysis.specs.Written.{IsAnalysis, head_text, foot_text, is_un
 use crate::answering::{Budgets, after, answer, first_budgets};
 use iis_edge::{PutFault, Sink};
 use lp_model::Model;
-use quick_oracle::Kept;
+use quick_answers::Kept;
 use report_printer::{print_entry, print_foot, print_head};
 use report_text::{Answer, Command, Script, Session};
 use std::alloc::{AllocError, Global};

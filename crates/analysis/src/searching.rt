@@ -11,7 +11,7 @@ use crate::enforcing::enforced_search;
 use crate::weighing::weighed_search;
 use certs::{Irreducible, MemberSet, Stop};
 use lp_model::Model;
-use quick_oracle::{Kept, is_small};
+use quick_answers::{Kept, is_small};
 use report_text::{Answer, Core, Method, Witnesses};
 use std::alloc::{AllocError, Global};
 

@@ -4,7 +4,7 @@ ghost use Rattle.lp_model.specs.Members.{active_members};
 ghost use Rattle.lp_model.specs.MemberSets.{active_set};
 ghost use Rattle.lp_model.specs.Satisfaction.{IsSatisfiable};
 ghost use Rattle.certs.specs.Sites.{Budgets as OneBudgets};
-ghost use Rattle.quick_optimum.specs.Cores.{IsWeighed};
+ghost use Rattle.quick_answers.specs.Cores.{IsWeighed};
 ghost use Rattle.report_text.specs.declared.report.Method.TheVariants.{Alternative};
 ghost use Rattle.analysis.specs.Answers.{budgets_of, fresh_oracle, weighed_answer};
 ghost use Rattle.analysis.specs.Linear.{first_mark};
@@ -20,8 +20,7 @@ use certs::{MemberSet, Point, Proof};
 use frac128::Frac;
 use linear_oracle::leaf_proof;
 use lp_model::Model;
-use quick_optimum::{QuickCore, Weighed, quick_cheapest};
-use quick_oracle::{Kept, QuickOracle, is_small};
+use quick_answers::{Kept, QuickCore, QuickOracle, Weighed, is_small, quick_cheapest};
 use report_text::{Answer, Core, Witnesses};
 use std::alloc::{AllocError, Global};
 

@@ -12,7 +12,7 @@ use crate::answering::Budgets;
 use crate::asking::Reference;
 use certs::{MemberSet, Oracle, Point, Stop, Verdict};
 use lp_model::Model;
-use quick_oracle::QuickOracle;
+use quick_answers::QuickOracle;
 use std::alloc::Global;
 
 /// A point for each member of an irreducible set, which satisfies all the others. The oracle is asked for them without each

@@ -11,7 +11,7 @@ use linear_oracle::LinearOracle;
 use lp_model::Model;
 use model_files::read_model;
 use presolve_oracle::PresolveOracle;
-use quick_oracle::{Kept, QuickOracle};
+use quick_answers::{Kept, QuickOracle};
 use std::alloc::{AllocError, Global};
 
 /// The model that is asked where no file is named: A and B contradict one another, and so do B and C.

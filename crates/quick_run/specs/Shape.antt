@@ -9,6 +9,8 @@ use Rattle.certs.specs.declared.evidence.Share.{Share}
 use Rattle.certs.specs.declared.evidence.Source.{Source}
 use Rattle.certs.specs.declared.evidence.Source.TheVariants.{Member as Of, Below, Above}
 use Rattle.certs.specs.Order.{AreSharesInOrder}
+use Rattle.quick_run.specs.declared.optima.BestSuggestion.{BestSuggestion}
+use Rattle.quick_run.specs.declared.optima.BestSuggestion.TheVariants.{Bounded, Unbounded}
 use Rattle.quick_run.specs.declared.suggestions.Suggestion.{Suggestion}
 use Rattle.quick_run.specs.declared.suggestions.Suggestion.TheVariants.{Point, Combo}
 
@@ -41,3 +43,8 @@ pub record IsShareOf (set : List Member) (path : List Branch) (share : Share) : 
 abbrev pub IsSuggestion : Program → List Member → List Branch → Suggestion → Type 0
 IsSuggestion model set path (Point point) = length point.values ≡ length model.columns
 IsSuggestion model set path (Combo combo) = AreSharesInOrder combo.shares × All (IsShareOf set path) combo.shares
+
+-- so many values in the point, and in the ray
+abbrev pub HasShape : ℕ → BestSuggestion → Type 0
+HasShape columns (Bounded point combo) = length point.values ≡ columns
+HasShape columns (Unbounded point ray) = (length point.values ≡ columns) × (length ray.values ≡ columns)

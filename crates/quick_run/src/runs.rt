@@ -1,18 +1,17 @@
 //! Runs on a basis that is kept.
 ghost use Rattle.std.specs.Prelude.{◌≡◌, ◌+◌, ◌-◌, ◌^◌, ◌<◌, ◌≤◌, IfSome, length};
-ghost use Rattle.basis_optima.specs.Shape.{HasShape};
 ghost use Rattle.certs.specs.Checks.{IsSetOf};
 ghost use Rattle.quick_run.specs.Pivots.{Allows, IsSpent};
-ghost use Rattle.quick_run.specs.Shape.{IsSuggestion};
+ghost use Rattle.quick_run.specs.Shape.{HasShape, IsSuggestion};
 
+use crate::alternative::cheapest;
 use crate::combinations::{combo, crossing};
 use crate::guesses::guided;
+use crate::improving::best;
+use crate::optima::Pricing::{Shortest, Steepest};
+use crate::optima::{BestSuggestion, CheapestSuggestion, Costs, LeastSuggestion, Pricing};
+use crate::relaxing::{descend_first, least};
 use crate::suggestions::{Guess, Suggest, Suggestion};
-use basis_optima::Pricing::{Shortest, Steepest};
-use basis_optima::{
-    BestSuggestion, CheapestSuggestion, Costs, LeastSuggestion, Pricing, best, cheapest,
-    descend_first, least,
-};
 use certs::{Branch, MemberSet};
 use guide::Guide;
 use lp_model::Model;

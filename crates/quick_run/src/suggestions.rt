@@ -3,7 +3,7 @@ ghost use Rattle.std.specs.Prelude.{◌≡◌, ℕ, ◌+◌, ◌-◌, ◌^◌, �
 ghost use Rattle.certs.specs.Checks.{IsSetOf};
 ghost use Rattle.quick_run.specs.Pivots.{Allows};
 
-use basis_optima::{BestSuggestion, CheapestSuggestion, Costs, LeastSuggestion};
+use crate::optima::{BestSuggestion, CheapestSuggestion, Costs, LeastSuggestion};
 use certs::{Branch, Combo, MemberSet, Point};
 use lp_model::Model;
 use std::alloc::Global;

@@ -1,8 +1,8 @@
 use Rattle.std.proofs.Common.{◌≡◌, subst, true, Ok, Err}
 use Rattle.certs.specs.declared.solving.Verdict.{Verdict}
 use Rattle.certs.specs.declared.solving.Verdict.TheVariants.{Feasible, Infeasible}
-use Rattle.quick_oracle.specs.Alone.{stands_alone}
-use Rattle.quick_oracle.specs.Answers.{IsAsked}
+use Rattle.quick_answers.specs.Alone.{stands_alone}
+use Rattle.quick_answers.specs.Answers.{IsAsked}
 use Rattle.analysis.specs.Answers.{budgets_of, oracle_state}
 use Rattle.analysis.specs.Right.{IsWhole}
 use Rattle.analysis.proofs.Asked.{InnerAnswers, QuickAnswers, all_served, asked_holds, asked_run, proof_fits, proof_ordered}

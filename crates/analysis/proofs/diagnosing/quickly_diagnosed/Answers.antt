@@ -1,6 +1,6 @@
 use Rattle.std.proofs.Common.{subst}
 use Rattle.lp_model.specs.MemberSets.{SetValue}
-use Rattle.quick_optimum.specs.Best.{IsBestOf}
+use Rattle.quick_answers.specs.Best.{IsBestOf}
 use Rattle.analysis.specs.Answers.{budgets_of}
 use Rattle.analysis.proofs.Objectives.{best_found}
 use Rattle.analysis.proofs.diagnosing.quickly_diagnosed.Goals as goal

@@ -5,8 +5,8 @@ use Rattle.lp_model.specs.MemberSets.{SetValue}
 use Rattle.elastic_filter.specs.declared.enforcing.Enforced.{Enforced}
 use Rattle.elastic_filter.specs.Enforced.{IsEnforced, IsRoundStop}
 use Rattle.relaxation.specs.Stretching.{IsRound}
-use Rattle.quick_optimum.specs.Stretching.{QuickStretcherValue}
-use Rattle.quick_oracle.specs.Value.{state_with}
+use Rattle.quick_answers.specs.Stretching.{QuickStretcherValue}
+use Rattle.quick_answers.specs.Value.{state_with}
 use Rattle.analysis.specs.Answers.{budgets_of, oracle_state}
 use Rattle.analysis.proofs.Asked.{all_served}
 use Rattle.analysis.proofs.Chained.{enforced_answer, rounds_told}

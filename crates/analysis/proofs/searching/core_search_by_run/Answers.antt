@@ -1,4 +1,4 @@
-use Rattle.quick_oracle.specs.Value.{state_with}
+use Rattle.quick_answers.specs.Value.{state_with}
 use Rattle.analysis.specs.Answers.{budgets_of, oracle_state}
 use Rattle.analysis.proofs.Asked.{all_served}
 use Rattle.analysis.proofs.Searched.{core_answer}

@@ -1,6 +1,6 @@
 use Rattle.lp_model.specs.Members.{active_members}
 use Rattle.certs.specs.Filter.{IsLateTest, Late}
-use Rattle.quick_oracle.specs.Value.{state_with}
+use Rattle.quick_answers.specs.Value.{state_with}
 use Rattle.analysis.specs.Answers.{budgets_of, oracle_state}
 use Rattle.analysis.proofs.Found.{late_is_part, late_test_is_part}
 use Rattle.analysis.proofs.Asked.{all_served}

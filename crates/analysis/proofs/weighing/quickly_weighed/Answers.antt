@@ -1,6 +1,6 @@
 use Rattle.std.proofs.Common.{subst}
 use Rattle.lp_model.specs.MemberSets.{SetValue}
-use Rattle.quick_optimum.specs.Cores.{IsWeighed}
+use Rattle.quick_answers.specs.Cores.{IsWeighed}
 use Rattle.analysis.specs.Answers.{budgets_of}
 use Rattle.analysis.proofs.weighing.quickly_weighed.Goals as goal
 

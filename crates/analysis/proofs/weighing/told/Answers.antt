@@ -1,7 +1,7 @@
 use Rattle.std.proofs.Common.{sym, subst}
 use Rattle.lp_model.specs.Members.{active_members}
-use Rattle.quick_optimum.specs.declared.cheapest.Weighed.{Weighed}
-use Rattle.quick_optimum.specs.Cores.{IsQuickCore, IsWeighed}
+use Rattle.quick_answers.specs.declared.cheapest.Weighed.{Weighed}
+use Rattle.quick_answers.specs.Cores.{IsQuickCore, IsWeighed}
 use Rattle.analysis.specs.Right.{IsWeighedTold}
 use Rattle.analysis.proofs.Weighed.{weighed_right}
 use Rattle.analysis.proofs.weighing.told.Goals as goal

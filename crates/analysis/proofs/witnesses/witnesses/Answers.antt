@@ -7,7 +7,7 @@ use Rattle.certs.specs.Answers.{IsAnsweredStop}
 use Rattle.certs.specs.Tales.{IsPointOf}
 use Rattle.presolve_laws.specs.Answers.{IsPresolvedReference}
 use Rattle.analysis.specs.Answers.{budgets_of}
-use Rattle.quick_optimum.proofs.Witnessing.{IsWitnessed, next_possible, witnessed_last, witnessed_next}
+use Rattle.quick_answers.proofs.Witnessing.{IsWitnessed, next_possible, witnessed_last, witnessed_next}
 use Rattle.analysis.proofs.Witnessing.{others_can, others_stop}
 use Rattle.analysis.proofs.witnesses.witnesses.Goals as goal
 

@@ -1,5 +1,5 @@
 use Rattle.analysis.specs.Answers.{IsOracleOf, budgets_of}
-use Rattle.quick_optimum.proofs.Witnessing.{IsWitnessed}
+use Rattle.quick_answers.proofs.Witnessing.{IsWitnessed}
 use Rattle.analysis.proofs.witnesses.witnesses.Given as goal
 
 -- the members that follow have no witness yet

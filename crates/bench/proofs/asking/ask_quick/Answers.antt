@@ -4,7 +4,7 @@ use Rattle.certs.specs.Checks.{IsSetOf}
 use Rattle.linear_oracle.specs.Value.{OracleValue}
 use Rattle.branch_oracle.specs.Value.{BranchValue}
 use Rattle.bench.proofs.Served.{plain_served}
-use Rattle.quick_oracle.specs.Value.{QuickValue}
+use Rattle.quick_answers.specs.Value.{QuickValue}
 use Rattle.bench.proofs.asking.ask_quick.Goals as goal
 
 pub isolate_with-given-requires-clause-served : goal.isolate_with-given-requires-clause-served

@@ -1,3 +1,0 @@
-pub mod Weighings
-pub mod Witnessing
-pub mod Further

@@ -1,3 +1,0 @@
-pub mod Best
-pub mod Cores
-pub mod Stretching

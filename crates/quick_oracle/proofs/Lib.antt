@@ -1,4 +1,0 @@
-pub mod Confirming
-pub mod Numbers
-pub mod Marks
-pub mod Answering

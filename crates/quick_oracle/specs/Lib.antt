@@ -1,4 +1,0 @@
-pub mod Alone
-pub mod Answers
-pub mod Value
-pub mod Walks
