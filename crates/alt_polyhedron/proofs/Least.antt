@@ -58,10 +58,10 @@ module _ (laws : TableLaws) (model : Program) (set : List Member) (now : Diction
   last = last_table laws.terms model set now stands
 
   weighting : IsWeighting model set shares
-  weighting = (laws.last model set t.basis (terms_of t) (value_of t) formed last).0
+  weighting = (laws.last model set t.basis (terms_of t) (value_of t) formed last).weighting
 
   irreducible : IsIrreducible model (members_of shares)
-  irreducible = (laws.last model set t.basis (terms_of t) (value_of t) formed last).1
+  irreducible = (laws.last model set t.basis (terms_of t) (value_of t) formed last).irreducible
 
   priced : IsPrice model set (price_total model set (terms_of t)) (price_at model set (terms_of t))
   priced = (laws.cheapest model set t.basis (terms_of t) (value_of t) formed last (optimal laws.terms model set now stands)).0

@@ -8,6 +8,7 @@ use Rattle.lp_model.specs.declared.members.Side.{Side}
 use Rattle.lp_model.specs.declared.members.Side.TheVariants.{Lo, Up}
 use Rattle.lp_model.specs.Program.{Program}
 use Rattle.lp_model.specs.Members.{form, has, kind, is_same, number, side}
+use Rattle.certs.specs.declared.evidence.Branch.{Branch}
 use Rattle.certs.specs.System.{Limits, SystemRow, LinearSystem}
 use Rattle.certs.specs.Ended.{numbers_from}
 use Rattle.certs.specs.Plain.{column_limits, has_row, plain_row}
@@ -56,11 +57,15 @@ abbrev pub cost_terms : (Member → ℚ) → ℕ → List Member → List Term
 cost_terms cost k [] = []
 cost_terms cost k (m ∷ list) = record { column = k; factor = neg_ℚ (cost m) } ∷ cost_terms cost (suc k) list
 
--- The columns with the limits of the enforced bounds, an elastic variable from 0 on for each soft member; the rows one by one, and then the soft bounds; the weighted sum of the elastic variables made least.
-abbrev pub elastic_system : Program → List Member → List Member → (Member → ℚ) → LinearSystem
-elastic_system model set enforced cost = record {
-  columns = map (column_limits model enforced []) (numbers_from 0 (length model.columns)) ++ map (λ m. record { lower = Some zero_ℚ; upper = None }) (soft_members set enforced);
+-- On a path: the columns with the limits of the enforced bounds and of the path, an elastic variable from 0 on for each soft member; the rows one by one, and then the soft bounds; the weighted sum of the elastic variables made least.
+abbrev pub elastic_on : Program → List Member → List Member → List Branch → (Member → ℚ) → LinearSystem
+elastic_on model set enforced path cost = record {
+  columns = map (column_limits model enforced path) (numbers_from 0 (length model.columns)) ++ map (λ m. record { lower = Some zero_ℚ; upper = None }) (soft_members set enforced);
   rows = flat_map (rows_of model enforced (numbered_soft (length model.columns) set enforced)) (numbers_from 0 (length model.rows))
       ++ elastic_rows model (filter (λ e. not (is_row_side e.1)) (numbered_soft (length model.columns) set enforced));
   objective = Some (cost_terms cost (length model.columns) (soft_members set enforced));
 }
+
+-- on no path
+abbrev pub elastic_system : Program → List Member → List Member → (Member → ℚ) → LinearSystem
+elastic_system model set enforced cost = elastic_on model set enforced [] cost

@@ -1,23 +1,22 @@
 -- Sites: which run of which system stopped, and what it is for it to be stopped.
-use Rattle.std.specs.Prelude.{◌≡◌, ◌⊎◌, ℕ, true, false, List, []}
+use Rattle.std.specs.Prelude.{◌≡◌, ◌⊎◌, ℕ, true, false, []}
 use Rattle.rational.specs.Rational.{one_ℚ}
 use Rattle.lp_model.specs.Program.{Program}
 use Rattle.lp_model.specs.Members.{weight}
-use Rattle.frac128.specs.Limit.{limit}
 use Rattle.certs.specs.declared.solving.SiteKind.{SiteKind}
 use Rattle.certs.specs.declared.solving.SiteKind.TheVariants.{Settle, Improve, Stretch, Relax, Alternative}
 use Rattle.certs.specs.declared.solving.Site.{Site}
 use Rattle.certs.specs.declared.solving.Stop.{Stop}
 use Rattle.certs.specs.declared.solving.Stop.TheVariants.{Wide, Pivots, Nodes, Large, Memory}
-use Rattle.certs.specs.System.{LinearSystem, Place, alternative_system}
+use Rattle.certs.specs.System.{LinearSystem, alternative_system}
 use Rattle.certs.specs.Alternative.{cost_of}
 use Rattle.certs.specs.Plain.{plain_system}
 use Rattle.certs.specs.Elastic.{elastic_system}
 use Rattle.certs.specs.Runs.{End}
-use Rattle.certs.specs.Runs.End.{Feasible, TooWide as SettleTooWide, Spent as SettleSpent}
-use Rattle.certs.specs.Improves.{ImproveEnd, ImproveRun}
+use Rattle.certs.specs.Runs.End.{TooWide as SettleTooWide, Spent as SettleSpent}
+use Rattle.certs.specs.Improves.{ImproveEnd}
 use Rattle.certs.specs.Improves.ImproveEnd.{TooWide as ImproveTooWide, Spent as ImproveSpent}
-use Rattle.certs.specs.Solves.{StartRun, RunEnds}
+use Rattle.certs.specs.Solves.{RunEnds, ImproveStops}
 use Rattle.certs.specs.Trees.{TreeEnd, HasTree, has_mark}
 
 -- what a solve may spend: pivots in each run, and nodes in each tree
@@ -35,15 +34,6 @@ site_system model site = by site.kind
     by Stretch = elastic_system model site.set.members site.enforced.members (λ m. one_ℚ)
     by Relax = elastic_system model site.set.members site.enforced.members (λ m. cost_of (weight model m))
     by Alternative = alternative_system model site.set.members
-
--- The settle run ends feasible, and the improve run from there stops so within the pivots that are left.
-pub record ImproveStops (system : LinearSystem) (pivots : ℕ) (stop : ImproveEnd) : Type 0 where
-  pub settled : List Place
-  pub run : StartRun system pivots Feasible settled
-  pub last : List Place
-  pub left : ℕ
-  pub turns : ℕ
-  pub further : ImproveRun limit system settled run.left run.turns stop last left turns
 
 -- where a run of this kind may stop: in the settle run, and but for `settle` in the improve run after it
 abbrev pub StopsBy : SiteKind → LinearSystem → ℕ → End → ImproveEnd → Type 0

@@ -15,6 +15,7 @@ use Rattle.certs.specs.Turns.Choice.{Blocked}
 use Rattle.certs.specs.Runs.{TableauAt, SettleRun, End}
 use Rattle.certs.specs.Runs.End.{Feasible, Infeasible}
 use Rattle.certs.specs.Ended.{blocked_shares}
+use Rattle.certs.specs.Improves.{ImproveEnd, ImproveRun}
 use Rattle.certs.specs.Plain.{plain_system, first_crossing, crossing_shares}
 use Rattle.certs.specs.Named.{named, program_shares}
 
@@ -29,6 +30,15 @@ pub record StartRun (system : LinearSystem) (pivots : ℕ) (end : End) (last : L
 pub record RunEnds (system : LinearSystem) (pivots : ℕ) (end : End) : Type 0 where
   pub last : List Place
   pub run : StartRun system pivots end last
+
+-- The settle run ends feasible, and the improve run from there ends or stops so within the pivots that are left.
+pub record ImproveStops (system : LinearSystem) (pivots : ℕ) (stop : ImproveEnd) : Type 0 where
+  pub settled : List Place
+  pub run : StartRun system pivots Feasible settled
+  pub last : List Place
+  pub left : ℕ
+  pub turns : ℕ
+  pub further : ImproveRun limit system settled run.left run.turns stop last left turns
 
 -- The run settles, and the values are those of the columns at its last basis.
 pub record SettlesAt (system : LinearSystem) (pivots : ℕ) (values : List ℚ) : Type 0 where

@@ -1,6 +1,6 @@
 -- Linear systems with limits on their variables, bases, and tables; and the system of the alternative.
-use Rattle.std.specs.Prelude.{◌≡◌, ℕ, ◌+◌, ◌-◌, ◌<◌, nat_lt, zero, suc, Bool, true, false, cond, List, [], ◌∷◌, ◌++◌, map, length, slice_index_or, filter, Option, Some, None, is_some, IsSome, IfSome, All}
-use Rattle.rational.specs.Rational.{ℚ, neg_ℚ, zero_ℚ, one_ℚ, lt_q, ◌*ℚ◌, ◌≤ℚ◌, ◌<ℚ◌, eq_ℚ}
+use Rattle.std.specs.Prelude.{◌≡◌, ℕ, ◌+◌, ◌-◌, ◌<◌, ◌==◌, nat_lt, zero, suc, Bool, true, false, cond, List, [], ◌∷◌, ◌++◌, map, length, slice_index_or, filter, Option, Some, None, is_some, IsSome, IfSome, All}
+use Rattle.rational.specs.Rational.{ℚ, neg_ℚ, zero_ℚ, one_ℚ, lt_q, ◌*ℚ◌, ◌/ℚ◌, ◌≤ℚ◌, ◌<ℚ◌, eq_ℚ}
 use Rattle.rational.specs.Sum.{sum_over}
 use Rattle.rational.specs.Linear.{Term, Assignment, factor_of, form_value}
 use Rattle.lp_model.specs.declared.members.Member.{Member}
@@ -8,7 +8,7 @@ use Rattle.lp_model.specs.declared.members.Side.{Side}
 use Rattle.lp_model.specs.declared.members.Side.TheVariants.{Lo, Up}
 use Rattle.lp_model.specs.Program.{Program, IsWellFormed}
 use Rattle.lp_model.specs.Members.{column_form, form, number, side, weight, is_mark}
-use Rattle.lp_model.specs.Satisfaction.{IsSatisfiable, IsIrreducible}
+use Rattle.lp_model.specs.Satisfaction.{Satisfies, IsSatisfiable, IsIrreducible}
 use Rattle.certs.specs.declared.evidence.Source.TheVariants.{Member as Of}
 use Rattle.certs.specs.declared.evidence.Share.{Share}
 use Rattle.certs.specs.Combination.{number_or_zero, signed}
@@ -114,10 +114,25 @@ pub record IsLastTable (model : Program) (set : List Member) (basis : List Place
   pub last_at : y (length (bounding model set) + length model.columns) ≡ neg_ℚ one_ℚ
   pub objective_basic : is_basic basis (length (bounding model set) + suc (length model.columns)) ≡ true
 
--- then the members with positive values are a weighting, and irreducible without further filtering
+-- the point that is read off the row of a member: its factors of the columns' rows, over the member's value
+abbrev pub row_point : Program → List Member → (ℕ → List Term) → Assignment → ℕ → Assignment
+row_point model set table y i j = factor_of (table i) (length (bounding model set) + j) /ℚ y i
+
+-- the same values, but 0 at one place
+abbrev pub but : ℕ → (ℕ → ℚ) → ℕ → ℚ
+but i y k = cond (k == i) zero_ℚ (y k)
+
+-- The members with positive values are a weighting, and irreducible without further filtering: the point of each one's row satisfies the others.
+pub record IsVertex (model : Program) (set : List Member) (table : ℕ → List Term) (y : Assignment) : Type 0 where
+  pub weighting : IsWeighting model set (support (bounding model set) y)
+  pub irreducible : IsIrreducible model (members_of (support (bounding model set) y))
+  pub others : (i : ℕ) → i < length (bounding model set) → zero_ℚ <ℚ y i
+      → Satisfies model (members_of (support (bounding model set) (but i y))) (row_point model set table y i)
+
+-- the end of a run gives such members
 abbrev pub LastTableLaw : Type 0
 LastTableLaw = (model : Program) (set : List Member) (basis : List Place) (table : ℕ → List Term) (y : Assignment) → IsWellFormed model
-    → IsLastTable model set basis table y → IsWeighting model set (support (bounding model set) y) × IsIrreducible model (members_of (support (bounding model set) y))
+    → IsLastTable model set basis table y → IsVertex model set table y
 
 -- At the end no nonbasic member makes the objective greater.
 pub record IsOptimal (model : Program) (set : List Member) (basis : List Place) (table : ℕ → List Term) : Type 0 where
@@ -167,7 +182,16 @@ pub record IsVariableCombination (system : LinearSystem) (shares : List Variable
   pub cancels : (k : ℕ) → k < length system.columns → sum_over (λ s. signed s.side s.weight *ℚ factor_of (variable_form system s.variable) k) shares ≡ zero_ℚ
   pub contradicts : sum_over (λ s. signed s.side s.weight *ℚ number_or_zero (limit_on (variable_limits system s.variable) s.side)) shares <ℚ zero_ℚ
 
--- what shows that there is no weighting gives a point of the set
+-- how much weight the shares put on a variable, with the signs of their sides
+abbrev pub net : List VariableShare → ℕ → ℚ
+net shares v = sum_over (λ s. cond (s.variable == v) (signed s.side s.weight) zero_ℚ) shares
+
+-- the point that is read off them: the weights on the columns' rows, negated, over that on the last row
+abbrev pub net_point : Program → List Member → List VariableShare → Assignment
+net_point model set shares j =
+    neg_ℚ (net shares (length (bounding model set) + j)) /ℚ net shares (length (bounding model set) + length model.columns)
+
+-- what shows that there is no weighting gives that point of the set
 abbrev pub NoWeightingLaw : Type 0
 NoWeightingLaw = (model : Program) (set : List Member) (shares : List VariableShare) → IsWellFormed model → All (λ m. is_mark m ≡ false) set
-    → IsVariableCombination (alternative_system model set) shares → IsSatisfiable model set
+    → IsVariableCombination (alternative_system model set) shares → IsSatisfiable model set × Satisfies model set (net_point model set shares)

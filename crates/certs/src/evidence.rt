@@ -81,6 +81,15 @@ pub struct Proof {
     pub nodes: Nodes,
 }
 
+/// A node of a tree of costs: column number `column` is at most `at` or at least `at + 1`; or at a leaf the weights that show
+/// how much the set costs there, or a combination of the members that must hold.
+#[derive(Drop)]
+pub enum CostNode {
+    Split { column: u32, at: i128 },
+    Bound(Combo),
+    Cut(Combo),
+}
+
 /// A bound that a path puts on a column: at most `at` where `upper` is true, and else at least `at`.
 #[derive(Clone, Copy)]
 pub struct Branch {

@@ -10,12 +10,13 @@ ghost use Rattle.certs.specs.declared.solving.Stretched.{Stretched as OneStretch
 ghost use Rattle.certs.specs.declared.solving.Verdict.{Verdict as OneVerdict};
 ghost use Rattle.certs.specs.declared.solving.Verdict.TheVariants.{Infeasible};
 ghost use Rattle.certs.specs.Checks.{IsSetOf};
+ghost use Rattle.certs.specs.CostTrees.{IsCostEnd};
 ghost use Rattle.certs.specs.Order.{AreLeavesInOrder};
 ghost use Rattle.certs.specs.Sites.{Budgets};
 ghost use Rattle.certs.specs.Tales.{IsNodeEnd, IsSiteWithin, IsStretchStop, IsStretched, IsVerdict, OracleState, Stopped, asked_after, one_more, stops_after};
 
 use crate::paths::BranchPath;
-use crate::solving::{NodeEnd, Stop, Stretched, Verdict};
+use crate::solving::{CostEnd, NodeEnd, Stop, Stretched, Verdict};
 use lp_model::MemberSet;
 use std::alloc::Global;
 
@@ -118,4 +119,31 @@ pub trait Stretcher {
 
     /// An answered stop is that of the round's run.
     ghost stopped: { (model : Program) (budgets : Budgets) (set enforced : List OneMember) (stop : OneStop) → answers model budgets set enforced (Err stop) → IsStretchStop model budgets set enforced stop };
+}
+
+/// What makes the runs of a cost tree's nodes.
+pub trait CostAsk {
+    /// The program.
+    ghost model: { Self → Program };
+
+    /// How many pivots each run may make.
+    ghost pivots: { Self → ℕ };
+
+    /// The end of the runs of a node: of the set's elastic system by the program's weights, with the path's limits on the
+    /// columns, settled and improved. Marks do not count but by the path. The branches are on columns of the program.
+    ///
+    /// # Errors
+    ///
+    /// The stop of just those runs.
+    fn cost_with(
+        &mut self,
+        alloc: Global,
+        set: &MemberSet,
+        path: &BranchPath,
+    ) -> Result<CostEnd, Stop>
+        requires same { IsSetOf (model self.old) set.now }
+        requires known { All (λ b. b.column < length (model self.old).columns) path.now }
+        ensures end { IsCostEnd (model self.old) set.now.members path.now (pivots self.old) result }
+        ensures model { model self.new ≡ model self.old }
+        ensures pivots { pivots self.new ≡ pivots self.old };
 }

@@ -1,6 +1,6 @@
 //! What solvers are asked and what they answer.
 
-use crate::evidence::{Branch, Combo, Point, Proof};
+use crate::evidence::{Branch, Combo, Dual, Point, Proof};
 use frac128::Wide;
 use lp_model::{Items, MemberSet};
 
@@ -60,6 +60,14 @@ pub enum NodeEnd {
     Cut(Combo),
 }
 
+/// How the run of a node of a cost tree ends: a point that costs least, with the weights that show so and the total; or a
+/// combination of the members that must hold and the path.
+#[derive(Drop)]
+pub enum CostEnd {
+    Least(Point, Dual),
+    Cut(Combo),
+}
+
 /// What a round of stretching gives: a point that satisfies the whole set, the members that are to be enforced, or a
 /// combination of those that are.
 #[derive(Drop)]
@@ -79,4 +87,13 @@ pub enum Irreducible {
         proof: Proof,
     },
     Feasible(Point),
+}
+
+/// An irreducible set among all of them: a point for each member in member order that satisfies the others, and a proof
+/// that none satisfies them all.
+#[derive(Drop)]
+pub struct Listed {
+    pub members: MemberSet,
+    pub witnesses: Items<Point>,
+    pub proof: Proof,
 }

@@ -1,7 +1,7 @@
 -- The last table of the alternative system: its support is a weighting, and irreducible without further filtering.
-use Rattle.std.proofs.Common.{◌≡◌, ◌≢◌, ◌+◌, ◌<◌, refl, sym, ◌∙◌, ap, subst, ℕ, zero, suc, Bool, true, false, true≢false, cond, ◌==◌, List, [], ◌∷◌, ◌++◌, length, get_or, Option, None, Some, IsSome, is_some, arith, inl, inr, ne_eqb}
+use Rattle.std.proofs.Common.{◌≡◌, ◌≢◌, ◌+◌, ◌<◌, refl, sym, ◌∙◌, ap, subst, ℕ, zero, suc, Bool, true, false, true≢false, cond, ◌==◌, List, [], ◌∷◌, ◌++◌, length, get_or, Option, None, Some, IsSome, is_some, arith, inl, inr, eq-eqb, ne_eqb}
 use Rattle.std.specs.Prelude.{All, Contains}
-use Rattle.std.proofs.lemmas.Bool.{cond_both, cond-false, cases_lt, cases_Bool, cases_eq}
+use Rattle.std.proofs.lemmas.Bool.{cond_both, cond-true, cond-false, cases_lt, cases_Bool, cases_eq}
 use Rattle.std.proofs.lemmas.List.Elements.{All-head, All-tail, All-nil, All-cons, All-weaker, All-contains_itself, All-get_or, All-filter, filter_passes}
 use Rattle.algebra.proofs.Ring.{x0, x1, x2, x3, ◌:+◌, ◌:*◌, minus, zero_of, unit_of}
 use Rattle.rational.specs.Rational.{ℚ, ◌+ℚ◌, ◌*ℚ◌, neg_ℚ, inv_ℚ, zero_ℚ, one_ℚ, lt_q, ◌≤ℚ◌, ◌<ℚ◌}
@@ -27,11 +27,11 @@ use Rattle.certs.specs.declared.evidence.Source.TheVariants.{Member as Of, Below
 use Rattle.certs.specs.declared.evidence.Share.{Share}
 use Rattle.certs.specs.Combination.{source_form, source_value, source_number, number_or_zero, signed, multiple, IsFrom, IsThere, column_sum, right_side}
 use Rattle.certs.specs.Alternative.{IsWeighting, with_source, members_of, IsMet}
-use Rattle.certs.specs.System.{is_basic, Place, SystemRow, empty_system_row, bounding, member_factor, member_number, alternative_system, support, IsLastTable, LastTableLaw}
+use Rattle.certs.specs.System.{is_basic, Place, SystemRow, empty_system_row, bounding, member_factor, member_number, alternative_system, support, but, row_point, IsLastTable, IsVertex, LastTableLaw}
 use Rattle.certs.proofs.Filters.{nil_apart}
 use Rattle.certs.proofs.Signs.{signed_as}
 use Rattle.certs.proofs.Further.{source_known, further_columns_law}
-use Rattle.evidence_laws.proofs.Support.{support_law}
+use Rattle.evidence_laws.proofs.Support.{all_met, support_law}
 use Rattle.evidence_laws.proofs.Columns.{sum_with, terms_from_zero, unit, unit-other, sum_with-unit, row_is, number_row_is, extended, extended_member, extended_row, extended_last, system_columns, system_rows, extended_keeps}
 
 abbrev pub no_member : Member
@@ -64,23 +64,52 @@ support_sum g f same (m ∷ members) y h =
     rest ∙ ring_ℚ (f m ∷ sum_with f members (λ k. y (suc k)) ∷ []) x1 (x0 :* zero_of :+ x1) tt ∙ ap (λ z. (f m *ℚ z) +ℚ sum_with f members (λ k. y (suc k))) nothing)
 
 -- the values with one put to 0
-but : ℕ → (ℕ → ℚ) → ℕ → ℚ
-but zero y zero = zero_ℚ
-but zero y (suc e) = y (suc e)
-but (suc i) y zero = y zero
-but (suc i) y (suc e) = but i (λ k. y (suc k)) e
-
 but-same : (i : ℕ) (y : ℕ → ℚ) → but i y i ≡ zero_ℚ
-unfolding but
-but-same zero y = refl
-but-same (suc i) y = but-same i (λ k. y (suc k))
+but-same i y = cond-true (i == i) zero_ℚ (y i) (eq-eqb i i refl)
 
 but-other : (i : ℕ) (y : ℕ → ℚ) (k : ℕ) → i ≢ k → but i y k ≡ y k
-unfolding but
-but-other zero y zero h = absurd (h refl)
-but-other zero y (suc k) h = refl
-but-other (suc i) y zero h = refl
-but-other (suc i) y (suc k) h = but-other i (λ k. y (suc k)) k (λ e. h (ap suc e))
+but-other i y k h = cond-false (k == i) zero_ℚ (y k) (ne_eqb k i (λ e. h (sym e)))
+
+but-first : (y : ℕ → ℚ) → ◌≡◌ {A = ℕ → ℚ} (λ k. but 0 y (suc k)) (λ k. y (suc k))
+but-first y = λ p. λ k. but-other 0 y (suc k) (λ e. absurd (omega arith)) p
+
+but-later : (i : ℕ) (y : ℕ → ℚ) → ◌≡◌ {A = ℕ → ℚ} (λ k. but (suc i) y (suc k)) (but i (λ k. y (suc k)))
+but-later i y = λ p. λ k. by k p
+  where
+    by : (k : ℕ) → but (suc i) y (suc k) ≡ but i (λ k. y (suc k)) k
+    by k =
+        elim (cases_eq i k) [
+          | inl e ↦ subst (λ z. but (suc i) y (suc z) ≡ but i (λ k. y (suc k)) z) e (but-same (suc i) y ∙ sym (but-same i (λ k. y (suc k))))
+          | inr h ↦ but-other (suc i) y (suc k) (λ e. h (omega arith)) ∙ sym (but-other i (λ k. y (suc k)) k h)
+        ]
+
+-- a support from the first member on
+support_of : Member → List Member → ℚ → (ℕ → ℚ) → List Share
+support_of m members q y = cond (lt_q zero_ℚ q) (record { source = Of m; weight = q } ∷ support members y) (support members y)
+
+support_first : (m : Member) (members : List Member) (y : ℕ → ℚ) → support_of m members zero_ℚ (λ k. y (suc k)) ≡ support (m ∷ members) (but 0 y)
+unfolding support_of
+support_first m members y = λ p. support_of m members (sym (but-same 0 y) p) (sym (but-first y) p)
+
+support_later : (m : Member) (members : List Member) (i : ℕ) (y : ℕ → ℚ) → support_of m members (y 0) (but i (λ k. y (suc k))) ≡ support (m ∷ members) (but (suc i) y)
+unfolding support_of
+support_later m members i y = λ p. support_of m members (sym (but-other (suc i) y 0 (λ e. absurd (omega arith))) p) (sym (but-later i y) p)
+
+support_with : (m : Member) (members : List Member) (i : ℕ) (y : ℕ → ℚ) (rest : List Share) → lt_q zero_ℚ (y 0) ≡ true
+    → rest ≡ support members (but i (λ k. y (suc k))) → record { source = Of m; weight = y 0 } ∷ rest ≡ support (m ∷ members) (but (suc i) y)
+unfolding support_of
+support_with m members i y rest p e =
+    ap (λ z. record { source = Of m; weight = y 0 } ∷ z) e
+    ∙ sym (cond-true (lt_q zero_ℚ (y 0)) (record { source = Of m; weight = y 0 } ∷ support members (but i (λ k. y (suc k)))) (support members (but i (λ k. y (suc k)))) p)
+    ∙ support_later m members i y
+
+support_past : (m : Member) (members : List Member) (i : ℕ) (y : ℕ → ℚ) (rest : List Share) → lt_q zero_ℚ (y 0) ≡ false
+    → rest ≡ support members (but i (λ k. y (suc k))) → rest ≡ support (m ∷ members) (but (suc i) y)
+unfolding support_of
+support_past m members i y rest p e =
+    e
+    ∙ sym (cond-false (lt_q zero_ℚ (y 0)) (record { source = Of m; weight = y 0 } ∷ support members (but i (λ k. y (suc k)))) (support members (but i (λ k. y (suc k)))) p)
+    ∙ support_later m members i y
 
 -- a support without one share is that of the values with that one put to 0
 record Without (members : List Member) (y : ℕ → ℚ) (rest : List Share) : Type 0 where
@@ -93,7 +122,7 @@ zero_not_positive : lt_q zero_ℚ zero_ℚ ≡ false
 zero_not_positive = elim (cases_Bool (lt_q zero_ℚ zero_ℚ)) [ inl h ↦ lt_irrefl_ℚ (lt_q-true zero_ℚ zero_ℚ h) | inr h ↦ h ]
 
 apart_support : (members : List Member) (y : ℕ → ℚ) (front : List Share) (s : Share) (back : List Share) → support members y ≡ front ++ s ∷ back → Without members y (front ++ back)
-unfolding but
+unfolding support_of
 apart_support [] y front s back e = absurd (nil_apart front s back e)
 apart_support (m ∷ members) y front s back e = go (apart_support members (λ k. y (suc k))) (lt_q zero_ℚ (y 0)) refl front e
   where
@@ -111,7 +140,9 @@ apart_support (m ∷ members) y front s back e = go (apart_support members (λ k
       positive = lt_q-true zero_ℚ (y 0) p;
       rest_is =
           (let tail : support members (λ k. y (suc k)) ≡ back = cc in
-          sym tail ∙ sym (ap (λ t. cond t (record { source = Of m; weight = zero_ℚ } ∷ support members (λ k. y (suc k))) (support members (λ k. y (suc k)))) zero_not_positive));
+          sym tail
+          ∙ sym (ap (λ t. cond t (record { source = Of m; weight = zero_ℚ } ∷ support members (λ k. y (suc k))) (support members (λ k. y (suc k)))) zero_not_positive)
+          ∙ support_first m members y);
     }
     go rest true p (w ∷ front) e =
         let first : head ≡ w = cc in
@@ -121,7 +152,7 @@ apart_support (m ∷ members) y front s back e = go (apart_support members (λ k
           index = suc r.index;
           below = below_suc r.index r.below;
           positive = r.positive;
-          rest_is = ap (λ z. z ∷ (front ++ back)) (sym first) ∙ ap (λ z. head ∷ z) r.rest_is ∙ sym (ap (λ t. cond t (head ∷ support members (but r.index (λ k. y (suc k)))) (support members (but r.index (λ k. y (suc k))))) p);
+          rest_is = ap (λ z. z ∷ (front ++ back)) (sym first) ∙ support_with m members r.index y (front ++ back) p r.rest_is;
         }
     go rest false p front e =
         let r : Without members (λ k. y (suc k)) (front ++ back) = rest front s back e in
@@ -129,7 +160,7 @@ apart_support (m ∷ members) y front s back e = go (apart_support members (λ k
           index = suc r.index;
           below = below_suc r.index r.below;
           positive = r.positive;
-          rest_is = r.rest_is ∙ sym (ap (λ t. cond t (head ∷ support members (but r.index (λ k. y (suc k)))) (support members (but r.index (λ k. y (suc k))))) p);
+          rest_is = support_past m members r.index y (front ++ back) p r.rest_is;
         }
 
 -- ---- members of shares
@@ -293,11 +324,15 @@ module _ (model : Program) (set : List Member) (basis : List Place) (table : ℕ
   given : ℕ → List ℚ
   given i = tabulate (length model.columns) (λ j. factor_of (table i) (length (bounding model set) + j) *ℚ inv_ℚ (y i))
 
+  -- on the columns
+  IsGiven : ℕ → Assignment → Type 0
+  IsGiven i x = (j : ℕ) → j < length model.columns → x j ≡ row_point model set table y i j
+
   -- they meet every other basic member exactly
   other_met : (i k : ℕ) → i < length (bounding model set) → k < length (bounding model set) → is_basic basis i ≡ true → is_basic basis k ≡ true → zero_ℚ <ℚ y i → k ≢ i
-      → number model (get_or (bounding model set) k no_member) ≡ Some (value model (get_or (bounding model set) k no_member) (values_at (given i)))
-  unfolding given
-  other_met i k l m b d p differ =
+      → (x : Assignment) → IsGiven i x → number model (get_or (bounding model set) k no_member) ≡ Some (value model (get_or (bounding model set) k no_member) x)
+  unfolding IsGiven
+  other_met i k l m b d p differ x at =
       let n : ℕ = length (bounding model set) in
       let c : ℕ = length model.columns in
       let here : Member = get_or (bounding model set) k no_member in
@@ -308,12 +343,12 @@ module _ (model : Program) (set : List Member) (basis : List Place) (table : ℕ
       let balance : zero_ℚ ≡ total +ℚ f (n + c) *ℚ member_number model here = sym (unit-other k i differ) ∙ alone_at i k l m b d in
       let total_is : total ≡ y i *ℚ member_number model here =
       ring_by2_ℚ (total ∷ y i ∷ member_number model here ∷ f (n + c) ∷ []) x0 (x1 :* x2) (minus unit_of) zero_of (x0 :+ x3 :* x2) (minus x2) x1 (minus x3) balance (value_is i b) tt in
-      met_number (number model here) (value model here (values_at (given i))) (bounding_there model set k m)
-      (unsigned (side here) (value model here (values_at (given i))) (number_or_zero (number model here))
-      (member_value model here (values_at (given i)) (bounding_known model set k m formed)
-      ∙ sum_below-ext c (λ j. member_factor model j here *ℚ values_at (given i) j) (λ j. r *ℚ (f (n + j) *ℚ member_factor model j here))
+      met_number (number model here) (value model here x) (bounding_there model set k m)
+      (unsigned (side here) (value model here x) (number_or_zero (number model here))
+      (member_value model here x (bounding_known model set k m formed)
+      ∙ sum_below-ext c (λ j. member_factor model j here *ℚ x j) (λ j. r *ℚ (f (n + j) *ℚ member_factor model j here))
       (λ j h.
-      ap (λ q. member_factor model j here *ℚ q) (tabulated c (λ j. f (n + j) *ℚ r) j h)
+      ap (λ q. member_factor model j here *ℚ q) (at j h)
       ∙ ring_ℚ (member_factor model j here ∷ f (n + j) ∷ r ∷ []) (x0 :* (x1 :* x2)) (x2 :* (x1 :* x0)) tt)
       ∙ sum_below-scale c r (λ j. f (n + j) *ℚ member_factor model j here)
       ∙ ap (λ q. r *ℚ q) total_is
@@ -386,23 +421,28 @@ module _ (model : Program) (set : List Member) (basis : List Place) (table : ℕ
     contradicts = right_is;
   }
 
-  witness : (front : List Share) (s : Share) (back : List Share) → support (bounding model set) y ≡ front ++ s ∷ back → IsMet model (front ++ back)
+  -- values that are given meet the shares of the other members
+  others_met : (i : ℕ) → i < length (bounding model set) → zero_ℚ <ℚ y i → (x : Assignment) → IsGiven i x
+      → All (λ s. source_number model [] s.source ≡ Some (source_value model x s.source)) (support (bounding model set) (but i y))
   unfolding share_of
+  others_met i l p x at =
+      support_all (λ s. source_number model [] s.source ≡ Some (source_value model x s.source)) (bounding model set) (but i y)
+      (λ k m q.
+      elim (cases_eq i k) [
+        | inl same ↦ lt_irrefl_ℚ {a = zero_ℚ} (subst (λ z. zero_ℚ <ℚ z) (but-same i y) (subst (λ e. zero_ℚ <ℚ but i y e) (sym same) q))
+        | inr differ ↦
+            other_met i k l m (basic_of_positive i l p) (basic_of_positive k m (subst (λ z. zero_ℚ <ℚ z) (but-other i y k differ) q)) p (λ same. differ (sym same)) x at
+      ])
+
+  witness : (front : List Share) (s : Share) (back : List Share) → support (bounding model set) y ≡ front ++ s ∷ back → IsMet model (front ++ back)
+  unfolding given IsGiven
   witness front s back e =
       let w : Without (bounding model set) y (front ++ back) = apart_support (bounding model set) y front s back e in
-      let i : ℕ = w.index in
-      let basic : is_basic basis i ≡ true = basic_of_positive i w.below w.positive in
       record {
-        values = given i;
+        values = given w.index;
         meets =
-            subst (All (λ s. source_number model [] s.source ≡ Some (source_value model (values_at (given i)) s.source))) (sym w.rest_is)
-            (support_all (λ s. source_number model [] s.source ≡ Some (source_value model (values_at (given i)) s.source)) (bounding model set) (but i y)
-            (λ k l p.
-            elim (cases_eq i k) [
-              | inl same ↦ lt_irrefl_ℚ {a = zero_ℚ} (subst (λ z. zero_ℚ <ℚ z) (but-same i y) (subst (λ q. zero_ℚ <ℚ but i y q) (sym same) p))
-              | inr differ ↦
-                  other_met i k w.below l basic (basic_of_positive k l (subst (λ z. zero_ℚ <ℚ z) (but-other i y k differ) p)) w.positive (λ same. differ (sym same))
-            ]));
+            subst (All (λ s. source_number model [] s.source ≡ Some (source_value model (values_at (given w.index)) s.source))) (sym w.rest_is)
+            (others_met w.index w.below w.positive (values_at (given w.index)) (λ j l. tabulated (length model.columns) (row_point model set table y w.index) j l));
       }
 
   irreducible : IsIrreducible model (members_of (support (bounding model set) y))
@@ -410,5 +450,15 @@ module _ (model : Program) (set : List Member) (basis : List Place) (table : ℕ
       let own : List Member = members_of (support (bounding model set) y) in
       support_law model (support (bounding model set) y) support_positive (weighting_of own (there_of own (all_from (support (bounding model set) y)))) witness
 
+  pub vertex : IsVertex model set table y
+  unfolding IsGiven
+  vertex = record {
+    weighting = weighting_of set there_in;
+    irreducible = irreducible;
+    others = λ i l p.
+        (let x : Assignment = row_point model set table y i in
+        all_met model x (support (bounding model set) (but i y)) (others_met i l p x (λ j h. refl)));
+  }
+
 pub last_table_law : LastTableLaw
-last_table_law model set basis table y formed last = (weighting_of model set basis table y formed last set (there_in model set basis table y formed last), irreducible model set basis table y formed last)
+last_table_law model set basis table y formed last = vertex model set basis table y formed last

@@ -1,4 +1,8 @@
 mod Missed
+mod Costing
+mod Excluded
+mod Listing
+mod Replaying
 mod Kept
 mod Bounded
 mod Priced

@@ -8,7 +8,7 @@ use lib.Dec.{T, eqb→eq}
 use Rattle.algebra.proofs.Ring.{x0, x1, x2, x3, ◌:+◌, ◌:-◌, ◌:*◌, minus, zero_of, unit_of}
 use Rattle.rational.specs.Rational.{ℚ, ◌+ℚ◌, ◌-ℚ◌, ◌*ℚ◌, neg_ℚ, inv_ℚ, zero_ℚ, one_ℚ, ◌≤ℚ◌, ◌<ℚ◌}
 use Rattle.rational.specs.Sum.{sum_over, sum_below}
-use Rattle.rational.specs.Linear.{Term, form_value, factor_of}
+use Rattle.rational.specs.Linear.{Term, Assignment, form_value, factor_of}
 use Rattle.rational.proofs.Field.{ring_ℚ, ring_by_ℚ, mul-inv_ℚ}
 use Rattle.rational.proofs.Order.{le_by, lt_by, le_refl_ℚ, le_of_lt_ℚ, lt_irrefl_ℚ, add-le_ℚ, inv-pos_ℚ, nonneg_of_le, nonneg_is, nonneg-mul, positive_of_lt}
 use Rattle.rational.proofs.Sums.{sum_below-ext, sum_below-zero, sum_below-scale, sum_below-split, sum_over-ext_on}
@@ -18,9 +18,9 @@ use Rattle.lp_model.specs.declared.members.Side.{Side}
 use Rattle.lp_model.specs.declared.members.Side.TheVariants.{Lo, Up}
 use Rattle.lp_model.specs.Program.{Program, IsWellFormed}
 use Rattle.lp_model.specs.Members.{column_form, value, number, side, is_mark}
-use Rattle.lp_model.specs.Satisfaction.{values_at, IsSatisfiable}
+use Rattle.lp_model.specs.Satisfaction.{values_at, Satisfies, IsSatisfiable}
 use Rattle.certs.specs.Combination.{number_or_zero, signed}
-use Rattle.certs.specs.System.{Limits, no_limits, empty_system_row, equal_to, bounding, member_factor, member_number, terms_from, alternative_system, variable_form, variable_limits, limit_on, VariableShare, IsVariableCombination, NoWeightingLaw}
+use Rattle.certs.specs.System.{Limits, no_limits, empty_system_row, equal_to, bounding, member_factor, member_number, terms_from, alternative_system, variable_form, variable_limits, limit_on, VariableShare, IsVariableCombination, net, net_point, NoWeightingLaw}
 use Rattle.evidence_laws.proofs.Support.{satisfiable_at}
 use Rattle.evidence_laws.proofs.Columns.{terms_from_zero, unit, unit-same, unit-other, sum_with-unit, row_is, number_row_is, system_columns, system_rows}
 use Rattle.evidence_laws.proofs.Cheapest.{sum_below-unit}
@@ -34,8 +34,10 @@ net_terms : List VariableShare → List Term
 net_terms [] = []
 net_terms (s ∷ shares) = record { column = s.variable; factor = signed s.side s.weight } ∷ net_terms shares
 
-net : List VariableShare → ℕ → ℚ
-net shares v = factor_of (net_terms shares) v
+net_is : (shares : List VariableShare) → factor_of (net_terms shares) ≡ net shares
+unfolding net_terms
+net_is [] = refl
+net_is (s ∷ shares) = λ i. λ v. cond (s.variable == v) (signed s.side s.weight) zero_ℚ +ℚ net_is shares i v
 
 net_value : (shares : List VariableShare) (f : ℕ → ℚ) → sum_over (λ s. signed s.side s.weight *ℚ f s.variable) shares ≡ form_value (net_terms shares) f
 unfolding net_terms
@@ -52,9 +54,11 @@ net_known n (s ∷ shares) h =
 net_parts : (n c : ℕ) (shares : List VariableShare) → All (λ s. s.variable < n + suc c) shares → (f : ℕ → ℚ)
     → sum_over (λ s. signed s.side s.weight *ℚ f s.variable) shares
     ≡ sum_below n (λ v. net shares v *ℚ f v) +ℚ (sum_below c (λ j. net shares (n + j) *ℚ f (n + j)) +ℚ net shares (n + c) *ℚ f (n + c))
-unfolding net
 net_parts n c shares h f =
-    net_value shares f ∙ by_known (n + suc c) (net_terms shares) f (net_known (n + suc c) shares h) ∙ sum_below-split n (suc c) (λ v. factor_of (net_terms shares) v *ℚ f v)
+    net_value shares f
+    ∙ by_known (n + suc c) (net_terms shares) f (net_known (n + suc c) shares h)
+    ∙ ap (λ (g : ℕ → ℚ). sum_below (n + suc c) (λ v. g v *ℚ f v)) (net_is shares)
+    ∙ sum_below-split n (suc c) (λ v. net shares v *ℚ f v)
 
 -- where a variable is used on `lo` alone, the weight on it is not above 0
 lo_factor : (t : Bool) (side : Side) (w : ℚ) → (t ≡ true → side ≡ Lo) → zero_ℚ <ℚ w → cond t (signed side w) zero_ℚ ≤ℚ zero_ℚ
@@ -63,10 +67,9 @@ lo_factor true Lo w h p = le_by (w ∷ []) (minus x0) zero_of x0 (nonneg_is.0 (l
 lo_factor true Up w h p = absurd (let e : Up ≡ Lo = h refl in cc)
 
 net_below : (shares : List VariableShare) (k : ℕ) → All (λ s. zero_ℚ <ℚ s.weight) shares → All (λ s. s.variable ≡ k → s.side ≡ Lo) shares → net shares k ≤ℚ zero_ℚ
-unfolding net net_terms
 net_below [] k p h = le_refl_ℚ zero_ℚ
 net_below (s ∷ shares) k p h =
-    subst (λ z. cond (s.variable == k) (signed s.side s.weight) zero_ℚ +ℚ factor_of (net_terms shares) k ≤ℚ z) (ring_ℚ [] (zero_of :+ zero_of) zero_of tt)
+    subst (λ z. cond (s.variable == k) (signed s.side s.weight) zero_ℚ +ℚ net shares k ≤ℚ z) (ring_ℚ [] (zero_of :+ zero_of) zero_of tt)
     (add-le_ℚ
     (lo_factor (s.variable == k) s.side s.weight (λ e. All-head (λ s. s.variable ≡ k → s.side ≡ Lo) s shares h (eqb→eq s.variable k (subst T (sym e) tt))) (All-head (λ s. zero_ℚ <ℚ s.weight) s shares p))
     (net_below shares k (All-tail (λ s. zero_ℚ <ℚ s.weight) s shares p) (All-tail (λ s. s.variable ≡ k → s.side ≡ Lo) s shares h)))
@@ -235,47 +238,58 @@ module _ (model : Program) (set : List Member) (shares : List VariableShare) (fo
       ∙ ring_ℚ (t ∷ []) (zero_of :+ (zero_of :+ x0 :* minus unit_of)) (minus x0) tt in
       lt_by (t ∷ []) zero_of x0 (zero_of :- minus x0) (positive_of_lt (subst (λ z. z <ℚ zero_ℚ) total shown.contradicts)) tt
 
+  -- the values of the point on the columns
+  IsShown : Assignment → Type 0
+  IsShown x = (j : ℕ) → j < length model.columns → x j ≡ net_point model set shares j
+
+  IsKept : Assignment → Member → Type 0
+  IsKept x m = signed (side m) (value model m x) ≤ℚ member_number model m
+
+  module _ (x : Assignment) (shows : IsShown x) where
+    member_kept : (k : ℕ) → k < length (bounding model set) → IsKept x (get_or (bounding model set) k no_member)
+    unfolding IsShown IsKept
+    member_kept k l =
+        let n : ℕ = length (bounding model set) in
+        let c : ℕ = length model.columns in
+        let here : Member = get_or (bounding model set) k no_member in
+        let t : ℚ = net shares (n + c) in
+        let r : ℚ = inv_ℚ t in
+        let total : ℚ = sum_below c (λ j. net shares (n + j) *ℚ member_factor model j here) in
+        let some : t ≢ zero_ℚ = λ e. lt_irrefl_ℚ {a = zero_ℚ} (subst (λ z. zero_ℚ <ℚ z) e last_positive) in
+        let value_is : signed (side here) (value model here x) ≡ neg_ℚ r *ℚ total =
+        member_value model here x (bounding_known model set k l formed)
+        ∙ sum_below-ext c (λ j. member_factor model j here *ℚ x j) (λ j. neg_ℚ r *ℚ (net shares (n + j) *ℚ member_factor model j here))
+        (λ j h.
+        ap (λ z. member_factor model j here *ℚ z) (shows j h)
+        ∙ ring_ℚ (member_factor model j here ∷ net shares (n + j) ∷ r ∷ []) (x0 :* (minus x1 :* x2)) (minus x2 :* (x1 :* x0)) tt)
+        ∙ sum_below-scale c (neg_ℚ r) (λ j. net shares (n + j) *ℚ member_factor model j here) in
+        let total_is : total ≡ neg_ℚ (net shares k) -ℚ t *ℚ member_number model here =
+        ring_by_ℚ (total ∷ net shares k ∷ t ∷ member_number model here ∷ []) x0 (minus x1 :- x2 :* x3) (minus unit_of) zero_of (x1 :+ (x0 :+ x2 :* x3)) (balance k l) tt in
+        let done : signed (side here) (value model here x) ≡ member_number model here +ℚ r *ℚ net shares k =
+        value_is ∙ ap (λ z. neg_ℚ r *ℚ z) total_is
+        ∙ ring_by_ℚ (r ∷ net shares k ∷ t ∷ member_number model here ∷ []) (minus x0 :* (minus x1 :- x2 :* x3)) (x3 :+ x0 :* x1) x3 (x2 :* x0) unit_of (mul-inv_ℚ t some) tt in
+        subst (λ z. z ≤ℚ member_number model here) (sym done)
+        (le_by (r ∷ net shares k ∷ member_number model here ∷ []) (x2 :+ x0 :* x1) x2 (x0 :* (zero_of :- x1)) (nonneg-mul (nonneg_is.0 (le_of_lt_ℚ (inv-pos_ℚ last_positive))) (nonneg_of_le (net_low k l))) tt)
+
+    kept_where_there : (m : Member) → (IsSome (number model m) → IsKept x m) → KeepsSide (side m) (number model m) (value model m x)
+    unfolding IsKept
+    kept_where_there m = side_of_le (side m) (number model m) (value model m x)
+
+    shown_satisfies : All (λ m. is_mark m ≡ false) set → Satisfies model set x
+    shown_satisfies linear =
+        let kept : All (λ m. is_some (number model m) ≡ true → IsKept x m) set =
+        All-passed (λ m. is_some (number model m)) (IsKept x) set (All-from_get_or (IsKept x) (bounding model set) no_member member_kept) in
+        λ k d l. holds_of model x (get_or set k d) (linear k d l) (kept_where_there (get_or set k d) (kept k d l))
+
   point : List ℚ
-  point =
-      tabulate (length model.columns) (λ j. neg_ℚ (net shares (length (bounding model set) + j)) *ℚ inv_ℚ (net shares (length (bounding model set) + length model.columns)))
+  point = tabulate (length model.columns) (net_point model set shares)
 
-  IsKept : Member → Type 0
-  IsKept m = signed (side m) (value model m (values_at point)) ≤ℚ member_number model m
-
-  member_kept : (k : ℕ) → k < length (bounding model set) → IsKept (get_or (bounding model set) k no_member)
-  unfolding point IsKept
-  member_kept k l =
-      let n : ℕ = length (bounding model set) in
-      let c : ℕ = length model.columns in
-      let here : Member = get_or (bounding model set) k no_member in
-      let t : ℚ = net shares (n + c) in
-      let r : ℚ = inv_ℚ t in
-      let total : ℚ = sum_below c (λ j. net shares (n + j) *ℚ member_factor model j here) in
-      let some : t ≢ zero_ℚ = λ e. lt_irrefl_ℚ {a = zero_ℚ} (subst (λ z. zero_ℚ <ℚ z) e last_positive) in
-      let value_is : signed (side here) (value model here (values_at point)) ≡ neg_ℚ r *ℚ total =
-      member_value model here (values_at point) (bounding_known model set k l formed)
-      ∙ sum_below-ext c (λ j. member_factor model j here *ℚ values_at point j) (λ j. neg_ℚ r *ℚ (net shares (n + j) *ℚ member_factor model j here))
-      (λ j h.
-      ap (λ z. member_factor model j here *ℚ z) (tabulated c (λ j. neg_ℚ (net shares (n + j)) *ℚ r) j h)
-      ∙ ring_ℚ (member_factor model j here ∷ net shares (n + j) ∷ r ∷ []) (x0 :* (minus x1 :* x2)) (minus x2 :* (x1 :* x0)) tt)
-      ∙ sum_below-scale c (neg_ℚ r) (λ j. net shares (n + j) *ℚ member_factor model j here) in
-      let total_is : total ≡ neg_ℚ (net shares k) -ℚ t *ℚ member_number model here =
-      ring_by_ℚ (total ∷ net shares k ∷ t ∷ member_number model here ∷ []) x0 (minus x1 :- x2 :* x3) (minus unit_of) zero_of (x1 :+ (x0 :+ x2 :* x3)) (balance k l) tt in
-      let done : signed (side here) (value model here (values_at point)) ≡ member_number model here +ℚ r *ℚ net shares k =
-      value_is ∙ ap (λ z. neg_ℚ r *ℚ z) total_is
-      ∙ ring_by_ℚ (r ∷ net shares k ∷ t ∷ member_number model here ∷ []) (minus x0 :* (minus x1 :- x2 :* x3)) (x3 :+ x0 :* x1) x3 (x2 :* x0) unit_of (mul-inv_ℚ t some) tt in
-      subst (λ z. z ≤ℚ member_number model here) (sym done)
-      (le_by (r ∷ net shares k ∷ member_number model here ∷ []) (x2 :+ x0 :* x1) x2 (x0 :* (zero_of :- x1)) (nonneg-mul (nonneg_is.0 (le_of_lt_ℚ (inv-pos_ℚ last_positive))) (nonneg_of_le (net_low k l))) tt)
-
-  kept_where_there : (m : Member) → (IsSome (number model m) → IsKept m) → KeepsSide (side m) (number model m) (value model m (values_at point))
-  unfolding IsKept
-  kept_where_there m = side_of_le (side m) (number model m) (value model m (values_at point))
-
-  point_found : All (λ m. is_mark m ≡ false) set → IsSatisfiable model set
-  point_found linear =
-      let kept : All (λ m. is_some (number model m) ≡ true → IsKept m) set =
-      All-passed (λ m. is_some (number model m)) IsKept set (All-from_get_or IsKept (bounding model set) no_member member_kept) in
-      satisfiable_at model set point (λ k d l. holds_of model (values_at point) (get_or set k d) (linear k d l) (kept_where_there (get_or set k d) (kept k d l)))
+  point_found : All (λ m. is_mark m ≡ false) set → IsSatisfiable model set × Satisfies model set (net_point model set shares)
+  unfolding point IsShown
+  point_found linear = (
+    satisfiable_at model set point (shown_satisfies (values_at point) (λ j l. tabulated (length model.columns) (net_point model set shares) j l) linear),
+    shown_satisfies (net_point model set shares) (λ j l. refl) linear,
+  )
 
 pub no_weighting_law : NoWeightingLaw
 no_weighting_law model set shares formed linear shown = point_found model set shares formed shown linear

@@ -48,7 +48,7 @@ source_met model x (Of m) members e k = All-cons (Holds model x) m members (hold
 source_met model x (Below j) members e k = k
 source_met model x (Above j) members e k = k
 
-all_met : (model : Program) (x : Assignment) (shares : List Share) → All (λ s. source_number model [] s.source ≡ Some (source_value model x s.source)) shares → Satisfies model (members_of shares) x
+pub all_met : (model : Program) (x : Assignment) (shares : List Share) → All (λ s. source_number model [] s.source ≡ Some (source_value model x s.source)) shares → Satisfies model (members_of shares) x
 all_met model x [] e = All-nil (Holds model x)
 all_met model x (s ∷ shares) e =
     source_met model x s.source (members_of shares) (All-head (λ s. source_number model [] s.source ≡ Some (source_value model x s.source)) s shares e)

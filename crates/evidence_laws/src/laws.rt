@@ -3,6 +3,8 @@ ghost use Rattle.certs.specs.Alternative.{PriceLaw, SupportLaw};
 ghost use Rattle.certs.specs.Bound.{BoundLaw, RayLaw, ValidBoundLaw};
 ghost use Rattle.certs.specs.Checks.{BoundCheckLaw, BoundNoLaw, CombinationCheckLaw, CombinationNoLaw, LeastCheckLaw, LeastNoLaw, PointCheckLaw, PointNoLaw, PriceCheckLaw, PriceNoLaw, RayCheckLaw, RayNoLaw, RefutedLaw, SatisfiableLaw, UnsatisfiableLaw, WideLaw, YesLaw};
 ghost use Rattle.certs.specs.Combination.{CombinationLaw, FurtherColumnsLaw};
+ghost use Rattle.certs.specs.CostTrees.{CostsLaw};
+ghost use Rattle.certs.specs.Exclusions.{ListingLaw, ReplayLaw, RestsLaw};
 ghost use Rattle.certs.specs.Filter.{EarlyLaw, EarlyMeansLaw, EarlyTestLaw, LateGroupsLaw, LateLaw, LateMeansLaw, LateTestLaw, OneEarlyLaw, OneLateLaw, RoundsLaw};
 ghost use Rattle.certs.specs.Proof.{OneTreeLaw, ProofLaw};
 ghost use Rattle.certs.specs.System.{CheapestLaw, LastTableLaw, NoWeightingLaw};
@@ -32,6 +34,11 @@ pub fn nodes_tell_the_tree()
 /// A dual's total is at most every weighted violation.
 pub fn least_is_bounded()
     ensures { LeastLaw }
+{}
+
+/// What a cost tree shows is at most every weighted violation.
+pub fn costs_are_bounded()
+    ensures { CostsLaw }
 {}
 
 /// Whatever the weights, a dual's total is at most every violation that is weighed so.
@@ -74,7 +81,8 @@ pub fn support_is_irreducible()
     ensures { SupportLaw }
 {}
 
-/// The support at the last table of the alternative system is irreducible.
+/// The support at the last table of the alternative system is irreducible, and the point of each member's row satisfies the
+/// others.
 pub fn last_table_is_irreducible()
     ensures { LastTableLaw }
 {}
@@ -84,7 +92,7 @@ pub fn last_table_is_cheapest()
     ensures { CheapestLaw }
 {}
 
-/// What shows that a set has no weighting gives a point of it.
+/// What shows that a set has no weighting gives a point of it, by its weights on the columns' rows.
 pub fn no_weighting_gives_point()
     ensures { NoWeightingLaw }
 {}
@@ -197,6 +205,21 @@ pub fn late_is_irreducible()
 /// What an early filter leaves of an unsatisfiable set is irreducible.
 pub fn early_is_irreducible()
     ensures { EarlyLaw }
+{}
+
+/// Where no node of an exclusion tree is left to take, the sets found are all irreducible parts, each once.
+pub fn listing_is_complete()
+    ensures { ListingLaw }
+{}
+
+/// The rests of an exclusion tree are those that its sets ask for, and each can be satisfied.
+pub fn listing_is_replayed()
+    ensures { ReplayLaw }
+{}
+
+/// Where all rests that irreducible parts ask for can be satisfied, they are all irreducible parts.
+pub fn rests_leave_none_out()
+    ensures { RestsLaw }
 {}
 
 /// What a late filter may ask for is a front of what it leaves, with a back of the set.

@@ -8,7 +8,7 @@ use Rattle.certs.specs.Runs.End.{Feasible as Settles}
 use Rattle.certs.specs.Improves.ImproveEnd.{TooWide as ImproveTooWide, Spent as ImproveSpent}
 use Rattle.certs.specs.Improves.{ImproveEnd}
 use Rattle.certs.specs.Plain.{first_crossing}
-use Rattle.certs.specs.Sites.{ImproveStops}
+use Rattle.certs.specs.Solves.{ImproveStops}
 use Rattle.dictionary.specs.Value.{DictionaryValue}
 use Rattle.simplex.specs.Ends.{HasRun}
 use Rattle.simplex.specs.declared.settling.RunStop.{RunStop}

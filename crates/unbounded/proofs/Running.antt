@@ -19,7 +19,7 @@ use Rattle.certs.specs.Improves.ImproveEnd.{TooWide as ImproveTooWide, Spent as 
 use Rattle.certs.specs.Improves.{ImproveEnd}
 use Rattle.certs.specs.Named.{named, program_shares}
 use Rattle.certs.specs.Plain.{crossing_shares, first_crossing, has_row, plain_row, plain_system, rows_in}
-use Rattle.certs.specs.Sites.{ImproveStops}
+use Rattle.certs.specs.Solves.{ImproveStops}
 use Rattle.certs.proofs.PlainCuts.{crossing_combination}
 use Rattle.certs.proofs.PlainForms.{plain_formed}
 use Rattle.certs.proofs.Refuted.{combination_law}

@@ -10,8 +10,7 @@ use Rattle.certs.specs.Improves.ImproveEnd.{TooWide as ImproveTooWide, Spent as 
 use Rattle.certs.specs.Plain.{plain_system}
 use Rattle.certs.specs.Runs.{TableauAt}
 use Rattle.certs.specs.Runs.End.{TooWide, Spent}
-use Rattle.certs.specs.Sites.{ImproveStops}
-use Rattle.certs.specs.Solves.{RunEnds}
+use Rattle.certs.specs.Solves.{ImproveStops, RunEnds}
 use Rattle.certs.specs.System.{LinearSystem, Place, VariableShare, IsVariableCombination}
 use Rattle.certs.specs.Tableau.{IsTableauOf, IsWellFormedSystem, value_of}
 use Rattle.dictionary.specs.Value.{DictionaryValue, tableau_of}

@@ -48,8 +48,8 @@ returns-in-Blocked-clause-priced c =
     let v = c.in-Blocked.field-0 in
     let stands : StandsBlocked system now v =
     subst (λ (s : LinearSystem). StandsBlocked s now v) c.in-Ok.ensures (subst (IsReached c.in-Ok.system now) c.in-Blocked.is c.in-Ok-run.ensures.reached) in
-    c.no_weighting_gives_point.ensures model set (blocked_shares system (tableau_of now) v stands.blocked.0) c.row_count-rows.ensures.well_formed c.requires.linear
-    (blocked_law system (tableau_of now) v stands.blocked.0 (c.alternative_systems_are_formed.ensures model set) stands.is_of stands.blocked.1)
+    (c.no_weighting_gives_point.ensures model set (blocked_shares system (tableau_of now) v stands.blocked.0) c.row_count-rows.ensures.well_formed c.requires.linear
+    (blocked_law system (tableau_of now) v stands.blocked.0 (c.alternative_systems_are_formed.ensures model set) stands.is_of stands.blocked.1)).0
 
 pub cheapest_at-requires-clause-columns : goal.cheapest_at-requires-clause-columns
 cheapest_at-requires-clause-columns c =

@@ -8,7 +8,7 @@ use Rattle.certs.specs.Tableau.{IsWellFormedSystem}
 use Rattle.frac128.specs.Limit.{limit}
 use Rattle.simplex.specs.Ends.{HasRun, end_of}
 use Rattle.simplex.specs.declared.settling.Settled.{Settled}
-use Rattle.simplex.specs.declared.settling.Settled.TheVariants.{Infeasible}
+use Rattle.simplex.specs.declared.settling.Settled.TheVariants.{Feasible, Infeasible}
 use Rattle.linear_oracle.specs.Ended.{HasEnded}
 use Rattle.linear_oracle.proofs.Runs.{has_ended, run_ends}
 use Rattle.linear_oracle.proofs.Shares.{columns_are}
@@ -24,6 +24,17 @@ returns-in-Err c =
     (c.stop_end.ensures c.args.model.now c.args.pivots.now c.requires.same
     (subst (λ (s : LinearSystem). RunEnds s c.args.pivots.now (end_of (Err c.in-Err.stop))) (c.requires.plain ∙ ap (λ (p : List Branch). plain_system c.args.model.now c.args.set.now.members p false) (sym path))
     (run_ends system start new.dictionary c.args.pivots.now new.pivots new.turn (end_of (Err c.in-Err.stop)) c.requires.apart c.in-Ok.ensures.1.0 (c.in-Err.ensures.run system c.in-Ok.ensures.0))))
+
+pub returns-in-Feasible : goal.returns-in-Feasible
+returns-in-Feasible c =
+    let system = c.args.system.now in
+    let start = c.in-Ok.dictionary in
+    let new = c.settle.new in
+    let run : HasRun limit system start.basis c.args.pivots.now 0 (end_of (Ok Feasible)) new.dictionary new.pivots new.turn =
+    subst (λ (z : Settled). HasRun limit system start.basis c.args.pivots.now 0 (end_of (Ok z)) new.dictionary new.pivots new.turn) c.in-Feasible.is (c.in-Ok-settle.ensures.run system c.in-Ok.ensures.0) in
+    c.point_end.ensures c.args.model.now c.args.set.now.members c.args.path.now c.args.pivots.now
+    (subst (λ (s : LinearSystem). HasEnded s c.args.pivots.now new.dictionary (end_of (Ok Feasible))) c.requires.plain
+    (has_ended system start new.dictionary c.args.pivots.now new.pivots new.turn (end_of (Ok Feasible)) c.requires.apart c.in-Ok.ensures.1.0 c.in-Ok-settle.ensures.ended.0 (c.settle.ensures.columns ∙ c.in-Ok.ensures.1.1.0) run))
 
 pub cut_end-requires-clause-formed : goal.cut_end-requires-clause-formed
 cut_end-requires-clause-formed c = subst IsWellFormedSystem c.requires.plain c.requires.formed
