@@ -17,7 +17,7 @@ use crate::searching::{search, stopped};
 use certs::{MemberSet, Oracle, Proof, Verdict, members_used};
 use lp_model::Model;
 use quick_answers::{Kept, QuickOracle};
-use report_text::{Answer, Command, Session};
+use report_text::{Answer, Command, CommandSession};
 use std::alloc::{AllocError, Global};
 
 /// What each solve may spend.
@@ -58,7 +58,7 @@ pub(crate) fn after(budgets: Budgets, command: &Command) -> Budgets
 /// next command too, whatever is edited between: an edit changes no form.
 pub(crate) fn answer(
     alloc: Global,
-    session: &mut Session,
+    session: &mut CommandSession,
     budgets: Budgets,
     command: &Command,
     kept: &mut Kept,

@@ -15,7 +15,7 @@ use iis_edge::{PutFault, Sink};
 use lp_model::Model;
 use quick_answers::Kept;
 use report_printer::{print_entry, print_foot, print_head};
-use report_text::{Answer, Command, Script, Session};
+use report_text::{Answer, Command, CommandSession, Script};
 use std::alloc::{AllocError, Global};
 
 /// Why a piece was not put whole: for want of memory nothing of it was, or the put failed.
@@ -47,7 +47,7 @@ pub fn analyse<W: Sink>(alloc: Global, model: Model, script: &Script, out: &mut 
 {
     // That the program is well formed is told with the count.
     let _rows = model.row_count();
-    let mut session = Session::new(alloc, model);
+    let mut session = CommandSession::new(alloc, model);
     match put_report(alloc, &mut session, script.commands.as_slice(), out) {
         Ok(unmet) => status(unmet),
         Err(Want::Fault) => 4,
@@ -65,7 +65,7 @@ fn status(unmet: bool) -> u8
 // Puts the head, the entries and the foot, and tells whether some command was not done. Nothing was edited yet.
 fn put_report<W: Sink>(
     alloc: Global,
-    session: &mut Session,
+    session: &mut CommandSession,
     commands: &[Command],
     out: &mut W,
 ) -> Result<bool, Want>
@@ -110,7 +110,7 @@ fn put<W: Sink>(out: &mut W, piece: &[u8]) -> Result<(), Want>
 // Puts the entries of the commands, and tells whether some command was not done. Nothing was edited yet.
 fn put_entries<W: Sink>(
     alloc: Global,
-    session: &mut Session,
+    session: &mut CommandSession,
     commands: &[Command],
     out: &mut W,
 ) -> Result<bool, Want>
@@ -139,7 +139,7 @@ fn is_either(first: bool, second: bool) -> bool
 // Puts the entry of a command, which is done to the program where it edits it, and tells whether it was not done.
 fn put_entry<W: Sink>(
     alloc: Global,
-    session: &mut Session,
+    session: &mut CommandSession,
     budgets: Budgets,
     command: &Command,
     kept: &mut Kept,

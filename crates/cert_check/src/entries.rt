@@ -23,14 +23,14 @@ use certs::{Point, Proof, check_point};
 use least_checks::rigid_set;
 use lp_model::{MemberSet, Model};
 use report_text::{
-    Answer, Command, Core, Entry, Method, OPENING_LINES, PROOF_LINES, Refusal, Session,
+    Answer, Command, CommandSession, Core, Entry, Method, OPENING_LINES, PROOF_LINES, Refusal,
 };
 use std::alloc::Global;
 
 /// Checks the entries, in order, from a program of which nothing was edited yet.
 pub(crate) fn check_entries(
     alloc: Global,
-    session: &mut Session,
+    session: &mut CommandSession,
     entries: &[Entry],
 ) -> Result<(), Stop>
     requires fresh { session.old ≡ history_of session.old.model [] }
@@ -45,7 +45,7 @@ pub(crate) fn check_entries(
 }
 
 // Checks an entry against the program as it stands, and then does to it what the command does.
-fn check_entry(alloc: Global, session: &mut Session, entry: &Entry) -> Result<(), Stop>
+fn check_entry(alloc: Global, session: &mut CommandSession, entry: &Entry) -> Result<(), Stop>
     requires form { IsEntryFor session.old.model entry.now }
     requires short { IsShort session.old.model entry.now }
     ensures { Replays session.old entry.now result session.new }

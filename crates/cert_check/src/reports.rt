@@ -14,7 +14,7 @@ use evidence_laws::{bound_is_valid, ray_is_unbounded};
 use least_checks::{checked_violation, parts_show_least, reached_is_least};
 use lp_model::Model;
 use price_checks::{checked_cost, price_shows_cheapest};
-use report_text::{Entry, Report, Session};
+use report_text::{CommandSession, Entry, Report};
 use std::alloc::Global;
 
 /// Checks a report against a program, line by line, and answers with the first line that fails or has an operation that
@@ -62,7 +62,7 @@ pub fn verify(alloc: Global, model: Model, report: Report) -> Outcome
     // That the program is well formed is told with the count.
     let _rows = model.row_count();
     accepted_reports_are_true();
-    let mut session = Session::new(alloc, model);
+    let mut session = CommandSession::new(alloc, model);
     match check_report(alloc, &mut session, &report) {
         Ok(()) => accepted(report.entries.as_slice()),
         Err(stop) => ending_of(stop),
@@ -83,7 +83,7 @@ pub fn accepted_reports_are_true()
 }
 
 // Checks the notes, and then the entries.
-fn check_report(alloc: Global, session: &mut Session, report: &Report) -> Result<(), Stop>
+fn check_report(alloc: Global, session: &mut CommandSession, report: &Report) -> Result<(), Stop>
     requires fresh { session.old ≡ history_of session.old.model [] }
     requires form { IsReportFor session.old.model report.now }
     requires short { length (report_lines session.old.model report.now) < 2147483648 }

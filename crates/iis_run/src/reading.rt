@@ -15,7 +15,7 @@ use iis_session::{ScriptStop, read_script};
 use lp_model::Model;
 use model_files::read_model;
 use report_reader::{ReportStop, read_report};
-use report_text::{Script, Session};
+use report_text::{CommandSession, Script};
 use std::alloc::Global;
 use text_fields::ReadFault;
 
@@ -79,7 +79,7 @@ fn check_report(alloc: Global, model: Model, bytes: &[u8]) -> Ending
     requires { length bytes.now ≤ 67108864 }
     ensures { ComesTo model bytes.now result }
 {
-    let mut session = Session::new(alloc, model);
+    let mut session = CommandSession::new(alloc, model);
     match read_report(alloc, bytes, &mut session) {
         Ok(report) => outcome_ending(verify(alloc, session.into_model(), report)),
         Err(stop) => stop_ending(stop),

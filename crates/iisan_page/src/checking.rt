@@ -12,7 +12,7 @@ use iis_run::{Ending, Which, fetch_file, fetch_model, outcome_ending, stop_endin
 use lp_model::Model;
 use report_page::page;
 use report_reader::read_report;
-use report_text::Session;
+use report_text::CommandSession;
 use std::alloc::Global;
 
 /// The page of a report that was accepted, and how many entries of the report are settled, and how many are not.
@@ -50,7 +50,7 @@ fn check_page(alloc: Global, model: Model, bytes: &[u8]) -> Result<AcceptedPage,
     ensures comes { IfErr result (ComesTo model bytes.now) }
     ensures unaccepted { IfErr result IsUnaccepted }
 {
-    let mut session = Session::new(alloc, model);
+    let mut session = CommandSession::new(alloc, model);
     let report = match read_report(alloc, bytes, &mut session) {
         Ok(report) => report,
         Err(stop) => return Err(stop_ending(stop)),

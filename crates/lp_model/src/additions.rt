@@ -1,5 +1,5 @@
-//! A new name, where it may be added.
-ghost use Rattle.std.specs.Prelude.{◌≡◌, ◌<◌, ◌^◌, ◌++◌, ◌∷◌, [], length, MatchResult, OnErr};
+//! A new name, where it may be added; and names with copies of their values.
+ghost use Rattle.std.specs.Prelude.{◌≡◌, ◌<◌, ◌^◌, ◌++◌, ◌∷◌, [], length, MatchResult, IfOk, OnErr};
 ghost use Rattle.name_map.specs.Names.{names_of};
 ghost use Rattle.lp_model.specs.Shown.{CanAdd};
 ghost use Rattle.lp_model.specs.Refusals.{IsAddRefusal};
@@ -33,4 +33,17 @@ pub(crate) fn add_named<V: Drop>(
         Ok(()) => Ok(count as u32),
         Err(AllocError) => Err(ModelStop::Memory),
     }
+}
+
+/// The same names, with copies of their values.
+pub(crate) fn copied<V: Clone>(map: &NameMap<V>, alloc: Global) -> Result<NameMap<V>, AllocError>
+    requires { (value copy : V) → V.is_clone value copy → copy ≡ value }
+    ensures { IfOk result (λ copy. copy ≡ map.now) }
+{
+    let mut copy = NameMap::new(alloc);
+    for index in 0..map.len() {
+        let value = map.value(index).clone()?;
+        copy.push(alloc, map.name(index), value)?;
+    }
+    Ok(copy)
 }

@@ -1,6 +1,7 @@
 //! Lists that are made once and then read.
 ghost use Rattle.std.specs.Prelude.{◌≡◌};
 
+use std::alloc::AllocError;
 use std::marker::Model;
 
 /// Items, as a list. Contracts see the list itself.
@@ -37,5 +38,14 @@ impl<T> Items<T> {
         ensures { result.items ≡ self }
     {
         self.items
+    }
+}
+
+impl<T: Copy> Clone for Items<T> {
+    ghost is_clone = { λ items copy. copy ≡ items };
+
+    fn clone(&self) -> Result<Items<T>, AllocError> {
+        let items = Vec::from_slice(*self.items.allocator(), self.as_slice())?;
+        Ok(Items { items })
     }
 }

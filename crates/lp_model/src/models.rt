@@ -13,7 +13,7 @@ ghost use Rattle.lp_model.specs.Shown.{named_row, named_column, empty_program, r
 ghost use Rattle.lp_model.specs.Refusals.{IsAddRefusal};
 ghost use Rattle.lp_model.specs.Evaluation.{value_operations, member_operations, IsInRange};
 
-use crate::additions::add_named;
+use crate::additions::{add_named, copied};
 use crate::edits::Part;
 use crate::evaluation::{is_at_least, is_at_most, value_of};
 use crate::limits::{MOST_COLUMNS, MOST_ROWS};
@@ -78,6 +78,23 @@ impl Model {
             maximise,
             notes: Vec::new(alloc),
         }
+    }
+
+    /// The same program once more.
+    pub fn copy(&self, alloc: Global) -> Result<Model, AllocError>
+        ensures { IfOk result (λ copy. copy ≡ self.now) }
+    {
+        let rows = copied(&self.rows, alloc)?;
+        let columns = copied(&self.columns, alloc)?;
+        let objective = self.objective.clone()?;
+        let notes = Vec::from_slice(alloc, self.notes())?;
+        Ok(Model {
+            rows,
+            columns,
+            objective,
+            maximise: self.maximise,
+            notes,
+        })
     }
 
     /// Puts a row last, and gives its number.

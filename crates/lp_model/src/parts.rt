@@ -43,7 +43,7 @@ pub type Terms = Items<Term>;
 /// A row without its name: its form, its sides, and their flags and weights.
 ///
 /// The terms ascend by column, and no factor is 0. An absent side has the flag `true` and the weight 1.
-#[derive(Drop)]
+#[derive(Clone, Drop)]
 pub struct Row {
     pub terms: Terms,
     pub lo: Option<Frac>,

@@ -13,7 +13,7 @@ use crate::parts::column_name;
 use crate::pieces::{Piece, write};
 use cert_check::settles;
 use lp_model::{Model, Note};
-use report_text::{Entry, Report, Session};
+use report_text::{CommandSession, Entry, Report};
 use std::alloc::AllocError;
 
 // How many entries are settled.
@@ -129,7 +129,7 @@ fn write_entry(model: &Model, entry: &Entry, into: &mut Vec<u8>) -> Result<(), A
 
 // Writes entries, each of the program as the commands before it edited it.
 fn write_entries(
-    session: &mut Session,
+    session: &mut CommandSession,
     entries: &[Entry],
     into: &mut Vec<u8>,
 ) -> Result<(), AllocError>
@@ -147,7 +147,11 @@ fn write_entries(
 }
 
 // Writes the pieces of the page.
-fn write_page(session: &mut Session, report: &Report, into: &mut Vec<u8>) -> Result<(), AllocError>
+fn write_page(
+    session: &mut CommandSession,
+    report: &Report,
+    into: &mut Vec<u8>,
+) -> Result<(), AllocError>
     requires fresh { session.old.formers ≡ [] }
     requires commands { All (λ e. IsCommand e.command) report.now.entries }
     ensures written { let pieces = page_pieces session.old.model report.now in
@@ -181,7 +185,11 @@ fn write_page(session: &mut Session, report: &Report, into: &mut Vec<u8>) -> Res
 /// # Errors
 ///
 /// Where memory is refused.
-pub fn page(session: &mut Session, report: &Report, into: &mut Vec<u8>) -> Result<(), AllocError>
+pub fn page(
+    session: &mut CommandSession,
+    report: &Report,
+    into: &mut Vec<u8>,
+) -> Result<(), AllocError>
     requires fresh { session.old.formers ≡ [] }
     requires commands { All (λ e. IsCommand e.command) report.now.entries }
     ensures written { let bytes = page_of session.old.model report.now in

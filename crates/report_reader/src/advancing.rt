@@ -10,7 +10,7 @@ ghost use Rattle.report_reader.specs.Drafts.{between as between_drafts, placed, 
 use crate::drafts::{Draft, Next, Part, Question, Stage};
 use crate::following::follow;
 use lp_model::Note;
-use report_text::{Answer, Command, Entries, Entry, Notes, Phrase, Session};
+use report_text::{Answer, Command, CommandSession, Entries, Entry, Notes, Phrase};
 use std::alloc::{AllocError, Global};
 
 /// Nothing read.
@@ -72,7 +72,7 @@ fn advance_between(
 }
 
 // Makes an edit or an undo, where the command is one. What is answered to it is not looked at.
-fn replay(session: &mut Session, command: &Command) -> Result<(), AllocError>
+fn replay(session: &mut CommandSession, command: &Command) -> Result<(), AllocError>
     requires { IsCommand command.now }
     ensures taken { OnOk result (IsTaken session.old command.now session.new) }
     ensures unchanged { OnErr result (session.new ≡ session.old) }
@@ -83,7 +83,7 @@ fn replay(session: &mut Session, command: &Command) -> Result<(), AllocError>
 
 // One entry more, whose command the session takes.
 fn add_entry(
-    session: &mut Session,
+    session: &mut CommandSession,
     notes: Notes,
     entries: Entries,
     question: Question,
@@ -111,7 +111,7 @@ fn add_entry(
 
 // What an answer, or more of it, makes.
 fn place(
-    session: &mut Session,
+    session: &mut CommandSession,
     notes: Notes,
     entries: Entries,
     question: Question,
@@ -136,7 +136,7 @@ fn place(
 // What may follow within an answer.
 fn advance_answer(
     alloc: Global,
-    session: &mut Session,
+    session: &mut CommandSession,
     notes: Notes,
     entries: Entries,
     question: Question,
@@ -177,7 +177,7 @@ fn advance_start(notes: Notes, entries: Entries, phrase: Phrase) -> Option<Draft
 /// that is whole.
 pub(crate) fn advance(
     alloc: Global,
-    session: &mut Session,
+    session: &mut CommandSession,
     draft: Draft,
     number: u32,
     phrase: Phrase,

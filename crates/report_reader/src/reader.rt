@@ -10,7 +10,7 @@ ghost use Rattle.report_text.specs.Session.{first_of, IsSessionAt};
 use crate::advancing::{advance, nothing};
 use crate::drafts::{Draft, Stage};
 use phrase_reader::read_phrase;
-use report_text::{Report, Session};
+use report_text::{CommandSession, Report};
 use std::alloc::Global;
 use text_fields::next_line;
 use thiserror::Error;
@@ -32,7 +32,7 @@ pub enum ReportStop {
 // Takes one line more. The session stands where the commands of whole entries bring it.
 fn take_line(
     alloc: Global,
-    session: &mut Session,
+    session: &mut CommandSession,
     draft: Draft,
     number: u32,
     line: &[u8],
@@ -99,7 +99,11 @@ fn whole_line(bytes: &[u8]) -> Option<(&[u8], &[u8])>
 }
 
 // Reads the lines of a report, and makes the edits and undos of its commands.
-fn read_lines(alloc: Global, bytes: &[u8], session: &mut Session) -> Result<Report, ReportStop>
+fn read_lines(
+    alloc: Global,
+    bytes: &[u8],
+    session: &mut CommandSession,
+) -> Result<Report, ReportStop>
     requires short { length bytes.now < 2147483648 }
     requires fresh { session.old.formers ≡ [] }
     ensures read { IfOk result (Reads session.old.model bytes.now) }
@@ -132,7 +136,11 @@ fn read_lines(alloc: Global, bytes: &[u8], session: &mut Session) -> Result<Repo
 /// whole line is right and the bytes end before the report does. `Memory` comes where memory was refused.
 ///
 /// There are to be fewer than 2^31 bytes.
-pub fn read_report(alloc: Global, bytes: &[u8], session: &mut Session) -> Result<Report, ReportStop>
+pub fn read_report(
+    alloc: Global,
+    bytes: &[u8],
+    session: &mut CommandSession,
+) -> Result<Report, ReportStop>
     requires short { length bytes.now < 2147483648 }
     requires fresh { session.old.formers ≡ [] }
     // The bytes are the report's.

@@ -1,5 +1,5 @@
 -- Calls take a session from what commands made of a program to what one command more makes of it.
-use Rattle.std.proofs.Common.{◌≡◌, ◌<◌, refl, sym, ◌∙◌, ap, subst, ℕ, Bool, true, false, true≢false, cond, List, [], ◌∷◌, ◌++◌, length, arith, Option, Some, None, option_map, Ok, Err}
+use Rattle.std.proofs.Common.{◌≡◌, ◌<◌, refl, sym, ◌∙◌, ap, subst, ℕ, Bool, true, false, true≢false, cond, List, [], ◌∷◌, ◌++◌, length, arith, Option, Some, None, option_map, Result, Ok, Err, is_ok}
 use Rattle.std.specs.Prelude.{option_to_list}
 use Rattle.lp_model.specs.Program.{Program}
 use Rattle.lp_model.specs.declared.edits.Edit.{Edit}
@@ -124,7 +124,12 @@ stands_after first before value is = subst (StandsOn first) (sym is) (record { e
 pub stands_undone : (first : Program) (old : HistoryValue) (was : Bool) (new : HistoryValue) → StandsOn first old → IsUndone old was new → StandsOn first new
 stands_undone first old was new h undone = record { edits = without_last h.edits; along = undone_along back_law first h.edits old was new h.along undone }
 
--- where an undo finds nothing, none stands
+-- an undo tells whether it finds an edit
+pub undone_is : (old : HistoryValue) (r : Result (Unit {0}) UndoStop) (was : Bool) (new : HistoryValue) → was ≡ is_ok r → UndoesBy old r new → IsUndone old was new
+undone_is old (Ok done) was new e h = subst (λ b. IsUndone old b new) (sym e) h
+undone_is old (Err UndoStop.NothingToUndo) was new e h = subst (λ b. IsUndone old b new) (sym e) h
+
+-- where it finds nothing, none stands
 no_edits_left : (first : Program) (edits : List Edit) (new : HistoryValue) → IsUndone (history_of first edits) false new → new ≡ history_of first []
 no_edits_left first [] new h = h.1
 no_edits_left first (edit ∷ edits) new h = absurd (true≢false (sym h.0))

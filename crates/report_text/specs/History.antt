@@ -1,5 +1,5 @@
 -- Edits of a program one after another, and undos: what stands after them.
-use Rattle.std.specs.Prelude.{◌≡◌, ◌≢◌, ◌↔◌, ◌==◌, ◌&&◌, not, cond, Bool, true, false, List, [], ◌∷◌, ⊤}
+use Rattle.std.specs.Prelude.{◌≡◌, ◌≢◌, ◌↔◌, ◌==◌, ◌&&◌, not, cond, ℕ, ◌+◌, Bool, true, false, List, [], ◌∷◌, length, ⊤}
 use Rattle.lp_model.specs.Program.{Program, IsWellFormed}
 use Rattle.lp_model.specs.declared.edits.Edit.{Edit}
 use Rattle.lp_model.specs.declared.edits.Former.{Former}
@@ -52,6 +52,15 @@ ChangesLaw = (model : Program) (edit : Edit) → IsKnownEdit model edit → (cha
 pub record HistoryValue : Type 0 where
   pub model : Program
   pub formers : List Former
+
+-- and for how many edits more there is room
+pub record RoomyHistory : Type 0 where
+  pub held : HistoryValue
+  pub spare : ℕ
+
+-- for how many edits there is room in all, those that stand among them
+abbrev pub room_of : RoomyHistory → ℕ
+room_of history = length history.held.formers + history.spare
 
 -- each of them can be put back
 abbrev pub GoesBack : Program → List Former → Type 0

@@ -41,7 +41,6 @@ EditsBy old e (Ok done) new =
     (edit : OneEdit) × ((named_edit old.model e ≡ Some edit) × ((changes old.model edit ≡ true) × (new ≡ record { model = edited old.model edit; formers = former_of old.model edit ∷ old.formers })))
 EditsBy old e (Err EditStop.UnknownName) new = (named_edit old.model e ≡ None) × (new ≡ old)
 EditsBy old e (Err EditStop.NoChange) new = (edit : OneEdit) × ((named_edit old.model e ≡ Some edit) × ((edited old.model edit ≡ old.model) × (new ≡ old)))
-EditsBy old e (Err EditStop.Memory) new = new ≡ old
 
 -- a row, or a column, that the program has
 abbrev pub IsPlaceIn : Program → Bool → ℕ → Type 0

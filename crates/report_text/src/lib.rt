@@ -1,12 +1,14 @@
 //! Scripts and reports: their commands, answers and entries, and the grammar of a report's text.
 #![tactic(auto)]
 
+mod command_session;
 mod history;
 mod layout;
 mod phrases;
 mod report;
 mod session;
 
+pub use command_session::CommandSession;
 pub use history::{History, changes_law, history_law};
 pub use layout::{
     BOUND_LINES, HEAD_LINES, LEAST_LINES, MEMBER_LINES, OPENING_LINES, PROOF_LINES, TOTAL_LINES,

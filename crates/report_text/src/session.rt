@@ -1,22 +1,20 @@
 //! Edits by name, and undos.
-ghost use Rattle.std.specs.Prelude.{◌≡◌, [], IfOk, IfSome, OnErr, Some};
-ghost use Rattle.report_text.specs.History.{history_of};
+ghost use Rattle.std.specs.Prelude.{◌≡◌, ◌<◌, ◌≤◌, [], IsOk, IfOk, IfSome, OnOk};
+ghost use Rattle.report_text.specs.History.{history_of, room_of};
 ghost use Rattle.report_text.specs.Edits.{edit_at as edit_of, is_of_row as is_row_target, names_row as of_row, place_of as place_in, target_at as target_of};
-ghost use Rattle.report_text.specs.Form.{IsCommand, IsNamedEdit};
-ghost use Rattle.report_text.specs.declared.report.Command.TheVariants.{Edit as EditOf, Undo};
-ghost use Rattle.report_text.specs.Session.{EditsBy, IsPlaceIn, IsReply, NamesStandLaw, Rewinds, Takes, UndoesBy};
+ghost use Rattle.report_text.specs.Form.{IsNamedEdit};
+ghost use Rattle.report_text.specs.Session.{EditsBy, IsPlaceIn, NamesStandLaw, UndoesBy};
 
-use crate::{Answer, Command, EditKind, History, NamedEdit, Refusal, TargetKind};
+use crate::{EditKind, History, NamedEdit, TargetKind};
 use lp_model::{Edit, Member, Model, Target};
 use std::alloc::{AllocError, Global};
 
-/// Why an edit is refused: the program has no row or column of the name; the program would stay as it is; or want of
-/// memory. The first that holds, in this order.
+/// Why an edit is refused: the program has no row or column of the name, or it would stay as it is. The first that holds, in
+/// this order.
 #[derive(Clone, Copy, PartialEq, Eq)]
 pub enum EditStop {
     UnknownName,
     NoChange,
-    Memory,
 }
 
 /// Why an undo is refused: no edit stands.
@@ -76,72 +74,93 @@ fn names_row(kind: EditKind) -> bool
     }
 }
 
-/// A program that is edited by names, and what its edits changed, so that they can be taken back. Contracts see both.
+/// A program that is edited by names, and what its edits changed, so that they can be taken back. Contracts see both, and for
+/// how many edits more there is room.
 #[derive(Drop)]
 pub struct Session {
     history: History,
 }
 
 impl std::marker::Model for Session {
-    ghost use Rattle.report_text.specs.History.{HistoryValue};
+    ghost use Rattle.report_text.specs.History.{RoomyHistory};
 
-    ghost Value = { HistoryValue };
+    ghost Value = { RoomyHistory };
 
     ghost view = { λ s. s.history };
 }
 
 impl Session {
-    /// A program of which nothing was edited yet. It takes no memory.
-    pub fn new(alloc: Global, model: Model) -> Session
-        ensures { result ≡ history_of model [] }
+    /// A program of which nothing was edited yet, with room for so many edits.
+    ///
+    /// # Errors
+    ///
+    /// There is no memory for that room; none is wanted where it is to be for no edit.
+    pub fn new(alloc: Global, model: Model, spare: u32) -> Result<Session, AllocError>
+        ensures made { IfOk result (λ s. s ≡ record { held = history_of model []; spare = spare }) }
+        ensures succeeds { spare ≡ 0 → IsOk result }
     {
-        Session {
-            history: History::new(alloc, model),
-        }
+        Ok(Session {
+            history: History::new(alloc, model, spare)?,
+        })
     }
 
     /// The program, as it was edited.
     pub fn model(&self) -> &Model
-        ensures { result.now ≡ self.now.model }
+        ensures { result.now ≡ self.now.held.model }
     {
         self.history.model()
     }
 
     /// The program, as it was edited, by itself.
     pub fn into_model(self) -> Model
-        ensures { result ≡ self.model }
+        ensures { result ≡ self.held.model }
     {
         self.history.into_model()
     }
 
-    /// Makes an edit.
+    /// Makes room for so many edits more than were made so far.
+    ///
+    /// # Errors
+    ///
+    /// There is no memory for that room; all stays as it was.
+    pub fn reserve(&mut self, more: u32) -> Result<(), AllocError>
+        ensures held { self.new.held ≡ self.old.held }
+        ensures room { OnOk result (more ≤ self.new.spare) }
+        ensures spare { self.old.spare ≤ self.new.spare }
+    {
+        self.history.reserve(more)
+    }
+
+    /// Makes an edit, for which there is room, without memory.
     ///
     /// # Errors
     ///
     /// `UnknownName` exactly where the program has no row or column of the name; `NoChange` exactly where it has, and
-    /// the edit makes no other program of it; `Memory` where there is no memory to keep what the edit changes. A refused
-    /// edit changes nothing.
+    /// the edit makes no other program of it. A refused edit changes nothing.
     pub fn edit(&mut self, edit: &NamedEdit) -> Result<(), EditStop>
-        requires { IsNamedEdit edit.now }
-        ensures { EditsBy self.old edit.now result self.new }
+        requires form { IsNamedEdit edit.now }
+        requires spare { 0 < self.old.spare }
+        ensures edited { EditsBy self.old.held edit.now result self.new.held }
+        ensures room { room_of self.new ≡ room_of self.old }
     {
         let Some(index) = self.place_of(edit) else {
             return Err(EditStop::UnknownName);
         };
-        match self.history.edit(edit_at(index, edit.kind)) {
-            Ok(true) => Ok(()),
-            Ok(false) => Err(EditStop::NoChange),
-            Err(AllocError) => Err(EditStop::Memory),
+        if self.history.edit(edit_at(index, edit.kind)) {
+            return Ok(());
         }
+        Err(EditStop::NoChange)
     }
 
-    /// Takes back the last edit that stands, without memory. The program is the one before it, in every part.
+    /// Takes back the last edit that stands, without memory, and gives its room back. The program is the one before it, in
+    /// every part.
     ///
     /// # Errors
     ///
     /// `NothingToUndo` exactly where no edit stands; then all stays as it was.
     pub fn undo(&mut self) -> Result<(), UndoStop>
-        ensures { UndoesBy self.old result self.new }
+        ensures undone { UndoesBy self.old.held result self.new.held }
+        ensures room { room_of self.new ≡ room_of self.old }
     {
         if self.history.undo() {
             return Ok(());
@@ -149,68 +168,10 @@ impl Session {
         Err(UndoStop::NothingToUndo)
     }
 
-    /// Makes an edit, and gives the answer to it: that it is done, or why it is refused.
-    ///
-    /// # Errors
-    ///
-    /// There is no memory to keep what the edit changes; all stays as it was.
-    pub fn take_edit(&mut self, edit: &NamedEdit) -> Result<Answer, AllocError>
-        requires { IsNamedEdit edit.now }
-        ensures taken { IfOk result (λ answer. Takes self.old (EditOf edit.now) (Some answer) self.new) }
-        ensures reply { IfOk result IsReply }
-        ensures unchanged { OnErr result (self.new ≡ self.old) }
-    {
-        match self.edit(edit) {
-            Ok(()) => Ok(Answer::Done),
-            Err(EditStop::UnknownName) => Ok(Answer::Refused(Refusal::UnknownName)),
-            Err(EditStop::NoChange) => Ok(Answer::Refused(Refusal::NoChange)),
-            Err(EditStop::Memory) => Err(AllocError),
-        }
-    }
-
-    /// Takes the last edit that stands back, and gives the answer to that: that it is done, or that there is none.
-    pub fn take_undo(&mut self) -> Answer
-        ensures taken { Takes self.old Undo (Some result) self.new }
-        ensures reply { IsReply result }
-    {
-        match self.undo() {
-            Ok(()) => Answer::Done,
-            Err(UndoStop::NothingToUndo) => Answer::Refused(Refusal::NothingToUndo),
-        }
-    }
-
-    /// Does what a command does to the program, and gives the answer to it where it is an edit or an undo. Other commands
-    /// change nothing, and have answers of their own.
-    ///
-    /// After any commands so taken of a program that was not edited before, the program is what those of their edits make
-    /// of it that were accepted and not taken back, and the answers are those that are right.
-    ///
-    /// # Errors
-    ///
-    /// There is no memory to keep what an edit changes; all stays as it was.
-    pub fn take(&mut self, command: &Command) -> Result<Option<Answer>, AllocError>
-        requires { IsCommand command.now }
-        ensures taken { IfOk result (λ answer. Takes self.old command.now answer self.new) }
-        ensures unchanged { OnErr result (self.new ≡ self.old) }
-    {
-        match command {
-            Command::Edit(edit) => Ok(Some(self.take_edit(edit)?)),
-            Command::Undo => Ok(Some(self.take_undo())),
-            _ => Ok(None),
-        }
-    }
-
-    /// Takes all edits back, without memory.
-    pub fn rewind(&mut self)
-        ensures { Rewinds self.old self.new }
-    {
-        while self.history.undo() {}
-    }
-
     // The number of the row or the column that an edit names.
     fn place_of(&self, edit: &NamedEdit) -> Option<u32>
-        ensures place { result ≡ place_in self.now.model (of_row edit.now.kind) edit.now.name }
-        ensures within { IfSome result (IsPlaceIn self.now.model (of_row edit.now.kind)) }
+        ensures place { result ≡ place_in self.now.held.model (of_row edit.now.kind) edit.now.name }
+        ensures within { IfSome result (IsPlaceIn self.now.held.model (of_row edit.now.kind)) }
     {
         let model = self.history.model();
         let name = edit.name.bytes();
