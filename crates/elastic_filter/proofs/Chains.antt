@@ -129,9 +129,9 @@ inside_set model set enforced more f =
     (subst (All (Contains set)) (sym f.stretches.adds) (All-filter (λ m. has enforced m || is_violated model (coordinate f.stretches.point) m) (Contains set) set (All-contains_itself set))))
 
 -- a set of a program has few members
-pub few_members : (rows columns : ℕ) (marks : List Bool) → IsMarking rows columns marks → length (marked_set rows columns marks).members ≤ 16000
-few_members rows columns marks h =
-    let short : length (filter (is_marked rows columns marks) (members_for rows columns)) ≤ length (members_for rows columns) = filter_short (is_marked rows columns marks) (members_for rows columns) in
+pub few_members : (rows columns : ℕ) (words : List ℕ) → IsMarking rows columns words → length (marked_set rows columns words).members ≤ 16000
+few_members rows columns words h =
+    let short : length (filter (is_marked rows columns words) (members_for rows columns)) ≤ length (members_for rows columns) = filter_short (is_marked rows columns words) (members_for rows columns) in
     let all : length (members_for rows columns) ≡ place_count rows columns = length-members_for rows columns in
     let r : rows ≤ 2000 = h.few_rows in
     let c : columns ≤ 4000 = h.few_columns in

@@ -1,3 +1,4 @@
 pub mod Words
 pub mod Firsts
 pub mod Loads
+pub mod Counts

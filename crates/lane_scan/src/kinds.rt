@@ -1,6 +1,6 @@
 //! Kinds of bytes.
 ghost use Rattle.std.specs.Prelude.{◌≡◌, ◌==◌};
-ghost use Rattle.lane_scan.specs.Bytes.{is_blank, is_allowed, is_foreign};
+ghost use Rattle.lane_scan.specs.Bytes.{is_blank, is_nonblank, is_allowed, is_foreign};
 
 use crate::lanes::{Kind, lowest_bit};
 use std::simd::prelude::*;
@@ -46,6 +46,25 @@ impl Kind for Blank {
         let lanes = u8x16::from_slice(&bytes[at..]);
         let spaces = lanes.simd_eq(u8x16::splat(b' ')) | lanes.simd_eq(u8x16::splat(b'\t'));
         lowest_bit((spaces | lanes.simd_eq(u8x16::splat(b'\r'))).to_bitmask())
+    }
+}
+
+/// All bytes but blanks.
+pub struct Nonblank;
+
+impl Kind for Nonblank {
+    ghost kind = { is_nonblank };
+
+    #[inline(always)]
+    fn has(byte: u8) -> bool {
+        !is_blank_byte(byte)
+    }
+
+    #[inline(always)]
+    fn count_before(bytes: &[u8], at: usize) -> usize {
+        let lanes = u8x16::from_slice(&bytes[at..]);
+        let seen = lanes.simd_ne(u8x16::splat(b' ')) & lanes.simd_ne(u8x16::splat(b'\t'));
+        lowest_bit((seen & lanes.simd_ne(u8x16::splat(b'\r'))).to_bitmask())
     }
 }
 

@@ -33,9 +33,9 @@ pub fn lowest_bit(mask: u64) -> usize
     }
 }
 
-// The first place from `from` on of a kind, or `to`, byte by byte.
+/// The first place from `from` on of a kind, or `to`, byte by byte.
 #[inline(always)]
-fn first_by_one<K: Kind>(bytes: &[u8], from: usize, to: usize) -> usize
+pub fn first_by_one<K: Kind>(bytes: &[u8], from: usize, to: usize) -> usize
     requires in_order { from ≤ to }
     requires within { to ≤ length bytes.now }
     ensures { IsFirst K.kind bytes.now from to result }

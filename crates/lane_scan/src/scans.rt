@@ -2,8 +2,11 @@
 ghost use Rattle.std.specs.Prelude.{◌≡◌, ◌≤◌, ◌+◌, length};
 ghost use Rattle.lane_scan.specs.Bytes.{end_from, nonblank_within, foreign_within};
 
-use crate::kinds::{Byte, Foreign, is_blank_byte};
-use crate::lanes::first_of;
+use crate::kinds::{Byte, Foreign, Nonblank};
+use crate::lanes::{first_by_one, first_of};
+
+/// How many bytes are looked at one by one before sixteen are looked at together: most blanks stand alone.
+const FEW: usize = 4;
 
 /// The first place from `from` on where byte 10 stands, or the length where there is none.
 pub fn next_end(bytes: &[u8], from: usize) -> usize
@@ -23,12 +26,12 @@ pub fn next_nonblank(bytes: &[u8], from: usize, to: usize) -> usize
     ensures low { from ≤ result }
     ensures high { result ≤ to }
 {
-    for (blanks, byte) in bytes[from..to].iter().enumerate() {
-        if !is_blank_byte(*byte) {
-            return from + blanks;
-        }
+    let near = to.min(from + FEW);
+    let first = first_by_one::<Nonblank>(bytes, from, near);
+    if first < near {
+        return first;
     }
-    to
+    first_of::<Nonblank>(bytes, near, to)
 }
 
 /// The first place from `from` on whose byte is none of 9, 10, 13 and 32 to 126, or `to` where there is none before it.

@@ -1,19 +1,22 @@
 -- The members that a list of marks gives, by their places among the possible members.
-use Rattle.std.proofs.Common.{◌≡◌, ◌<◌, ◌≤◌, ◌+◌, ◌-◌, ◌*◌, ◌/◌, ◌%◌, refl, sym, ◌∙◌, ap, subst, ℕ, zero, suc, Bool, true, false, true≢false, cond, not, ◌&&◌, ◌||◌, ltb, List, [], ◌∷◌, ◌++◌, length, get_or, set, map, take, drop, replicate, filter, arith, inl, inr, length-append, lt-ltb, Option, Some, None, drop-cons, add-one}
-use Rattle.std.proofs.lemmas.Bool.{cases_lt, le-ltb}
-use Rattle.std.proofs.lemmas.List.{take_all, get_or_read_under, length-map, get_or_append_left, get_or-append-add, get_or-set_same, get_or-set_other, get_or-map}
+use Rattle.std.proofs.Common.{◌≡◌, ◌<◌, ◌≤◌, ◌+◌, ◌-◌, ◌*◌, ◌/◌, ◌%◌, refl, sym, ◌∙◌, ap, subst, ℕ, zero, suc, Bool, true, false, true≢false, cond, not, ◌&&◌, ◌||◌, ltb, List, [], ◌∷◌, ◌++◌, length, get_or, map, take, drop, replicate, filter, arith, inl, inr, length-append, lt-ltb, Option, Some, None, drop-cons, add-one, eqb, sum_by, ◌^◌}
+use Rattle.std.proofs.lemmas.Bool.{cases_lt, cases_Bool, le-ltb, eq-eqb, ne_eqb, cond-true, cond-false, and_from, and_left, and_right}
+use Rattle.std.proofs.lemmas.List.{take_all, get_or_append_left, get_or-append-add}
 use Rattle.std.proofs.lemmas.List.Elements.{filter_passes, All-contains}
 use Rattle.std.proofs.lemmas.List.Filters.{length-filter_more}
 use Rattle.std.proofs.lemmas.List.Kept.{AllPairs-filter}
 use Rattle.std.proofs.Math.ListN.{drop_of_length-le}
-use Rattle.std.specs.Prelude.{Contains, MatchOption, ⊤, find}
-use Rattle.lp_model.specs.Program.{Program}
-use Rattle.lp_model.specs.Members.{Member, RowLo, RowUp, Lower, Upper, Whole, row_side, comes_before, is_same, has, is_active, numbered, IsInOrder}
-use Rattle.lp_model.specs.MemberSets.{SetValue, members_for, IsMemberFor, follows, place_count, place_in, place_after, is_marked, marked_set, set_with, set_without, next_after, active_set}
+use Rattle.std.specs.Int.{bit_at}
+use Rattle.std.specs.Prelude.{Contains, MatchOption, ⊤, find, count_ones}
+use Rattle.std.proofs.lemmas.Nat.Bits.{bit_at-zero}
+use Rattle.lane_scan.specs.Bits.{bit_of, IsFirstBit}
+use Rattle.lane_scan.proofs.Counts.{count_below, count_is}
+use Rattle.lp_model.specs.Members.{Member, RowLo, RowUp, Lower, Upper, Whole, row_side, comes_before, is_same, has, numbered, IsInOrder}
+use Rattle.lp_model.specs.MemberSets.{SetValue, members_for, IsMemberFor, follows, place_count, place_in, place_after, is_marked, marked_set, set_with, set_without, next_after, IsMarking}
 use Rattle.lp_model.proofs.Sets.{row_side_lower, row_side_upper, same_members, same_self, contains_of_has, has_of_contains, Contains-filter, possible_in_order}
 
 -- ---- lists
-filter_agree_on : {A : Type 0} (p q : A → Bool) (xs : List A) → ((x : A) → Contains xs x → p x ≡ q x) → filter p xs ≡ filter q xs
+pub filter_agree_on : {A : Type 0} (p q : A → Bool) (xs : List A) → ((x : A) → Contains xs x → p x ≡ q x) → filter p xs ≡ filter q xs
 filter_agree_on p q [] h = refl
 filter_agree_on p q (x ∷ xs) h =
     let e : p x ≡ q x = h x (0, (let l : 0 < suc (length xs) = omega arith in l), refl) in
@@ -188,7 +191,7 @@ module _ (rows columns : ℕ) where
   before_is (Whole i) (Whole j) h k = shifted columns i j ∙ (shifted columns (columns + i) (columns + j) ∙ shifted (2 * rows) (columns + (columns + i)) (columns + (columns + j)))
 
 -- ---- what a filtered list has
-has_filter : (test : Member → Bool) (xs : List Member) (m : Member) → Contains xs m → has (filter test xs) m ≡ test m
+pub has_filter : (test : Member → Bool) (xs : List Member) (m : Member) → Contains xs m → has (filter test xs) m ≡ test m
 has_filter test xs m c = go (test m) refl (has (filter test xs) m) refl
   where
     go : (b : Bool) → test m ≡ b → (h : Bool) → has (filter test xs) m ≡ h → has (filter test xs) m ≡ test m
@@ -203,92 +206,88 @@ is_what_it_has test xs = filter_agree_on test (has (filter test xs)) xs (λ m c.
 abbrev pub set_of : ℕ → ℕ → List Member → SetValue
 set_of rows columns members = record { rows = rows; columns = columns; members = members }
 
-module _ (rows columns : ℕ) (marks : List Bool) (each : length marks ≡ place_count rows columns) where
-  -- the mark of a member says whether it is in the set
-  pub has_mark : (m : Member) → IsMemberFor rows columns m → has (marked_set rows columns marks).members m ≡ is_marked rows columns marks m
-  has_mark m l = has_filter (is_marked rows columns marks) (members_for rows columns) m (possible_of rows columns m l)
+-- two members for these numbers stand at one place where they are one
+same_at : (rows columns : ℕ) (n m : Member) → IsMemberFor rows columns n → IsMemberFor rows columns m → eqb (place_in rows columns n) (place_in rows columns m) ≡ is_same n m
+same_at rows columns n m k l = elim (cases_Bool (is_same n m)) [
+  | inl e ↦ eq-eqb (place_in rows columns n) (place_in rows columns m) (ap (place_in rows columns) (same_members n m e)) ∙ sym e
+  | inr e ↦
+      ne_eqb (place_in rows columns n) (place_in rows columns m)
+      (λ p. true≢false (sym (subst (λ z. is_same z m ≡ true) (sym (one_place rows columns n m k l p)) (same_self m)) ∙ e))
+      ∙ sym e
+]
 
-  -- the mark at a place is that of the member there
-  mark_at : (k : ℕ) (d : Member) → k < place_count rows columns → is_marked rows columns marks (get_or (members_for rows columns) k d) ≡ get_or marks k false
-  mark_at k d l = ap (λ i. get_or marks i false) (place_at rows columns k d l).1
+module _ (rows columns : ℕ) (words : List ℕ) where
+  -- the bit of a member says whether it is in the set
+  pub has_mark : (m : Member) → IsMemberFor rows columns m → has (marked_set rows columns words).members m ≡ is_marked rows columns words m
+  has_mark m l = has_filter (is_marked rows columns words) (members_for rows columns) m (possible_of rows columns m l)
 
-  -- one mark changed
-  changed_mark : (m : Member) (b : Bool) → IsMemberFor rows columns m → (n : Member) → IsMemberFor rows columns n → is_marked rows columns (set marks (place_in rows columns m) b) n ≡ cond (is_same n m) b (is_marked rows columns marks n)
-  changed_mark m b l n k = go (is_same n m) refl
-    where
-      within : place_in rows columns m < length marks
-      within = subst (λ i. place_in rows columns m < i) (sym each) (within_places rows columns m l)
+  -- the bit at a place is that of the member there
+  mark_at : (k : ℕ) (d : Member) → k < place_count rows columns → is_marked rows columns words (get_or (members_for rows columns) k d) ≡ bit_of words k
+  mark_at k d l = ap (bit_of words) (place_at rows columns k d l).1
 
-      go : (s : Bool) → is_same n m ≡ s → is_marked rows columns (set marks (place_in rows columns m) b) n ≡ cond (is_same n m) b (is_marked rows columns marks n)
-      go true e =
-          ap (λ z. get_or (set marks (place_in rows columns m) b) (place_in rows columns z) false) (same_members n m e)
-          ∙ (get_or-set_same marks (place_in rows columns m) b false within ∙ sym (ap (λ s. cond s b (is_marked rows columns marks n)) e))
-      go false e =
-          get_or-set_other marks (place_in rows columns m) (place_in rows columns n) b false
-          (λ p. true≢false (sym (subst (λ z. is_same z m ≡ true) (sym (one_place rows columns n m k l p)) (same_self m)) ∙ e))
-          ∙ sym (ap (λ s. cond s b (is_marked rows columns marks n)) e)
+  -- ---- one bit changed
+  module _ (new : List ℕ) (m : Member) (b : Bool) (l : IsMemberFor rows columns m) (put : (k : ℕ) → bit_of new k ≡ cond (eqb k (place_in rows columns m)) b (bit_of words k)) where
+    changed_mark : (n : Member) → IsMemberFor rows columns n → is_marked rows columns new n ≡ cond (is_same n m) b (is_marked rows columns words n)
+    changed_mark n k = put (place_in rows columns n) ∙ ap (λ s. cond s b (is_marked rows columns words n)) (same_at rows columns n m k l)
 
-  pub inserted : (m : Member) → IsMemberFor rows columns m → marked_set rows columns (set marks (place_in rows columns m) true) ≡ set_with (marked_set rows columns marks) m
-  inserted m l =
-      ap (set_of rows columns)
-      (filter_agree_on (is_marked rows columns (set marks (place_in rows columns m) true)) (λ n. is_same n m || has (marked_set rows columns marks).members n) (members_for rows columns)
-      (λ n c.
-      let k : IsMemberFor rows columns n = possible_is rows columns n c in
-      changed_mark m true l n k ∙ (chosen (is_same n m) (is_marked rows columns marks n) ∙ ap (λ b. is_same n m || b) (sym (has_mark n k)))))
-    where
-      chosen : (s b : Bool) → cond s true b ≡ (s || b)
-      chosen true b = refl
-      chosen false b = refl
+    pub inserted : b ≡ true → marked_set rows columns new ≡ set_with (marked_set rows columns words) m
+    inserted e =
+        ap (set_of rows columns)
+        (filter_agree_on (is_marked rows columns new) (λ n. is_same n m || has (marked_set rows columns words).members n) (members_for rows columns)
+        (λ n c.
+        let k : IsMemberFor rows columns n = possible_is rows columns n c in
+        changed_mark n k ∙ (ap (λ t. cond (is_same n m) t (is_marked rows columns words n)) e
+        ∙ (chosen (is_same n m) (is_marked rows columns words n) ∙ ap (λ t. is_same n m || t) (sym (has_mark n k))))))
+      where
+        chosen : (s t : Bool) → cond s true t ≡ (s || t)
+        chosen true t = refl
+        chosen false t = refl
 
-  pub removed : (m : Member) → IsMemberFor rows columns m → marked_set rows columns (set marks (place_in rows columns m) false) ≡ set_without (marked_set rows columns marks) m
-  removed m l =
-      ap (set_of rows columns)
-      (filter_agree_on (is_marked rows columns (set marks (place_in rows columns m) false)) (λ n. is_marked rows columns marks n && not (is_same n m)) (members_for rows columns)
-      (λ n c. changed_mark m false l n (possible_is rows columns n c) ∙ chosen (is_same n m) (is_marked rows columns marks n))
-      ∙ sym (filter_twice (is_marked rows columns marks) (λ n. not (is_same n m)) (members_for rows columns)))
-    where
-      chosen : (s b : Bool) → cond s false b ≡ (b && not s)
-      chosen true true = refl
-      chosen true false = refl
-      chosen false true = refl
-      chosen false false = refl
+    pub removed : b ≡ false → marked_set rows columns new ≡ set_without (marked_set rows columns words) m
+    removed e =
+        ap (set_of rows columns)
+        (filter_agree_on (is_marked rows columns new) (λ n. is_marked rows columns words n && not (is_same n m)) (members_for rows columns)
+        (λ n c. changed_mark n (possible_is rows columns n c) ∙ (ap (λ t. cond (is_same n m) t (is_marked rows columns words n)) e
+        ∙ chosen (is_same n m) (is_marked rows columns words n)))
+        ∙ sym (filter_twice (is_marked rows columns words) (λ n. not (is_same n m)) (members_for rows columns)))
+      where
+        chosen : (s t : Bool) → cond s false t ≡ (t && not s)
+        chosen true true = refl
+        chosen true false = refl
+        chosen false true = refl
+        chosen false false = refl
 
   -- ---- counting
-  pub count_step : (k : ℕ) → k < place_count rows columns → length (filter (is_marked rows columns marks) (take (k + 1) (members_for rows columns))) ≡ length (filter (is_marked rows columns marks) (take k (members_for rows columns))) + cond (get_or marks k false) 1 0
+  count_step : (k : ℕ) → k < place_count rows columns → length (filter (is_marked rows columns words) (take (k + 1) (members_for rows columns))) ≡ length (filter (is_marked rows columns words) (take k (members_for rows columns))) + cond (bit_of words k) 1 0
   count_step k l =
-      length-filter_more (is_marked rows columns marks) (members_for rows columns) k (RowLo 0) (subst (λ n. k < n) (sym (length-members_for rows columns)) l)
-      ∙ ap (λ b. length (filter (is_marked rows columns marks) (take k (members_for rows columns))) + cond b 1 0) (mark_at k (RowLo 0) l)
+      length-filter_more (is_marked rows columns words) (members_for rows columns) k (RowLo 0) (subst (λ n. k < n) (sym (length-members_for rows columns)) l)
+      ∙ ap (λ b. length (filter (is_marked rows columns words) (take k (members_for rows columns))) + cond b 1 0) (mark_at k (RowLo 0) l)
 
-  -- what an index reads is the mark
-  pub mark_read : (k : ℕ) (b : Bool) → k < length marks → b ≡ get_or marks k b → get_or marks k false ≡ b
-  mark_read k b l e = sym (get_or_read_under marks k (length marks) b false e l refl)
+  counted_to : (k : ℕ) → k ≤ place_count rows columns → count_below (bit_of words) k ≡ length (filter (is_marked rows columns words) (take k (members_for rows columns)))
+  counted_to zero l = refl
+  counted_to (suc k) l =
+      ap (λ n. n + cond (bit_of words k) 1 0) (counted_to k (omega arith))
+      ∙ (sym (count_step k (omega arith)) ∙ ap (λ j. length (filter (is_marked rows columns words) (take j (members_for rows columns)))) (add-one k))
 
-  pub count_next : (k n count : ℕ) (b : Bool) → k < length marks → get_or marks k false ≡ b → n ≡ length (filter (is_marked rows columns marks) (take k (members_for rows columns))) → count ≡ cond b (n + 1) n → count ≡ length (filter (is_marked rows columns marks) (take (k + 1) (members_for rows columns)))
-  count_next k n count b l e h g =
-      g ∙ (chosen n b ∙ (ap (λ i. i + cond b 1 0) h
-      ∙ (ap (λ c. length (filter (is_marked rows columns marks) (take k (members_for rows columns))) + cond c 1 0) (sym e)
-      ∙ sym (count_step k (subst (λ i. k < i) each l)))))
-    where
-      chosen : (n : ℕ) (b : Bool) → cond b (n + 1) n ≡ n + cond b 1 0
-      chosen n true = refl
-      chosen n false = omega arith
-
-  pub count_end : (k : ℕ) → length marks ≤ k → length (filter (is_marked rows columns marks) (take k (members_for rows columns))) ≡ length (marked_set rows columns marks).members
-  count_end k l =
-      ap (λ ms. length (filter (is_marked rows columns marks) ms))
-      (take_all k (members_for rows columns) (let a : length (members_for rows columns) ≡ place_count rows columns = length-members_for rows columns in let g : length (members_for rows columns) ≤ k = omega arith in g))
+  -- how many bits are set is how many members there are
+  pub counted : IsMarking rows columns words → ((k : ℕ) → get_or words k 0 < 2 ^ 64) → sum_by count_ones words ≡ length (marked_set rows columns words).members
+  counted h fits =
+      let all = length-members_for rows columns in
+      count_is words (place_count rows columns) fits (let e = h.each in omega arith) (λ k low _. h.none_past k low)
+      ∙ (counted_to (place_count rows columns) (omega arith)
+      ∙ ap (λ ms. length (filter (is_marked rows columns words) ms)) (take_all (place_count rows columns) (members_for rows columns) (omega arith)))
 
   -- ---- the first after a member
   -- the test of the members that are in the set and come after
   abbrev pub wanted : Option Member → Member → Bool
-  wanted after m = is_marked rows columns marks m && follows after m
+  wanted after m = is_marked rows columns words m && follows after m
 
   -- the search in what stands from a place on
   abbrev pub found_from : Option Member → ℕ → Option Member
   found_from after k = find (wanted after) (drop k (members_for rows columns))
 
-  pub found_is : (after : Option Member) → next_after (marked_set rows columns marks) after ≡ found_from after 0
-  found_is after = find_filter (is_marked rows columns marks) (follows after) (members_for rows columns)
+  pub found_is : (after : Option Member) → next_after (marked_set rows columns words) after ≡ found_from after 0
+  found_is after = find_filter (is_marked rows columns words) (follows after) (members_for rows columns)
 
   -- the order by places
   follows_is : (after : Option Member) → MatchOption after ⊤ (IsMemberFor rows columns) → (m : Member) → IsMemberFor rows columns m → follows after m ≡ not (ltb (place_in rows columns m) (place_after rows columns after))
@@ -301,98 +300,57 @@ module _ (rows columns : ℕ) (marks : List Bool) (each : length marks ≡ place
       ]
 
   -- whether the member at a place is wanted
-  wanted_at : (after : Option Member) → MatchOption after ⊤ (IsMemberFor rows columns) → (k : ℕ) (d : Member) → k < place_count rows columns → wanted after (get_or (members_for rows columns) k d) ≡ (get_or marks k false && not (ltb k (place_after rows columns after)))
+  wanted_at : (after : Option Member) → MatchOption after ⊤ (IsMemberFor rows columns) → (k : ℕ) (d : Member) → k < place_count rows columns → wanted after (get_or (members_for rows columns) k d) ≡ (bit_of words k && not (ltb k (place_after rows columns after)))
   wanted_at after h k d l =
       let t = place_at rows columns k d l in
       ap (λ b. b && follows after (get_or (members_for rows columns) k d)) (mark_at k d l)
-      ∙ ap (λ b. get_or marks k false && b) (follows_is after h (get_or (members_for rows columns) k d) t.0 ∙ ap (λ i. not (ltb i (place_after rows columns after))) t.1)
+      ∙ ap (λ b. bit_of words k && b) (follows_is after h (get_or (members_for rows columns) k d) t.0 ∙ ap (λ i. not (ltb i (place_after rows columns after))) t.1)
 
-  pub found_first : (after : Option Member) → MatchOption after ⊤ (IsMemberFor rows columns) → found_from after (place_after rows columns after) ≡ found_from after 0
-  found_first after h =
-      find_skips (wanted after) (members_for rows columns) (place_after rows columns after) (RowLo 0)
-      (λ k l m.
-      wanted_at after h k (RowLo 0) (subst (λ n. k < n) (length-members_for rows columns) m)
-      ∙ (ap (λ b. get_or marks k false && not b) (lt-ltb k (place_after rows columns after) l) ∙ none (get_or marks k false)))
-    where
-      none : (b : Bool) → (b && false) ≡ false
-      none true = refl
-      none false = refl
+  -- the first bit from the first place after a member on
+  module _ (after : Option Member) (h : MatchOption after ⊤ (IsMemberFor rows columns)) (place : ℕ) (first : IsFirstBit words (place_after rows columns after) place) where
+    found_first : found_from after place ≡ found_from after 0
+    found_first =
+        find_skips (wanted after) (members_for rows columns) place (RowLo 0)
+        (λ k l m.
+        wanted_at after h k (RowLo 0) (subst (λ n. k < n) (length-members_for rows columns) m)
+        ∙ elim (cases_lt k (place_after rows columns after)) [
+          | inl g ↦ and_right (bit_of words k) _ (ap not (lt-ltb k (place_after rows columns after) g))
+          | inr g ↦ and_left (bit_of words k) _ (first.none k g l)
+        ])
 
-  -- one place on: an unmarked place is passed over, and a marked one ends the search
-  found_step : (after : Option Member) → MatchOption after ⊤ (IsMemberFor rows columns) → (k : ℕ) → place_after rows columns after ≤ k → k < place_count rows columns → found_from after k ≡ cond (get_or marks k false) (Some (get_or (members_for rows columns) k (RowLo 0))) (found_from after (suc k))
-  found_step after h k a l =
-      find_step (wanted after) (members_for rows columns) k (RowLo 0) (subst (λ n. k < n) (sym (length-members_for rows columns)) l)
-      ∙ ap (λ b. cond b (Some (get_or (members_for rows columns) k (RowLo 0))) (found_from after (suc k)))
-      (wanted_at after h k (RowLo 0) l ∙ (ap (λ b. get_or marks k false && not b) (le-ltb k (place_after rows columns after) a) ∙ all (get_or marks k false)))
-    where
-      all : (b : Bool) → (b && true) ≡ b
-      all true = refl
-      all false = refl
+    -- the member there comes next
+    pub found_here : place < place_count rows columns → place_count rows columns ≤ 64 * length words → (m : Member) → IsMemberFor rows columns m → place ≡ place_in rows columns m → next_after (marked_set rows columns words) after ≡ Some m
+    found_here l room m i p =
+        let here : get_or (members_for rows columns) place (RowLo 0) ≡ m = ap (λ j. get_or (members_for rows columns) j (RowLo 0)) p ∙ at_place rows columns m (RowLo 0) i in
+        found_is after
+        ∙ (sym found_first
+        ∙ (find_step (wanted after) (members_for rows columns) place (RowLo 0) (subst (λ n. place < n) (sym (length-members_for rows columns)) l)
+        ∙ (cond-true (wanted after (get_or (members_for rows columns) place (RowLo 0))) _ _
+        (wanted_at after h place (RowLo 0) l ∙ and_from (bit_of words place) _ (first.here (omega arith)) (ap not (le-ltb place (place_after rows columns after) first.low)))
+        ∙ ap Some here)))
 
-  pub found_passes : (after : Option Member) → MatchOption after ⊤ (IsMemberFor rows columns) → (k : ℕ) → place_after rows columns after ≤ k → k < place_count rows columns → get_or marks k false ≡ false → found_from after (k + 1) ≡ found_from after k
-  found_passes after h k a l e =
-      ap (found_from after) (add-one k) ∙ sym (found_step after h k a l ∙ ap (λ b. cond b (Some (get_or (members_for rows columns) k (RowLo 0))) (found_from after (suc k))) e)
+    -- past the last place none does
+    pub found_none : place_count rows columns ≤ place → next_after (marked_set rows columns words) after ≡ None
+    found_none l =
+        found_is after
+        ∙ (sym found_first
+        ∙ ap (find (wanted after)) (drop_of_length-le (members_for rows columns) (subst (λ n. n ≤ place) (sym (length-members_for rows columns)) l)))
 
-  pub found_here : (after : Option Member) → MatchOption after ⊤ (IsMemberFor rows columns) → (k : ℕ) → place_after rows columns after ≤ k → k < place_count rows columns → get_or marks k false ≡ true → (m : Member) → IsMemberFor rows columns m → k ≡ place_in rows columns m → found_from after k ≡ Some m
-  found_here after h k a l e m i p =
-      found_step after h k a l
-      ∙ (ap (λ b. cond b (Some (get_or (members_for rows columns) k (RowLo 0))) (found_from after (suc k))) e
-      ∙ ap Some (ap (λ j. get_or (members_for rows columns) j (RowLo 0)) p ∙ at_place rows columns m (RowLo 0) i))
+  pub in_order : IsInOrder (marked_set rows columns words).members
+  in_order = AllPairs-filter (λ m n. comes_before m n ≡ true) (is_marked rows columns words) (members_for rows columns) (possible_in_order rows columns)
 
-  pub found_none : (after : Option Member) (k : ℕ) → length marks ≤ k → found_from after k ≡ None
-  found_none after k l =
-      ap (find (wanted after))
-      (drop_of_length-le (members_for rows columns) (let a : length (members_for rows columns) ≡ place_count rows columns = length-members_for rows columns in let g : length (members_for rows columns) ≤ k = omega arith in g))
-
-  pub in_order : IsInOrder (marked_set rows columns marks).members
-  in_order = AllPairs-filter (λ m n. comes_before m n ≡ true) (is_marked rows columns marks) (members_for rows columns) (possible_in_order rows columns)
-
--- ---- the marks of the active members
-pub active_marks : (model : Program) → marked_set (length model.rows) (length model.columns) (map (is_active model) (members_for (length model.rows) (length model.columns))) ≡ active_set model
-active_marks model =
-    let rows = length model.rows in
-    let columns = length model.columns in
-    ap (set_of (length model.rows) (length model.columns))
-    (filter_agree_on (is_marked (length model.rows) (length model.columns) (map (is_active model) (members_for (length model.rows) (length model.columns)))) (is_active model) (members_for (length model.rows) (length model.columns))
-    (λ m c.
-    let i : IsMemberFor (length model.rows) (length model.columns) m = possible_is (length model.rows) (length model.columns) m c in
-    get_or-map (is_active model) (members_for (length model.rows) (length model.columns)) (place_in (length model.rows) (length model.columns) m) m false
-    (subst (λ n. place_in (length model.rows) (length model.columns) m < n) (sym (length-members_for (length model.rows) (length model.columns))) (within_places (length model.rows) (length model.columns) m i))
-    ∙ ap (is_active model) (at_place (length model.rows) (length model.columns) m m i)))
-
--- one mark more
-pub marks_next : (model : Program) (rows columns k : ℕ) (before after : List Bool) (b : Bool) (m : Member) → k < place_count rows columns → before ≡ map (is_active model) (take k (members_for rows columns)) → IsMemberFor rows columns m → k ≡ place_in rows columns m → b ≡ is_active model m → after ≡ before ++ b ∷ [] → after ≡ map (is_active model) (take (k + 1) (members_for rows columns))
-marks_next model rows columns k before after b m l h i p e g =
-    let at : get_or (members_for rows columns) k m ≡ m = ap (λ j. get_or (members_for rows columns) j m) p ∙ at_place rows columns m m i in
-    g ∙ (ap (λ ms. ms ++ b ∷ []) h
-    ∙ (ap (λ c. map (is_active model) (take k (members_for rows columns)) ++ c ∷ []) (e ∙ sym (ap (is_active model) at))
-    ∙ (sym (map_more (is_active model) (members_for rows columns) k m (subst (λ n. k < n) (sym (length-members_for rows columns)) l))
-    ∙ ap (λ j. map (is_active model) (take j (members_for rows columns))) (sym (add-one k)))))
-
--- all marks
-pub marks_all : (model : Program) (rows columns k : ℕ) (marks : List Bool) → place_count rows columns ≤ k → marks ≡ map (is_active model) (take k (members_for rows columns)) → marks ≡ map (is_active model) (members_for rows columns)
-marks_all model rows columns k marks l h =
-    h ∙ ap (map (is_active model)) (take_all k (members_for rows columns) (subst (λ n. n ≤ k) (sym (length-members_for rows columns)) l))
-
-pub marks_count : (model : Program) (rows columns k : ℕ) (marks : List Bool) → place_count rows columns ≤ k → marks ≡ map (is_active model) (take k (members_for rows columns)) → length marks ≡ place_count rows columns
-marks_count model rows columns k marks l h =
-    ap length (marks_all model rows columns k marks l h) ∙ (length-map (members_for rows columns) (is_active model) ∙ length-members_for rows columns)
-
-pub marks_give : (model : Program) (rows columns k : ℕ) (marks : List Bool) → rows ≡ length model.rows → columns ≡ length model.columns → place_count rows columns ≤ k → marks ≡ map (is_active model) (take k (members_for rows columns)) → marked_set rows columns marks ≡ active_set model
-marks_give model rows columns k marks p q l h =
-    ap (marked_set rows columns) (marks_all model rows columns k marks l h)
-    ∙ (ap (λ r. marked_set r columns (map (is_active model) (members_for r columns))) p
-    ∙ (ap (λ c. marked_set (length model.rows) c (map (is_active model) (members_for (length model.rows) c))) q ∙ active_marks model))
-
--- where no mark is set
-pub no_marks : (rows columns n : ℕ) → filter (is_marked rows columns (replicate n false)) (members_for rows columns) ≡ []
-no_marks rows columns n = filter_none (members_for rows columns) (λ m. unset n (place_in rows columns m))
+-- ---- where no bit is set
+zero_bit : (n k : ℕ) → bit_of (replicate n 0) k ≡ false
+zero_bit n k = ap (λ (w : ℕ). eqb (bit_at w (k % 64)) 1) (zero_at n (k / 64)) ∙ ap (λ (b : ℕ). eqb b 1) (bit_at-zero (k % 64))
   where
-    unset : (n i : ℕ) → get_or (replicate n false) i false ≡ false
-    unset zero i = refl
-    unset (suc n) zero = refl
-    unset (suc n) (suc i) = unset n i
+    zero_at : (n i : ℕ) → get_or {A = ℕ} (replicate n 0) i 0 ≡ 0
+    zero_at zero i = refl
+    zero_at (suc n) zero = refl
+    zero_at (suc n) (suc i) = zero_at n i
 
-    filter_none : (xs : List Member) → ((m : Member) → is_marked rows columns (replicate n false) m ≡ false) → filter (is_marked rows columns (replicate n false)) xs ≡ []
-    filter_none [] h = refl
-    filter_none (m ∷ ms) h = ap (λ b. cond b (m ∷ filter (is_marked rows columns (replicate n false)) ms) (filter (is_marked rows columns (replicate n false)) ms)) (h m) ∙ filter_none ms h
+pub no_marks : (rows columns n : ℕ) → filter (is_marked rows columns (replicate n 0)) (members_for rows columns) ≡ []
+no_marks rows columns n = filter_none (members_for rows columns)
+  where
+    filter_none : (xs : List Member) → filter (is_marked rows columns (replicate n 0)) xs ≡ []
+    filter_none [] = refl
+    filter_none (m ∷ ms) = cond-false (is_marked rows columns (replicate n 0) m) _ _ (zero_bit n (place_in rows columns m)) ∙ filter_none ms

@@ -1,8 +1,11 @@
 -- Sets of members: what contracts see of one, and what is asked of it.
-use Rattle.std.specs.Prelude.{◌≡◌, ℕ, ◌+◌, ◌*◌, ◌<◌, ◌≤◌, Bool, true, false, not, ◌||◌, List, [], ◌++◌, length, slice_index_or, filter, find, Option, Some, None}
+use Rattle.std.specs.Prelude.{◌≡◌, ℕ, ◌+◌, ◌*◌, ◌<◌, ◌≤◌, Bool, true, false, not, ◌||◌, List, [], ◌++◌, length, filter, find, Contains, Option, Some, None}
+use Rattle.std.specs.Int.{div_ceil}
 use Rattle.std.proofs.Common.{zero, suc}
+use Rattle.lane_scan.specs.Bits.{bit_of}
 use Rattle.lp_model.specs.Program.{Program}
 use Rattle.lp_model.specs.Members.{Member, RowLo, RowUp, Lower, Upper, Whole, comes_before, is_same, has, numbered, row_side, active_members}
+use Rattle.lp_model.specs.Satisfaction.{IsPart}
 use Rattle.lp_model.specs.Shown.{most_rows, most_columns}
 
 -- how many rows and columns the program has, and the set's members in their order
@@ -60,7 +63,15 @@ next_after set after = find (follows after) set.members
 abbrev pub members_after : SetValue → Option Member → List Member
 members_after set after = filter (follows after) set.members
 
--- ---- how the code keeps a set: one mark for each possible member, in order
+-- each member of the one set is in the other
+abbrev pub IsWithin : SetValue → SetValue → Type 0
+IsWithin a b = IsPart a.members b.members
+
+-- some member is in both
+abbrev pub HaveCommon : SetValue → SetValue → Type 0
+HaveCommon a b = (m : Member) × Contains a.members m × Contains b.members m
+
+-- ---- how the code keeps a set: one bit for each possible member, in order
 -- how many possible members there are
 abbrev pub place_count : ℕ → ℕ → ℕ
 place_count rows columns = 2 * rows + (columns + (columns + columns))
@@ -78,16 +89,21 @@ abbrev pub place_after : ℕ → ℕ → Option Member → ℕ
 place_after rows columns None = zero
 place_after rows columns (Some m) = suc (place_in rows columns m)
 
--- whether a member's mark is set
-abbrev pub is_marked : ℕ → ℕ → List Bool → Member → Bool
-is_marked rows columns marks m = slice_index_or marks (place_in rows columns m) false
+-- how many words have a bit for each
+abbrev pub word_count : ℕ → ℕ → ℕ
+word_count rows columns = div_ceil (place_count rows columns) 64
 
--- the set of the members whose mark is set
-abbrev pub marked_set : ℕ → ℕ → List Bool → SetValue
-marked_set rows columns marks = record { rows = rows; columns = columns; members = filter (is_marked rows columns marks) (members_for rows columns) }
+-- whether a member's bit is set
+abbrev pub is_marked : ℕ → ℕ → List ℕ → Member → Bool
+is_marked rows columns words m = bit_of words (place_in rows columns m)
 
--- there is a mark for each, and the numbers are within the limits
-pub record IsMarking (rows columns : ℕ) (marks : List Bool) : Type 0 where
-  pub each : length marks ≡ place_count rows columns
+-- the set of the members whose bit is set
+abbrev pub marked_set : ℕ → ℕ → List ℕ → SetValue
+marked_set rows columns words = record { rows = rows; columns = columns; members = filter (is_marked rows columns words) (members_for rows columns) }
+
+-- there is a bit for each, none past them is set, and the numbers are within the limits
+pub record IsMarking (rows columns : ℕ) (words : List ℕ) : Type 0 where
+  pub each : length words ≡ word_count rows columns
+  pub none_past : (k : ℕ) → place_count rows columns ≤ k → bit_of words k ≡ false
   pub few_rows : rows ≤ most_rows
   pub few_columns : columns ≤ most_columns

@@ -1,11 +1,12 @@
 //! Sets of members.
-ghost use Rattle.std.specs.Prelude.{◌≡◌, ◌<◌, ◌≤◌, Option, MatchOption, IfOk, [], ⊤, filter, length};
+ghost use Rattle.std.specs.Prelude.{◌≡◌, ◌<◌, ◌≤◌, ◌↔◌, Option, MatchOption, IfOk, IsTrue, [], ⊤, filter, length};
 ghost use Rattle.lp_model.specs.Members.{has, IsInOrder, possible_members};
 ghost use Rattle.lp_model.specs.Shown.{most_rows, most_columns};
-ghost use Rattle.lp_model.specs.MemberSets.{possible_in, IsMemberFor, IsPossibleIn, empty_set, active_set, set_with, set_without, next_after, place_count, place_in, place_after};
+ghost use Rattle.lp_model.specs.MemberSets.{possible_in, IsMemberFor, IsPossibleIn, IsWithin, HaveCommon, empty_set, active_set, set_with, set_without, next_after, place_count, place_in, place_after, word_count};
 
 use crate::members::Member;
 use crate::models::Model;
+use lane_scan::{count, first_bit, has_bit, meets, put_bit, subset};
 use std::alloc::{AllocError, Global};
 
 /// A set of members of a program.
@@ -16,7 +17,7 @@ use std::alloc::{AllocError, Global};
 pub struct MemberSet {
     rows: u32,
     columns: u32,
-    marks: Vec<bool>,
+    words: Vec<u64>,
 }
 
 impl std::marker::Model for MemberSet {
@@ -24,9 +25,9 @@ impl std::marker::Model for MemberSet {
 
     ghost Value = { SetValue };
 
-    ghost view = { λ s. marked_set s.rows s.columns s.marks.items };
+    ghost view = { λ s. marked_set s.rows s.columns s.words.items };
 
-    ghost invariant = { λ s. IsMarking s.rows s.columns s.marks.items };
+    ghost invariant = { λ s. IsMarking s.rows s.columns s.words.items };
 }
 
 impl MemberSet {
@@ -36,11 +37,11 @@ impl MemberSet {
     {
         let rows = model.row_count();
         let columns = model.column_count();
-        let marks = vec![in alloc; false; count_places(rows, columns)]?;
+        let words = vec![in alloc; 0; count_words(rows, columns)]?;
         Ok(MemberSet {
             rows,
             columns,
-            marks,
+            words,
         })
     }
 
@@ -51,7 +52,7 @@ impl MemberSet {
         Ok(MemberSet {
             rows: self.rows,
             columns: self.columns,
-            marks: Vec::from_slice(alloc, self.marks.as_slice())?,
+            words: Vec::from_slice(alloc, self.words.as_slice())?,
         })
     }
 
@@ -62,7 +63,7 @@ impl MemberSet {
         Ok(MemberSet {
             rows: self.rows,
             columns: self.columns,
-            marks: vec![in alloc; false; self.marks.len()]?,
+            words: vec![in alloc; 0; self.words.len()]?,
         })
     }
 
@@ -72,7 +73,8 @@ impl MemberSet {
         requires { IsPossibleIn self.now member }
         ensures { result ≡ has self.now.members member }
     {
-        self.marks[place_of(self.rows, self.columns, member)]
+        let place = place_of(self.rows, self.columns, member);
+        has_bit(self.words.as_slice(), place)
     }
 
     /// Puts the member in its place in the set. Where it is there, the set stays as it was.
@@ -81,7 +83,7 @@ impl MemberSet {
         ensures { self.new ≡ set_with self.old member }
     {
         let place = place_of(self.rows, self.columns, member);
-        self.marks[place] = true;
+        put_bit(self.words.as_mut_slice(), place, true);
     }
 
     /// Takes the member out of the set. Where it is not there, the set stays as it was.
@@ -90,20 +92,35 @@ impl MemberSet {
         ensures { self.new ≡ set_without self.old member }
     {
         let place = place_of(self.rows, self.columns, member);
-        self.marks[place] = false;
+        put_bit(self.words.as_mut_slice(), place, false);
     }
 
     /// How many members the set has.
     pub fn count(&self) -> u64
         ensures { result ≡ length self.now.members }
     {
-        let mut count: u64 = 0;
-        for place in 0..self.marks.len() {
-            if self.marks[place] {
-                count += 1;
-            }
-        }
-        count
+        let words = self.words.as_slice();
+        count(words)
+    }
+
+    /// Whether each of its members is in another set of the same model.
+    pub fn within(&self, other: &MemberSet) -> bool
+        requires rows { self.now.rows ≡ other.now.rows }
+        requires columns { self.now.columns ≡ other.now.columns }
+        ensures { IsTrue result ↔ IsWithin self.now other.now }
+    {
+        let words = self.words.as_slice();
+        subset(words, other.words.as_slice())
+    }
+
+    /// Whether some member is in this set and in another one of the same model.
+    pub fn meets(&self, other: &MemberSet) -> bool
+        requires rows { self.now.rows ≡ other.now.rows }
+        requires columns { self.now.columns ≡ other.now.columns }
+        ensures { IsTrue result ↔ HaveCommon self.now other.now }
+    {
+        let words = self.words.as_slice();
+        meets(words, other.words.as_slice())
     }
 
     /// Its members are possible members, and stand in order. This is for proofs, and does nothing.
@@ -111,7 +128,7 @@ impl MemberSet {
         ensures possible { self.now.members ≡ filter (has self.now.members) (possible_in self.now) }
         ensures in_order { IsInOrder self.now.members }
     {
-        let _ = self.marks.len();
+        let _ = self.words.len();
     }
 
     /// Its members, one by one, in member order.
@@ -131,10 +148,9 @@ impl MemberSet {
         ensures { result ≡ next_after self.now after }
     {
         let first = first_place(self.rows, self.columns, after);
-        for place in first..self.marks.len() {
-            if self.marks[place] {
-                return Some(member_at(self.rows, self.columns, place));
-            }
+        let place = first_bit(self.words.as_slice(), first);
+        if place < count_places(self.rows, self.columns) {
+            return Some(member_at(self.rows, self.columns, place));
         }
         None
     }
@@ -237,18 +253,13 @@ impl Model {
     pub fn members(&self, alloc: Global) -> Result<MemberSet, AllocError>
         ensures { IfOk result (λ set. set ≡ active_set self.now) }
     {
-        let rows = self.row_count();
-        let columns = self.column_count();
-        let mut marks = Vec::new(alloc);
-        for place in 0..count_places(rows, columns) {
-            let active = self.is_active(member_at(rows, columns, place));
-            marks.push(active)?;
+        let mut set = MemberSet::empty(alloc, self)?;
+        for member in self.possible_members() {
+            if self.is_active(member) {
+                set.insert(member);
+            }
         }
-        Ok(MemberSet {
-            rows,
-            columns,
-            marks,
-        })
+        Ok(set)
     }
 }
 
@@ -259,6 +270,15 @@ fn count_places(rows: u32, columns: u32) -> usize
     ensures { result ≡ place_count rows columns }
 {
     2 * rows as usize + (columns as usize + (columns as usize + columns as usize))
+}
+
+// How many words have a bit for each of them.
+fn count_words(rows: u32, columns: u32) -> usize
+    requires few_rows { rows ≤ most_rows }
+    requires few_columns { columns ≤ most_columns }
+    ensures { result ≡ word_count rows columns }
+{
+    count_places(rows, columns).div_ceil(64)
 }
 
 // The place of a member among them, in order.

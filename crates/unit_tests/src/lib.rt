@@ -5,3 +5,5 @@
 mod calls;
 #[cfg(test)]
 mod fractions;
+#[cfg(test)]
+mod sets;

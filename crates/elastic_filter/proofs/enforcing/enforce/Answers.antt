@@ -55,7 +55,7 @@ include-requires g c =
 
 pub overflow_add-rounds : goal.overflow_add-rounds
 overflow_add-rounds g c =
-    let few : length c.loop-stop.enforced.members ≤ 16000 = subst (λ (s : SetValue). length s.members ≤ 16000) c.enforced.view_is (few_members c.enforced.inside.rows c.enforced.inside.columns c.enforced.inside.marks.items c.enforced.invariant) in
+    let few : length c.loop-stop.enforced.members ≤ 16000 = subst (λ (s : SetValue). length s.members ≤ 16000) c.enforced.view_is (few_members c.enforced.inside.rows c.enforced.inside.columns c.enforced.inside.words.items c.enforced.invariant) in
     let rounds : c.loop-stop.rounds ≤ suc (length c.loop-stop.enforced.members) = c.loop-stop.invariant.reached.few in
     omega arith
 

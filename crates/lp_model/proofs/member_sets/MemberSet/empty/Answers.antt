@@ -7,6 +7,6 @@ pub returns : goal.returns
 returns c =
     let rows = c.row_count-rows.result in
     let columns = c.column_count-columns.result in
-    ap (marked_set rows columns) (c.in_ok-marks.ensures.items_if_clones_equal (λ y h. h))
-    ∙ (ap (set_of rows columns) (no_marks rows columns c.count_places.result)
+    ap (marked_set rows columns) (c.in_ok-words.ensures.items_if_clones_equal (λ y h. h))
+    ∙ (ap (set_of rows columns) (no_marks rows columns c.count_words.result)
     ∙ (ap (λ (n : ℕ). set_of n columns []) c.row_count-rows.ensures.count ∙ ap (λ (n : ℕ). set_of (length c.args.model.now.rows) n []) c.column_count-columns.ensures.count))

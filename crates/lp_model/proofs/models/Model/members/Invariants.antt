@@ -1,8 +1,8 @@
-use Rattle.std.proofs.Common.{◌≡◌, map, take}
-use Rattle.lp_model.specs.Members.{is_active}
-use Rattle.lp_model.specs.MemberSets.{members_for}
+use Rattle.std.proofs.Common.{◌≡◌, ◌++◌, List}
+use Rattle.lp_model.specs.Members.{Member, possible_members}
+use Rattle.lp_model.proofs.Filled.{filled_set}
 use Rattle.lp_model.proofs.models.Model.members.Given as goal
 
--- there is a mark for each member before the place
-abbrev pub invariant-loop-place : goal.invariant-loop-place
-invariant-loop-place l = l.marks.items ≡ map (is_active l.self) (take l.place (members_for l.rows l.columns))
+-- the active ones of those gone through are in the set
+abbrev pub invariant-loop-member : goal.invariant-loop-member
+invariant-loop-member l = (done : List Member) × (possible_members l.self ≡ done ++ l.member-iterator) × (l.set ≡ filled_set l.self done)
