@@ -30,7 +30,7 @@ pub fn greatest_divisor(a: u128, b: u128) -> u128
 }
 
 // The same of 64-bit numbers.
-fn word_divisor(a: u64, b: u64) -> u64
+pub fn word_divisor(a: u64, b: u64) -> u64
     ensures { result ≡ gcd a b }
 {
     let (less, more) = if a < b { (a, b) } else { (b, a) };

@@ -1,7 +1,4 @@
 use Rattle.std.proofs.Common.{◌≡◌, ◌∙◌, ◌<◌, ℕ, List, length, get_or, false, sym, ap, subst, refl}
-use Rattle.std.specs.Prelude.{All}
-use Rattle.std.proofs.lemmas.List.{get_or_read_under}
-use Rattle.std.proofs.lemmas.List.Elements.{All-get_or}
 use Rattle.std.proofs.lemmas.Result.{err_from_is_err_and}
 use Rattle.rational.specs.Rational.{ℚ, ◌+ℚ◌, ◌*ℚ◌, zero_ℚ}
 use Rattle.rational.specs.Sum.{sum_over}
@@ -12,20 +9,8 @@ use Rattle.frac128.specs.Limit.{limit}
 use Rattle.frac128.specs.Width.{operation, is_wide}
 use Rattle.frac128.specs.Calculation.{first_wide, product_steps}
 use Rattle.frac128.proofs.Calculations.{product_at-wide, product_at-sum_wide, product_at-next, product_at-end}
-use Rattle.lp_model.specs.Satisfaction.{values_at}
+use Rattle.lp_model.proofs.Values.{at, factor, read}
 use Rattle.lp_model.proofs.evaluation.value_of.Goals as goal
-
--- the factor of a term, and the value of its column
-abbrev factor : Term → ℚ
-factor t = t.factor
-
-abbrev at : List ℚ → Term → ℚ
-at ys t = values_at ys t.column
-
--- what the index reads
-read : (ys : List ℚ) (xs : List Term) (i : ℕ) (x : Term) (j : ℕ) (y : ℚ) → All (λ t. t.column < length ys) xs → i < length xs → x ≡ get_or xs i x → j ≡ x.column → y ≡ get_or ys j y → y ≡ at ys x
-read ys xs i x j y all h is e f =
-    get_or_read_under ys x.column (length ys) y zero_ℚ (subst (λ (n : ℕ). y ≡ get_or ys n y) e f) (subst (λ (z : Term). z.column < length ys) (sym is) (All-get_or (λ (z : Term). z.column < length ys) xs i x h all)) refl
 
 pub loop-term-init : goal.loop-term-init
 loop-term-init c =
