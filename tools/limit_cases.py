@@ -4,6 +4,7 @@ Each is a name, the words of a run, the files by name, the status, and what is w
 """
 
 MOST_BYTES = 16_777_216
+MOST_ENTRIES = 8_000_000
 EMPTY = "iisan report 2\nreport end\n"
 MODEL = "ROWS\n G r\nCOLUMNS\n x r 2\nRHS\n r 3\nENDATA\n"
 
@@ -17,10 +18,10 @@ def mps_models():
     entries = lambda count: fifty + "".join(f" X{k // 50} R{k % 50} {k % 3}\n" for k in range(count)) + "ENDATA\n"
     named = lambda length: f"ROWS\n L {'r' * length}\nCOLUMNS\nENDATA\n"
     line = lambda length: f"ROWS\n{'*' * length}\nCOLUMNS\nENDATA\n"
-    yield "rows", rows("L", 2_000), rows("L", 2_001), (2_002, "limit")
-    yield "rows without sides", rows("N", 1_000), rows("N", 1_001), (1_002, "limit")
-    yield "columns", columns(4_000), columns(4_001), (4_004, "limit")
-    yield "entries", entries(100_000), entries(100_001), (100_053, "limit")
+    yield "rows", rows("L", 20_000), rows("L", 20_001), (20_002, "limit")
+    yield "rows without sides", rows("N", 10_000), rows("N", 10_001), (10_002, "limit")
+    yield "columns", columns(40_000), columns(40_001), (40_004, "limit")
+    yield "entries", entries(400_000), entries(400_001), (400_053, "limit")
     yield "a name", named(255), named(256), (2, "limit")
     yield "a line", line(65_536), line(65_537), (2, "long line")
 
@@ -31,10 +32,10 @@ def lp_models():
     rows = lambda count: "min\nst\n" + "x\n>= 1\n" * count + "end\n"
     columns = lambda count: "min\n" + "".join(f"+ x{j}\n" for j in range(count)) + "st\nend\n"
     terms = lambda objective: "min\n" + "+ x\n" * objective + "st\n" + ("+ x - y\n" * 500 + ">= 1\n") * 50 + "end\n"
-    yield "labels", labels(2_000), labels(2_001), (2_003, "limit")
-    yield "rows", rows(2_000), rows(2_001), (4_004, "limit")
-    yield "columns", columns(4_000), columns(4_001), (4_002, "limit")
-    yield "terms", terms(50_000), terms(50_001), (75_052, "limit")
+    yield "labels", labels(20_000), labels(20_001), (20_003, "limit")
+    yield "rows", rows(20_000), rows(20_001), (40_004, "limit")
+    yield "columns", columns(40_000), columns(40_001), (40_002, "limit")
+    yield "terms", terms(350_000), terms(350_001), (375_052, "limit")
     for name, begin, byte, end, most, fault in (
         ("a column", "min\n", "x", "\nst\nend\n", 255, (2, "limit")),
         ("an objective", "min\n", "x", ":\ny\nst\nend\n", 255, (2, "limit")),
@@ -59,10 +60,13 @@ def scripts():
         yield f"10001 times {command.decode().strip()}", command * 10_001 + b"# end\n", 10_001
 
 
-def large():
-    """A model of 2,000 rows of two columns each, whose tables are too large: it has 6,000 members, each of which may give way."""
-    rows = "".join(f" r{i}: x{i} + y{i} >= 0\n" for i in range(1, 2_001))
-    sizes = {"unbounded": 8_004_000, "check": None, "relax": 60_010_000, "iis elastic": 60_010_000, "iis alternative": 24_012_000}
+def large(count):
+    """A model of so many rows of two columns each, most tables of which are too large: each row and its bounds may give way."""
+    rows = "".join(f" r{i}: x{i} + y{i} >= 0\n" for i in range(1, count + 1))
+    columns, elastic = 2 * count, (3 * count + 1) * 5 * count
+    whole = count * columns if count * columns > MOST_ENTRIES else None
+    sizes = {"unbounded": (count + 1) * columns, "check": whole, "iis deletion": whole, "iis additive": whole, "iis sensitivity": whole}
+    sizes |= {"relax": elastic, "iis elastic": elastic, "iis alternative": (columns + 2) * 3 * count}
     answers = "".join(f"command {it}\n" + (f"too large {size}\nend\n" if size else "feasible\npoint\nend\n") for it, size in sizes.items())
     return f"Minimize\n obj: x1\nSubject To\n{rows}End\n", "\n".join(sizes), f"iisan report 2\n{answers}report end\n"
 
@@ -77,7 +81,8 @@ def cases():
     for name, text, told in scripts():
         answered = (0 if "undo" not in str(told) else 1, f"iisan report 2\n{told}report end\n")
         yield name, words, {"m": MODEL, "s": text}, *((6, f"script refused line {told}\n") if isinstance(told, int) else answered)
-    model, script, report = large()
-    yield "tables that are too large", ["analyse", "m.lp", "s"], {"m.lp": model, "s": script}, 1, report
+    for count in (2_000, 2_001):
+        model, script, report = large(count)
+        yield f"tables of {count} rows that are too large", ["analyse", "m.lp", "s"], {"m.lp": model, "s": script}, 1, report
     for name, files in (("model", {"m": "\n" * (MOST_BYTES + 1), "s": ""}), ("script", {"m": MODEL, "s": "\n" * (MOST_BYTES + 1)})):
         yield f"a long {name}", words, files, 3, f"too long {name}\n"

@@ -65,10 +65,10 @@ use Rattle.analysis.specs.NamesAreWords.{HasWords}
 use Rattle.alt_polyhedron.specs.Pricing.{IsPricingStop}
 use Rattle.relaxation.specs.Relaxed.{IsRelaxStop}
 use Rattle.unbounded.specs.Diagnosed.{IsBoundedBy, IsOwnStop, IsUnboundedBy}
-use Rattle.analysis.specs.Objectives.{IsDiagnosed, IsTold, diagnosis_size, most_entries}
+use Rattle.analysis.specs.Objectives.{IsSized, IsTold, most_entries, system_size}
 use Rattle.analysis.specs.Least.{IsLeastTold}
 use Rattle.analysis.specs.Linear.{IsLinearly, IsLinearlyBy, alternative_size, elastic_size, first_mark}
-use Rattle.analysis.specs.Right.{AreRight, IsAtRun, IsChecked, IsChainStop, IsCheapestCore, IsEnforcedTold, IsIsolated, IsLateOfRounds, IsPrintedSite, IsReduction, IsRefutation, IsRightAfter, IsRightCore, IsRoundsTest, IsSettleStop, IsStoppedBy, IsWhole, IsSupportTest, IsWeighedTold, Right, RightAfter, budgets_in_force}
+use Rattle.analysis.specs.Right.{AreRight, IsAtRun, IsBare, IsChainStop, IsCheapestCore, IsCoreFound, IsEarlyFound, IsEnforcedTold, IsIsolated, IsLateFound, IsLateOfRounds, IsPrintedSite, IsReduction, IsRefutation, IsRightAfter, IsRightCore, IsRoundsTest, IsSettleStop, IsSolved, IsStoppedBy, IsSupportTest, IsWeighedTold, IsWhole, Right, RightAfter, budgets_in_force}
 use Rattle.analysis.specs.Pieces.{Answers}
 use Rattle.analysis.proofs.Leaving.{known_steps}
 use Rattle.analysis.specs.Written.{report_of}
@@ -204,19 +204,19 @@ module _ (model : Program) (words : HasWords model) where
   abbrev IsAnswerTo : Command → Answer → Type 0
   IsAnswerTo command answer = (can_answer command answer ≡ true) × IsAnswerFor model answer
 
-  checked_form : (budgets : Budgets) (answer : Answer) → IsChecked model budgets answer → HasNumbersWithin answer → IsAnswerTo Check answer
-  checked_form budgets (Feasible p) h within = (refl, point_form (active_members model) p h.0 within)
-  checked_form budgets (Infeasible printed proof) h within = (refl, refutation_form printed proof h.0 within)
-  checked_form budgets (Irreducible core) h within = absurd h
-  checked_form budgets (RunsAway p ray) h within = absurd h
-  checked_form budgets (BoundedBy b) h within = absurd h
-  checked_form budgets (LeastBy p dual) h within = absurd h
-  checked_form budgets (RigidRefuted printed proof) h within = absurd h
-  checked_form budgets (Reduced r) h within = absurd h
-  checked_form budgets Done h within = absurd h
-  checked_form budgets (Refused r) h within = absurd h
-  checked_form budgets (NotLinear j) h within = absurd h
-  checked_form budgets (Stopped stop) h within = (refl, stop_form (IsSettleStop (IsWhole model) model budgets) stop h within)
+  solved_form : (budgets : Budgets) (answer : Answer) → IsSolved model budgets answer → HasNumbersWithin answer → IsAnswerTo Check answer
+  solved_form budgets (Feasible p) h within = (refl, point_form (active_members model) p h.0 within)
+  solved_form budgets (Infeasible printed proof) h within = (refl, refutation_form printed proof h.0 within)
+  solved_form budgets (Irreducible core) h within = absurd h
+  solved_form budgets (RunsAway p ray) h within = absurd h
+  solved_form budgets (BoundedBy b) h within = absurd h
+  solved_form budgets (LeastBy p dual) h within = absurd h
+  solved_form budgets (RigidRefuted printed proof) h within = absurd h
+  solved_form budgets (Reduced r) h within = absurd h
+  solved_form budgets Done h within = absurd h
+  solved_form budgets (Refused r) h within = absurd h
+  solved_form budgets (NotLinear j) h within = absurd h
+  solved_form budgets (Stopped stop) h within = (refl, stop_form (IsSettleStop (IsWhole model) model budgets) stop h within)
 
   -- a stop, to a command that may have one
   stopped_form : (command : Command) (IsSo : Site → Stop → Type 0) (answer : Answer) → ((stop : Stop) → can_answer command (Stopped stop) ≡ true) → IsStoppedBy (IsAtRun model IsSo) answer → HasNumbersWithin answer → IsAnswerTo command answer
@@ -238,10 +238,22 @@ module _ (model : Program) (words : HasWords model) where
   isolated_form IsKept IsTest method budgets (NotLinear j) told h within = absurd h
   isolated_form IsKept IsTest method budgets (Stopped stop) told h within = (refl, stop_form (IsSettleStop IsTest model budgets) stop h within)
 
+  -- neither rounds nor a price is told
+  bare_form : (IsKept IsTest : List Member → Type 0) (method : Method) (budgets : Budgets) → ((core : Core) → core.rounds ≡ None → core.price ≡ None → can_answer (Iis method) (Irreducible core) ≡ true)
+      → (answer : Answer) → IsIsolated (IsBare IsKept) IsTest model budgets answer → HasNumbersWithin answer → IsAnswerTo (Iis method) answer
+  bare_form IsKept IsTest method budgets told answer h within = isolated_form (IsBare IsKept) IsTest method budgets answer (λ core k. told core k.0 k.1.0) h within
+
   -- ---- of programs without active marks
   -- the column of the first mark is one of the program
   mark_form : (j : ℕ) → first_mark (active_members model) ≡ Some j → IsNamedColumn model j
   mark_form j e = named_column j (mark_known model j e)
+
+  sized_form : (command : Command) (size : ℕ) (IsTold : Answer → Type 0) (answer : Answer) → ((n : ℕ) → can_answer command (Stopped (Large n)) ≡ true)
+      → ((a : Answer) → IsTold a → HasNumbersWithin a → IsAnswerTo command a) → IsSized size IsTold answer → HasNumbersWithin answer → IsAnswerTo command answer
+  sized_form command size IsTold answer larges told h within = elim (cases_lt most_entries size) [
+    | inl l ↦ subst (IsAnswerTo command) (sym (h.0 l)) (larges size, subst HasNumbersWithin (h.0 l) within)
+    | inr l ↦ told answer (h.1 l) within
+  ]
 
   linearly_form : (command : Command) (size : ℕ) (IsTold : Answer → Type 0) (answer : Answer)
       → ((j : ℕ) → can_answer command (NotLinear j) ≡ true) → ((n : ℕ) → can_answer command (Stopped (Large n)) ≡ true) → ((a : Answer) → IsTold a → HasNumbersWithin a → IsAnswerTo command a)
@@ -250,10 +262,7 @@ module _ (model : Program) (words : HasWords model) where
     where
       by : (mark : Option ℕ) → first_mark (active_members model) ≡ mark → IsLinearlyBy mark size IsTold answer → IsAnswerTo command answer
       by (Some j) e h = subst (IsAnswerTo command) (sym h) (marks j, mark_form j e)
-      by None e h = elim (cases_lt most_entries size) [
-        | inl l ↦ subst (IsAnswerTo command) (sym (h.0 l)) (larges size, subst HasNumbersWithin (h.0 l) within)
-        | inr l ↦ told answer (h.1 l) within
-      ]
+      by None e h = sized_form command size IsTold answer larges told h within
 
   -- ---- the elastic filter
   enforced_form : (budgets : Budgets) (answer : Answer) → IsEnforcedTold model budgets answer → HasNumbersWithin answer → IsAnswerTo (Iis Elastic) answer
@@ -308,12 +317,6 @@ module _ (model : Program) (words : HasWords model) where
   told_form budgets (Stopped stop) (inl h) within = (refl, stop_form (IsSettleStop (IsWhole model) model budgets) stop h within)
   told_form budgets (Stopped stop) (inr h) within = (refl, stop_form (λ site s. IsOwnStop model (active_members model) budgets.pivots s) stop h within)
 
-  diagnosed_form : (budgets : Budgets) (answer : Answer) → IsDiagnosed model budgets answer → HasNumbersWithin answer → IsAnswerTo Unbounded answer
-  diagnosed_form budgets answer h within = elim (cases_lt most_entries (diagnosis_size model)) [
-    | inl l ↦ subst (IsAnswerTo Unbounded) (sym (h.large l)) (refl, subst HasNumbersWithin (h.large l) within)
-    | inr l ↦ told_form budgets answer (h.told l) within
-  ]
-
   -- ---- how little must give way
   least_form : (p : Point) (dual : Dual) → IsLeastBy model (active_members model) p dual → IsLeastWithin p dual → IsLeastFor model p dual
   least_form p dual h within = record {
@@ -365,16 +368,16 @@ module _ (model : Program) (words : HasWords model) where
   reduction_form formed (Stopped stop) h within = absurd h
 
   answer_form : IsWellFormed model → (budgets : Budgets) (command : Command) (answer : Answer) → Right model budgets command answer → HasNumbersWithin answer → IsAnswerTo command answer
-  answer_form formed budgets Unbounded answer h within = diagnosed_form budgets answer h within
+  answer_form formed budgets Unbounded answer h within = sized_form Unbounded (system_size model 1) (IsTold model budgets) answer (λ n. refl) (told_form budgets) h within
   answer_form formed budgets Reduce answer h within = reduction_form formed answer h within
-  answer_form formed budgets Check answer h within = checked_form budgets answer h within
+  answer_form formed budgets Check answer h within = sized_form Check (system_size model 0) (IsSolved model budgets) answer (λ n. refl) (solved_form budgets) h within
   answer_form formed budgets Relax answer h within =
       linearly_form Relax (elastic_size model (active_members model) (rigid_members model (active_members model))) (IsLeastTold model budgets) answer (λ j. refl) (λ n. refl) (relaxed_form budgets) h within
-  answer_form formed budgets (Iis Deletion) answer h within = isolated_form _ _ Deletion budgets answer (λ core k. subst (λ (rounds : Option ℕ). (has_rounds Deletion rounds && has_price Deletion core.price) ≡ true) (sym k.0) (subst (λ (price : Option (ℚ × Point)). has_price Deletion price ≡ true) (sym k.1.0) refl)) h within
-  answer_form formed budgets (Iis Additive) answer h within = isolated_form _ _ Additive budgets answer (λ core k. subst (λ (rounds : Option ℕ). (has_rounds Additive rounds && has_price Additive core.price) ≡ true) (sym k.0) (subst (λ (price : Option (ℚ × Point)). has_price Additive price ≡ true) (sym k.1.0) refl)) h within
+  answer_form formed budgets (Iis Deletion) answer h within = sized_form (Iis Deletion) (system_size model 0) (IsLateFound model budgets) answer (λ n. refl) (bare_form _ _ Deletion budgets (λ core bare unpriced. subst (λ (rounds : Option ℕ). (has_rounds Deletion rounds && has_price Deletion core.price) ≡ true) (sym bare) (subst (λ (price : Option (ℚ × Point)). has_price Deletion price ≡ true) (sym unpriced) refl))) h within
+  answer_form formed budgets (Iis Additive) answer h within = sized_form (Iis Additive) (system_size model 0) (IsEarlyFound model budgets) answer (λ n. refl) (bare_form _ _ Additive budgets (λ core bare unpriced. subst (λ (rounds : Option ℕ). (has_rounds Additive rounds && has_price Additive core.price) ≡ true) (sym bare) (subst (λ (price : Option (ℚ × Point)). has_price Additive price ≡ true) (sym unpriced) refl))) h within
   answer_form formed budgets (Iis Elastic) answer h within = linearly_form (Iis Elastic) (elastic_size model (active_members model) []) (IsEnforcedTold model budgets) answer (λ j. refl) (λ n. refl) (enforced_form budgets) h within
   answer_form formed budgets (Iis Alternative) answer h within = linearly_form (Iis Alternative) (alternative_size model (active_members model)) (IsWeighedTold model budgets) answer (λ j. refl) (λ n. refl) (weighed_form budgets) h within
-  answer_form formed budgets (Iis Sensitivity) answer h within = isolated_form _ _ Sensitivity budgets answer (λ core k. subst (λ (rounds : Option ℕ). (has_rounds Sensitivity rounds && has_price Sensitivity core.price) ≡ true) (sym k.0) (subst (λ (price : Option (ℚ × Point)). has_price Sensitivity price ≡ true) (sym k.1.0) refl)) h within
+  answer_form formed budgets (Iis Sensitivity) answer h within = sized_form (Iis Sensitivity) (system_size model 0) (IsCoreFound model budgets) answer (λ n. refl) (bare_form _ _ Sensitivity budgets (λ core bare unpriced. subst (λ (rounds : Option ℕ). (has_rounds Sensitivity rounds && has_price Sensitivity core.price) ≡ true) (sym bare) (subst (λ (price : Option (ℚ × Point)). has_price Sensitivity price ≡ true) (sym unpriced) refl))) h within
   answer_form formed budgets (Edit e) answer h within = absurd h
   answer_form formed budgets Undo answer h within = absurd h
   answer_form formed budgets (Pivots n) answer h within = subst (IsAnswerTo (Pivots n)) (sym h) (refl, tt)

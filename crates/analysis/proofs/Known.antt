@@ -28,8 +28,8 @@ use Rattle.unbounded.specs.Diagnosed.{IsOwnStop}
 use Rattle.report_printer.specs.Printing.{IsKnownAnswer, IsKnownCore, IsKnownPrice, IsKnownProof, IsKnownSite, IsKnownStep, IsKnownStop}
 use Rattle.analysis.specs.Least.{IsLeastTold, IsRelaxation}
 use Rattle.analysis.specs.Linear.{IsLinearly, IsLinearlyBy, alternative_size, elastic_size, first_mark}
-use Rattle.analysis.specs.Objectives.{IsDiagnosed, IsTold, diagnosis_size, most_entries}
-use Rattle.analysis.specs.Right.{IsAtRun, IsChainStop, IsChecked, IsEnforcedTold, IsFound, IsIsolated, IsPrintedSite, IsReduction, IsRefutation, IsRightCore, IsSettleStop, IsStoppedBy, IsWeighedTold, IsWhole}
+use Rattle.analysis.specs.Objectives.{IsDiagnosed, IsSized, IsTold, most_entries, system_size}
+use Rattle.analysis.specs.Right.{IsAtRun, IsChainStop, IsChecked, IsCoreFound, IsEarlyFound, IsEnforcedTold, IsFound, IsIsolated, IsLateFound, IsPrintedSite, IsReduction, IsRefutation, IsRightCore, IsSettleStop, IsSolved, IsStoppedBy, IsWeighedTold, IsWhole}
 use Rattle.analysis.proofs.Easing.{least_known}
 use Rattle.analysis.proofs.Found.{part_possible}
 use Rattle.analysis.proofs.Leaving.{known_steps}
@@ -74,11 +74,11 @@ module _ (model : Program) where
   known_stopped IsSo answer h = subst (IsKnownAnswer model) (sym h.is) (known_stop IsSo h.stop h.so)
 
   -- ---- answers
-  known_checked : (budgets : Budgets) (answer : Answer) → IsChecked model budgets answer → IsKnownAnswer model answer
-  known_checked budgets (Feasible p) h = h.0.each_column
-  known_checked budgets (Infeasible printed proof) h = known_refutation printed proof h.0
-  known_checked budgets (Stopped stop) h = known_stop (IsSettleStop (IsWhole model) model budgets) stop h
-  known_checked budgets _ h = absurd h
+  known_solved : (budgets : Budgets) (answer : Answer) → IsSolved model budgets answer → IsKnownAnswer model answer
+  known_solved budgets (Feasible p) h = h.0.each_column
+  known_solved budgets (Infeasible printed proof) h = known_refutation printed proof h.0
+  known_solved budgets (Stopped stop) h = known_stop (IsSettleStop (IsWhole model) model budgets) stop h
+  known_solved budgets _ h = absurd h
 
   known_isolated : (IsKept : Core → Type 0) (IsTest : List Member → Type 0) (budgets : Budgets) (answer : Answer) → IsIsolated IsKept IsTest model budgets answer → IsKnownAnswer model answer
   known_isolated IsKept IsTest budgets (Feasible p) h = h.each_column
@@ -86,16 +86,20 @@ module _ (model : Program) where
   known_isolated IsKept IsTest budgets (Stopped stop) h = known_stop (IsSettleStop IsTest model budgets) stop h
   known_isolated IsKept IsTest budgets _ h = absurd h
 
+  -- a size, or what is told
+  known_sized : (size : ℕ) (IsTold : Answer → Type 0) (answer : Answer) → ((a : Answer) → IsTold a → IsKnownAnswer model a) → IsSized size IsTold answer → IsKnownAnswer model answer
+  known_sized size IsTold answer told h = elim (cases_lt most_entries size) [
+    | inl l ↦ subst (IsKnownAnswer model) (sym (h.0 l)) tt
+    | inr l ↦ told answer (h.1 l)
+  ]
+
   -- the column of the first mark, a size, or what is told
   known_linearly : (size : ℕ) (IsTold : Answer → Type 0) (answer : Answer) → ((a : Answer) → IsTold a → IsKnownAnswer model a) → IsLinearly model size IsTold answer → IsKnownAnswer model answer
   known_linearly size IsTold answer told h = by (first_mark (active_members model)) refl h
     where
       by : (mark : Option ℕ) → first_mark (active_members model) ≡ mark → IsLinearlyBy mark size IsTold answer → IsKnownAnswer model answer
       by (Some j) e h = subst (IsKnownAnswer model) (sym h) (mark_known model j e)
-      by None e h = elim (cases_lt most_entries size) [
-        | inl l ↦ subst (IsKnownAnswer model) (sym (h.0 l)) tt
-        | inr l ↦ told answer (h.1 l)
-      ]
+      by None e h = known_sized size IsTold answer told h
 
   known_enforced : (budgets : Budgets) (answer : Answer) → IsEnforcedTold model budgets answer → IsKnownAnswer model answer
   known_enforced budgets answer (inl h) = known_isolated _ _ budgets answer h
@@ -106,9 +110,9 @@ module _ (model : Program) where
   known_weighed budgets answer (inr h) = known_stopped (λ site s. IsPricingStop model (active_members model) budgets.pivots s) answer h
 
   known_found : (method : Method) (budgets : Budgets) (answer : Answer) → IsFound method model budgets answer → IsKnownAnswer model answer
-  known_found Deletion budgets answer h = known_isolated _ _ budgets answer h
-  known_found Additive budgets answer h = known_isolated _ _ budgets answer h
-  known_found Sensitivity budgets answer h = known_isolated _ _ budgets answer h
+  known_found Deletion budgets answer h = known_sized (system_size model 0) (IsLateFound model budgets) answer (known_isolated _ _ budgets) h
+  known_found Additive budgets answer h = known_sized (system_size model 0) (IsEarlyFound model budgets) answer (known_isolated _ _ budgets) h
+  known_found Sensitivity budgets answer h = known_sized (system_size model 0) (IsCoreFound model budgets) answer (known_isolated _ _ budgets) h
   known_found Elastic budgets answer h = known_linearly (elastic_size model (active_members model) []) (IsEnforcedTold model budgets) answer (known_enforced budgets) h
   known_found Alternative budgets answer h = known_linearly (alternative_size model (active_members model)) (IsWeighedTold model budgets) answer (known_weighed budgets) h
 
@@ -119,12 +123,6 @@ module _ (model : Program) where
   known_told budgets (Stopped stop) (inl h) = known_stop (IsSettleStop (IsWhole model) model budgets) stop h
   known_told budgets (Stopped stop) (inr h) = known_stop (λ site s. IsOwnStop model (active_members model) budgets.pivots s) stop h
   known_told budgets _ h = absurd h
-
-  known_diagnosed : (budgets : Budgets) (answer : Answer) → IsDiagnosed model budgets answer → IsKnownAnswer model answer
-  known_diagnosed budgets answer h = elim (cases_lt most_entries (diagnosis_size model)) [
-    | inl l ↦ subst (IsKnownAnswer model) (sym (h.large l)) tt
-    | inr l ↦ known_told budgets answer (h.told l)
-  ]
 
   known_least : (budgets : Budgets) (answer : Answer) → IsLeastTold model budgets answer → IsKnownAnswer model answer
   known_least budgets (LeastBy p dual) h = least_known model p dual h
@@ -142,7 +140,7 @@ module _ (model : Program) where
 
 -- ---- what a call answers
 pub known_check : (model : Program) (budgets : Budgets) {E : Type 0} (result : Result Answer E) → IfOk result (IsChecked model budgets) → IfOk result (IsKnownAnswer model)
-known_check model budgets (Ok answer) h = known_checked model budgets answer h
+known_check model budgets (Ok answer) h = known_sized model (system_size model 0) (IsSolved model budgets) answer (known_solved model budgets) h
 known_check model budgets (Err error) h = tt
 
 pub known_search : (method : Method) (model : Program) (budgets : Budgets) {E : Type 0} (result : Result Answer E) → IfOk result (IsFound method model budgets) → IfOk result (IsKnownAnswer model)
@@ -150,7 +148,7 @@ known_search method model budgets (Ok answer) h = known_found model method budge
 known_search method model budgets (Err error) h = tt
 
 pub known_diagnosis : (model : Program) (budgets : Budgets) {E : Type 0} (result : Result Answer E) → IfOk result (IsDiagnosed model budgets) → IfOk result (IsKnownAnswer model)
-known_diagnosis model budgets (Ok answer) h = known_diagnosed model budgets answer h
+known_diagnosis model budgets (Ok answer) h = known_sized model (system_size model 1) (IsTold model budgets) answer (known_told model budgets) h
 known_diagnosis model budgets (Err error) h = tt
 
 pub known_relaxation : (model : Program) (budgets : Budgets) {E : Type 0} (result : Result Answer E) → IfOk result (IsRelaxation model budgets) → IfOk result (IsKnownAnswer model)

@@ -32,7 +32,7 @@ use Rattle.presolve_laws.specs.Answers.{IsLeafOf, set_system}
 use Rattle.presolve_laws.specs.Eased.{DecidesBy}
 use Rattle.report_text.specs.declared.report.Answer.{Answer}
 use Rattle.analysis.specs.Answers.{IsRefutedBy}
-use Rattle.analysis.specs.Right.{IsChecked, IsReduction, IsRefutation, TreeCloses}
+use Rattle.analysis.specs.Right.{IsSolved, IsReduction, IsRefutation, TreeCloses}
 
 -- a proof of the active members refutes those that it uses
 pub refutes : (model : Program) (proof : Proof) (printed : SetValue) → IsProof model (active_members model) proof.nodes → AreLeavesInOrder proof.nodes → All IsFittingNode proof.nodes → printed ≡ used_set (active_set model) proof.nodes → IsRefutation model printed proof
@@ -44,9 +44,9 @@ refutes model proof printed p ordered fits same = record {
 }
 
 -- as an answer it is right to a check
-pub checked_refuted : (model : Program) (budgets : Budgets) (proof : Proof) {E : Type 0} (result : Result Answer E) → IfOk result (IsRefutedBy model proof) → TreeCloses model budgets proof → IfOk result (IsChecked model budgets)
-checked_refuted model budgets proof (Ok answer) (printed, (e, h)) closes = subst (IsChecked model budgets) (sym e) (h, closes)
-checked_refuted model budgets proof (Err error) h closes = tt
+pub solved_refuted : (model : Program) (budgets : Budgets) (proof : Proof) {E : Type 0} (result : Result Answer E) → IfOk result (IsRefutedBy model proof) → TreeCloses model budgets proof → IfOk result (IsSolved model budgets)
+solved_refuted model budgets proof (Ok answer) (printed, (e, h)) closes = subst (IsSolved model budgets) (sym e) (h, closes)
+solved_refuted model budgets proof (Err error) h closes = tt
 
 -- and to a reduction that decides
 pub decided_refuted : (model : Program) (proof : Proof) (of : List VariableShare) → DecidesBy (set_system model (active_members model)) of → IsLeafOf model (active_members model) proof of

@@ -6,6 +6,7 @@ use Rattle.lp_model.specs.Program.{Program}
 use Rattle.lp_model.specs.Members.{has}
 use Rattle.lp_model.specs.MemberSets.{SetValue, IsMemberFor, IsPossibleIn, place_count, possible_in}
 use Rattle.lp_model.proofs.Marked.{length-members_for}
+use Rattle.lp_model.specs.Shown.{most_columns, most_members, most_rows}
 use Rattle.certs.specs.Checks.{IsSetOf}
 use Rattle.certs.specs.Elastic.{soft_members}
 use Rattle.certs.specs.Named.{IsOfSize}
@@ -44,7 +45,7 @@ pub soft_few : (set enforced : List Member) → length (soft_members set enforce
 soft_few set enforced = kept_few (λ m. not (has enforced m)) set
 
 -- a set of few rows and columns has few members
-pub members_few : (set : SetValue) → set.members ≡ filter (has set.members) (possible_in set) → set.rows ≤ 2000 → set.columns ≤ 4000 → length set.members ≤ 16000
+pub members_few : (set : SetValue) → set.members ≡ filter (has set.members) (possible_in set) → set.rows ≤ most_rows → set.columns ≤ most_columns → length set.members ≤ most_members
 members_few set possible rows columns =
     let short : length (filter (has set.members) (possible_in set)) ≤ length (possible_in set) = kept_few (has set.members) (possible_in set) in
     let all : length (possible_in set) ≡ place_count set.rows set.columns = length-members_for set.rows set.columns in
@@ -52,19 +53,19 @@ members_few set possible rows columns =
     omega (arith, short, all, same, rows, columns)
 
 -- so the rows of an enforced part, and the soft members
-pub rows_and_soft : (model : Program) (set : SetValue) (enforced : List Member) → IsSetOf model set → set.members ≡ filter (has set.members) (possible_in set) → length model.rows ≤ 2000 → length model.columns ≤ 4000
-    → (length (rows_in model enforced) ≤ 2000) × (length (soft_members set.members enforced) ≤ 16000)
+pub rows_and_soft : (model : Program) (set : SetValue) (enforced : List Member) → IsSetOf model set → set.members ≡ filter (has set.members) (possible_in set) → length model.rows ≤ most_rows → length model.columns ≤ most_columns
+    → (length (rows_in model enforced) ≤ most_rows) × (length (soft_members set.members enforced) ≤ most_members)
 rows_and_soft model set enforced same possible rows columns =
-    let short : set.rows ≤ 2000 = subst (λ n. n ≤ 2000) (sym same.rows) rows in
-    let narrow : set.columns ≤ 4000 = subst (λ n. n ≤ 4000) (sym same.columns) columns in
-    let few : length set.members ≤ 16000 = members_few set possible short narrow in
+    let short : set.rows ≤ most_rows = subst (λ n. n ≤ most_rows) (sym same.rows) rows in
+    let narrow : set.columns ≤ most_columns = subst (λ n. n ≤ most_columns) (sym same.columns) columns in
+    let few : length set.members ≤ most_members = members_few set possible short narrow in
     let soft : length (soft_members set.members enforced) ≤ length set.members = soft_few set.members enforced in
     let kept : length (rows_in model enforced) ≤ length model.rows = few_rows model enforced in
     (omega (arith, kept, rows), omega (arith, soft, few))
 
 -- and so the size of its dictionary
-pub size_few : (rows soft columns : ℕ) → rows ≤ 2000 → soft ≤ 16000 → columns ≤ 4000 → (rows + soft + 1) * (columns + soft) ≤ 18001 * 20000
+pub size_few : (rows soft columns : ℕ) → rows ≤ most_rows → soft ≤ most_members → columns ≤ most_columns → (rows + soft + 1) * (columns + soft) ≤ (most_rows + most_members + 1) * (most_columns + most_members)
 size_few rows soft columns a b c =
-    let high : rows + soft + 1 ≤ 18001 = omega (arith, a, b) in
-    let broad : columns + soft ≤ 20000 = omega (arith, b, c) in
+    let high : rows + soft + 1 ≤ most_rows + most_members + 1 = omega (arith, a, b) in
+    let broad : columns + soft ≤ most_columns + most_members = omega (arith, b, c) in
     mul-le-mul high broad

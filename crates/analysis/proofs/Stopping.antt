@@ -29,7 +29,7 @@ use Rattle.presolve_laws.specs.Eased.{IsEased}
 use Rattle.report_text.specs.declared.report.Answer.{Answer}
 use Rattle.report_text.specs.declared.report.Core.{Core}
 use Rattle.analysis.specs.Answers.{IsPossibleSite, IsStopAnswer, IsToldStop}
-use Rattle.analysis.specs.Right.{IsChecked, IsIsolated, IsPrintedSite, IsRightStop, IsSiteOf, IsWhole}
+use Rattle.analysis.specs.Right.{IsSolved, IsIsolated, IsPrintedSite, IsRightStop, IsSiteOf, IsWhole}
 
 -- ---- the site of a set of active members
 and_false : (a : Bool) → (a && false) ≡ false
@@ -209,9 +209,9 @@ pub isolated_stop : (IsKept : Core → Type 0) (IsTest : List Member → Type 0)
 isolated_stop IsKept IsTest model budgets (Ok answer) h = subst (IsIsolated IsKept IsTest model budgets) (sym h.is) h.so
 isolated_stop IsKept IsTest model budgets (Err error) h = tt
 
-pub checked_stop : (model : Program) (budgets : Budgets) {E : Type 0} (result : Result Answer E) → IfOk result (IsStopAnswer (IsWhole model) model budgets) → IfOk result (IsChecked model budgets)
-checked_stop model budgets (Ok answer) h = subst (IsChecked model budgets) (sym h.is) h.so
-checked_stop model budgets (Err error) h = tt
+pub solved_stop : (model : Program) (budgets : Budgets) {E : Type 0} (result : Result Answer E) → IfOk result (IsStopAnswer (IsWhole model) model budgets) → IfOk result (IsSolved model budgets)
+solved_stop model budgets (Ok answer) h = subst (IsSolved model budgets) (sym h.is) h.so
+solved_stop model budgets (Err error) h = tt
 
 -- ---- what is asked
 -- The stop of the reference for a set of active members that passes a test; or want of memory.

@@ -1,16 +1,15 @@
 -- Answers to commands that only a program without active marks may have.
-use Rattle.std.specs.Prelude.{◌≡◌, ℕ, ◌+◌, ◌*◌, ◌<◌, ◌≤◌, List, [], ◌∷◌, length, Option, Some, None}
+use Rattle.std.specs.Prelude.{◌≡◌, ℕ, ◌+◌, ◌*◌, ◌≤◌, List, [], ◌∷◌, length, Option, Some, None}
 use Rattle.lp_model.specs.Program.{Program}
 use Rattle.lp_model.specs.declared.members.Member.{Member}
 use Rattle.lp_model.specs.declared.members.Member.TheVariants.{Whole}
 use Rattle.lp_model.specs.Members.{active_members}
-use Rattle.certs.specs.declared.solving.Stop.TheVariants.{Large}
 use Rattle.certs.specs.Elastic.{soft_members}
 use Rattle.certs.specs.Plain.{rows_in}
 use Rattle.certs.specs.System.{bounding}
 use Rattle.report_text.specs.declared.report.Answer.{Answer}
-use Rattle.report_text.specs.declared.report.Answer.TheVariants.{NotLinear, Stopped}
-use Rattle.analysis.specs.Objectives.{most_entries}
+use Rattle.report_text.specs.declared.report.Answer.TheVariants.{NotLinear}
+use Rattle.analysis.specs.Objectives.{IsSized, most_entries}
 
 -- the column of the first mark among members
 abbrev pub first_mark : List Member → Option ℕ
@@ -29,7 +28,7 @@ alternative_size model set = (length model.columns + 2) * length (bounding model
 -- Where there is a first mark, its column is told; else the size, just where it passes the most; and else what is told.
 abbrev pub IsLinearlyBy : Option ℕ → ℕ → (Answer → Type 0) → Answer → Type 0
 IsLinearlyBy (Some j) size IsTold answer = answer ≡ NotLinear j
-IsLinearlyBy None size IsTold answer = (most_entries < size → answer ≡ Stopped (Large size)) × (size ≤ most_entries → IsTold answer)
+IsLinearlyBy None size IsTold answer = IsSized size IsTold answer
 
 -- so by the first mark of the active members
 abbrev pub IsLinearly : Program → ℕ → (Answer → Type 0) → Answer → Type 0

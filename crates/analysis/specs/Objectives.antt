@@ -1,5 +1,5 @@
 -- What is told of the objective over the active members.
-use Rattle.std.specs.Prelude.{◌≡◌, ◌⊎◌, ℕ, ◌+◌, ◌*◌, ◌<◌, ◌≤◌, length, All, Result, Ok, Err}
+use Rattle.std.specs.Prelude.{◌≡◌, ◌⊎◌, ℕ, ◌+◌, ◌*◌, ◌<◌, ◌≤◌, length, All, Option, Some, None, Result, Ok, Err}
 use Rattle.lp_model.specs.Program.{Program}
 use Rattle.lp_model.specs.Members.{active_members}
 use Rattle.certs.specs.declared.solving.Stop.{Stop}
@@ -14,16 +14,26 @@ use Rattle.unbounded.specs.declared.diagnosing.Diagnosis.{Diagnosis}
 use Rattle.unbounded.specs.Diagnosed.{IsUnboundedBy, IsBoundedBy, IsOwnStop}
 use Rattle.report_text.specs.declared.report.Answer.{Answer}
 use Rattle.report_text.specs.declared.report.Answer.TheVariants.{Infeasible, Unbounded, Bounded, Stopped}
+use Rattle.analysis.specs.declared.sizing.TheConstants.{MOST_ENTRIES}
 use Rattle.analysis.specs.Stops.{IsAtRun, IsRefutation, IsRightStop, IsWhole}
 
 -- ---- the size
--- how many entries the dictionary of the active members' plain system with the objective has: a row for each row with an active side, and one for the objective
-abbrev pub diagnosis_size : Program → ℕ
-diagnosis_size model = (length (rows_in model (active_members model)) + 1) * length model.columns
+-- how many entries the dictionary of the active members' plain system has, with so many rows more: a row for each row with an active side
+abbrev pub system_size : Program → ℕ → ℕ
+system_size model more = (length (rows_in model (active_members model)) + more) * length model.columns
 
 -- the most that a dictionary may have
 abbrev pub most_entries : ℕ
-most_entries = 8000000
+most_entries = MOST_ENTRIES
+
+-- the size, just where it passes the most; and else what is told
+abbrev pub IsSized : ℕ → (Answer → Type 0) → Answer → Type 0
+IsSized size IsTold answer = (most_entries < size → answer ≡ Stopped (Large size)) × (size ≤ most_entries → IsTold answer)
+
+-- such an answer, where the size alone decides; and else the size does not pass the most
+abbrev pub IsSizedFirst : ℕ → Option Answer → Type 0
+IsSizedFirst size (Some answer) = IsSized size (λ a. ⊥) answer
+IsSizedFirst size None = size ≤ most_entries
 
 -- ---- answers
 -- the improve run of the active members stops so within the pivots
@@ -38,10 +48,9 @@ IsTold model budgets (Infeasible printed proof) = IsRefutation model printed pro
 IsTold model budgets (Stopped stop) = IsRightStop (IsWhole model) model budgets stop ⊎ IsImproveStop model budgets stop
 IsTold model budgets _ = ⊥
 
--- What is right to `unbounded`: the size, just where it passes the most; and else what is told.
-pub record IsDiagnosed (model : Program) (budgets : Budgets) (answer : Answer) : Type 0 where
-  pub large : most_entries < diagnosis_size model → answer ≡ Stopped (Large (diagnosis_size model))
-  pub told : diagnosis_size model ≤ most_entries → IsTold model budgets answer
+-- What is right to `unbounded`: the size with a row for the objective, just where it passes the most; and else what is told.
+abbrev pub IsDiagnosed : Program → Budgets → Answer → Type 0
+IsDiagnosed model budgets answer = IsSized (system_size model 1) (IsTold model budgets) answer
 
 -- ---- what a diagnosis gives
 -- What holds of the active members; a proof with its shares in order and numbers that fit; or a stop of the reference for the active members, or of the improve run.

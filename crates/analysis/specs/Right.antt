@@ -40,7 +40,7 @@ use Rattle.analysis.specs.Reduced.{IsReducedTo}
 use Rattle.analysis.specs.Least.{IsRelaxation}
 use Rattle.analysis.specs.Linear.{IsLinearly, alternative_size, elastic_size}
 use Rattle.alt_polyhedron.specs.Pricing.{IsCheapestSet, IsPricingStop}
-use Rattle.analysis.specs.Objectives.{IsDiagnosed}
+use Rattle.analysis.specs.Objectives.{IsDiagnosed, IsSized, system_size}
 pub use Rattle.analysis.specs.Stops.{IsAtRun, IsPrintedSite, IsRefutation, IsSettleStop, IsSiteOf, IsRightStop, IsStoppedBy, IsWhole}
 
 -- ---- answers
@@ -52,12 +52,16 @@ TreeFinds model budgets point = has_mark (active_members model) ≡ true → Has
 abbrev pub TreeCloses : Program → Budgets → Proof → Type 0
 TreeCloses model budgets proof = has_mark (active_members model) ≡ true → IsTree model (active_members model) budgets.pivots budgets.nodes proof.nodes TreeEnd.Closed
 
--- What is right to `check`. Where some active member is a mark, the answer is that of the tree, so that a stop comes just where the tree stops.
+-- What is right to `check` of a dictionary that is not too large. Where some active member is a mark, the answer is that of the tree, so that a stop comes just where the tree stops.
+abbrev pub IsSolved : Program → Budgets → Answer → Type 0
+IsSolved model budgets (Feasible point) = IsPointOf model (active_members model) point × TreeFinds model budgets point
+IsSolved model budgets (Infeasible printed proof) = IsRefutation model printed proof × TreeCloses model budgets proof
+IsSolved model budgets (Stopped stop) = IsRightStop (IsWhole model) model budgets stop
+IsSolved model budgets _ = ⊥
+
+-- What is right to `check`: the size, just where it passes the most; and else what is solved.
 abbrev pub IsChecked : Program → Budgets → Answer → Type 0
-IsChecked model budgets (Feasible point) = IsPointOf model (active_members model) point × TreeFinds model budgets point
-IsChecked model budgets (Infeasible printed proof) = IsRefutation model printed proof × TreeCloses model budgets proof
-IsChecked model budgets (Stopped stop) = IsRightStop (IsWhole model) model budgets stop
-IsChecked model budgets _ = ⊥
+IsChecked model budgets answer = IsSized (system_size model 0) (IsSolved model budgets) answer
 
 -- Where the active columns with marks stand in a box, what is right to `check` is no stop for want of nodes with twice its points to take.
 abbrev pub BoxLaw : Type 0
@@ -156,13 +160,23 @@ IsWeighingStop model budgets stop = IsAtRun model (λ site s. IsPricingStop mode
 abbrev pub IsWeighedTold : Program → Budgets → Answer → Type 0
 IsWeighedTold model budgets answer = IsIsolated (IsCheapestCore model) (IsSupportTest model) model budgets answer ⊎ IsStoppedBy (IsWeighingStop model budgets) answer
 
--- what is right to a search by each method
+-- what is right to a search by each of the three filters
+abbrev pub IsLateFound : Program → Budgets → Answer → Type 0
+IsLateFound model budgets answer = IsIsolated (IsBare (Late model (active_members model))) (IsLateTest model (active_members model)) model budgets answer
+
+abbrev pub IsEarlyFound : Program → Budgets → Answer → Type 0
+IsEarlyFound model budgets answer = IsIsolated (IsBare (Early model (active_members model))) (IsEarlyTest model (active_members model)) model budgets answer
+
+abbrev pub IsCoreFound : Program → Budgets → Answer → Type 0
+IsCoreFound model budgets answer = IsIsolated (IsBare (IsLateOfCore model budgets)) (IsCoreTest model budgets) model budgets answer
+
+-- what is right to a search by each method: the size, just where it passes the most; and else what is found
 abbrev pub IsFound : Method → Program → Budgets → Answer → Type 0
-IsFound Deletion model budgets answer = IsIsolated (IsBare (Late model (active_members model))) (IsLateTest model (active_members model)) model budgets answer
-IsFound Additive model budgets answer = IsIsolated (IsBare (Early model (active_members model))) (IsEarlyTest model (active_members model)) model budgets answer
+IsFound Deletion model budgets answer = IsSized (system_size model 0) (IsLateFound model budgets) answer
+IsFound Additive model budgets answer = IsSized (system_size model 0) (IsEarlyFound model budgets) answer
 IsFound Elastic model budgets answer = IsLinearly model (elastic_size model (active_members model) []) (IsEnforcedTold model budgets) answer
 IsFound Alternative model budgets answer = IsLinearly model (alternative_size model (active_members model)) (IsWeighedTold model budgets) answer
-IsFound Sensitivity model budgets answer = IsIsolated (IsBare (IsLateOfCore model budgets)) (IsCoreTest model budgets) model budgets answer
+IsFound Sensitivity model budgets answer = IsSized (system_size model 0) (IsCoreFound model budgets) answer
 
 -- ---- reductions
 -- The printed members are those that a leaf uses whose shares come back from what decides the reduction of the active members' plain system.

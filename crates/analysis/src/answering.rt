@@ -7,13 +7,14 @@ ghost use Rattle.certs.specs.Proof.{IsFittingNode, IsProof};
 ghost use Rattle.report_text.specs.Form.{IsCommand};
 ghost use Rattle.report_printer.specs.Printing.{IsKnownAnswer};
 ghost use Rattle.analysis.specs.Answers.{IsNext, IsRefutedBy, budgets_of, fresh_oracle};
-ghost use Rattle.analysis.specs.Right.{BoxLaw, IsChecked, budgets_after, first_budgets as budgets_at_first};
+ghost use Rattle.analysis.specs.Right.{BoxLaw, IsChecked, IsSolved, budgets_after, first_budgets as budgets_at_first};
 
 use crate::asking::{Reference, keep, quick_oracle};
 use crate::diagnosing::diagnosis;
 use crate::reducing::reduction;
 use crate::relaxing::relaxation;
 use crate::searching::{search, stopped};
+use crate::sizing::too_large;
 use certs::{MemberSet, Oracle, Proof, Verdict, members_used};
 use lp_model::Model;
 use quick_answers::{Kept, QuickOracle};
@@ -85,7 +86,7 @@ pub fn box_has_nodes_enough()
     ensures { BoxLaw }
 {}
 
-// Whether some point satisfies the active members.
+// Whether some point satisfies the active members; or the size of the dictionary, where it passes the most.
 fn check(
     alloc: Global,
     model: &Model,
@@ -96,6 +97,9 @@ fn check(
     ensures { IfOk result (IsChecked model.now (budgets_of budgets)) }
 {
     let set = model.members(alloc)?;
+    if let Some(answer) = too_large(alloc, model, &set, 0)? {
+        return Ok(answer);
+    }
     let mut oracle = quick_oracle(alloc, model, budgets, 0, kept);
     let answer = check_by(alloc, model, budgets, &mut oracle, &set);
     keep(kept, oracle.into_kept());
@@ -114,7 +118,7 @@ fn check_by(
     requires whole { set.now ≡ active_set model.now }
     requires fresh { oracle.old.inner ≡ fresh_oracle model.now (budgets_of budgets) }
     requires no_trees { oracle.old.nodes ≡ 0 }
-    ensures { IfOk result (IsChecked model.now (budgets_of budgets)) }
+    ensures { IfOk result (IsSolved model.now (budgets_of budgets)) }
 {
     match oracle.ask(alloc, set) {
         Ok(Verdict::Feasible(point)) => Ok(Answer::Feasible(point)),

@@ -2,21 +2,18 @@
 ghost use Rattle.std.specs.Prelude.{◌≡◌, ◌<◌, ◌^◌, Err, IfOk, IfSome, Ok};
 ghost use Rattle.lp_model.specs.MemberSets.{active_set};
 ghost use Rattle.analysis.specs.Answers.{budgets_of};
-ghost use Rattle.analysis.specs.Objectives.{IsDiagnosed, IsFoundBy, IsTold, diagnosis_size};
+ghost use Rattle.analysis.specs.Objectives.{IsDiagnosed, IsFoundBy, IsTold};
 
 use crate::answering::{Budgets, refuted};
 use crate::asking::{keep, quick_oracle};
-use crate::reducing::set_rows;
 use crate::searching::{is_wide, stopped};
+use crate::sizing::too_large;
 use certs::{MemberSet, Stop};
 use lp_model::Model;
 use quick_answers::{Kept, is_small, quick_best};
 use report_text::{Answer, Bounded};
 use std::alloc::{AllocError, Global};
 use unbounded::{Diagnosis, diagnose};
-
-/// The most entries that the dictionary of a run may have.
-pub(crate) const MOST_ENTRIES: u64 = 8_000_000;
 
 /// Whether the objective runs away over the active members, or how far it can go; or the size of their plain system with the
 /// objective, where that passes the most. What is kept of the program serves the next command too.
@@ -30,23 +27,10 @@ pub(crate) fn diagnosis(
     ensures { IfOk result (IsDiagnosed model.now (budgets_of budgets)) }
 {
     let set = model.members(alloc)?;
-    let size = size_of(alloc, model, &set)?;
-    if size > MOST_ENTRIES {
-        return Ok(Answer::Stopped(Stop::Large(size)));
+    if let Some(answer) = too_large(alloc, model, &set, 1)? {
+        return Ok(answer);
     }
     diagnosed(alloc, model, budgets, &set, kept)
-}
-
-// How many entries the dictionary of the active members' plain system with the objective has.
-fn size_of(alloc: Global, model: &Model, set: &MemberSet) -> Result<u64, AllocError>
-    requires whole { set.now ≡ active_set model.now }
-    ensures { IfOk result (λ size. size ≡ diagnosis_size model.now) }
-{
-    // That there are few rows is told with their count.
-    let _rows = model.row_count();
-    let rows = set_rows(alloc, model, set)?;
-    let columns = model.column_count() as u64;
-    Ok((rows.as_slice().len() as u64 + 1) * columns)
 }
 
 // What is told of the objective, where the dictionary is not too large: what quick runs show, or else the improve run; of a small

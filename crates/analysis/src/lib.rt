@@ -11,6 +11,7 @@ mod pieces;
 mod reducing;
 mod relaxing;
 mod searching;
+mod sizing;
 mod weighing;
 mod witnesses;
 

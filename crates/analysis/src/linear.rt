@@ -7,10 +7,10 @@ ghost use Rattle.certs.specs.Elastic.{soft_members};
 ghost use Rattle.certs.specs.Named.{IsOfSize};
 ghost use Rattle.analysis.specs.Linear.{IsBegun, alternative_size, elastic_size, first_mark as first_mark_of};
 
-use crate::diagnosing::MOST_ENTRIES;
 use crate::reducing::set_rows;
+use crate::sizing::large;
 use alt_polyhedron::bounding_members;
-use certs::{Member, MemberSet, Stop};
+use certs::{Member, MemberSet};
 use lp_model::Model;
 use report_text::Answer;
 use std::alloc::{AllocError, Global};
@@ -54,10 +54,7 @@ fn hindrance(set: &MemberSet, size: u64) -> Option<Answer>
     if let Some(column) = first_mark(set) {
         return Some(Answer::NotLinear(column));
     }
-    if size > MOST_ENTRIES {
-        return Some(Answer::Stopped(Stop::Large(size)));
-    }
-    None
+    large(size)
 }
 
 // The column of the first mark of a set.

@@ -1,13 +1,13 @@
 //! Searches for irreducible sets of the active members, and stops of solves as answers.
 ghost use Rattle.std.specs.Prelude.{◌≡◌, ◌<◌, ◌^◌, IfErr, IfOk};
 ghost use Rattle.lp_model.specs.MemberSets.{active_set};
-ghost use Rattle.report_text.specs.declared.report.Method.TheVariants.{Additive, Deletion, Sensitivity};
 ghost use Rattle.analysis.specs.Answers.{IsAnswerOf, IsFoundInOrder, IsRunStop, IsToldStop, answer_of, budgets_of};
-ghost use Rattle.analysis.specs.Right.{IsFound};
+ghost use Rattle.analysis.specs.Right.{IsCoreFound, IsEarlyFound, IsFound, IsLateFound};
 
 use crate::answering::Budgets;
 use crate::asking::{keep, quick_oracle, reference_oracle};
 use crate::enforcing::enforced_search;
+use crate::sizing::too_large;
 use crate::weighing::weighed_search;
 use certs::{Irreducible, MemberSet, Stop};
 use lp_model::Model;
@@ -15,8 +15,8 @@ use quick_answers::{Kept, is_small};
 use report_text::{Answer, Core, Method, Witnesses};
 use std::alloc::{AllocError, Global};
 
-/// What a method leaves of the active members, where no point satisfies them; or a point, or a stop. What is kept of the
-/// program serves the next command too.
+/// What a method leaves of the active members, where no point satisfies them; or a point, or a stop; or the size of the
+/// dictionary, where it passes the most. What is kept of the program serves the next command too.
 pub(crate) fn search(
     alloc: Global,
     model: &Model,
@@ -28,12 +28,13 @@ pub(crate) fn search(
     ensures { IfOk result (IsFound method model.now (budgets_of budgets)) }
 {
     let set = model.members(alloc)?;
-    match method {
-        Method::Deletion => late_search(alloc, model, budgets, &set, kept),
-        Method::Additive => early_search(alloc, model, budgets, &set, kept),
-        Method::Elastic => enforced_search(alloc, model, budgets, &set, kept),
-        Method::Alternative => weighed_search(alloc, model, budgets, &set, kept),
-        Method::Sensitivity => core_search(alloc, model, budgets, &set, kept),
+    match (method, too_large(alloc, model, &set, 0)?) {
+        (Method::Elastic, _) => enforced_search(alloc, model, budgets, &set, kept),
+        (Method::Alternative, _) => weighed_search(alloc, model, budgets, &set, kept),
+        (_, Some(answer)) => Ok(answer),
+        (Method::Deletion, None) => late_search(alloc, model, budgets, &set, kept),
+        (Method::Additive, None) => early_search(alloc, model, budgets, &set, kept),
+        (Method::Sensitivity, None) => core_search(alloc, model, budgets, &set, kept),
     }
 }
 
@@ -47,7 +48,7 @@ fn late_search(
 ) -> Result<Answer, AllocError>
     requires few { budgets.pivots < 2 ^ 63 }
     requires whole { set.now ≡ active_set model.now }
-    ensures { IfOk result (IsFound Deletion model.now (budgets_of budgets)) }
+    ensures { IfOk result (IsLateFound model.now (budgets_of budgets)) }
 {
     let mut oracle = quick_oracle(alloc, model, budgets, budgets.nodes, kept);
     let given = deletion_filter::isolate(alloc, &mut oracle, set);
@@ -65,7 +66,7 @@ fn early_search(
 ) -> Result<Answer, AllocError>
     requires few { budgets.pivots < 2 ^ 63 }
     requires whole { set.now ≡ active_set model.now }
-    ensures { IfOk result (IsFound Additive model.now (budgets_of budgets)) }
+    ensures { IfOk result (IsEarlyFound model.now (budgets_of budgets)) }
 {
     let mut oracle = quick_oracle(alloc, model, budgets, budgets.nodes, kept);
     let given = additive_filter::isolate(alloc, &mut oracle, set);
@@ -84,7 +85,7 @@ fn core_search(
 ) -> Result<Answer, AllocError>
     requires few { budgets.pivots < 2 ^ 63 }
     requires whole { set.now ≡ active_set model.now }
-    ensures { IfOk result (IsFound Sensitivity model.now (budgets_of budgets)) }
+    ensures { IfOk result (IsCoreFound model.now (budgets_of budgets)) }
 {
     let Budgets { pivots, nodes } = budgets;
     let is_small = is_small(model, set);
@@ -112,7 +113,7 @@ fn core_search_by_run(
 ) -> Result<Answer, AllocError>
     requires few { budgets.pivots < 2 ^ 63 }
     requires whole { set.now ≡ active_set model.now }
-    ensures { IfOk result (IsFound Sensitivity model.now (budgets_of budgets)) }
+    ensures { IfOk result (IsCoreFound model.now (budgets_of budgets)) }
 {
     let mut first = reference_oracle(alloc, model, budgets);
     let mut oracle = quick_oracle(alloc, model, budgets, budgets.nodes, kept);

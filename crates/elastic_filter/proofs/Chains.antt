@@ -7,6 +7,7 @@ use Rattle.lp_model.specs.declared.members.Member.{Member}
 use Rattle.lp_model.specs.Program.{Program}
 use Rattle.lp_model.specs.Members.{has, is_mark}
 use Rattle.lp_model.specs.MemberSets.{SetValue, IsMarking, is_marked, marked_set, members_for, place_count, possible_in}
+use Rattle.lp_model.specs.Shown.{most_columns, most_members, most_rows}
 use Rattle.lp_model.specs.Satisfaction.{coordinate, IsPart, IsUnsatisfiable}
 use Rattle.lp_model.proofs.Marked.{length-members_for}
 use Rattle.certs.specs.declared.evidence.Combo.{Combo}
@@ -129,12 +130,12 @@ inside_set model set enforced more f =
     (subst (All (Contains set)) (sym f.stretches.adds) (All-filter (λ m. has enforced m || is_violated model (coordinate f.stretches.point) m) (Contains set) set (All-contains_itself set))))
 
 -- a set of a program has few members
-pub few_members : (rows columns : ℕ) (words : List ℕ) → IsMarking rows columns words → length (marked_set rows columns words).members ≤ 16000
+pub few_members : (rows columns : ℕ) (words : List ℕ) → IsMarking rows columns words → length (marked_set rows columns words).members ≤ most_members
 few_members rows columns words h =
     let short : length (filter (is_marked rows columns words) (members_for rows columns)) ≤ length (members_for rows columns) = filter_short (is_marked rows columns words) (members_for rows columns) in
     let all : length (members_for rows columns) ≡ place_count rows columns = length-members_for rows columns in
-    let r : rows ≤ 2000 = h.few_rows in
-    let c : columns ≤ 4000 = h.few_columns in
+    let r : rows ≤ most_rows = h.few_rows in
+    let c : columns ≤ most_columns = h.few_columns in
     omega arith
 
 -- a count that stays at its greatest value is at most one more

@@ -19,8 +19,8 @@ use Rattle.report_text.specs.declared.report.Core.{Core}
 use Rattle.report_text.specs.declared.report.Method.TheVariants.{Deletion, Additive, Sensitivity, Elastic, Alternative}
 use Rattle.analysis.specs.Least.{IsLeastTold, IsRelaxation}
 use Rattle.analysis.specs.Linear.{IsLinearly, IsLinearlyBy, first_mark, alternative_size, elastic_size}
-use Rattle.analysis.specs.Objectives.{IsDiagnosed, IsTold, diagnosis_size, most_entries}
-use Rattle.analysis.specs.Right.{IsBare, IsChecked, IsCheapestCore, IsCoreTest, IsEnforcedTold, IsFound, IsIsolated, IsLateOfCore, IsLateOfRounds, IsReduction, IsRightCore, IsRoundsTest, IsStoppedBy, IsSupportTest, IsWeighedTold}
+use Rattle.analysis.specs.Objectives.{IsDiagnosed, IsSized, IsTold, most_entries, system_size}
+use Rattle.analysis.specs.Right.{IsBare, IsCheapestCore, IsChecked, IsCoreFound, IsCoreTest, IsEarlyFound, IsEnforcedTold, IsFound, IsIsolated, IsLateFound, IsLateOfCore, IsLateOfRounds, IsReduction, IsRightCore, IsRoundsTest, IsSolved, IsStoppedBy, IsSupportTest, IsWeighedTold}
 use Rattle.analysis.specs.Stops.{IsRefutation}
 use Rattle.analysis.proofs.Marks.{no_mark}
 use Rattle.analysis.proofs.Refuting.{used_within}
@@ -41,11 +41,21 @@ module _ (model : Program) (n : ℕ) where
   refutation_passes printed proof h = refuted_unfailed model (active_members model) n printed proof (used_within model printed proof.nodes h.used) h.used h.proves
 
   -- ---- checks
+  solved_passes : (budgets : Budgets) (answer : Answer) → IsSolved model budgets answer → Passes answer
+  solved_passes budgets (Feasible p) h = alone (n + 2) _ (point_unfailed model (active_members model) (n + 2) p h.0.satisfies)
+  solved_passes budgets (Infeasible printed proof) h = refutation_passes printed proof h.0
+  solved_passes budgets (Stopped stop) h = nothing
+  solved_passes budgets _ h = absurd h
+
+  -- a size, or what is told
+  sized_passes : (size : ℕ) (IsTold : Answer → Type 0) (answer : Answer) → IsSized size IsTold answer → (IsTold answer → Passes answer) → Passes answer
+  sized_passes size IsTold answer h told = elim (cases_lt most_entries size) [
+    | inl l ↦ subst Passes (sym (h.0 l)) nothing
+    | inr l ↦ told (h.1 l)
+  ]
+
   pub checked_passes : (budgets : Budgets) (answer : Answer) → IsChecked model budgets answer → Passes answer
-  checked_passes budgets (Feasible p) h = alone (n + 2) _ (point_unfailed model (active_members model) (n + 2) p h.0.satisfies)
-  checked_passes budgets (Infeasible printed proof) h = refutation_passes printed proof h.0
-  checked_passes budgets (Stopped stop) h = nothing
-  checked_passes budgets _ h = absurd h
+  checked_passes budgets answer h = sized_passes (system_size model 0) (IsSolved model budgets) answer h (solved_passes budgets answer)
 
   -- ---- irreducible sets
   -- what stands behind the proof does not fail
@@ -108,12 +118,6 @@ module _ (model : Program) (n : ℕ) where
   linearly_passes : (size : ℕ) (IsTold : Answer → Type 0) (answer : Answer) → IsLinearly model size IsTold answer → (IsTold answer → Passes answer) → LinearPasses answer
   linearly_passes size IsTold answer h told = by (first_mark (active_members model)) refl h
     where
-      own : (size ≤ most_entries → IsTold answer) → (most_entries < size → answer ≡ Stopped (Large size)) → Passes answer
-      own small large = elim (cases_lt most_entries size) [
-        | inl l ↦ subst Passes (sym (large l)) nothing
-        | inr l ↦ told (small l)
-      ]
-
       by : (mark : Option ℕ) → first_mark (active_members model) ≡ mark → IsLinearlyBy mark size IsTold answer → LinearPasses answer
       by (Some j) e h = subst LinearPasses (sym h) nothing
       by None e h =
@@ -122,7 +126,7 @@ module _ (model : Program) (n : ℕ) where
           joined (cond (settles answer) (line ∷ []) []) (answer_trials model n answer)
           (cond_both (settles answer) (line ∷ []) [] AreUnfailed
           (λ _. alone (n + 1) (said (not (has_mark (active_members model)))) (said_true (not (has_mark (active_members model))) (not_from_false (has_mark (active_members model)) none))) (λ _. nothing))
-          (own h.1 h.0)
+          (sized_passes size IsTold answer h told)
 
   -- ---- least weighted violations
   least_passes : (budgets : Budgets) (answer : Answer) → IsLeastTold model budgets answer → Passes answer
@@ -144,10 +148,7 @@ module _ (model : Program) (n : ℕ) where
   told_passes budgets _ h = absurd h
 
   pub diagnosis_passes : (budgets : Budgets) (answer : Answer) → IsDiagnosed model budgets answer → Passes answer
-  diagnosis_passes budgets answer h = elim (cases_lt most_entries (diagnosis_size model)) [
-    | inl l ↦ subst Passes (sym (h.large l)) nothing
-    | inr l ↦ told_passes budgets answer (h.told l)
-  ]
+  diagnosis_passes budgets answer h = sized_passes (system_size model 1) (IsTold model budgets) answer h (told_passes budgets answer)
 
   -- ---- reductions
   pub reduction_passes : (answer : Answer) → IsReduction model answer → Passes answer
@@ -157,13 +158,13 @@ module _ (model : Program) (n : ℕ) where
 
   -- ---- searches by each method
   pub deletion_passes : (budgets : Budgets) (answer : Answer) → IsFound Deletion model budgets answer → Passes answer
-  deletion_passes budgets answer h = bare_passes (Late model (active_members model)) (IsLateTest model (active_members model)) budgets answer h
+  deletion_passes budgets answer h = sized_passes (system_size model 0) (IsLateFound model budgets) answer h (bare_passes (Late model (active_members model)) (IsLateTest model (active_members model)) budgets answer)
 
   pub additive_passes : (budgets : Budgets) (answer : Answer) → IsFound Additive model budgets answer → Passes answer
-  additive_passes budgets answer h = bare_passes (Early model (active_members model)) (IsEarlyTest model (active_members model)) budgets answer h
+  additive_passes budgets answer h = sized_passes (system_size model 0) (IsEarlyFound model budgets) answer h (bare_passes (Early model (active_members model)) (IsEarlyTest model (active_members model)) budgets answer)
 
   pub sensitivity_passes : (budgets : Budgets) (answer : Answer) → IsFound Sensitivity model budgets answer → Passes answer
-  sensitivity_passes budgets answer h = bare_passes (IsLateOfCore model budgets) (IsCoreTest model budgets) budgets answer h
+  sensitivity_passes budgets answer h = sized_passes (system_size model 0) (IsCoreFound model budgets) answer h (bare_passes (IsLateOfCore model budgets) (IsCoreTest model budgets) budgets answer)
 
   pub elastic_passes : (budgets : Budgets) (answer : Answer) → IsFound Elastic model budgets answer → LinearPasses answer
   elastic_passes budgets answer h = linearly_passes (elastic_size model (active_members model) []) (IsEnforcedTold model budgets) answer h (enforced_passes budgets answer)

@@ -1,5 +1,5 @@
 -- Small reports, tried on the definitions: one whose answer is right, one whose answer is right and whose check is too wide, and one whose answer is wrong.
-use Rattle.std.proofs.Common.{◌≡◌, ◌^◌, refl, sym, subst, true≢false, true, false, List, [], ◌∷◌, Option, None, Some}
+use Rattle.std.proofs.Common.{◌≡◌, ◌^◌, refl, sym, subst, true≢false, true, false, List, [], ◌∷◌, Option, None, Some, arith}
 use Rattle.std.proofs.lemmas.List.Elements.{All-cons, All-nil}
 use lib.IntN.{pos}
 use Rattle.algebra.specs.Gcd.{gcd, gcd_within}
@@ -80,13 +80,16 @@ right = record {
   each = (
     record {
       right = (
-        record {
-          proves = record { tree = Tip shares; listed = refl; proves = combination_by 1 program both.members [] shares refl };
-          ordered = All-cons IsNodeInOrder (Leaf (record { shares = shares })) [] (in_order_by_test shares refl) (All-nil IsNodeInOrder);
-          fits = All-cons IsFittingNode (Leaf (record { shares = shares })) [] tt (All-nil IsFittingNode);
-          used = refl;
-        },
-        λ marked. absurd (true≢false (sym marked)),
+        λ l. absurd (omega (arith, l)),
+        λ few. (
+          record {
+            proves = record { tree = Tip shares; listed = refl; proves = combination_by 1 program both.members [] shares refl };
+            ordered = All-cons IsNodeInOrder (Leaf (record { shares = shares })) [] (in_order_by_test shares refl) (All-nil IsNodeInOrder);
+            fits = All-cons IsFittingNode (Leaf (record { shares = shares })) [] tt (All-nil IsFittingNode);
+            used = refl;
+          },
+          λ marked. absurd (true≢false (sym marked)),
+        ),
       );
       numbers =
           All-cons HasWeightsWithin (Leaf (record { shares = shares })) []
@@ -137,8 +140,11 @@ near = record {
   each = (
     record {
       right = (
-        record { each_column = refl; satisfies = every_all (holds_test sum_of_both (values_at point.values)) (Holds sum_of_both (values_at point.values)) (holds-true sum_of_both (values_at point.values)) (active_members sum_of_both) refl },
-        λ marked. absurd (true≢false (sym marked)),
+        λ l. absurd (omega (arith, l)),
+        λ few. (
+          record { each_column = refl; satisfies = every_all (holds_test sum_of_both (values_at point.values)) (Holds sum_of_both (values_at point.values)) (holds-true sum_of_both (values_at point.values)) (active_members sum_of_both) refl },
+          λ marked. absurd (true≢false (sym marked)),
+        ),
       );
       numbers = All-cons IsWithinLimit half (third ∷ []) refl (All-cons IsWithinLimit third [] refl (All-nil IsWithinLimit));
     },

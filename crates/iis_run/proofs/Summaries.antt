@@ -1,23 +1,33 @@
 -- What is written of a production plan, and what its status tells.
 use Rattle.std.proofs.Common.{◌≡◌, ◌≢◌, ◌≤◌, ◌⊎◌, refl, sym, subst, ◌∙◌, ℕ, List, Option, arith, inl, inr}
+use Rattle.std.proofs.lemmas.Bool.{cases_lt}
 use Rattle.iis_edge.specs.Causes.{Rose}
 use Rattle.lp_model.specs.Satisfaction.{values_at}
 use Rattle.certs.specs.declared.solving.Stop.{Stop}
+use Rattle.certs.specs.declared.solving.Stop.TheVariants.{Large}
 use Rattle.report_text.specs.declared.report.Core.{Core}
 use Rattle.report_text.specs.declared.report.Answer.{Answer}
 use Rattle.report_text.specs.declared.report.Answer.TheVariants.{Feasible, Irreducible, Stopped}
 use Rattle.model_maker.specs.PlanProgram.{plan_program}
 use Rattle.model_maker.specs.Refutation.{CannotBeMet}
+use Rattle.analysis.specs.Objectives.{most_entries, system_size}
+use Rattle.analysis.specs.Right.{IsCoreFound, first_budgets}
 use Rattle.analysis.specs.Puts.{PutWhole, PutFailed}
 use Rattle.iis_run.specs.Plans.{told_text, told_status, IsPlanAnswer, IsPlanFound, IsSummarised, IsPlanStopped, IsPlanTold, IsMade}
 use Rattle.iis_run.specs.Steps.{IsTold}
 
 -- no point is right, since the plan cannot be met, and no other answer is
 pub found : (n : ℕ) → CannotBeMet (plan_program n) → (answer : Answer) → IsPlanAnswer n answer → IsPlanFound n answer
-found n none (Feasible point) right = absurd (none.values (values_at point.values) right.satisfies)
-found n none (Irreducible core) right = record { right = right; is = inl (core, refl) }
-found n none (Stopped stop) right = record { right = right; is = inr (stop, refl) }
-found n none answer right = absurd right
+found n none answer right = elim (cases_lt most_entries (system_size (plan_program n) 0)) [
+  | inl l ↦ record { right = right; is = inr (Large (system_size (plan_program n) 0), right.0 l) }
+  | inr l ↦ by answer right (right.1 l)
+]
+  where
+    by : (answer : Answer) → IsPlanAnswer n answer → IsCoreFound (plan_program n) first_budgets answer → IsPlanFound n answer
+    by (Feasible point) right h = absurd (none.values (values_at point.values) h.satisfies)
+    by (Irreducible core) right h = record { right = right; is = inl (core, refl) }
+    by (Stopped stop) right h = record { right = right; is = inr (stop, refl) }
+    by answer right h = absurd h
 
 module _ {K : Type 0} (faults : K → ℕ) (taken : K → Option (List ℕ)) (old new : K) (n : ℕ) where
   -- ---- the put of what is to be written

@@ -8,6 +8,7 @@ use Rattle.lp_model.specs.declared.members.Member.{Member}
 use Rattle.lp_model.specs.declared.members.Side.{Side}
 use Rattle.lp_model.specs.declared.members.Side.TheVariants.{Lo, Up}
 use Rattle.lp_model.specs.Program.{Program}
+use Rattle.lp_model.specs.Shown.{most_columns, most_rows}
 use Rattle.certs.specs.declared.evidence.Branch.{Branch}
 use Rattle.certs.specs.declared.evidence.Share.{Share}
 use Rattle.certs.specs.declared.evidence.Source.TheVariants.{Member as Of}
@@ -75,7 +76,7 @@ kept_few p (x ∷ xs) = by (kept_few p xs) (p x)
     by h false = omega (arith, h)
 
 -- a plain system has at most as many as the program has columns and rows
-pub few_variables : (model : Program) (set : List Member) (path : List Branch) → length model.rows ≤ 2000 → length model.columns ≤ 4000
+pub few_variables : (model : Program) (set : List Member) (path : List Branch) → length model.rows ≤ most_rows → length model.columns ≤ most_columns
     → length (plain_system model set path false).columns + length (plain_system model set path false).rows < 2 ^ 31
 few_variables model set path r c =
     let columns = columns_are model set path in

@@ -1,5 +1,5 @@
 -- How a program stands in the code's parts, and what is asked of a new name.
-use Rattle.std.specs.Prelude.{◌≡◌, ℕ, ◌<◌, ◌≤◌, ◌⊎◌, Bool, true, false, List, [], ◌∷◌, ◌++◌, length, map, Option}
+use Rattle.std.specs.Prelude.{◌+◌, ◌*◌, ◌≡◌, ℕ, ◌<◌, ◌≤◌, ◌⊎◌, Bool, true, false, List, [], ◌∷◌, ◌++◌, length, map, Option}
 use Rattle.std.specs.List.{list_any}
 use Rattle.std.specs.Str.{bytes_eq}
 use Rattle.rational.specs.Rational.{ℚ, one_ℚ}
@@ -89,6 +89,10 @@ most_rows = MOST_ROWS
 -- the most columns
 abbrev pub most_columns : ℕ
 most_columns = MOST_COLUMNS
+
+-- the most members of a program: two sides of each row, and two bounds and a mark of each column
+abbrev pub most_members : ℕ
+most_members = 2 * most_rows + 3 * most_columns
 
 -- the most rows without sides that a text may have
 abbrev pub most_free_rows : ℕ

@@ -99,7 +99,7 @@ impl Model {
 
     /// Puts a row last, and gives its number.
     ///
-    /// `DuplicateName` comes where a row has the name, before `Limit`, which comes where 2,000 rows are there or the
+    /// `DuplicateName` comes where a row has the name, before `Limit`, which comes where `MOST_ROWS` are there or the
     /// name has more than 255 bytes. A refused row is dropped, and the program stays as it was.
     pub fn add_row(&mut self, alloc: Global, name: &[u8], row: Row) -> Result<u32, ModelStop>
         requires { IsWellFormedRow (length self.old.columns) (named_row name.now row) }
@@ -113,7 +113,7 @@ impl Model {
 
     /// Puts a column last, and gives its number.
     ///
-    /// `DuplicateName` comes where a column has the name, before `Limit`, which comes where 4,000 columns are there or
+    /// `DuplicateName` comes where a column has the name, before `Limit`, which comes where `MOST_COLUMNS` are there or
     /// the name has more than 255 bytes. After a refusal the program is as it was.
     pub fn add_column(
         &mut self,
@@ -241,7 +241,7 @@ impl Model {
         self.columns.name(index as usize)
     }
 
-    /// How many rows there are, which are at most 2,000. The program is well formed.
+    /// How many rows there are, at most `MOST_ROWS`. The program is well formed.
     pub fn row_count(&self) -> u32
         ensures count { result ≡ length self.now.rows }
         ensures few { result ≤ most_rows }
@@ -250,7 +250,7 @@ impl Model {
         self.rows.len() as u32
     }
 
-    /// How many columns there are, which are at most 4,000.
+    /// How many columns there are, at most `MOST_COLUMNS`.
     pub fn column_count(&self) -> u32
         ensures count { result ≡ length self.now.columns }
         ensures few { result ≤ most_columns }

@@ -15,7 +15,7 @@ use Rattle.name_map.proofs.NameLists.{length_map}
 use Rattle.lp_model.specs.declared.parts.Note.TheVariants.{LowerKept}
 use Rattle.lp_model.specs.Program.{Program, IsForm, IsWellFormedRow, empty_row}
 use Rattle.lp_model.proofs.New.{as_new_row_formed}
-use Rattle.lp_model.specs.Shown.{named_row}
+use Rattle.lp_model.specs.Shown.{most_columns, named_row}
 use Rattle.lp_statements.specs.declared.parts.Relation.TheVariants.{AtMost}
 use Rattle.lp_statements.specs.Statements.{Term, Statement}
 use Rattle.lp_reader.specs.declared.reader.Reader.{Reader}
@@ -198,7 +198,7 @@ module _ (reader : Reader) (statements : List Statement) (holds : Holds reader s
   pub columns_counted : length (columns_listed (names_of reader.columns.names) reader.columns.bounds.items (length reader.columns.names)) ≡ length (names_of reader.columns.names)
   columns_counted = length-listed (λ i. column_shown (name_at (names_of reader.columns.names) i) (slice_index_or reader.columns.bounds.items i plain)) (length reader.columns.names) ∙ sym (length_map (λ e. e.0) reader.columns.names)
 
-  pub bounds_few : length reader.columns.bounds.items ≤ 4000
+  pub bounds_few : length reader.columns.bounds.items ≤ most_columns
   bounds_few = let a = holds.few_columns in let b : length reader.columns.bounds.items ≡ length (columns_of statements) = ap length holds.bounds ∙ length_map (bounds_of statements) (columns_of statements) in omega arith
 
   pub bounds_named : length reader.columns.bounds.items ≡ length (names_of reader.columns.names)

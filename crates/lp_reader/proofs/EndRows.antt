@@ -58,8 +58,8 @@ label_short names label h = by (is_named names label.text) (nat_le most_rows (le
     by false false false e h = short_name label.text e
 
 -- a name that is generated
-pub generated_short : (n : ℕ) → n < 10000 → length (row_name n None) ≤ longest_name
-generated_short n h = let few = length-decimal-le 4 n (omega arith) (omega arith) (omega arith) in omega arith
+pub generated_short : (n : ℕ) → n ≤ most_rows → length (row_name n None) ≤ longest_name
+generated_short n h = let few = length-decimal-le 5 n (omega arith) (omega arith) (omega arith) in omega arith
 
 -- with a label only the constant counts
 pub labelled_fault : (names : List (List ℕ)) (label : Written) (right : Constant) (fault : ReadFault) → IsFaultOf (constant_fault right) fault → IsFaultOf (row_end_fault names (Some label) right) fault

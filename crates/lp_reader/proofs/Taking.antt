@@ -8,6 +8,7 @@ use Rattle.text_fields.specs.declared.faults.ReadFault.{ReadFault}
 use Rattle.text_fields.specs.declared.faults.ReadFault.TheVariants.{Stop, Memory}
 use Rattle.name_map.specs.Names.{names_of, StandsAt}
 use Rattle.name_map.proofs.NameLists.{length_map}
+use Rattle.lp_model.specs.Shown.{most_columns, most_rows}
 use Rattle.lp_statements.specs.declared.parts.Relation.{Relation}
 use Rattle.lp_statements.specs.Items.{Written}
 use Rattle.lp_statements.specs.Statements.{Constant, Term, Statement, Objective, Row, Free, Bound, Listed}
@@ -38,8 +39,8 @@ or_none a b p q = ap (λ o. option_or o b) p ∙ q
 -- what the tables keep
 pub holds_room : (reader : Reader) (front : List Statement) → Holds reader front → HasRoom reader
 holds_room reader front holds = record {
-  columns = subst (λ ns. length ns ≤ 4000) (sym holds.columns) holds.few_columns;
-  rows = subst (λ ns. length ns ≤ 2000) (sym holds.named) holds.few_rows;
+  columns = subst (λ ns. length ns ≤ most_columns) (sym holds.columns) holds.few_columns;
+  rows = subst (λ ns. length ns ≤ most_rows) (sym holds.named) holds.few_rows;
 }
 
 pub holds_even : (reader : Reader) (front : List Statement) → Holds reader front → IsEven reader

@@ -18,6 +18,7 @@ use Rattle.mps_lines.specs.Shapes.{Figure}
 use Rattle.mps_lines.specs.Steps.{Step, ToEntry}
 use Rattle.mps_reader.specs.declared.tables.Reader.{Reader}
 use Rattle.mps_reader.specs.Tables.{RowRecord, EntryRecord, rows_of, entries_of, is_free, is_entry_at, is_dropped, fitting_value}
+use Rattle.lp_model.specs.Shown.{most_entries}
 use Rattle.mps_reader.specs.Faults.{fault, is_no_number, is_wide_number, is_wide_literal}
 use Rattle.mps_reader.specs.Held.{Keeps, Holds, KeepsEntries, row_names_held, column_names_held, kind_held, entry_value, value_fitting}
 use Rattle.mps_reader.specs.Gathered.{is_same_pair}
@@ -71,11 +72,11 @@ module _ (reader : Reader) (steps : List Step) (column : List ℕ) (figure : Fig
       wide_is : is_wide_number figure.number ≡ not (is_some (value_fitting literal))
       wide_is = ap (λ o. option_map_or is_wide_literal o false) reads ∙ wide_of literal
 
-      count_is : nat_le 100000 (length (entries_of steps)) ≡ nat_le 100000 reader.count
-      count_is = ap (nat_le 100000) h.entries.count_is
+      count_is : nat_le most_entries (length (entries_of steps)) ≡ nat_le most_entries reader.count
+      count_is = ap (nat_le most_entries) h.entries.count_is
 
       -- in a dropped row
-      pub entry_dropped_full : drops ≡ true → 100000 ≤ reader.count → fault steps (ToEntry column figure) ≡ Some Limit
+      pub entry_dropped_full : drops ≡ true → most_entries ≤ reader.count → fault steps (ToEntry column figure) ≡ Some Limit
       unfolding fault
       entry_dropped_full d full =
           passes UnknownName _ _ (named true at.among)
@@ -84,7 +85,7 @@ module _ (reader : Reader) (steps : List Step) (column : List ℕ) (figure : Fig
           (passes DuplicateEntry _ _ (ap (λ b. not b && list_any (is_entry_at column figure.row) (entries_of steps)) (dropped_is true d))
           (hits Limit [] _ (count_is ∙ grind (arith, nat_tests))))))
 
-      pub entry_dropped_fits : drops ≡ true → reader.count < 100000 → fault steps (ToEntry column figure) ≡ None
+      pub entry_dropped_fits : drops ≡ true → reader.count < most_entries → fault steps (ToEntry column figure) ≡ None
       unfolding fault
       entry_dropped_fits d room =
           passes UnknownName _ _ (named true at.among)
@@ -133,7 +134,7 @@ module _ (reader : Reader) (steps : List Step) (column : List ℕ) (figure : Fig
             (passes (Text NumberWide) _ _ (not_wide d)
             (hits DuplicateEntry _ _ (twice_is d ∙ there))))
 
-        pub entry_full : drops ≡ false → is_some (lookup (is_same_pair (row, place)) reader.entries.entries) ≡ false → 100000 ≤ reader.count → fault steps (ToEntry column figure) ≡ Some Limit
+        pub entry_full : drops ≡ false → is_some (lookup (is_same_pair (row, place)) reader.entries.entries) ≡ false → most_entries ≤ reader.count → fault steps (ToEntry column figure) ≡ Some Limit
         unfolding fault
         entry_full d absent full =
             passes UnknownName _ _ (named true at.among)
@@ -142,7 +143,7 @@ module _ (reader : Reader) (steps : List Step) (column : List ℕ) (figure : Fig
             (passes DuplicateEntry _ _ (twice_is d ∙ absent)
             (hits Limit [] _ (count_is ∙ grind (arith, nat_tests))))))
 
-        pub entry_fits : drops ≡ false → is_some (lookup (is_same_pair (row, place)) reader.entries.entries) ≡ false → reader.count < 100000 → fault steps (ToEntry column figure) ≡ None
+        pub entry_fits : drops ≡ false → is_some (lookup (is_same_pair (row, place)) reader.entries.entries) ≡ false → reader.count < most_entries → fault steps (ToEntry column figure) ≡ None
         unfolding fault
         entry_fits d absent room =
             passes UnknownName _ _ (named true at.among)

@@ -22,8 +22,9 @@ use Rattle.mps_lines.specs.Steps.{Step, ToSense, ToRow, ToColumn}
 use Rattle.mps_reader.specs.declared.tables.Reader.{Reader}
 use Rattle.mps_reader.specs.Tables.{RowRecord, ColumnRecord, senses_of, rows_of, columns_of, entries_of, sides_of, ranges_of, bounds_of, is_free, bound_in, sets_lower, sets_upper, makes_whole}
 use Rattle.mps_reader.specs.Sides.{lower_set, upper_set}
+use Rattle.lp_model.specs.Shown.{most_columns, most_free_rows, most_rows}
 use Rattle.mps_reader.specs.Faults.{fault, is_full, is_too_long}
-use Rattle.mps_reader.specs.Held.{Keeps, Holds, KeepsSense, KeepsEntries, KeepsFigures, KeepsSettings, column_record, row_names_held, column_names_held, IsStepStop}
+use Rattle.mps_reader.specs.Held.{Keeps, Holds, KeepsSense, KeepsEntries, KeepsFigures, KeepsSettings, column_record, row_names_held, column_names_held, IsStepStop, lacks_room}
 use Rattle.mps_reader.proofs.Tested.{hits, passes, ends, row_is_named, column_is_named}
 use Rattle.mps_reader.proofs.Looks.{name_stays}
 use Rattle.mps_reader.proofs.Grows.{tables_sense, tables_row, tables_column}
@@ -74,22 +75,22 @@ module _ (reader : Reader) (steps : List Step) (kind : RowKind) (name : List ℕ
   row_there : (b : Bool) → list_any (bytes_eq name) (names_of reader.rows) ≡ b → list_any (bytes_eq name) (map (λ (r : RowRecord). r.name) (rows_of steps)) ≡ b
   row_there b e = row_is_named reader.rows reader.free reader.kept reader.objective (rows_of steps) h.rows name ∙ e
 
-  full_is : is_full steps kind ≡ cond (is_free kind) (nat_le 1000 reader.free) (nat_le 2000 reader.kept)
-  full_is = λ i. cond (is_free kind) (nat_le 1000 (h.rows.free_is i)) (nat_le 2000 (h.rows.kept_is i))
+  full_is : is_full steps kind ≡ lacks_room reader kind
+  full_is = λ i. cond (is_free kind) (nat_le most_free_rows (h.rows.free_is i)) (nat_le most_rows (h.rows.kept_is i))
 
   pub row_known : list_any (bytes_eq name) (names_of reader.rows) ≡ true → fault steps (ToRow kind name) ≡ Some DuplicateName
   unfolding fault
   row_known e = hits DuplicateName _ _ (row_there true e)
 
-  pub row_long : list_any (bytes_eq name) (names_of reader.rows) ≡ false → nat_lt 255 (length name) ≡ true → fault steps (ToRow kind name) ≡ Some Limit
+  pub row_long : list_any (bytes_eq name) (names_of reader.rows) ≡ false → is_too_long name ≡ true → fault steps (ToRow kind name) ≡ Some Limit
   unfolding fault
   row_long e long = passes DuplicateName _ _ (row_there false e) (hits Limit [] _ (ap (λ b. b || is_full steps kind) long))
 
-  pub row_full : list_any (bytes_eq name) (names_of reader.rows) ≡ false → nat_lt 255 (length name) ≡ false → cond (is_free kind) (nat_le 1000 reader.free) (nat_le 2000 reader.kept) ≡ true → fault steps (ToRow kind name) ≡ Some Limit
+  pub row_full : list_any (bytes_eq name) (names_of reader.rows) ≡ false → is_too_long name ≡ false → lacks_room reader kind ≡ true → fault steps (ToRow kind name) ≡ Some Limit
   unfolding fault
   row_full e long full = passes DuplicateName _ _ (row_there false e) (hits Limit [] _ (ap (λ b. b || is_full steps kind) long ∙ full_is ∙ full))
 
-  pub row_fits : list_any (bytes_eq name) (names_of reader.rows) ≡ false → nat_lt 255 (length name) ≡ false → cond (is_free kind) (nat_le 1000 reader.free) (nat_le 2000 reader.kept) ≡ false → fault steps (ToRow kind name) ≡ None
+  pub row_fits : list_any (bytes_eq name) (names_of reader.rows) ≡ false → is_too_long name ≡ false → lacks_room reader kind ≡ false → fault steps (ToRow kind name) ≡ None
   unfolding fault
   row_fits e long full = passes DuplicateName _ _ (row_there false e) (passes Limit [] _ (ap (λ b. b || is_full steps kind) long ∙ full_is ∙ full) ends)
 
@@ -113,13 +114,13 @@ module _ (reader : Reader) (steps : List Step) (kind : RowKind) (name : List ℕ
       (figures_stay literal_in Some (rows_of steps) (row_names_held reader) reader.ranges.entries (ranges_of steps) name kind h.ranges)
 
   -- a row that is not free
-  pub row_taken : (rows : List (List ℕ × RowKind)) → rows ≡ reader.rows ++ (name, kind) ∷ [] → nat_lt 255 (length name) ≡ false → is_free kind ≡ false → cond (is_free kind) (nat_le 1000 reader.free) (nat_le 2000 reader.kept) ≡ false
+  pub row_taken : (rows : List (List ℕ × RowKind)) → rows ≡ reader.rows ++ (name, kind) ∷ [] → is_too_long name ≡ false → is_free kind ≡ false → lacks_room reader kind ≡ false
       → Holds (record reader { rows = rows; kept = reader.kept + 1 }) (steps ++ ToRow kind name ∷ [])
   row_taken rows grown long free full =
       subst (λ (rs : List (List ℕ × RowKind)). Holds (record reader { rows = rs; kept = reader.kept + 1 }) (steps ++ ToRow kind name ∷ [])) (sym grown)
       (subst (Keeps (record reader { rows = reader.rows ++ (name, kind) ∷ []; kept = reader.kept + 1 })) (sym (tables_row steps kind name)) (record {
         sense = h.sense;
-        rows = row_kept reader.rows reader.free reader.kept reader.objective (rows_of steps) h.rows name (ltb-false _ _ long) kind free (sym (ap (λ b. cond b (nat_le 1000 reader.free) (nat_le 2000 reader.kept)) free) ∙ full);
+        rows = row_kept reader.rows reader.free reader.kept reader.objective (rows_of steps) h.rows name (ltb-false _ _ long) kind free (sym (ap (λ b. cond b (nat_le most_free_rows reader.free) (nat_le most_rows reader.kept)) free) ∙ full);
         columns = h.columns;
         entries = entries_more;
         rights = rights_more;
@@ -130,7 +131,7 @@ module _ (reader : Reader) (steps : List Step) (kind : RowKind) (name : List ℕ
       }))
 
   -- a free one
-  pub free_taken : (rows : List (List ℕ × RowKind)) (place : ℕ) → rows ≡ reader.rows ++ (name, kind) ∷ [] → place ≡ unwrap_or reader.objective (length reader.rows) → nat_lt 255 (length name) ≡ false → is_free kind ≡ true
+  pub free_taken : (rows : List (List ℕ × RowKind)) (place : ℕ) → rows ≡ reader.rows ++ (name, kind) ∷ [] → place ≡ unwrap_or reader.objective (length reader.rows) → is_too_long name ≡ false → is_free kind ≡ true
       → Holds (record reader { rows = rows; free = reader.free + 1; objective = Some place }) (steps ++ ToRow kind name ∷ [])
   free_taken rows place grown first long free =
       subst (λ (rs : List (List ℕ × RowKind) × ℕ). Holds (record reader { rows = rs.0; free = reader.free + 1; objective = Some rs.1 }) (steps ++ ToRow kind name ∷ [])) (λ i. (sym grown i, sym first i))
@@ -158,7 +159,7 @@ module _ (reader : Reader) (steps : List Step) (name : List ℕ) (whole : Bool) 
   few_are = ap length h.columns.same ∙ length_map column_record reader.columns
 
   abbrev is_past : Bool
-  is_past = is_too_long name || nat_le 4000 (length (columns_of steps))
+  is_past = is_too_long name || nat_le most_columns (length (columns_of steps))
 
   -- a column that is there
   pub column_old : list_any (bytes_eq name) (column_names_held reader) ≡ true → fault steps (ToColumn name whole) ≡ None
@@ -179,18 +180,18 @@ module _ (reader : Reader) (steps : List Step) (name : List ℕ) (whole : Bool) 
   })
 
   -- a new one that does not fit
-  pub column_long : list_any (bytes_eq name) (column_names_held reader) ≡ false → nat_lt 255 (length name) ≡ true → fault steps (ToColumn name whole) ≡ Some Limit
+  pub column_long : list_any (bytes_eq name) (column_names_held reader) ≡ false → is_too_long name ≡ true → fault steps (ToColumn name whole) ≡ Some Limit
   unfolding fault
-  column_long e long = hits Limit [] _ ((λ i. not (column_there false e i) && is_past) ∙ ap (λ b. b || nat_le 4000 (length (columns_of steps))) long)
+  column_long e long = hits Limit [] _ ((λ i. not (column_there false e i) && is_past) ∙ ap (λ b. b || nat_le most_columns (length (columns_of steps))) long)
 
-  pub column_full : list_any (bytes_eq name) (column_names_held reader) ≡ false → nat_lt 255 (length name) ≡ false → 4000 ≤ length reader.columns → fault steps (ToColumn name whole) ≡ Some Limit
+  pub column_full : list_any (bytes_eq name) (column_names_held reader) ≡ false → is_too_long name ≡ false → most_columns ≤ length reader.columns → fault steps (ToColumn name whole) ≡ Some Limit
   unfolding fault
-  column_full e long full = hits Limit [] _ ((λ i. not (column_there false e i) && is_past) ∙ ap (λ b. b || nat_le 4000 (length (columns_of steps))) long ∙ ap (nat_le 4000) few_are ∙ grind (arith, nat_tests))
+  column_full e long full = hits Limit [] _ ((λ i. not (column_there false e i) && is_past) ∙ ap (λ b. b || nat_le most_columns (length (columns_of steps))) long ∙ ap (nat_le most_columns) few_are ∙ grind (arith, nat_tests))
 
   -- and one that does
-  pub column_fits : list_any (bytes_eq name) (column_names_held reader) ≡ false → nat_lt 255 (length name) ≡ false → length reader.columns < 4000 → fault steps (ToColumn name whole) ≡ None
+  pub column_fits : list_any (bytes_eq name) (column_names_held reader) ≡ false → is_too_long name ≡ false → length reader.columns < most_columns → fault steps (ToColumn name whole) ≡ None
   unfolding fault
-  column_fits e long room = passes Limit [] _ ((λ i. not (column_there false e i) && is_past) ∙ ap (λ b. b || nat_le 4000 (length (columns_of steps))) long ∙ ap (nat_le 4000) few_are ∙ grind (arith, nat_tests)) ends
+  column_fits e long room = passes Limit [] _ ((λ i. not (column_there false e i) && is_past) ∙ ap (λ b. b || nat_le most_columns (length (columns_of steps))) long ∙ ap (nat_le most_columns) few_are ∙ grind (arith, nat_tests)) ends
 
   column_names_more : names_of (reader.columns ++ (name, whole) ∷ []) ≡ column_names_held reader ++ name ∷ []
   column_names_more = map_push (λ (e : List ℕ × Bool). e.0) reader.columns (name, whole)
@@ -198,7 +199,7 @@ module _ (reader : Reader) (steps : List Step) (name : List ℕ) (whole : Bool) 
   settings_more : {V : Type 0} (sets : BoundKind → Bool) (value : Bounded → V) (table : List (ℕ × V)) → KeepsSettings sets value (column_names_held reader) table (bounds_of steps) → KeepsSettings sets value (names_of (reader.columns ++ (name, whole) ∷ [])) table (bounds_of steps)
   settings_more sets value table keeps = subst (λ ns. KeepsSettings sets value ns table (bounds_of steps)) (sym column_names_more) (settings_stay sets value (column_names_held reader) table (bounds_of steps) name keeps)
 
-  pub column_taken : (columns : List (List ℕ × Bool)) → columns ≡ reader.columns ++ (name, whole) ∷ [] → list_any (bytes_eq name) (column_names_held reader) ≡ false → nat_lt 255 (length name) ≡ false → length reader.columns < 4000
+  pub column_taken : (columns : List (List ℕ × Bool)) → columns ≡ reader.columns ++ (name, whole) ∷ [] → list_any (bytes_eq name) (column_names_held reader) ≡ false → is_too_long name ≡ false → length reader.columns < most_columns
       → Holds (record reader { columns = columns }) (steps ++ ToColumn name whole ∷ [])
   column_taken columns grown e long room =
       subst (λ (cs : List (List ℕ × Bool)). Holds (record reader { columns = cs }) (steps ++ ToColumn name whole ∷ [])) (sym grown)

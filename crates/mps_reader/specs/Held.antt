@@ -1,5 +1,5 @@
 -- What a reader keeps of the steps so far: by the places of rows and columns what the look-ups find by their names.
-use Rattle.std.specs.Prelude.{◌≡◌, ⊤, ℕ, ◌<◌, ◌≤◌, ◌&&◌, ◌||◌, not, cond, nat_eq, Bool, true, false, is_some, unwrap_or, All, IfSome, List, [], ◌∷◌, ◌++◌, length, map, filter, find, slice_get, slice_index_or, Option, Some, None, Result, Ok, Err, MatchResult}
+use Rattle.std.specs.Prelude.{◌≡◌, ⊤, ℕ, ◌<◌, ◌≤◌, ◌&&◌, ◌||◌, not, cond, nat_eq, nat_le, Bool, true, false, is_some, unwrap_or, All, IfSome, List, [], ◌∷◌, ◌++◌, length, map, filter, find, slice_get, slice_index_or, Option, Some, None, Result, Ok, Err, MatchResult}
 use Rattle.std.specs.Map.{lookup}
 use Rattle.indexmap.specs.IndexMap.{insert_entry}
 use Rattle.std.specs.List.{list_any}
@@ -14,7 +14,7 @@ use Rattle.text_fields.specs.declared.faults.TextKind.TheVariants.{BadNumber, Nu
 use Rattle.text_fields.specs.declared.faults.ReadKind.{ReadKind}
 use Rattle.text_fields.specs.declared.faults.ReadFault.{ReadFault}
 use Rattle.text_fields.specs.declared.faults.ReadFault.TheVariants.{Stop, Memory}
-use Rattle.lp_model.specs.Shown.{most_rows, most_columns, longest_name}
+use Rattle.lp_model.specs.Shown.{most_rows, most_free_rows, most_columns, longest_name}
 use Rattle.name_map.specs.Names.{name_at, names_of}
 use Rattle.mps_lines.specs.declared.shapes.RowKind.{RowKind}
 use Rattle.mps_lines.specs.declared.shapes.RowKind.TheVariants.{Free}
@@ -184,6 +184,10 @@ pub record Keeps (reader : Reader) (t : Tables) : Type 0 where
   pub lowers : KeepsSettings sets_lower lower_set (column_names_held reader) reader.lowers.entries t.bounds
   pub uppers : KeepsSettings sets_upper upper_set (column_names_held reader) reader.uppers.entries t.bounds
   pub wholes : KeepsSettings makes_whole (λ b. tt) (column_names_held reader) reader.wholes.entries t.bounds
+
+-- there is no room for one more row of a kind
+abbrev pub lacks_room : Reader → RowKind → Bool
+lacks_room reader kind = cond (is_free kind) (nat_le most_free_rows reader.free) (nat_le most_rows reader.kept)
 
 -- a reader keeps what steps say
 abbrev pub Holds : Reader → List Step → Type 0

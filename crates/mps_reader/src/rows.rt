@@ -1,11 +1,12 @@
 //! The sense and the rows, as they are declared.
-ghost use Rattle.std.specs.Prelude.{◌≡◌, ◌<◌, ◌+◌, ◌++◌, ◌∷◌, [], List, nat_le, nat_lt, cond, false, OnOk, Some, None, length};
+ghost use Rattle.std.specs.Prelude.{◌≡◌, ◌<◌, ◌+◌, ◌++◌, ◌∷◌, [], List, false, OnOk, Some, None, length};
 ghost use Rattle.std.specs.List.{list_any};
 ghost use Rattle.std.specs.Str.{bytes_eq};
 ghost use Rattle.mps_lines.specs.Steps.{Step, ToSense, ToRow};
 ghost use Rattle.mps_reader.specs.Tables.{is_free};
 ghost use Rattle.name_map.specs.Names.{names_of};
-ghost use Rattle.mps_reader.specs.Held.{Holds, Takes};
+ghost use Rattle.mps_reader.specs.Faults.{is_too_long};
+ghost use Rattle.mps_reader.specs.Held.{Holds, Takes, lacks_room};
 
 use crate::tables::{Reader, is_free_kind, refusal};
 use lp_model::{LONGEST_NAME, MOST_FREE_ROWS, MOST_ROWS};
@@ -28,14 +29,14 @@ pub fn take_sense(reader: &mut Reader, line: u32, greatest: bool) -> Result<(), 
 
 /// Whether a name is too long.
 pub fn is_long(name: &[u8]) -> bool
-    ensures { result ≡ nat_lt 255 (length name.now) }
+    ensures { result ≡ is_too_long name.now }
 {
     name.len() > LONGEST_NAME
 }
 
 // Whether there is no room for one more row of a kind.
 fn is_full(reader: &Reader, kind: RowKind) -> bool
-    ensures { result ≡ cond (is_free kind) (nat_le 1000 reader.now.free) (nat_le 2000 reader.now.kept) }
+    ensures { result ≡ lacks_room reader.now kind }
 {
     if is_free_kind(kind) {
         return reader.free >= MOST_FREE_ROWS;
@@ -71,8 +72,8 @@ pub fn take_row(
 // Puts a new row last.
 fn put_row(alloc: Global, reader: &mut Reader, kind: RowKind, name: &[u8]) -> Result<(), AllocError>
     requires fresh { list_any (bytes_eq name.now) (names_of reader.old.rows) ≡ false }
-    requires short { nat_lt 255 (length name.now) ≡ false }
-    requires room { cond (is_free kind) (nat_le 1000 reader.old.free) (nat_le 2000 reader.old.kept) ≡ false }
+    requires short { is_too_long name.now ≡ false }
+    requires room { lacks_room reader.old kind ≡ false }
     ensures { OnOk result ((steps : List Step) → Holds reader.old steps → Holds reader.new (steps ++ ToRow kind name.now ∷ [])) }
 {
     let place = reader.rows.len();

@@ -68,7 +68,7 @@ IsOn i (Soft e m) = is_side_of i m ≡ true
 abbrev IsBefore : ℕ → Origin → Type 0
 IsBefore i o = (j : ℕ) × ((j < i) × IsOn j o)
 
-side_place : (i : ℕ) (m : Member) → is_side_of i m ≡ true → place m / 2 ≡ i
+pub side_place : (i : ℕ) (m : Member) → is_side_of i m ≡ true → place m / 2 ≡ i
 side_place i m h = by (is_same m (RowLo i)) refl h
   where
     by : (t : Bool) → is_same m (RowLo i) ≡ t → (t || is_same m (RowUp i)) ≡ true → place m / 2 ≡ i
@@ -104,6 +104,17 @@ bounds_apart (Soft e m) p h k =
     subst (Apart (Soft e m)) (sym k.1.1.0)
     (unless_same m k.1.0 (λ same. true≢false (sym k.1.1.1 ∙ ap not (sym (ap is_row_side same) ∙ side_row h.0 m h.1))))
 
+-- the rows before one
+module _ (model : Program) (enforced : List Member) (soft : List (ℕ × Member)) where
+  abbrev front : ℕ → List Origin
+  front n = flat_map (row_origins model enforced soft) (numbers_from 0 n)
+
+  pub front_more : (n : ℕ) → front (suc n) ≡ front n ++ row_origins model enforced soft n
+  front_more n =
+      flat_map-append (row_origins model enforced soft) (numbers_from 0 n) ((0 + n) ∷ [])
+      ∙ ap (λ z. front n ++ z) (append-nil (row_origins model enforced soft (0 + n)))
+      ∙ ap (λ z. front n ++ row_origins model enforced soft z) (let e : 0 + n ≡ n = omega arith in e)
+
 module _ (model : Program) (enforced : List Member) (soft : List (ℕ × Member)) (differ : AllPairs Differs soft) where
   on_row : (i : ℕ) → All (IsOn i) (row_origins model enforced soft i)
   on_row i =
@@ -126,37 +137,28 @@ module _ (model : Program) (enforced : List Member) (soft : List (ℕ × Member)
           (soft_each model (Apart (Row i)) (λ (e : ℕ × Member). is_side_of i e.1 ≡ true) (λ e h. tt) (filter (λ e. is_side_of i e.1) soft) (filter_passes (λ (e : ℕ × Member). is_side_of i e.1) soft)) rest
       by false = rest
 
-  abbrev front : ℕ → List Origin
-  front n = flat_map (row_origins model enforced soft) (numbers_from 0 n)
-
-  front_more : (n : ℕ) → front (suc n) ≡ front n ++ row_origins model enforced soft n
-  front_more n =
-      flat_map-append (row_origins model enforced soft) (numbers_from 0 n) ((0 + n) ∷ [])
-      ∙ ap (λ z. front n ++ z) (append-nil (row_origins model enforced soft (0 + n)))
-      ∙ ap (λ z. front n ++ row_origins model enforced soft z) (let e : 0 + n ≡ n = omega arith in e)
-
-  before_row : (n : ℕ) → All (IsBefore n) (front n)
+  before_row : (n : ℕ) → All (IsBefore n) (front model enforced soft n)
   before_row zero = All-nil (IsBefore zero)
   before_row (suc n) =
-      subst (All (IsBefore (suc n))) (sym (front_more n))
-      (All-append (IsBefore (suc n)) (front n) (row_origins model enforced soft n)
-      (All-weaker (IsBefore n) (IsBefore (suc n)) (λ o h. (h.0, ((let l = h.1.0 in omega (arith, l)), h.1.1))) (front n) (before_row n))
+      subst (All (IsBefore (suc n))) (sym (front_more model enforced soft n))
+      (All-append (IsBefore (suc n)) (front model enforced soft n) (row_origins model enforced soft n)
+      (All-weaker (IsBefore n) (IsBefore (suc n)) (λ o h. (h.0, ((let l = h.1.0 in omega (arith, l)), h.1.1))) (front model enforced soft n) (before_row n))
       (All-weaker (IsOn n) (IsBefore (suc n)) (λ o h. (n, (omega arith, h))) (row_origins model enforced soft n) (on_row n)))
 
-  front_apart : (n : ℕ) → AllPairs Apart (front n)
+  front_apart : (n : ℕ) → AllPairs Apart (front model enforced soft n)
   front_apart zero = no_pairs Apart
   front_apart (suc n) =
-      subst (AllPairs Apart) (sym (front_more n))
-      (pairs_append Apart (front n) (row_origins model enforced soft n) (front_apart n) (apart_in_row n)
-      (across Apart (IsBefore n) (IsOn n) (rows_apart n) (front n) (row_origins model enforced soft n) (before_row n) (on_row n)))
+      subst (AllPairs Apart) (sym (front_more model enforced soft n))
+      (pairs_append Apart (front model enforced soft n) (row_origins model enforced soft n) (front_apart n) (apart_in_row n)
+      (across Apart (IsBefore n) (IsOn n) (rows_apart n) (front model enforced soft n) (row_origins model enforced soft n) (before_row n) (on_row n)))
 
   pub all_apart : AllPairs Apart (origins_of model enforced soft)
   all_apart =
       let bounds : List (ℕ × Member) = filter (λ e. not (is_row_side e.1)) soft in
-      pairs_append Apart (front (length model.rows)) (soft_origins model bounds) (front_apart (length model.rows))
+      pairs_append Apart (front model enforced soft (length model.rows)) (soft_origins model bounds) (front_apart (length model.rows))
       (soft_apart model bounds (AllPairs-filter Differs (λ (e : ℕ × Member). not (is_row_side e.1)) soft differ))
-      (across Apart (λ o. (i : ℕ) × IsOn i o) (λ p. (e : ℕ) × ((m : Member) × ((p ≡ Soft e m) × (not (is_row_side m) ≡ true)))) bounds_apart (front (length model.rows)) (soft_origins model bounds)
-      (All-weaker (IsBefore (length model.rows)) (λ o. (i : ℕ) × IsOn i o) (λ o h. (h.0, h.1.1)) (front (length model.rows)) (before_row (length model.rows)))
+      (across Apart (λ o. (i : ℕ) × IsOn i o) (λ p. (e : ℕ) × ((m : Member) × ((p ≡ Soft e m) × (not (is_row_side m) ≡ true)))) bounds_apart (front model enforced soft (length model.rows)) (soft_origins model bounds)
+      (All-weaker (IsBefore (length model.rows)) (λ o. (i : ℕ) × IsOn i o) (λ o h. (h.0, h.1.1)) (front model enforced soft (length model.rows)) (before_row (length model.rows)))
       (soft_each model (λ p. (e : ℕ) × ((m : Member) × ((p ≡ Soft e m) × (not (is_row_side m) ≡ true)))) (λ (e : ℕ × Member). not (is_row_side e.1) ≡ true) (λ e h. (e.0, (e.1, (refl, h)))) bounds (filter_passes (λ (e : ℕ × Member). not (is_row_side e.1)) soft)))
 
 -- those of a set in order

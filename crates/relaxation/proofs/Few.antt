@@ -1,15 +1,15 @@
 -- An elastic system of a program within the limits has few variables.
-use Rattle.std.proofs.Common.{◌≡◌, ◌+◌, ◌*◌, ◌<◌, ◌≤◌, ◌∙◌, ap, ℕ, zero, suc, refl, ltb, ◌==◌, ◌&&◌, ◌||◌, Bool, true, false, cond, not, List, [], ◌∷◌, length, length-append, get_or, filter, Option, None, Some, arith}
+use Rattle.std.proofs.Common.{◌≡◌, ◌+◌, ◌*◌, ◌/◌, ◌<◌, ◌≤◌, ◌∙◌, ap, ℕ, zero, suc, refl, sym, ltb, ◌==◌, ◌&&◌, ◌||◌, Bool, true, false, true≢false, cond, not, List, [], ◌∷◌, length, length-append, get_or, filter, Option, None, Some, arith}
 use Rattle.std.specs.Prelude.{All, flat_map}
-use Rattle.std.proofs.lemmas.Bool.{and_parts, eqb-true, ltb-true}
-use Rattle.std.proofs.Math.Nat.{mul-le-mul_left, mul-le-mul_right}
+use Rattle.std.proofs.lemmas.Bool.{and_parts, eqb-true, le-ltb, lt-ltb, ltb-true}
+use Rattle.std.proofs.Math.Nat.{mul-le-mul_right}
 use Rattle.rational.specs.Rational.{ℚ}
 use Rattle.lp_model.specs.declared.members.Member.{Member}
 use Rattle.lp_model.specs.declared.members.Member.TheVariants.{RowLo, RowUp, Lower, Upper, Whole}
 use Rattle.lp_model.specs.Program.{Program}
 use Rattle.lp_model.specs.Members.{comes_before, has, kind, number, place, IsInOrder}
 use Rattle.lp_model.specs.MemberSets.{IsMemberFor, SetValue, place_count, place_in, possible_in}
-use Rattle.lp_model.specs.Shown.{most_columns, most_rows}
+use Rattle.lp_model.specs.Shown.{most_columns, most_members, most_rows}
 use Rattle.certs.specs.Checks.{IsSetOf}
 use Rattle.certs.proofs.Possible.{members_for_model}
 use Rattle.certs.specs.Elastic.{is_row_side, is_side_of, numbered_soft, soft_members}
@@ -21,6 +21,7 @@ use Rattle.relaxation.specs.Laws.{FewLaw}
 use Rattle.relaxation.specs.Origins.{origins, row_origins, soft_origin, soft_origins}
 use Rattle.relaxation.specs.declared.origins.Origin.{Origin}
 use Rattle.relaxation.specs.declared.origins.Origin.TheVariants.{Row}
+use Rattle.relaxation.proofs.Distinct.{front_more, side_place}
 use Rattle.relaxation.proofs.Joined.{ascending_few, joined_few, kept_few}
 use Rattle.relaxation.proofs.Soft.{length_soft}
 use Rattle.relaxation.proofs.Rows.{length_columns, length_rows}
@@ -87,7 +88,7 @@ set_few rows columns set known ordered =
 
 -- a set of members of a program within the limits has few
 pub members_few : (model : Program) (set : SetValue) → IsSetOf model set → set.members ≡ filter (has set.members) (possible_in set) → IsInOrder set.members
-    → length model.rows ≤ most_rows → length model.columns ≤ most_columns → length set.members ≤ 16000
+    → length model.rows ≤ most_rows → length model.columns ≤ most_columns → length set.members ≤ most_members
 members_few model set same possible ordered rows columns =
     let few = set_few (length model.rows) (length model.columns) set.members (members_for_model model set same possible) ordered in
     omega (arith, few, rows, columns)
@@ -100,33 +101,69 @@ soft_one e (Some b) = omega arith
 soft_few : (model : Program) (soft : List (ℕ × Member)) → length (soft_origins model soft) ≤ length soft
 soft_few model soft = let few = joined_few (λ (e : ℕ × Member). soft_origin e (number model e.1)) 1 (λ e. soft_one e (number model e.1)) soft in omega (arith, few)
 
-row_few : (model : Program) (enforced : List Member) (soft : List (ℕ × Member)) (i : ℕ) → length (row_origins model enforced soft i) ≤ 1 + length soft
-row_few model enforced soft i =
-    let sides : List (ℕ × Member) = filter (λ e. is_side_of i e.1) soft in
-    let front : List Origin = cond (has_row enforced i) (Row i ∷ []) [] in
-    let all = length-append front (soft_origins model sides) in
-    let few = soft_few model sides in
-    let kept = kept_few (λ (e : ℕ × Member). is_side_of i e.1) soft in
-    let one = by (has_row enforced i) in
-    omega (arith, all, few, kept, one)
+-- what passes the first of two tests or the second, but nothing both, passes a third
+both_few : {X : Type 0} (p q r : X → Bool) → ((x : X) → p x ≡ true → r x ≡ true) → ((x : X) → q x ≡ true → (p x ≡ false) × (r x ≡ true)) → (xs : List X) → length (filter p xs) + length (filter q xs) ≤ length (filter r xs)
+both_few p q r f g [] = omega arith
+both_few p q r f g (x ∷ xs) = by (p x) (q x) (r x) refl refl refl (both_few p q r f g xs)
   where
-    by : (b : Bool) → let list : List Origin = cond b (Row i ∷ []) [] in length list ≤ 1
-    by true = omega arith
-    by false = omega arith
+    by : (a b c : Bool) → p x ≡ a → q x ≡ b → r x ≡ c → length (filter p xs) + length (filter q xs) ≤ length (filter r xs)
+        → length (cond a (x ∷ filter p xs) (filter p xs)) + length (cond b (x ∷ filter q xs) (filter q xs)) ≤ length (cond c (x ∷ filter r xs) (filter r xs))
+    by true true c e k l h = absurd (true≢false (sym e ∙ (g x k).0))
+    by true false true e k l h = omega (arith, h)
+    by true false false e k l h = absurd (true≢false (sym (f x e) ∙ l))
+    by false true true e k l h = omega (arith, h)
+    by false true false e k l h = absurd (true≢false (sym (g x k).1 ∙ l))
+    by false false true e k l h = omega (arith, h)
+    by false false false e k l h = omega (arith, h)
 
-origins_few : (model : Program) (set enforced : List Member) (s : ℕ) → length (soft_members set enforced) ≡ s → length (origins model set enforced) ≤ length model.rows * (1 + s) + s
+-- a member whose place is that of a side of a row before one
+below : ℕ → ℕ × Member → Bool
+below n e = ltb (place e.1 / 2) n
+
+below_more : (n : ℕ) (e : ℕ × Member) → below n e ≡ true → below (suc n) e ≡ true
+unfolding below
+below_more n e h = let l = ltb-true (place e.1 / 2) n h in lt-ltb (place e.1 / 2) (suc n) (omega (arith, l))
+
+-- a side of the one row is not before it, and is before the next
+side_next : (n : ℕ) (e : ℕ × Member) → is_side_of n e.1 ≡ true → (below n e ≡ false) × (below (suc n) e ≡ true)
+unfolding below
+side_next n e h = let at = side_place n e.1 h in (le-ltb (place e.1 / 2) n (omega (arith, at)), lt-ltb (place e.1 / 2) (suc n) (omega (arith, at)))
+
+module _ (model : Program) (enforced : List Member) (soft : List (ℕ × Member)) where
+  row_few : (i : ℕ) → length (row_origins model enforced soft i) ≤ 1 + length (filter (λ e. is_side_of i e.1) soft)
+  row_few i =
+      let front : List Origin = cond (has_row enforced i) (Row i ∷ []) [] in
+      let all = length-append front (soft_origins model (filter (λ e. is_side_of i e.1) soft)) in
+      let few = soft_few model (filter (λ e. is_side_of i e.1) soft) in
+      let one = by (has_row enforced i) in
+      omega (arith, all, few, one)
+    where
+      by : (b : Bool) → let list : List Origin = cond b (Row i ∷ []) [] in length list ≤ 1
+      by true = omega arith
+      by false = omega arith
+
+  -- each soft member is a side of one row at most
+  rows_few : (n : ℕ) → length (flat_map (row_origins model enforced soft) (numbers_from 0 n)) ≤ n + length (filter (below n) soft)
+  rows_few zero = omega arith
+  rows_few (suc n) =
+      let more = ap length (front_more model enforced soft n) in
+      let all = length-append (flat_map (row_origins model enforced soft) (numbers_from 0 n)) (row_origins model enforced soft n) in
+      let before = rows_few n in
+      let here = row_few n in
+      let both = both_few (below n) (λ e. is_side_of n e.1) (below (suc n)) (below_more n) (side_next n) soft in
+      omega (arith, more, all, before, here, both)
+
+origins_few : (model : Program) (set enforced : List Member) (s : ℕ) → length (soft_members set enforced) ≡ s → length (origins model set enforced) ≤ length model.rows + 2 * s
 origins_few model set enforced s e =
     let soft : List (ℕ × Member) = numbered_soft (length model.columns) set enforced in
     let bounds : List (ℕ × Member) = filter (λ e. not (is_row_side e.1)) soft in
     let count : length soft ≡ s = length_soft (length model.columns) set enforced ∙ e in
     let all = length-append (flat_map (row_origins model enforced soft) (numbers_from 0 (length model.rows))) (soft_origins model bounds) in
-    let rows = joined_few (row_origins model enforced soft) (1 + length soft) (row_few model enforced soft) (numbers_from 0 (length model.rows)) in
-    let numbers = length_numbers 0 (length model.rows) in
+    let rows = rows_few model enforced soft (length model.rows) in
+    let sides = kept_few (below (length model.rows)) soft in
     let last = soft_few model bounds in
     let kept = kept_few (λ (e : ℕ × Member). not (is_row_side e.1)) soft in
-    let products = ap (λ n. n * (1 + length soft)) numbers in
-    let sized = ap (λ n. length model.rows * (1 + n)) count in
-    omega (arith, count, all, rows, last, kept, products, sized)
+    omega (arith, count, all, rows, sides, last, kept)
 
 pub few_law : FewLaw
 few_law model set enforced costs elastic rows columns =
@@ -136,7 +173,4 @@ few_law model set enforced costs elastic rows columns =
     let first = length_columns model set enforced (cost_by model costs) in
     let second = length_rows model set enforced (cost_by model costs) in
     let few = origins_few model set enforced s refl in
-    let bounded : s ≤ 16000 = omega (arith, members, kept, rows, columns) in
-    let wide = mul-le-mul_left (length model.rows) (let g : 1 + s ≤ 16001 = omega (arith, bounded) in g) in
-    let product = mul-le-mul_right 16001 rows in
-    omega (arith, first, second, few, bounded, wide, product, columns)
+    omega (arith, first, second, few, members, kept, rows, columns)

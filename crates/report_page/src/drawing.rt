@@ -3,6 +3,7 @@
 
 ghost use Rattle.std.specs.Prelude.{◌≡◌, ◌==◌, ◌<◌, ◌≤◌, ◌+◌, [], OnOk, IfOk, cond, length};
 ghost use Rattle.std.specs.List.{list_any};
+ghost use Rattle.lp_model.specs.Shown.{most_columns};
 ghost use Rattle.report_page.specs.Pieces.{Writes};
 ghost use Rattle.report_page.specs.Drawing.{is_in_form, is_shared as is_shared_by, shared_count, numbered, member_pieces, column_pieces, tie_pieces, tied_pieces, shared_pieces, figure_pieces, drawing_pieces};
 
@@ -108,7 +109,7 @@ fn write_column(
     column: u32,
     into: &mut Vec<u8>,
 ) -> Result<(), AllocError>
-    requires { place ≤ 4000 }
+    requires { place ≤ most_columns }
     ensures { OnOk result (Writes into.old.items into.new.items (column_pieces model.now place column)) }
 {
     write(
@@ -132,7 +133,7 @@ fn write_tie(
     member: Member,
     into: &mut Vec<u8>,
 ) -> Result<(), AllocError>
-    requires column { place ≤ 4000 }
+    requires column { place ≤ most_columns }
     requires member { from ≤ 60 }
     ensures { OnOk result (Writes into.old.items into.new.items (tie_pieces model.now place column from member)) }
 {
@@ -159,7 +160,7 @@ fn write_ties(
     set: &MemberSet,
     into: &mut Vec<u8>,
 ) -> Result<(), AllocError>
-    requires column { place ≤ 4000 }
+    requires column { place ≤ most_columns }
     requires members { length set.now.members ≤ 60 }
     ensures { OnOk result (Writes into.old.items into.new.items (numbered (tie_pieces model.now place column) 1 set.now.members)) }
 {
@@ -179,7 +180,7 @@ fn write_shared(
     set: &MemberSet,
     into: &mut Vec<u8>,
 ) -> Result<u64, AllocError>
-    requires column { above < 4000 }
+    requires column { above < most_columns }
     requires members { length set.now.members ≤ 60 }
     ensures count { IfOk result (λ n. n ≡ above + cond (is_shared_by model.now set.now.members column) 1 0) }
     ensures written { OnOk result (Writes into.old.items into.new.items (cond (is_shared_by model.now set.now.members column) (tied_pieces model.now set.now.members (above + 1) column) [])) }

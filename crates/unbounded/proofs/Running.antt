@@ -8,6 +8,7 @@ use Rattle.frac128.specs.Limit.{limit}
 use Rattle.lp_model.specs.declared.members.Member.{Member}
 use Rattle.lp_model.specs.Program.{Program, IsWellFormed}
 use Rattle.lp_model.specs.Satisfaction.{Satisfies}
+use Rattle.lp_model.specs.Shown.{most_columns, most_rows}
 use Rattle.certs.specs.declared.evidence.Branch.{Branch}
 use Rattle.certs.specs.Combination.{KeepsBranch}
 use Rattle.certs.specs.System.{LinearSystem}
@@ -63,7 +64,7 @@ kept_few p (x ∷ xs) = by (kept_few p xs) (p x)
     by h true = omega (arith, h)
     by h false = omega (arith, h)
 
-pub few_variables : (model : Program) (set : List Member) → length model.rows ≤ 2000 → length model.columns ≤ 4000 → variables (plain_system model set [] true) < 2 ^ 31
+pub few_variables : (model : Program) (set : List Member) → length model.rows ≤ most_rows → length model.columns ≤ most_columns → variables (plain_system model set [] true) < 2 ^ 31
 few_variables model set r c =
     let system : LinearSystem = plain_system model set [] true in
     let columns : length system.columns ≡ length model.columns = columns_are model set in

@@ -6,9 +6,9 @@ use Rattle.quick_answers.specs.Answers.{IsAsked}
 use Rattle.analysis.specs.Answers.{budgets_of, oracle_state}
 use Rattle.analysis.specs.Right.{IsWhole}
 use Rattle.analysis.proofs.Asked.{InnerAnswers, QuickAnswers, all_served, asked_holds, asked_run, proof_fits, proof_ordered}
-use Rattle.analysis.proofs.Refuting.{checked_refuted}
+use Rattle.analysis.proofs.Refuting.{solved_refuted}
 use Rattle.analysis.proofs.Searched.{fresh_answer, fresh_tree}
-use Rattle.analysis.proofs.Stopping.{checked_stop, run_answer}
+use Rattle.analysis.proofs.Stopping.{solved_stop, run_answer}
 use Rattle.analysis.proofs.answering.check_by.Goals as goal
 
 pub ask-requires-clause-served : goal.ask-requires-clause-served
@@ -60,11 +60,11 @@ returns-in-Ok-Infeasible c =
     let set = c.args.set.now in
     let verdict = Infeasible c.in-Ok-Infeasible.proof in
     let alone = subst (λ (v : Verdict). stands_alone (oracle_state inner).model set.members c.args.oracle.now.nodes ≡ true → IsAsked InnerAnswers (oracle_state inner) after set.members (Ok v)) c.in-Ok-Infeasible.field-0-is c.in-Ok-Infeasible.ensures.alone in
-    checked_refuted model budgets c.in-Ok-Infeasible.proof c.refuted.result c.refuted.ensures (λ marked. (fresh_tree model budgets inner c.requires.fresh set c.args.oracle.now.nodes verdict after c.requires.no_trees c.requires.whole marked alone).ends.0)
+    solved_refuted model budgets c.in-Ok-Infeasible.proof c.refuted.result c.refuted.ensures (λ marked. (fresh_tree model budgets inner c.requires.fresh set c.args.oracle.now.nodes verdict after c.requires.no_trees c.requires.whole marked alone).ends.0)
 
 pub returns-in-Err : goal.returns-in-Err
 returns-in-Err c =
     let model = c.args.model.now in
     let budgets = budgets_of c.args.budgets in
     let run = asked_run model budgets c.args.set.now c.in-Err.stop c.requires.whole (fresh_answer model budgets c.args.oracle.now.inner c.requires.fresh c.args.set.now (Err c.in-Err.stop) c.in-Err.ensures.answered) in
-    checked_stop model budgets c.stopped.result (run_answer (IsWhole model) model budgets c.in-Err.stop c.stopped.result run c.stopped.ensures)
+    solved_stop model budgets c.stopped.result (run_answer (IsWhole model) model budgets c.in-Err.stop c.stopped.result run c.stopped.ensures)

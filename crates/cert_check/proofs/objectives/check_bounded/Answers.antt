@@ -1,4 +1,5 @@
 use Rattle.std.proofs.Common.{◌≡◌, ◌+◌, [], ◌∷◌, ◌++◌, ◌∙◌, ap, subst, length, None, arith}
+use Rattle.std.proofs.lemmas.Result.{err_from_is_err_and}
 use Rattle.lp_model.specs.Members.{active_members}
 use Rattle.lp_model.specs.MemberSets.{SetValue}
 use Rattle.lp_model.specs.Satisfaction.{values_at}
@@ -8,11 +9,27 @@ use Rattle.report_text.specs.Grammar.{point_phrases, objective_phrases}
 use Rattle.cert_check.specs.Trials.{point_trial, value_trials, dual_trials}
 use Rattle.cert_check.specs.Stops.{first_stop, stop_or}
 use Rattle.cert_check.proofs.Bounding.{uses_known}
-use Rattle.cert_check.proofs.Firsts.{says_second, says_of}
+use Rattle.cert_check.proofs.Firsts.{says_second, says_of, stop_first, stop_of, stop_second}
 use Rattle.cert_check.proofs.objectives.check_bounded.Goals as goal
 
 pub check_dual-requires-clause-known : goal.check_dual-requires-clause-known
 check_dual-requires-clause-known c = uses_known c.args.model.now c.row_count-rows.ensures.well_formed c.args.bounded.now.dual.combo.shares c.requires.form.uses
+
+pub returns-in_err-bound : goal.returns-in_err-bound
+returns-in_err-bound c =
+    let model = c.args.model.now in
+    let b = c.args.bounded.now in
+    let next = c.args.line + (2 + length (point_phrases b.point)) in
+    let len : c.point_length.result ≡ length (point_phrases b.point) = c.point_length.ensures in
+    let place : c.args.line + 2 + c.point_length.result ≡ next = omega (arith, len) in
+    let point = c.check_point.ensures.said ∙ ap (λ (s : SetValue). outcome (point_steps model s.members (values_at b.point.values))) c.in-Ok.ensures in
+    let p = err_from_is_err_and c.from_residual-in_err-bound.result c.from_residual-in_err-bound.ensures.1 in
+    rw (p.1, p.2)
+    (stop_second (point_trial model (active_members model) (c.args.line + 2) b.point ∷ [])
+    (value_trials model next b.point b.objective ++ dual_trials model (next + length (objective_phrases b.objective)) b.objective b.dual) c.in_err-bound.field-0.0
+    (subst (λ (f : Checked). stop_or (c.args.line + 2) f None ≡ None) point c.in_ok-settle.ensures)
+    (stop_first (value_trials model next b.point b.objective) (dual_trials model (next + length (objective_phrases b.objective)) b.objective b.dual) c.in_err-bound.field-0.0
+    (stop_of _ _ c.in_err-bound.field-0.0 (ap (λ n. first_stop (value_trials model n b.point b.objective)) place) c.in_err-bound.ensures)))
 
 pub returns : goal.returns
 returns c =

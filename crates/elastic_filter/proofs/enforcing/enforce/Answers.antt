@@ -1,6 +1,7 @@
 use Rattle.std.proofs.Common.{◌≡◌, ◌≤◌, ◌<◌, ◌+◌, refl, sym, ◌∙◌, ap, subst, suc, get_or, length, arith}
 use Rattle.std.proofs.lemmas.List.Elements.{All-contains}
 use Rattle.lp_model.specs.MemberSets.{SetValue, IsMemberFor}
+use Rattle.lp_model.specs.Shown.{most_members}
 use Rattle.certs.specs.declared.solving.Stretched.TheVariants.{Stretched as Further, Cut as Refuted}
 use Rattle.certs.specs.Checks.{IsSetOf}
 use Rattle.certs.specs.Tales.{one_more}
@@ -55,7 +56,7 @@ include-requires g c =
 
 pub overflow_add-rounds : goal.overflow_add-rounds
 overflow_add-rounds g c =
-    let few : length c.loop-stop.enforced.members ≤ 16000 = subst (λ (s : SetValue). length s.members ≤ 16000) c.enforced.view_is (few_members c.enforced.inside.rows c.enforced.inside.columns c.enforced.inside.words.items c.enforced.invariant) in
+    let few : length c.loop-stop.enforced.members ≤ most_members = subst (λ (s : SetValue). length s.members ≤ most_members) c.enforced.view_is (few_members c.enforced.inside.rows c.enforced.inside.columns c.enforced.inside.words.items c.enforced.invariant) in
     let rounds : c.loop-stop.rounds ≤ suc (length c.loop-stop.enforced.members) = c.loop-stop.invariant.reached.few in
     omega arith
 

@@ -1,5 +1,6 @@
 use Rattle.std.proofs.Common.{sym, subst, ap, ◌∙◌, ◌≡◌, ◌++◌, ◌∷◌, [], ◌<◌, List, ℕ, length, arith}
 use Rattle.text_fields.specs.declared.faults.ReadKind.TheVariants.{Limit}
+use Rattle.lp_model.specs.Shown.{most_columns}
 use Rattle.name_map.specs.Names.{StandsAt, names_of}
 use Rattle.name_map.proofs.NameLists.{length_map, map_push}
 use Rattle.mps_reader.proofs.Taken.{stops, column_old, column_same, column_long, column_full, column_fits, column_taken, last_stands}
@@ -30,7 +31,7 @@ returns-clause-stands c =
 pub returns-clause-takes : goal.returns-clause-takes
 returns-clause-takes c = λ steps h.
     let short = sym c.is_long.ensures ∙ c.if-is_long.false in
-    let room : length c.args.reader.now.columns < 4000 = omega (arith, c.len-column.ensures.len, c.if-column-ge-MOST_COLUMNS.false) in (
+    let room : length c.args.reader.now.columns < most_columns = omega (arith, c.len-column.ensures.len, c.if-column-ge-MOST_COLUMNS.false) in (
       column_fits c.args.reader.now steps c.args.name.now c.args.whole h c.in_default.ensures short room,
       column_taken c.args.reader.now steps c.args.name.now c.args.whole h c.push.new.self c.in_ok-push.ensures.ok c.in_default.ensures short room,
     )
