@@ -7,7 +7,7 @@ use Rattle.std.proofs.lemmas.List.Elements.{All-contains, All-contains_itself, A
 use Rattle.std.proofs.lemmas.Nat.Bits.{bit_at_above}
 use Rattle.lane_scan.specs.Bits.{IsSet, IsSubset, Meets, bit_of}
 use Rattle.lp_model.specs.Members.{Member, RowLo}
-use Rattle.lp_model.specs.MemberSets.{IsMemberFor, IsMarking, IsWithin, HaveCommon, members_for, place_count, place_in, is_marked, marked_set}
+use Rattle.lp_model.specs.MemberSets.{SetValue, IsMemberFor, IsMarking, IsWithin, HaveCommon, members_for, place_count, place_in, is_marked, marked_set}
 use Rattle.lp_model.proofs.Sets.{Contains-filter}
 use Rattle.lp_model.proofs.Marked.{place_at, possible_of, possible_is}
 
@@ -53,7 +53,7 @@ module _ (rows columns : ℕ) (words : List ℕ) where
       )
 
 module _ (rows columns : ℕ) (a b : List ℕ) (h : IsMarking rows columns a) (fits : (k : ℕ) → get_or a k 0 < 2 ^ 64) where
-  pub within_is : IsSubset a b ↔ IsWithin (marked_set rows columns a) (marked_set rows columns b)
+  within_is : IsSubset a b ↔ IsWithin (marked_set rows columns a) (marked_set rows columns b)
   within_is = (
     λ sub k d l.
         let m = get_or (members rows columns a) k d in
@@ -65,7 +65,7 @@ module _ (rows columns : ℕ) (a b : List ℕ) (h : IsMarking rows columns a) (f
         ap₂ (λ (x y : ℕ). bit_at (get_or b x 0) y) (sym m.2) (sym m.3) ∙ bit.1,
   )
 
-  pub common_is : Meets a b ↔ HaveCommon (marked_set rows columns a) (marked_set rows columns b)
+  common_is : Meets a b ↔ HaveCommon (marked_set rows columns a) (marked_set rows columns b)
   common_is = (
     λ (i, j, s, t).
         let m = member_at_bit rows columns a h fits i j s in
@@ -75,3 +75,20 @@ module _ (rows columns : ℕ) (a b : List ℕ) (h : IsMarking rows columns a) (f
         let bit = bit_of_member rows columns a m c in
         (_, _, bit.1, (bit_of_member rows columns b m d).1),
   )
+
+-- the same of the words that code reads, and of what contracts see of two sets of one program
+module _ (rows columns r k : ℕ) (a b x y : List ℕ) (s t : SetValue) (mine : a ≡ x) (others : b ≡ y) (see_mine : marked_set rows columns x ≡ s) (see_others : marked_set r k y ≡ t)
+    (same_rows : s.rows ≡ t.rows) (same_columns : s.columns ≡ t.columns) (h : IsMarking rows columns x) (fits : (i : ℕ) → get_or a i 0 < 2 ^ 64) where
+  seen : (P : SetValue → SetValue → Type 0) → P (marked_set rows columns a) (marked_set rows columns b) ≡ P s t
+  seen P =
+      ap₂ P (ap (marked_set rows columns) mine ∙ see_mine)
+      (ap₂ (λ (i j : ℕ). marked_set i j b)
+      (ap (λ (z : SetValue). z.rows) see_mine ∙ (same_rows ∙ sym (ap (λ (z : SetValue). z.rows) see_others)))
+      (ap (λ (z : SetValue). z.columns) see_mine ∙ (same_columns ∙ sym (ap (λ (z : SetValue). z.columns) see_others)))
+      ∙ (ap (marked_set r k) others ∙ see_others))
+
+  pub within_seen : IsSubset a b ↔ IsWithin s t
+  within_seen = subst (λ (P : Type 0). IsSubset a b ↔ P) (seen IsWithin) (within_is rows columns a b (subst (IsMarking rows columns) (sym mine) h) fits)
+
+  pub common_seen : Meets a b ↔ HaveCommon s t
+  common_seen = subst (λ (P : Type 0). Meets a b ↔ P) (seen HaveCommon) (common_is rows columns a b (subst (IsMarking rows columns) (sym mine) h) fits)
