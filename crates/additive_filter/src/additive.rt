@@ -6,7 +6,7 @@ ghost use Rattle.certs.specs.Filter.{Early, IsEarlyTest};
 ghost use Rattle.certs.specs.Proof.{IsProof};
 ghost use Rattle.filter_steps.specs.Isolated.{IsIsolation, IsLeft, IsReduced, IsStoppedAt, is_feasible};
 
-use certs::{Irreducible, MemberSet, Oracle, Point, Proof, Stop, Verdict};
+use certs::{Irreducible, MemberSet, Oracle, PackedPoint, Proof, Stop, Verdict};
 use filter_steps::{Reduction, listed, try_without};
 use std::alloc::Global;
 
@@ -78,7 +78,7 @@ fn isolate_refuted<O: Oracle>(
 }
 
 // Puts points into the other order.
-fn turn(points: &mut Vec<Point>)
+fn turn(points: &mut Vec<PackedPoint>)
     ensures { points.new.items ≡ reverse points.old.items }
 {
     points.as_mut_slice().reverse();

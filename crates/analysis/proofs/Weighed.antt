@@ -1,6 +1,7 @@
 -- What a cheapest weighting gives, as an answer.
 use Rattle.std.proofs.Common.{◌≡◌, refl, sym, ap, subst, List, [], ◌∷◌, Some, None, Result, Ok, Err, inl, inr}
-use Rattle.std.specs.Prelude.{All, Contains, IfOk}
+use Rattle.std.specs.Prelude.{All, Contains, IfOk, IfSome}
+use Rattle.std.specs.Result.{result_ok}
 use Rattle.std.proofs.lemmas.List.Elements.{All-contains_itself, All-cons, All-head, All-nil, All-tail, All-weaker}
 use Rattle.rational.specs.Rational.{ℚ}
 use Rattle.lp_model.specs.declared.members.Member.{Member}
@@ -67,6 +68,15 @@ whole_stopped model budgets stop {E} result run told = stopped_told model budget
 -- ---- an oracle that was asked nothing yet
 pub fresh_is_of : (model : Program) (budgets : Budgets) (oracle : BranchValue PresolveValue) → oracle ≡ fresh_oracle model budgets → IsOracleOf model budgets oracle
 fresh_is_of model budgets oracle fresh = record { model = ap (λ (o : BranchValue PresolveValue). (oracle_state o).model) fresh; budgets = ap (λ (o : BranchValue PresolveValue). (oracle_state o).budgets) fresh }
+
+-- ---- an answer that takes memory
+pub if_told : (P : Answer → Type 0) {E : Type 0} (result : Result Answer E) (answer : Answer) → IfOk result (λ told. told ≡ answer) → P answer → IfOk result P
+if_told P (Ok told) answer is h = subst P (sym is) h
+if_told P (Err error) answer is h = tt
+
+pub if_some : (P : Answer → Type 0) {E : Type 0} (result : Result Answer E) → IfOk result P → IfSome (result_ok result) P
+if_some P (Ok told) h = h
+if_some P (Err error) h = tt
 
 -- ---- a cheapest set
 pub priced_set : (model : Program) (set : SetValue) (priced : Priced) (members : SetValue) (combo : Combo) (total : ℚ) (price : Point) → set ≡ active_set model → priced ≡ Priced.Set members combo total price → IsPricing model set.members priced

@@ -15,7 +15,7 @@ use crate::reducing::reduction;
 use crate::relaxing::relaxation;
 use crate::searching::{search, stopped};
 use crate::sizing::too_large;
-use certs::{MemberSet, Oracle, Proof, Verdict, members_used};
+use certs::{MemberSet, Oracle, PackedPoint, Proof, Verdict, members_used};
 use lp_model::Model;
 use quick_answers::{Kept, QuickOracle};
 use report_text::{Answer, Command, CommandSession};
@@ -121,7 +121,7 @@ fn check_by(
     ensures { IfOk result (IsSolved model.now (budgets_of budgets)) }
 {
     match oracle.ask(alloc, set) {
-        Ok(Verdict::Feasible(point)) => Ok(Answer::Feasible(point)),
+        Ok(Verdict::Feasible(point)) => Ok(Answer::Feasible(PackedPoint::of(alloc, &point)?)),
         Ok(Verdict::Infeasible(proof)) => refuted(alloc, model, set, proof),
         Err(stop) => stopped(stop),
     }

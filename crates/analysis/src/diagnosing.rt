@@ -8,7 +8,7 @@ use crate::answering::{Budgets, refuted};
 use crate::asking::{keep, quick_oracle};
 use crate::searching::{is_wide, stopped};
 use crate::sizing::too_large;
-use certs::{MemberSet, Stop};
+use certs::{MemberSet, PackedPoint, Stop};
 use lp_model::Model;
 use quick_answers::{Kept, is_small, quick_best};
 use report_text::{Answer, Bounded};
@@ -109,9 +109,11 @@ fn told(
     ensures { IfOk result (IsTold model.now (budgets_of budgets)) }
 {
     match found {
-        Ok(Diagnosis::Unbounded(point, ray)) => Ok(Answer::Unbounded(point, ray)),
+        Ok(Diagnosis::Unbounded(point, ray)) => {
+            Ok(Answer::Unbounded(PackedPoint::of(alloc, &point)?, ray))
+        }
         Ok(Diagnosis::Bounded(point, objective, dual)) => Ok(Answer::Bounded(Bounded {
-            point,
+            point: PackedPoint::of(alloc, &point)?,
             objective,
             dual,
         })),

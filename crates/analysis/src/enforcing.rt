@@ -11,7 +11,7 @@ use crate::answering::Budgets;
 use crate::asking::{keep, quick_oracle};
 use crate::linear::not_begun;
 use crate::searching::{concluded, stopped};
-use certs::MemberSet;
+use certs::{MemberSet, PackedPoint};
 use elastic_filter::{Enforced, enforce};
 use lp_model::Model;
 use quick_answers::{Kept, QuickStretcher};
@@ -70,9 +70,9 @@ fn enforced(
             let mut oracle = quick_oracle(alloc, model, budgets, budgets.nodes, kept);
             let given = deletion_filter::isolate(alloc, &mut oracle, &members);
             keep(kept, oracle.into_kept());
-            concluded(Some(rounds), given)
+            concluded(alloc, Some(rounds), given)
         }
-        Ok(Enforced::Feasible(point)) => Ok(Answer::Feasible(point)),
+        Ok(Enforced::Feasible(point)) => Ok(Answer::Feasible(PackedPoint::of(alloc, &point)?)),
         Err(stop) => stopped(stop),
     }
 }

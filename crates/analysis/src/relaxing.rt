@@ -13,7 +13,7 @@ ghost use Rattle.analysis.specs.Linear.{first_mark};
 use crate::answering::Budgets;
 use crate::linear::not_begun;
 use crate::searching::{is_wide, stopped};
-use certs::{Combo, MemberSet, members_used};
+use certs::{Combo, MemberSet, PackedPoint, members_used};
 use least_checks::rigid_set;
 use linear_oracle::leaf_proof;
 use lp_model::Model;
@@ -114,7 +114,9 @@ fn told(alloc: Global, model: &Model, set: &MemberSet, found: Relaxed) -> Result
     ensures { (budgets : OneBudgets) → IfOk result (IsLeastTold model.now budgets) }
 {
     match found {
-        Relaxed::Least { point, dual } => Ok(Answer::Least(point, dual)),
+        Relaxed::Least { point, dual } => {
+            Ok(Answer::Least(PackedPoint::of(alloc, &point)?, dual))
+        }
         Relaxed::RigidInfeasible(combo) => rigid_refuted(alloc, model, set, combo),
     }
 }

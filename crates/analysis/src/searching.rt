@@ -9,7 +9,7 @@ use crate::asking::{keep, quick_oracle, reference_oracle};
 use crate::enforcing::enforced_search;
 use crate::sizing::too_large;
 use crate::weighing::weighed_search;
-use certs::{Irreducible, MemberSet, Stop};
+use certs::{Irreducible, MemberSet, PackedPoint, Stop};
 use lp_model::Model;
 use quick_answers::{Kept, is_small};
 use report_text::{Answer, Core, Method, Witnesses};
@@ -53,7 +53,7 @@ fn late_search(
     let mut oracle = quick_oracle(alloc, model, budgets, budgets.nodes, kept);
     let given = deletion_filter::isolate(alloc, &mut oracle, set);
     keep(kept, oracle.into_kept());
-    concluded(None, given)
+    concluded(alloc, None, given)
 }
 
 // What the additive filter leaves of the active members, by a quick oracle.
@@ -71,7 +71,7 @@ fn early_search(
     let mut oracle = quick_oracle(alloc, model, budgets, budgets.nodes, kept);
     let given = additive_filter::isolate(alloc, &mut oracle, set);
     keep(kept, oracle.into_kept());
-    concluded(None, given)
+    concluded(alloc, None, given)
 }
 
 // A point of the active members by quick runs, or else what the sensitivity filter leaves of them; of a small set that comes
@@ -90,14 +90,14 @@ fn core_search(
     let Budgets { pivots, nodes } = budgets;
     let is_small = is_small(model, set);
     if !is_small && let Some(point) = kept.find_point(alloc, model, set, pivots, nodes) {
-        return Ok(Answer::Feasible(point));
+        return Ok(Answer::Feasible(PackedPoint::of(alloc, &point)?));
     }
     let answer = core_search_by_run(alloc, model, budgets, set, kept)?;
     if is_small
         && is_wide(&answer)
         && let Some(point) = kept.find_point(alloc, model, set, pivots, nodes)
     {
-        return Ok(Answer::Feasible(point));
+        return Ok(Answer::Feasible(PackedPoint::of(alloc, &point)?));
     }
     Ok(answer)
 }
@@ -119,11 +119,12 @@ fn core_search_by_run(
     let mut oracle = quick_oracle(alloc, model, budgets, budgets.nodes, kept);
     let given = sensitivity_filter::isolate_with(alloc, &mut first, &mut oracle, set);
     keep(kept, oracle.into_kept());
-    concluded(None, given)
+    concluded(alloc, None, given)
 }
 
 /// What a filter gives, with the rounds before it, as an answer.
 pub(crate) fn concluded(
+    alloc: Global,
     rounds: Option<u64>,
     given: Result<Irreducible, Stop>,
 ) -> Result<Answer, AllocError>
@@ -131,14 +132,14 @@ pub(crate) fn concluded(
     ensures { IfOk result (IsAnswerOf rounds given) }
 {
     match given {
-        Ok(found) => Ok(isolated(rounds, found)),
+        Ok(found) => isolated(alloc, rounds, found),
         Err(stop) => stopped(stop),
     }
 }
 
 // What a filter finds, with the rounds before it, as an answer.
-fn isolated(rounds: Option<u64>, found: Irreducible) -> Answer
-    ensures given { result ≡ answer_of rounds found }
+fn isolated(alloc: Global, rounds: Option<u64>, found: Irreducible) -> Result<Answer, AllocError>
+    ensures given { IfOk result (λ answer. answer ≡ answer_of rounds found) }
     ensures in_order { IsFoundInOrder found }
 {
     match found {
@@ -148,15 +149,15 @@ fn isolated(rounds: Option<u64>, found: Irreducible) -> Answer
             proof,
         } => {
             members.stands_in_order();
-            Answer::Irreducible(Core {
+            Ok(Answer::Irreducible(Core {
                 members,
                 witnesses: Witnesses::new(witnesses),
                 proof,
                 rounds,
                 price: None,
-            })
+            }))
         }
-        Irreducible::Feasible(point) => Answer::Feasible(point),
+        Irreducible::Feasible(point) => Ok(Answer::Feasible(PackedPoint::of(alloc, &point)?)),
     }
 }
 

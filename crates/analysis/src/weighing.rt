@@ -16,7 +16,7 @@ use crate::linear::not_weighed;
 use crate::searching::{is_wide, stopped};
 use crate::witnesses::{witness, witnesses};
 use alt_polyhedron::{Priced, cheapest};
-use certs::{MemberSet, Point, Proof};
+use certs::{MemberSet, PackedPoint, Point, Proof};
 use frac128::Frac;
 use linear_oracle::leaf_proof;
 use lp_model::Model;
@@ -88,16 +88,16 @@ fn quickly_weighed(
     ensures { IfSome result (IsWeighedTold model.now (budgets_of budgets)) }
 {
     let found = quick_cheapest(alloc, model, set, kept, budgets.pivots)?;
-    Some(told(model, found))
+    told(alloc, model, found).ok()
 }
 
 // What they show, as an answer.
-fn told(model: &Model, found: Weighed) -> Answer
+fn told(alloc: Global, model: &Model, found: Weighed) -> Result<Answer, AllocError>
     requires { IsWeighed model.now (active_members model.now) found }
-    ensures { (budgets : OneBudgets) → IsWeighedTold model.now budgets result }
+    ensures { (budgets : OneBudgets) → IfOk result (IsWeighedTold model.now budgets) }
 {
     match found {
-        Weighed::Feasible(point) => Answer::Feasible(point),
+        Weighed::Feasible(point) => Ok(Answer::Feasible(PackedPoint::of(alloc, &point)?)),
         Weighed::Core(core) => {
             core.members.stands_in_order();
             let QuickCore {
@@ -107,7 +107,7 @@ fn told(model: &Model, found: Weighed) -> Answer
                 price,
                 witnesses,
             } = core;
-            weighed_core(members, witnesses, proof, (total, price))
+            weighed_core(alloc, members, witnesses, proof, total, &price)
         }
     }
 }
@@ -141,7 +141,7 @@ fn weighed_by_run(
             Ok(points) => {
                 members.stands_in_order();
                 let proof = leaf_proof(alloc, combo)?;
-                Ok(weighed_core(members, points, proof, (total, price)))
+                weighed_core(alloc, members, points, proof, total, &price)
             }
             Err(stop) => stopped(stop),
         },
@@ -163,25 +163,29 @@ fn satisfied(
     ensures { IfOk result (IsWeighedTold model.now (budgets_of budgets)) }
 {
     match witness(alloc, model, budgets, oracle, set) {
-        Ok(point) => Ok(Answer::Feasible(point)),
+        Ok(point) => Ok(Answer::Feasible(PackedPoint::of(alloc, &point)?)),
         Err(stop) => stopped(stop),
     }
 }
 
 // Members with their witnesses as an answer, with a proof, and a total with its price.
 fn weighed_core(
+    alloc: Global,
     members: MemberSet,
-    witnesses: Vec<Point>,
+    witnesses: Vec<PackedPoint>,
     proof: Proof,
-    priced: (Frac, Point),
-) -> Answer
-    ensures { result ≡ weighed_answer members witnesses.items proof priced }
+    total: Frac,
+    price: &Point,
+) -> Result<Answer, AllocError>
+    ensures { let answer = weighed_answer members witnesses.items proof (total, price.now) in
+        IfOk result (λ told. told ≡ answer) }
 {
-    Answer::Irreducible(Core {
+    let price = PackedPoint::of(alloc, price)?;
+    Ok(Answer::Irreducible(Core {
         members,
         witnesses: Witnesses::new(witnesses),
         proof,
         rounds: None,
-        price: Some(priced),
-    })
+        price: Some((total, price)),
+    }))
 }

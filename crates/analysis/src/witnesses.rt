@@ -10,7 +10,7 @@ ghost use Rattle.analysis.specs.Answers.{IsOracleOf, IsRunStop, IsWitnessStop, b
 
 use crate::answering::Budgets;
 use crate::asking::Reference;
-use certs::{MemberSet, Oracle, Point, Stop, Verdict};
+use certs::{MemberSet, Oracle, PackedPoint, Point, Stop, Verdict};
 use lp_model::Model;
 use quick_answers::QuickOracle;
 use std::alloc::Global;
@@ -27,7 +27,7 @@ pub(crate) fn witnesses(
     budgets: Budgets,
     oracle: &mut QuickOracle<'_, Reference<'_>>,
     set: &MemberSet,
-) -> Result<Vec<Point>, Stop>
+) -> Result<Vec<PackedPoint>, Stop>
     requires same { IsSetOf model.now set.now }
     requires irreducible { IsIrreducible model.now set.now.members }
     requires of { IsOracleOf model.now (budgets_of budgets) oracle.old.inner }
@@ -43,7 +43,10 @@ pub(crate) fn witnesses(
         };
         others.remove(member);
         let point = witness(alloc, model, budgets, oracle, &others)?;
-        let Ok(()) = points.push(point) else {
+        let Ok(packed) = PackedPoint::of(alloc, &point) else {
+            return Err(Stop::Memory);
+        };
+        let Ok(()) = points.push(packed) else {
             return Err(Stop::Memory);
         };
     }

@@ -10,4 +10,5 @@ pub mod Bounding
 pub mod Reaching
 pub mod Pricing
 pub mod Believed
+pub mod Reached
 mod Examples

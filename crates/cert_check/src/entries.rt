@@ -19,7 +19,7 @@ use crate::prices::check_priced;
 use crate::trees::{check_tree, line_behind};
 use crate::witnesses::check_witnesses;
 use bound_checks::has_mark;
-use certs::{Point, Proof, check_point};
+use certs::{PackedPoint, Proof, check_point};
 use least_checks::rigid_set;
 use lp_model::{MemberSet, Model};
 use report_text::{
@@ -166,7 +166,7 @@ fn check_answer(alloc: Global, model: &Model, answer: &Answer, line: u32) -> Res
 }
 
 // Checks a point against the active members.
-fn check_feasible(alloc: Global, model: &Model, point: &Point, line: u32) -> Result<(), Stop>
+fn check_feasible(alloc: Global, model: &Model, point: &PackedPoint, line: u32) -> Result<(), Stop>
     requires form { IsPointFor model.now point.now }
     requires short { line + 2 < 4294967296 }
     ensures { Says (first_stop (feasible_trials model.now line point.now)) result }
@@ -174,7 +174,10 @@ fn check_feasible(alloc: Global, model: &Model, point: &Point, line: u32) -> Res
     let Ok(active) = model.members(alloc) else {
         return Err(Stop::Memory);
     };
-    settle(line + OPENING_LINES, check_point(model, &active, point))
+    let Ok(point) = point.unpacked(alloc) else {
+        return Err(Stop::Memory);
+    };
+    settle(line + OPENING_LINES, check_point(model, &active, &point))
 }
 
 // Checks active members and a proof that no point satisfies them.
@@ -259,7 +262,7 @@ fn check_core(alloc: Global, model: &Model, core: &Core, line: u32) -> Result<()
     };
     let witnesses = core.witnesses.as_slice();
     let start = line + OPENING_LINES;
-    let end = check_witnesses(model, &core.members, &mut others, witnesses, start)?;
+    let end = check_witnesses(alloc, model, &core.members, &mut others, witnesses, start)?;
     check_tree(alloc, model, &core.members, &core.proof, end + PROOF_LINES)?;
     let behind = line_behind(&core.proof, end + PROOF_LINES);
     check_tail(alloc, model, core, behind)

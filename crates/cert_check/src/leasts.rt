@@ -7,7 +7,7 @@ ghost use Rattle.cert_check.specs.Trials.{least_trials, total_trials};
 ghost use Rattle.cert_check.specs.Stops.{first_stop, Says};
 
 use crate::outcome::{Stop, settle};
-use certs::{Dual, Point, check_point};
+use certs::{Dual, PackedPoint, Point, check_point};
 use frac128::Frac;
 use least_checks::{check_total, check_violation, check_weights, rigid_set};
 use lp_model::{MemberSet, Model};
@@ -19,7 +19,7 @@ use std::alloc::Global;
 pub(crate) fn check_least(
     alloc: Global,
     model: &Model,
-    point: &Point,
+    point: &PackedPoint,
     dual: &Dual,
     line: u32,
 ) -> Result<(), Stop>
@@ -32,17 +32,20 @@ pub(crate) fn check_least(
     let Ok(active) = model.members(alloc) else {
         return Err(Stop::Memory);
     };
-    check_sum(model, &active, point, dual, line + OPENING_LINES)?;
+    let Ok(point) = point.unpacked(alloc) else {
+        return Err(Stop::Memory);
+    };
+    check_sum(model, &active, &point, dual, line + OPENING_LINES)?;
     let Ok(rigid) = rigid_set(alloc, model, &active) else {
         return Err(Stop::Memory);
     };
     let start = line + LEAST_LINES;
-    settle(start, check_point(model, &rigid, point))?;
+    settle(start, check_point(model, &rigid, &point))?;
     let Ok(mut sums) = vec![in alloc; Frac::whole(0); model.column_count() as usize] else {
         return Err(Stop::Memory);
     };
     settle(
-        start + point_length(point) as u32,
+        start + point_length(&point) as u32,
         check_weights(model, &active, &dual.combo, &mut sums),
     )
 }

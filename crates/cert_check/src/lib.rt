@@ -9,6 +9,7 @@ mod objectives;
 mod outcome;
 mod prices;
 mod reports;
+mod sparse;
 mod trees;
 mod witnesses;
 

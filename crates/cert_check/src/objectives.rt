@@ -12,7 +12,7 @@ use crate::outcome::{Stop, settle};
 use bound_checks::{
     check_columns, check_ray, check_right_side, check_value, has_mark, objective_value,
 };
-use certs::{Dual, Point, Ray, check_point};
+use certs::{Dual, PackedPoint, Point, Ray, check_point};
 use frac128::Frac;
 use lp_model::{MemberSet, Model};
 use report_text::{BOUND_LINES, Bounded, OPENING_LINES, point_length};
@@ -22,7 +22,7 @@ use std::alloc::Global;
 pub(crate) fn check_unbounded(
     alloc: Global,
     model: &Model,
-    point: &Point,
+    point: &PackedPoint,
     ray: &Ray,
     line: u32,
 ) -> Result<(), Stop>
@@ -34,9 +34,12 @@ pub(crate) fn check_unbounded(
     let Ok(active) = model.members(alloc) else {
         return Err(Stop::Memory);
     };
+    let Ok(point) = point.unpacked(alloc) else {
+        return Err(Stop::Memory);
+    };
     let start = line + OPENING_LINES;
-    settle(start, check_point(model, &active, point))?;
-    let next = start + point_length(point) as u32;
+    settle(start, check_point(model, &active, &point))?;
+    let next = start + point_length(&point) as u32;
     settle(next, check_ray(model, &active, ray))
 }
 
@@ -57,10 +60,13 @@ pub(crate) fn check_bounded(
     let Ok(active) = model.members(alloc) else {
         return Err(Stop::Memory);
     };
+    let Ok(point) = bounded.point.unpacked(alloc) else {
+        return Err(Stop::Memory);
+    };
     let start = line + OPENING_LINES;
-    settle(start, check_point(model, &active, &bounded.point))?;
-    let next = start + point_length(&bounded.point) as u32;
-    let bound = check_objective(model, &active, &bounded.point, bounded.objective, next)?;
+    settle(start, check_point(model, &active, &point))?;
+    let next = start + point_length(&point) as u32;
+    let bound = check_objective(model, &active, &point, bounded.objective, next)?;
     check_dual(
         alloc,
         model,

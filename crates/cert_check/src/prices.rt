@@ -28,9 +28,12 @@ pub(crate) fn check_priced(alloc: Global, model: &Model, core: &Core, line: u32)
     let Ok(active) = model.members(alloc) else {
         return Err(Stop::Memory);
     };
+    let Ok(price) = price.unpacked(alloc) else {
+        return Err(Stop::Memory);
+    };
     settle(
         line + TOTAL_LINES,
-        check_price(model, &active, *total, price),
+        check_price(model, &active, *total, &price),
     )
 }
 

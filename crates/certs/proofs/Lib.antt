@@ -32,3 +32,4 @@ pub mod PlainCuts
 pub mod PlainOrder
 pub mod PlainAnswers
 pub mod Possible
+mod Unpacked

@@ -1,6 +1,7 @@
 //! What solvers are asked and what they answer.
 
 use crate::evidence::{Branch, Combo, Dual, Point, Proof};
+use crate::packed::PackedPoint;
 use frac128::Wide;
 use lp_model::{Items, MemberSet};
 
@@ -83,7 +84,7 @@ pub enum Stretched {
 pub enum Irreducible {
     Set {
         members: MemberSet,
-        witnesses: Vec<Point>,
+        witnesses: Vec<PackedPoint>,
         proof: Proof,
     },
     Feasible(Point),
@@ -94,6 +95,6 @@ pub enum Irreducible {
 #[derive(Drop)]
 pub struct Listed {
     pub members: MemberSet,
-    pub witnesses: Items<Point>,
+    pub witnesses: Items<PackedPoint>,
     pub proof: Proof,
 }

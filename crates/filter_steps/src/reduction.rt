@@ -7,7 +7,9 @@ ghost use Rattle.certs.specs.declared.solving.Stop.TheVariants.{Memory};
 ghost use Rattle.filter_steps.specs.Isolated.{IsJust, IsLeft, IsStoppedAt};
 ghost use Rattle.filter_steps.specs.Reductions.{IsReduction, Tried};
 
-use certs::{Irreducible, MemberSet, Oracle, Point, Proof, Stop, Verdict, members_used};
+use certs::{
+    Irreducible, MemberSet, Oracle, PackedPoint, Point, Proof, Stop, Verdict, members_used,
+};
 use lp_model::Member;
 use std::alloc::{AllocError, Global};
 
@@ -21,7 +23,7 @@ pub struct Reduction {
     /// The members that the proof uses.
     pub used: MemberSet,
     /// The witnesses of the members that stay, in the order in which those were tried.
-    pub witnesses: Vec<Point>,
+    pub witnesses: Vec<PackedPoint>,
 }
 
 impl Reduction {
@@ -55,16 +57,19 @@ impl Reduction {
     }
 
     // Puts a member back that was taken out, with its witness.
-    fn keep(&mut self, member: Member, witness: Point) -> Result<(), Stop>
+    fn keep(&mut self, alloc: Global, member: Member, witness: &Point) -> Result<(), Stop>
         requires { IsPossibleIn self.old.left member }
         ensures left { self.new.left ≡ set_with self.old.left member }
-        ensures witnesses { OnOk result (self.new.witnesses.items ≡ self.old.witnesses.items ++ witness ∷ []) }
+        ensures witnesses { OnOk result (self.new.witnesses.items ≡ self.old.witnesses.items ++ witness.now ∷ []) }
         ensures proof { self.new.proof ≡ self.old.proof }
         ensures used { self.new.used ≡ self.old.used }
         ensures err { IfErr result (λ stop. stop ≡ Memory) }
     {
         self.left.insert(member);
-        match self.witnesses.push(witness) {
+        let Ok(packed) = PackedPoint::of(alloc, witness) else {
+            return Err(Stop::Memory);
+        };
+        match self.witnesses.push(packed) {
             Ok(()) => Ok(()),
             Err(_) => Err(Stop::Memory),
         }
@@ -118,7 +123,7 @@ pub fn try_without<O: Oracle>(
     }
     let verdict = oracle.ask(alloc, &reduction.left)?;
     match verdict {
-        Verdict::Feasible(point) => reduction.keep(member, point),
+        Verdict::Feasible(point) => reduction.keep(alloc, member, &point),
         Verdict::Infeasible(proof) => reduction.refute(alloc, proof),
     }
 }

@@ -4,7 +4,9 @@ ghost use Rattle.lp_model.specs.Members.{is_mark};
 ghost use Rattle.certs.specs.Checks.{IsSetOf};
 ghost use Rattle.certs.specs.Answers.{is_linear};
 
-use certs::{Combo, Irreducible, MemberSet, Oracle, Point, Share, Shares, Source, Stop, Values};
+use certs::{
+    Combo, Irreducible, MemberSet, Oracle, PackedPoint, Point, Share, Shares, Source, Stop, Values,
+};
 use filter_steps::listed;
 use frac128::Frac;
 use linear_oracle::LinearOracle;
@@ -121,8 +123,9 @@ fn say_set(alloc: Global, set: &MemberSet, text: &mut String) -> Result<(), Allo
 }
 
 // Appends the values of points.
-fn say_points(points: &[Point], text: &mut String) -> Result<(), AllocError> {
-    for point in points {
+fn say_points(alloc: Global, points: &[PackedPoint], text: &mut String) -> Result<(), AllocError> {
+    for packed in points {
+        let point = packed.unpacked(alloc)?;
         for value in point.values.as_slice() {
             text.push(if *value == Frac::whole(0) { '0' } else { '1' })?;
         }
@@ -150,7 +153,7 @@ fn say_answer(alloc: Global, answer: &Irreducible, text: &mut String) -> Result<
             text.push_str("set ")?;
             say_set(alloc, members, text)?;
             text.push_str(" by ")?;
-            say_points(witnesses.as_slice(), text)
+            say_points(alloc, witnesses.as_slice(), text)
         }
         Irreducible::Feasible(_) => text.push_str("point"),
     }

@@ -15,7 +15,7 @@ use crate::alone::stands_alone;
 use crate::confirmed::{is_combo, is_point, is_yes};
 use crate::kept::Kept;
 use crate::witnesses::witnesses;
-use certs::{Combo, Node, Point, Proof, Share, Source, members_used};
+use certs::{Combo, Node, PackedPoint, Point, Proof, Share, Source, members_used};
 use evidence_laws::combination_refutes;
 use frac128::Frac;
 use linear_oracle::leaf_proof;
@@ -33,7 +33,7 @@ pub struct QuickCore {
     pub proof: Proof,
     pub total: Frac,
     pub price: Point,
-    pub witnesses: Vec<Point>,
+    pub witnesses: Vec<PackedPoint>,
 }
 
 /// A point of a set, or its cheapest irreducible set.

@@ -6,7 +6,7 @@ ghost use Rattle.filter_steps.specs.Isolated.{AreWitnesses};
 
 use crate::confirmed::is_point;
 use crate::kept::Kept;
-use certs::Point;
+use certs::PackedPoint;
 use lp_model::{MemberSet, Model};
 use quick_run::{Suggest, Suggestion};
 use std::alloc::Global;
@@ -18,7 +18,7 @@ pub(crate) fn witnesses<S: Suggest>(
     model: &Model,
     set: &MemberSet,
     kept: &mut Kept<S>,
-) -> Option<Vec<Point>>
+) -> Option<Vec<PackedPoint>>
     requires same { IsSetOf model.now set.now }
     ensures found { IfSome result (λ points. AreWitnesses model.now set.now.members points.items) }
     ensures kept { kept.new ≡ kept.old }
@@ -44,7 +44,7 @@ fn witness<S: Suggest>(
     model: &Model,
     set: &MemberSet,
     kept: &mut Kept<S>,
-) -> Option<Point>
+) -> Option<PackedPoint>
     requires same { IsSetOf model.now set.now }
     ensures found { IfSome result (IsPointOf model.now set.now.members) }
     ensures kept { kept.new ≡ kept.old }
@@ -52,5 +52,8 @@ fn witness<S: Suggest>(
     let Suggestion::Point(point) = kept.run.suggest(alloc, model, set, &[])? else {
         return None;
     };
-    is_point(model, set, &point).then_some(point)
+    if !is_point(model, set, &point) {
+        return None;
+    }
+    PackedPoint::of(alloc, &point).ok()
 }

@@ -17,7 +17,7 @@ use crate::prices::write_price;
 use crate::reasons::{leaf_shares, write_reason};
 use crate::steps::write_reduced;
 use crate::stops::{write_enforced_at, write_stop};
-use certs::{Node, Point, Stop};
+use certs::{Node, PackedPoint, Stop};
 use lp_model::{MemberSet, Model};
 use report_text::{Answer, Command, Core, Method};
 use std::alloc::AllocError;
@@ -64,7 +64,7 @@ fn write_conflict(
     model: &Model,
     among: Among,
     set: &MemberSet,
-    witnesses: &[Point],
+    witnesses: &[PackedPoint],
     nodes: &[Node],
     into: &mut Vec<u8>,
 ) -> Result<(), AllocError>

@@ -10,7 +10,7 @@ use crate::objectives::{Support, write_holders};
 use crate::parts::column_name;
 use crate::pieces::{Piece, write};
 use crate::points::{Told, write_fold};
-use certs::{Point, Share};
+use certs::{PackedPoint, Share};
 use frac128::Frac;
 use lp_model::Model;
 use std::alloc::AllocError;
@@ -85,7 +85,7 @@ fn write_showing(
 /// Writes a point of least weighted violation, and why none is less.
 pub(crate) fn write_least(
     model: &Model,
-    point: &Point,
+    point: &PackedPoint,
     shares: &[Share],
     total: Frac,
     into: &mut Vec<u8>,
@@ -94,6 +94,7 @@ pub(crate) fn write_least(
         OnOk result (Writes into.old.items into.new.items pieces) }
 {
     write_total(total, into)?;
+    let point = point.unpacked(*into.allocator())?;
     write_fold(model, Told::LeastValue, point.values.as_slice(), into)?;
     write_showing(model, shares, total, into)
 }

@@ -9,7 +9,7 @@ ghost use Rattle.report_page.specs.Members.{weight_of as weight_among, times_pie
 use crate::demands::{is_one, write_demand, write_title, write_values};
 use crate::markup::{Giving, Sign, Tag, Words};
 use crate::pieces::{Piece, write};
-use certs::{Point, Share, Source};
+use certs::{PackedPoint, Share, Source};
 use frac128::Frac;
 use lp_model::{Member, MemberSet, Model};
 use std::alloc::AllocError;
@@ -79,7 +79,7 @@ pub(crate) fn write_taken(weight: Option<Frac>, into: &mut Vec<u8>) -> Result<()
 fn write_witness(
     model: &Model,
     member: Member,
-    witnesses: &[Point],
+    witnesses: &[PackedPoint],
     into: &mut Vec<u8>,
 ) -> Result<(), AllocError>
     ensures { OnOk result (Writes into.old.items into.new.items (witness_pieces model.now member witnesses.now)) }
@@ -91,7 +91,8 @@ fn write_witness(
         &[Piece::Tag(Tag::Without), Piece::Words(Words::Without)],
         into,
     )?;
-    write_values(model, witness.values.as_slice(), member, into)?;
+    let point = witness.unpacked(*into.allocator())?;
+    write_values(model, point.values.as_slice(), member, into)?;
     write(
         &[Piece::Sign(Sign::FullStop), Piece::Tag(Tag::ParagraphEnd)],
         into,
@@ -118,7 +119,7 @@ fn write_member(
     model: &Model,
     shares: &[Share],
     member: Member,
-    witnesses: &[Point],
+    witnesses: &[PackedPoint],
     into: &mut Vec<u8>,
 ) -> Result<(), AllocError>
     ensures { OnOk result (Writes into.old.items into.new.items (member_pieces model.now shares.now member witnesses.now)) }
@@ -130,7 +131,7 @@ fn write_member(
 }
 
 // The witnesses behind the first.
-fn others(witnesses: &[Point]) -> &[Point]
+fn others(witnesses: &[PackedPoint]) -> &[PackedPoint]
     ensures { result.now ≡ drop 1 witnesses.now }
 {
     if witnesses.is_empty() {
@@ -144,7 +145,7 @@ fn write_members(
     model: &Model,
     shares: &[Share],
     set: &MemberSet,
-    witnesses: &[Point],
+    witnesses: &[PackedPoint],
     into: &mut Vec<u8>,
 ) -> Result<(), AllocError>
     ensures { OnOk result (Writes into.old.items into.new.items (members_pieces model.now shares.now set.now.members witnesses.now)) }
@@ -230,7 +231,7 @@ pub(crate) fn write_list(
     among: Among,
     shares: &[Share],
     set: &MemberSet,
-    witnesses: &[Point],
+    witnesses: &[PackedPoint],
     into: &mut Vec<u8>,
 ) -> Result<(), AllocError>
     ensures { let pieces = list_pieces model.now among shares.now set.now.members witnesses.now in

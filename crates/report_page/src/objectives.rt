@@ -10,7 +10,7 @@ use crate::markup::{Giving, Reach, Sign, Tag};
 use crate::members::{fold_tag, write_asking, write_taken};
 use crate::pieces::{Piece, write};
 use crate::points::{Told, write_fold};
-use certs::{Point, Ray, Share, Source};
+use certs::{PackedPoint, Ray, Share, Source};
 use frac128::Frac;
 use lp_model::Model;
 use report_text::Bounded;
@@ -26,7 +26,7 @@ pub enum Support {
 /// Writes a point from which the objective gets better without end, and a ray along which it does.
 pub(crate) fn write_unbounded(
     model: &Model,
-    point: &Point,
+    point: &PackedPoint,
     ray: &Ray,
     into: &mut Vec<u8>,
 ) -> Result<(), AllocError>
@@ -40,6 +40,7 @@ pub(crate) fn write_unbounded(
         ],
         into,
     )?;
+    let point = point.unpacked(*into.allocator())?;
     write_fold(model, Told::Value, point.values.as_slice(), into)?;
     write(
         &[
@@ -222,6 +223,7 @@ pub(crate) fn write_bounded(
 {
     let dual = &bounded.dual;
     write_bound(dual.bound, bounded.objective, into)?;
-    write_fold(model, Told::Value, bounded.point.values.as_slice(), into)?;
+    let point = bounded.point.unpacked(*into.allocator())?;
+    write_fold(model, Told::Value, point.values.as_slice(), into)?;
     write_support(model, dual.combo.shares.as_slice(), dual.bound, into)
 }

@@ -10,7 +10,7 @@ use crate::markup::{Giving, Pricing, Reach, Tag, Words};
 use crate::members::fold_tag;
 use crate::parts::column_name;
 use crate::pieces::{Piece, write};
-use certs::Point;
+use certs::PackedPoint;
 use frac128::Frac;
 use lp_model::Model;
 use std::alloc::AllocError;
@@ -173,7 +173,7 @@ pub(crate) fn write_fold(
 /// Writes a point that meets all members.
 pub(crate) fn write_feasible(
     model: &Model,
-    point: &Point,
+    point: &PackedPoint,
     into: &mut Vec<u8>,
 ) -> Result<(), AllocError>
     ensures { OnOk result (Writes into.old.items into.new.items (feasible_pieces model.now point.now.values)) }
@@ -186,5 +186,6 @@ pub(crate) fn write_feasible(
         ],
         into,
     )?;
+    let point = point.unpacked(*into.allocator())?;
     write_fold(model, Told::Value, point.values.as_slice(), into)
 }

@@ -8,7 +8,7 @@ ghost use Rattle.report_page.specs.Prices.{cost_pieces, no_cheaper_pieces, price
 use crate::markup::{Pricing, Sign, Tag};
 use crate::pieces::{Piece, write};
 use crate::points::{Told, write_fold};
-use certs::Point;
+use certs::PackedPoint;
 use frac128::Frac;
 use lp_model::Model;
 use std::alloc::AllocError;
@@ -51,7 +51,7 @@ fn write_no_cheaper(total: Frac, into: &mut Vec<u8>) -> Result<(), AllocError>
 fn write_priced(
     model: &Model,
     total: Frac,
-    price: &Point,
+    price: &PackedPoint,
     into: &mut Vec<u8>,
 ) -> Result<(), AllocError>
     ensures { let pieces = priced_pieces model.now total price.now.values in
@@ -59,13 +59,14 @@ fn write_priced(
 {
     write_cost(total, into)?;
     write_no_cheaper(total, into)?;
+    let price = price.unpacked(*into.allocator())?;
     write_fold(model, Told::Price, price.values.as_slice(), into)
 }
 
 /// Writes a total with its price, where they are told.
 pub(crate) fn write_price(
     model: &Model,
-    price: &Option<(Frac, Point)>,
+    price: &Option<(Frac, PackedPoint)>,
     into: &mut Vec<u8>,
 ) -> Result<(), AllocError>
     ensures { let pieces = price_pieces model.now price.now in

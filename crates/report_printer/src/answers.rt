@@ -18,13 +18,13 @@ use crate::prices::print_price;
 use crate::steps::print_reduced;
 use crate::stops::print_stop;
 use crate::words::{append, push_line};
-use certs::{Point, Proof};
+use certs::{PackedPoint, Proof};
 use lp_model::{MemberSet, Model};
 use report_text::{Answer, Command, Core, Phrase, Refusal};
 use std::alloc::AllocError;
 
 // Appends the lines of a point that is an answer, but for its end.
-fn print_feasible(model: &Model, point: &Point, into: &mut Vec<u8>) -> Result<(), AllocError>
+fn print_feasible(model: &Model, point: &PackedPoint, into: &mut Vec<u8>) -> Result<(), AllocError>
     requires { IsKnownPoint model.now point.now }
     ensures text { OnOk result (into.new.items ≡ into.old.items ++ phrases_text model.now (answer_front model.now (Answer.Feasible point.now))) }
     ensures within { OnOk result (HasValuesWithin point.now) }

@@ -10,7 +10,7 @@ ghost use Rattle.report_printer.specs.Evidence.{ended, IsKnownLeast, IsKnownSour
 use crate::nodes::print_uses;
 use crate::points::print_point;
 use crate::words::{push_count, push_fraction, push_line, push_word};
-use certs::{Dual, Point, Share};
+use certs::{Dual, PackedPoint, Share};
 use frac128::{Exact, Frac};
 use lp_model::Model;
 use report_text::Phrase;
@@ -41,7 +41,7 @@ fn print_shares(model: &Model, shares: &[Share], into: &mut Vec<u8>) -> Result<(
 /// is less.
 pub(crate) fn print_least(
     model: &Model,
-    point: &Point,
+    point: &PackedPoint,
     dual: &Dual,
     into: &mut Vec<u8>,
 ) -> Result<(), AllocError>

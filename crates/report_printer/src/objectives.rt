@@ -10,7 +10,7 @@ ghost use Rattle.report_printer.specs.Evidence.{ended, IsKnownSource, IsKnownPoi
 use crate::nodes::print_uses;
 use crate::points::{print_point, print_values};
 use crate::words::{push_fraction, push_line, push_word};
-use certs::{Dual, Point, Ray};
+use certs::{Dual, PackedPoint, Ray};
 use frac128::{Exact, Frac};
 use lp_model::Model;
 use report_text::{Bounded, Phrase};
@@ -29,7 +29,7 @@ fn print_ray(model: &Model, ray: &Ray, into: &mut Vec<u8>) -> Result<(), AllocEr
 /// Appends the lines of a point from which the objective runs away, and of a ray along which it does.
 pub(crate) fn print_unbounded(
     model: &Model,
-    point: &Point,
+    point: &PackedPoint,
     ray: &Ray,
     into: &mut Vec<u8>,
 ) -> Result<(), AllocError>

@@ -9,7 +9,7 @@ ghost use Rattle.report_printer.specs.Evidence.{ended, IsKnownMember, IsKnownPoi
 
 use crate::members::print_member;
 use crate::words::{push_fraction, push_line, push_word};
-use certs::Point;
+use certs::PackedPoint;
 use frac128::{Exact, Frac};
 use lp_model::{Member, MemberSet, Model};
 use report_text::Phrase;
@@ -68,7 +68,7 @@ pub(crate) fn print_values(
 /// Appends the lines of a point: each value that is not 0 has one.
 pub(crate) fn print_point(
     model: &Model,
-    point: &Point,
+    point: &PackedPoint,
     into: &mut Vec<u8>,
 ) -> Result<(), AllocError>
     requires { IsKnownPoint model.now point.now }
@@ -76,6 +76,7 @@ pub(crate) fn print_point(
     ensures within { OnOk result (HasValuesWithin point.now) }
 {
     push_line(b"point", into)?;
+    let point = point.unpacked(*into.allocator())?;
     print_values(model, point.values.as_slice(), into)
 }
 
@@ -83,7 +84,7 @@ pub(crate) fn print_point(
 fn print_witness(
     model: &Model,
     member: Member,
-    witness: &Point,
+    witness: &PackedPoint,
     into: &mut Vec<u8>,
 ) -> Result<(), AllocError>
     requires member { IsKnownMember model.now member }
@@ -99,7 +100,7 @@ fn print_witness(
 pub(crate) fn print_witnesses(
     model: &Model,
     set: &MemberSet,
-    witnesses: &[Point],
+    witnesses: &[PackedPoint],
     into: &mut Vec<u8>,
 ) -> Result<(), AllocError>
     requires set { IsSetOf model.now set.now }

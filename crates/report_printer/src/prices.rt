@@ -8,7 +8,7 @@ ghost use Rattle.report_printer.specs.Evidence.{IsKnownPoint, IsKnownPrice};
 use crate::least::print_total;
 use crate::points::print_values;
 use crate::words::push_line;
-use certs::Point;
+use certs::PackedPoint;
 use frac128::Frac;
 use lp_model::Model;
 use std::alloc::AllocError;
@@ -17,7 +17,7 @@ use std::alloc::AllocError;
 fn print_priced(
     model: &Model,
     total: Frac,
-    price: &Point,
+    price: &PackedPoint,
     into: &mut Vec<u8>,
 ) -> Result<(), AllocError>
     requires { IsKnownPoint model.now price.now }
@@ -26,6 +26,7 @@ fn print_priced(
 {
     print_total(total, into)?;
     push_line(b"price", into)?;
+    let price = price.unpacked(*into.allocator())?;
     print_values(model, price.values.as_slice(), into)?;
     Ok(())
 }
@@ -33,7 +34,7 @@ fn print_priced(
 /// Appends the lines of a total and its price, a value for each column, where they are told.
 pub(crate) fn print_price(
     model: &Model,
-    price: &Option<(Frac, Point)>,
+    price: &Option<(Frac, PackedPoint)>,
     into: &mut Vec<u8>,
 ) -> Result<(), AllocError>
     requires { IsKnownPrice model.now price.now }

@@ -10,7 +10,7 @@ ghost use Rattle.report_reader.specs.declared.drafts.Claim.{Claim as OneClaim};
 use crate::building::{add_share, add_value, make_ray};
 use crate::drafts::{BoundPart, Claim, Found, Members, Next, Part};
 use crate::stopping::begin_stop;
-use certs::{Combo, Dual, Point, Shares, Values};
+use certs::{Combo, Dual, PackedPoint, PackedValues, Shares};
 use frac128::Frac;
 use lp_model::Model;
 use report_text::{Answer, Bounded, Command, Phrase};
@@ -35,7 +35,7 @@ pub(crate) fn begin_bounding(alloc: Global, phrase: Phrase) -> Option<Next>
 }
 
 // What may follow a point that is an answer alone.
-fn end_point(point: Point, phrase: Phrase) -> Option<Next>
+fn end_point(point: PackedPoint, phrase: Phrase) -> Option<Next>
     ensures { result ≡ claim_with OneClaim.Feasible point phrase }
 {
     match phrase {
@@ -45,17 +45,17 @@ fn end_point(point: Point, phrase: Phrase) -> Option<Next>
 }
 
 // What may follow the point of a ray.
-fn open_ray(alloc: Global, point: Point, phrase: Phrase) -> Option<Next>
+fn open_ray(alloc: Global, point: PackedPoint, phrase: Phrase) -> Option<Next>
     ensures { result ≡ claim_with OneClaim.Unbounded point phrase }
 {
     match phrase {
-        Phrase::Ray => Some(Next::More(Part::Ray(point, Values::new(Vec::new(alloc))))),
+        Phrase::Ray => Some(Next::More(Part::Ray(point, PackedValues::new(alloc)))),
         _ => None,
     }
 }
 
 // What may follow the point of a dual: the objective's value, or the bound.
-fn open_bound(point: Point, phrase: Phrase) -> Option<Next>
+fn open_bound(point: PackedPoint, phrase: Phrase) -> Option<Next>
     ensures { result ≡ claim_with OneClaim.Bounded point phrase }
 {
     match phrase {
@@ -73,7 +73,7 @@ fn open_bound(point: Point, phrase: Phrase) -> Option<Next>
 pub(crate) fn follow_claim(
     alloc: Global,
     claim: Claim,
-    point: Point,
+    point: PackedPoint,
     phrase: Phrase,
 ) -> Option<Next>
     ensures { result ≡ claim_with claim point phrase }
@@ -87,9 +87,10 @@ pub(crate) fn follow_claim(
 
 /// What may follow a part of a ray.
 pub(crate) fn follow_ray(
+    alloc: Global,
     model: &Model,
-    point: Point,
-    values: Values,
+    point: PackedPoint,
+    values: PackedValues,
     phrase: Phrase,
 ) -> Result<Option<Next>, AllocError>
     requires { length values ≤ length model.now.columns }
@@ -102,7 +103,7 @@ pub(crate) fn follow_ray(
             Ok(values.map(|values| Next::More(Part::Ray(point, values))))
         }
         Phrase::End => {
-            let ray = make_ray(model, values)?;
+            let ray = make_ray(alloc, model, values)?;
             Ok(Some(Next::Whole(Answer::Unbounded(point, ray))))
         }
         _ => Ok(None),
@@ -110,7 +111,7 @@ pub(crate) fn follow_ray(
 }
 
 // What may follow the objective's value: the bound.
-fn follow_objective(point: Point, value: Frac, phrase: Phrase) -> Option<Next>
+fn follow_objective(point: PackedPoint, value: Frac, phrase: Phrase) -> Option<Next>
     ensures { result ≡ bound_with (OneBoundPart.Objective point value) phrase }
 {
     match phrase {
@@ -124,7 +125,7 @@ fn follow_objective(point: Point, value: Frac, phrase: Phrase) -> Option<Next>
 // What may follow the bound: the line that tells that its shares follow.
 fn follow_bound(
     alloc: Global,
-    point: Point,
+    point: PackedPoint,
     objective: Option<Frac>,
     bound: Frac,
     phrase: Phrase,
@@ -142,7 +143,7 @@ fn follow_bound(
 
 // What may follow shares of a dual: one more, or the end.
 fn follow_dual(
-    point: Point,
+    point: PackedPoint,
     objective: Option<Frac>,
     bound: Frac,
     shares: Shares,

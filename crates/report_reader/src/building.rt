@@ -5,64 +5,56 @@ ghost use Rattle.lp_model.specs.MemberSets.{IsMemberFor};
 ghost use Rattle.report_text.specs.Grammar.{left_out};
 ghost use Rattle.certs.specs.Order.{AreSharesInOrder};
 ghost use Rattle.report_text.specs.Form.{IsNamedMember};
-ghost use Rattle.report_reader.specs.Drafts.{filled, point_of, ray_of, leaf_of, set_of, answer_of, with_value, with_member, with_share, with_left_out, with_enforced, site_of, IsFound, AreEnforced, AreLeftOut};
+ghost use Rattle.report_reader.specs.Drafts.{point_of, ray_of, leaf_of, set_of, answer_of, with_value, with_member, with_share, with_left_out, with_enforced, site_of, IsFound, AreEnforced, AreLeftOut};
 
 use crate::drafts::{Found, Members, SitePart};
 use crate::ordering::{member_follows, source_follows};
-use certs::{Branch, Combo, Node, Nodes, Path, Point, Proof, Ray, Share, Shares, Site, Values};
+use certs::{
+    Branch, Combo, Node, Nodes, PackedPoint, PackedValues, Path, Proof, Ray, Share, Shares, Site,
+};
 use frac128::Frac;
 use lp_model::{Member, MemberSet, Model};
 use reductions::ReduceStep;
 use report_text::{Answer, Command, Core, ReduceSteps};
 use std::alloc::{AllocError, Global};
 
-// Values with zeros behind them, up to so many.
-fn fill(mut values: Vec<Frac>, count: usize) -> Result<Vec<Frac>, AllocError>
-    requires { length values.items ≤ count }
-    ensures { IfOk result (λ v. v.items ≡ filled count values.items) }
-{
-    for _ in values.as_slice().len()..count {
-        values.push(Frac::whole(0))?;
-    }
-    Ok(values)
-}
-
 /// The values with one more, where its column comes after theirs.
 pub(crate) fn add_value(
-    values: Values,
+    mut values: PackedValues,
     column: u32,
     value: Frac,
-) -> Result<Option<Values>, AllocError>
+) -> Result<Option<PackedValues>, AllocError>
     ensures { IfOk result (λ v. v ≡ with_value values column value) }
 {
-    let items = values.into_vec();
-    if items.as_slice().len() > column as usize {
+    if values.len() > column as usize {
         return Ok(None);
     }
-    let mut items = fill(items, column as usize)?;
-    items.push(value)?;
-    Ok(Some(Values::new(items)))
+    values.fill(column as usize);
+    values.push(value)?;
+    Ok(Some(values))
 }
 
 /// The point of the values, with 0 for each further column.
-pub(crate) fn make_point(model: &Model, values: Values) -> Result<Point, AllocError>
+pub(crate) fn make_point(model: &Model, mut values: PackedValues) -> PackedPoint
     requires { length values ≤ length model.now.columns }
-    ensures { IfOk result (λ p. p ≡ point_of model.now values) }
+    ensures { result ≡ point_of model.now values }
 {
-    let items = fill(values.into_vec(), model.column_count() as usize)?;
-    Ok(Point {
-        values: Values::new(items),
-    })
+    values.fill(model.column_count() as usize);
+    PackedPoint { values }
 }
 
 /// The ray of the changes, with 0 for each further column.
-pub(crate) fn make_ray(model: &Model, values: Values) -> Result<Ray, AllocError>
+pub(crate) fn make_ray(
+    alloc: Global,
+    model: &Model,
+    mut values: PackedValues,
+) -> Result<Ray, AllocError>
     requires { length values ≤ length model.now.columns }
     ensures { IfOk result (λ r. r ≡ ray_of model.now values) }
 {
-    let items = fill(values.into_vec(), model.column_count() as usize)?;
+    values.fill(model.column_count() as usize);
     Ok(Ray {
-        values: Values::new(items),
+        values: values.unpacked(alloc)?,
     })
 }
 
@@ -195,7 +187,7 @@ pub(crate) fn make_answer(
     found: Found,
     nodes: Nodes,
     rounds: Option<u64>,
-    price: Option<(Frac, Point)>,
+    price: Option<(Frac, PackedPoint)>,
 ) -> Result<Answer, AllocError>
     requires { IsFound model.now command.now found }
     ensures { IfOk result (λ a. a ≡ answer_of model.now found nodes rounds price) }

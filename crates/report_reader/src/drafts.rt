@@ -1,7 +1,7 @@
 //! How far a report is read.
 ghost use Rattle.std.specs.Prelude.{◌≡◌};
 
-use certs::{Nodes, Path, Point, Shares, SiteKind, Values};
+use certs::{Nodes, PackedPoint, PackedValues, Path, Shares, SiteKind};
 use frac128::{Frac, Wide};
 use lp_model::Member;
 use report_text::{Answer, Command, Entries, Notes, ReduceSteps, Witnesses};
@@ -105,11 +105,11 @@ pub(crate) enum Claim {
 #[derive(Drop)]
 pub(crate) enum BoundPart {
     /// The point, and the objective's value there.
-    Objective(Point, Frac),
+    Objective(PackedPoint, Frac),
     /// The point, the value where it is told, and the bound.
-    Bound(Point, Option<Frac>, Frac),
+    Bound(PackedPoint, Option<Frac>, Frac),
     /// The same, `dual`, and its shares so far.
-    Dual(Point, Option<Frac>, Frac, Shares),
+    Dual(PackedPoint, Option<Frac>, Frac, Shares),
 }
 
 /// How far a least weighted violation is read.
@@ -120,9 +120,9 @@ pub(crate) enum LeastPart {
     /// The total.
     Total(Frac),
     /// The same, and a point, up to its last value that is not 0.
-    Point(Frac, Values),
+    Point(Frac, PackedValues),
     /// The total and the point, `dual`, and its shares so far.
-    Dual(Frac, Point, Shares),
+    Dual(Frac, PackedPoint, Shares),
 }
 
 /// How far a total and a price behind a proof are read.
@@ -131,7 +131,7 @@ pub(crate) enum PricePart {
     /// The total.
     Total(Frac),
     /// The same, `price`, and its values, up to the last that is not 0.
-    Price(Frac, Values),
+    Price(Frac, PackedValues),
 }
 
 /// How far an answer is read.
@@ -142,9 +142,9 @@ pub(crate) enum Part {
     /// `feasible`, `unbounded` or `bounded`.
     Claimed(Claim),
     /// The same, and a point, up to its last value that is not 0.
-    Point(Claim, Values),
+    Point(Claim, PackedValues),
     /// `unbounded`, its point, and a ray, up to its last change that is not 0.
-    Ray(Point, Values),
+    Ray(PackedPoint, PackedValues),
     /// `bounded`, and what stands behind it.
     Bounded(BoundPart),
     /// `least`, and what stands behind it.
@@ -154,7 +154,7 @@ pub(crate) enum Part {
     /// Members with their witnesses, and one member more.
     Member(Members, Witnesses, Member),
     /// The same, and a part of the last member's witness.
-    Witness(Members, Witnesses, Member, Values),
+    Witness(Members, Witnesses, Member, PackedValues),
     /// `proof`, its nodes so far, and how many subtrees are due behind them.
     Proof(Found, Nodes, u64),
     /// The same, a leaf, and its shares so far; the count is of the subtrees that are due behind the leaf.

@@ -18,7 +18,7 @@ use crate::ordering::member_follows;
 use crate::pricing::{follow_price, open_price, tells_price};
 use crate::reducing::{begin_reduction, follow_left, follow_steps};
 use crate::stopping::{begin_stop, follow_stop};
-use certs::{Nodes, Shares, Values};
+use certs::{Nodes, PackedValues, Shares};
 use lp_model::{Member, Model};
 use report_text::{Answer, Command, Method, Phrase, Refusal, Witnesses};
 use std::alloc::{AllocError, Global};
@@ -131,7 +131,7 @@ fn follow_claimed(alloc: Global, claim: Claim, phrase: Phrase) -> Option<Next>
     ensures { (model : Program) (command : Command) → result ≡ extended model command (Part.Claimed claim) phrase }
 {
     match phrase {
-        Phrase::Point => Some(Next::More(Part::Point(claim, Values::new(Vec::new(alloc))))),
+        Phrase::Point => Some(Next::More(Part::Point(claim, PackedValues::new(alloc)))),
         _ => None,
     }
 }
@@ -141,7 +141,7 @@ fn follow_point(
     alloc: Global,
     model: &Model,
     claim: Claim,
-    values: Values,
+    values: PackedValues,
     phrase: Phrase,
 ) -> Result<Option<Next>, AllocError>
     requires { length values ≤ length model.now.columns }
@@ -152,7 +152,7 @@ fn follow_point(
         let values = add_value(values, column, value)?;
         return Ok(values.map(|values| Next::More(Part::Point(claim, values))));
     }
-    let point = make_point(model, values)?;
+    let point = make_point(model, values);
     Ok(follow_claim(alloc, claim, point, phrase))
 }
 
@@ -246,7 +246,7 @@ fn follow_member(
 {
     match phrase {
         Phrase::Point => {
-            let values = Values::new(Vec::new(alloc));
+            let values = PackedValues::new(alloc);
             Some(Next::More(Part::Witness(members, witnesses, member, values)))
         }
         _ => None,
@@ -259,12 +259,12 @@ fn close_witness(
     members: Members,
     witnesses: Witnesses,
     member: Member,
-    values: Values,
+    values: PackedValues,
 ) -> Result<(Members, Witnesses), AllocError>
     requires { length values ≤ length model.now.columns }
     ensures { IfOk result (λ r. (r.0 ≡ members ++ member ∷ []) × (r.1 ≡ witnesses ++ point_of model.now values ∷ [])) }
 {
-    let point = make_point(model, values)?;
+    let point = make_point(model, values);
     let mut listed = members.into_vec();
     listed.push(member)?;
     let mut points = witnesses.into_vec();
@@ -279,7 +279,7 @@ fn follow_witness(
     members: Members,
     witnesses: Witnesses,
     member: Member,
-    values: Values,
+    values: PackedValues,
     phrase: Phrase,
 ) -> Result<Option<Next>, AllocError>
     requires few { length values ≤ length model.now.columns }
@@ -485,7 +485,7 @@ pub(crate) fn follow(
         Part::Nothing => Ok(follow_command(alloc, command, phrase)),
         Part::Claimed(claim) => Ok(follow_claimed(alloc, claim, phrase)),
         Part::Point(claim, values) => follow_point(alloc, model, claim, values, phrase),
-        Part::Ray(point, values) => follow_ray(model, point, values, phrase),
+        Part::Ray(point, values) => follow_ray(alloc, model, point, values, phrase),
         Part::Bounded(part) => follow_bounding(alloc, part, phrase),
         Part::Least(part) => follow_least(alloc, model, part, phrase),
         Part::Listed(found) => follow_list(alloc, found, phrase),

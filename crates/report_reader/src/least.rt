@@ -9,7 +9,7 @@ ghost use Rattle.report_reader.specs.declared.drafts.LeastPart.{LeastPart as One
 use crate::building::{add_share, add_value, make_point};
 use crate::drafts::{Found, LeastPart, Members, Next, Part};
 use crate::stopping::begin_stop;
-use certs::{Combo, Dual, Point, Shares, Values};
+use certs::{Combo, Dual, PackedPoint, PackedValues, Shares};
 use frac128::Frac;
 use lp_model::Model;
 use report_text::{Answer, Phrase};
@@ -49,7 +49,7 @@ fn follow_total(alloc: Global, total: Frac, phrase: Phrase) -> Option<Next>
 {
     match phrase {
         Phrase::Point => {
-            let values = Values::new(Vec::new(alloc));
+            let values = PackedValues::new(alloc);
             Some(Next::More(Part::Least(LeastPart::Point(total, values))))
         }
         _ => None,
@@ -61,7 +61,7 @@ fn follow_values(
     alloc: Global,
     model: &Model,
     total: Frac,
-    values: Values,
+    values: PackedValues,
     phrase: Phrase,
 ) -> Result<Option<Next>, AllocError>
     requires { length values ≤ length model.now.columns }
@@ -74,7 +74,7 @@ fn follow_values(
             Ok(values.map(|values| Next::More(Part::Least(LeastPart::Point(total, values)))))
         }
         Phrase::Dual => {
-            let point = make_point(model, values)?;
+            let point = make_point(model, values);
             let shares = Shares::new(Vec::new(alloc));
             Ok(Some(Next::More(Part::Least(LeastPart::Dual(total, point, shares)))))
         }
@@ -85,7 +85,7 @@ fn follow_values(
 // What may follow shares of the dual: one more, or the end.
 fn follow_shares(
     total: Frac,
-    point: Point,
+    point: PackedPoint,
     shares: Shares,
     phrase: Phrase,
 ) -> Result<Option<Next>, AllocError>

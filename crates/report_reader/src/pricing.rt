@@ -6,7 +6,7 @@ ghost use Rattle.report_reader.specs.declared.drafts.PricePart.{PricePart as One
 
 use crate::building::{add_value, make_answer, make_point};
 use crate::drafts::{Found, Next, Part, PricePart};
-use certs::{Nodes, Values};
+use certs::{Nodes, PackedValues};
 use frac128::Frac;
 use lp_model::Model;
 use report_text::{Command, Method, Phrase};
@@ -55,7 +55,7 @@ fn follow_total(
 {
     match phrase {
         Phrase::Price => {
-            let values = Values::new(Vec::new(alloc));
+            let values = PackedValues::new(alloc);
             Some(Next::More(Part::Priced(found, nodes, PricePart::Price(total, values))))
         }
         _ => None,
@@ -70,7 +70,7 @@ fn follow_values(
     found: Found,
     nodes: Nodes,
     total: Frac,
-    values: Values,
+    values: PackedValues,
     phrase: Phrase,
 ) -> Result<Option<Next>, AllocError>
     requires found { IsFound model.now command.now found }
@@ -88,7 +88,7 @@ fn follow_values(
             ))))
         }
         Phrase::End => {
-            let price = Some((total, make_point(model, values)?));
+            let price = Some((total, make_point(model, values)));
             let answer = make_answer(alloc, model, command, found, nodes, None, price)?;
             Ok(Some(Next::Whole(answer)))
         }

@@ -1,6 +1,6 @@
 //! What a script asks, and what a report says: notes, and for each command its answer.
 
-use certs::{Dual, Point, Proof, Ray, Stop};
+use certs::{Dual, PackedPoint, Proof, Ray, Stop};
 use frac128::Frac;
 use lp_model::{Items, MemberSet, Name, Note, Side, Weight};
 use reductions::ReduceStep;
@@ -78,8 +78,8 @@ impl Model for Script {
     ghost view = { λ s. s.commands.items };
 }
 
-/// Points, as a list.
-pub type Witnesses = Items<Point>;
+/// Points, each kept by its values that are not 0, as a list.
+pub type Witnesses = Items<PackedPoint>;
 
 /// An irreducible set: its members, for each of them in member order a point that is to satisfy all the others, and a
 /// proof that no point satisfies them all. How many rounds it took is told by the elastic method alone, and by the method of
@@ -90,14 +90,14 @@ pub struct Core {
     pub witnesses: Witnesses,
     pub proof: Proof,
     pub rounds: Option<u64>,
-    pub price: Option<(Frac, Point)>,
+    pub price: Option<(Frac, PackedPoint)>,
 }
 
 /// How far the objective of a program can go: a point; the objective's value there, which is left out where a column is to
 /// be whole and the sum is too wide; and a dual, whose bound no point passes.
 #[derive(Drop)]
 pub struct Bounded {
-    pub point: Point,
+    pub point: PackedPoint,
     pub objective: Option<Frac>,
     pub dual: Dual,
 }
@@ -130,12 +130,12 @@ pub enum Refusal {
 /// stopped, which is never for want of memory. Members are the printed ones.
 #[derive(Drop)]
 pub enum Answer {
-    Feasible(Point),
+    Feasible(PackedPoint),
     Infeasible(MemberSet, Proof),
     Irreducible(Core),
-    Unbounded(Point, Ray),
+    Unbounded(PackedPoint, Ray),
     Bounded(Bounded),
-    Least(Point, Dual),
+    Least(PackedPoint, Dual),
     RigidInfeasible(MemberSet, Proof),
     Reduced(Reduced),
     Done,

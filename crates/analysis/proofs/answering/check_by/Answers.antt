@@ -1,10 +1,13 @@
-use Rattle.std.proofs.Common.{◌≡◌, subst, true, Ok, Err}
+use Rattle.std.proofs.Common.{◌≡◌, sym, subst, true, Ok, Err}
+use Rattle.lp_model.specs.Members.{active_members}
+use Rattle.certs.specs.declared.evidence.Point.{Point}
+use Rattle.certs.specs.Tales.{IsPointOf}
 use Rattle.certs.specs.declared.solving.Verdict.{Verdict}
 use Rattle.certs.specs.declared.solving.Verdict.TheVariants.{Feasible, Infeasible}
 use Rattle.quick_answers.specs.Alone.{stands_alone}
 use Rattle.quick_answers.specs.Answers.{IsAsked}
 use Rattle.analysis.specs.Answers.{budgets_of, oracle_state}
-use Rattle.analysis.specs.Right.{IsWhole}
+use Rattle.analysis.specs.Right.{IsWhole, TreeFinds}
 use Rattle.analysis.proofs.Asked.{InnerAnswers, QuickAnswers, all_served, asked_holds, asked_run, proof_fits, proof_ordered}
 use Rattle.analysis.proofs.Refuting.{solved_refuted}
 use Rattle.analysis.proofs.Searched.{fresh_answer, fresh_tree}
@@ -37,8 +40,8 @@ refuted-requires-clause-fits c =
     let answered = subst (λ (v : Verdict). QuickAnswers (oracle_state inner).model (oracle_state inner).budgets set.members (Ok v)) c.in-Ok-Infeasible.field-0-is c.in-Ok-Infeasible.ensures.answered in
     proof_fits (oracle_state inner).model (oracle_state inner).budgets set.members c.in-Ok-Infeasible.proof answered
 
-pub returns-in-Ok-Feasible : goal.returns-in-Ok-Feasible
-returns-in-Ok-Feasible c =
+pub returns-in_ok-of-in-Ok-Feasible : goal.returns-in_ok-of-in-Ok-Feasible
+returns-in_ok-of-in-Ok-Feasible c =
     let model = c.args.model.now in
     let budgets = budgets_of c.args.budgets in
     let inner = c.args.oracle.now.inner in
@@ -46,7 +49,8 @@ returns-in-Ok-Feasible c =
     let set = c.args.set.now in
     let verdict = Feasible c.in-Ok-Feasible.point in
     let answered = subst (λ (v : Verdict). QuickAnswers (oracle_state inner).model (oracle_state inner).budgets set.members (Ok v)) c.in-Ok-Feasible.field-0-is c.in-Ok-Feasible.ensures.answered in
-    let alone = subst (λ (v : Verdict). stands_alone (oracle_state inner).model set.members c.args.oracle.now.nodes ≡ true → IsAsked InnerAnswers (oracle_state inner) after set.members (Ok v)) c.in-Ok-Feasible.field-0-is c.in-Ok-Feasible.ensures.alone in (
+    let alone = subst (λ (v : Verdict). stands_alone (oracle_state inner).model set.members c.args.oracle.now.nodes ≡ true → IsAsked InnerAnswers (oracle_state inner) after set.members (Ok v)) c.in-Ok-Feasible.field-0-is c.in-Ok-Feasible.ensures.alone in
+    subst (λ (p : Point). IsPointOf model (active_members model) p × TreeFinds model budgets p) (sym c.in_ok-of-in-Ok-Feasible.ensures) (
       asked_holds model budgets set verdict c.requires.whole (fresh_answer model budgets inner c.requires.fresh set (Ok verdict) answered),
       λ marked. (fresh_tree model budgets inner c.requires.fresh set c.args.oracle.now.nodes verdict after c.requires.no_trees c.requires.whole marked alone).ends,
     )

@@ -16,8 +16,10 @@ witness-requires-clause-can c = subst (λ (s : SetValue). IsSatisfiable c.args.m
 pub witness-requires-clause-of : goal.witness-requires-clause-of
 witness-requires-clause-of c = fresh_is_of c.args.model.now (budgets_of c.args.budgets) c.args.oracle.now.inner c.requires.inner
 
-pub returns-in-Ok : goal.returns-in-Ok
-returns-in-Ok c = inl (subst (λ (s : SetValue). IsPointOf c.args.model.now s.members c.in-Ok.point) c.requires.whole c.in-Ok.ensures.found)
+pub returns-in_ok-of-in-Ok : goal.returns-in_ok-of-in-Ok
+returns-in_ok-of-in-Ok c =
+    inl (subst (IsPointOf c.args.model.now (active_members c.args.model.now)) (sym c.in_ok-of-in-Ok.ensures)
+    (subst (λ (s : SetValue). IsPointOf c.args.model.now s.members c.in-Ok.point) c.requires.whole c.in-Ok.ensures.found))
 
 pub returns-in-Err : goal.returns-in-Err
 returns-in-Err c =

@@ -5,10 +5,10 @@ use Rattle.lp_model.specs.MemberSets.{SetValue}
 use Rattle.lp_model.specs.Satisfaction.{IsSatisfiable}
 use Rattle.alt_polyhedron.specs.declared.pricing.Priced.{Priced}
 use Rattle.alt_polyhedron.specs.Pricing.{IsPricing, IsPricingStop}
-use Rattle.analysis.specs.Answers.{budgets_of}
+use Rattle.analysis.specs.Answers.{budgets_of, weighed_answer}
 use Rattle.analysis.specs.Right.{IsWeighedTold}
 use Rattle.analysis.proofs.Marks.{no_mark}
-use Rattle.analysis.proofs.Weighed.{fresh_is_of, priced_set, weighed_right, weighing_stopped, witness_stopped}
+use Rattle.analysis.proofs.Weighed.{fresh_is_of, if_told, priced_set, weighed_right, weighing_stopped, witness_stopped}
 use Rattle.analysis.proofs.weighing.weighed_by_run.Goals as goal
 
 pub cheapest-requires-clause-linear : goal.cheapest-requires-clause-linear
@@ -39,7 +39,7 @@ returns-in_ok-proof-in-Ok c =
     let s = c.in-Ok-Set in
     let cheapest = priced_set model c.args.set.now s.field-0 s.members s.combo s.total s.price c.requires.whole s.field-0-is s.ensures.priced in
     let proof = c.in_ok-proof-in-Ok.proof in
-    subst (IsWeighedTold model budgets) (sym c.weighed_core.ensures)
+    if_told (IsWeighedTold model budgets) c.weighed_core.result (weighed_answer s.members c.in-Ok.points.items proof (s.total, s.price)) c.weighed_core.ensures
     (weighed_right model s.members s.combo s.total s.price cheapest budgets c.in-Ok.points.items proof c.stands_in_order-in-Ok.ensures.in_order c.in_ok-proof-in-Ok.ensures c.in-Ok.ensures.found)
 
 pub returns-in-Err-witnesses : goal.returns-in-Err-witnesses

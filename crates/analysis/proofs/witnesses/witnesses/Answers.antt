@@ -50,9 +50,10 @@ loop-member-preserved c =
     let point = c.in_ok-point.point in
     let w = subst (λ (l : List Member). IsWitnessed model set.members l points) c.in-Some.ensures.steps c.loop-member.invariant.witnessed in
     let others = c.remove.ensures ∙ ap (λ (s : SetValue). set_without s c.in-Some.member) c.in-Ok.ensures in
-    let found = subst (λ (s : SetValue). IsPointOf model s.members point) others c.in_ok-point.ensures.found in
+    let packed = c.in-Ok-of.packed in
+    let found = subst (IsPointOf model (set_without set c.in-Some.member).members) (sym c.in-Ok-of.ensures) (subst (λ (s : SetValue). IsPointOf model s.members point) others c.in_ok-point.ensures.found) in
     record {
-      witnessed = subst (IsWitnessed model set.members c.next.new.self) (sym c.in-Ok-push.ensures.items) (witnessed_next model set c.in-Some.member c.next.new.self points w point c.stands_in_order.ensures.in_order found);
+      witnessed = subst (IsWitnessed model set.members c.next.new.self) (sym c.in-Ok-push.ensures.items) (witnessed_next model set c.in-Some.member c.next.new.self points w packed c.stands_in_order.ensures.in_order found);
       of = c.in_ok-point.ensures.of;
     }
 
