@@ -1,7 +1,8 @@
 #!/bin/sh
 # Prints the seconds and the peak memory of `iisan verify`: first of models of 250, 1,000 and 2,000 rows in the MPS format, each
-# with a report that satisfies it; then of proofs that are a chain of splits, up to 64 MiB of text, in two shapes: each lower
-# child is a leaf, or each upper one. It wants GNU time (Debian's package `time`). A benchmark, no test.
+# with a report that satisfies it; then of reports that list all members of a model, each with a witness of so many values that
+# are not 0, and are rejected behind the last of them; then of proofs that are a chain of splits, up to 64 MiB of text, in two
+# shapes: each lower child is a leaf, or each upper one. It wants GNU time (Debian's package `time`). A benchmark, no test.
 set -eu
 
 top=$(CDPATH='' cd -- "$(dirname -- "$0")/.." && pwd)
@@ -10,18 +11,39 @@ trap 'rm -rf "$work"' EXIT
 # shellcheck source=bench/building.sh
 . "$top/bench/building.sh"
 
-# A model of so many rows, twice as many columns and 25 entries a column.
+# A model of so many rows, twice as many columns and so many entries a column; and with upper bounds, where there is a third word.
 model() {
-    awk -v rows="$1" 'BEGIN {
+    awk -v rows="$1" -v entries="$2" -v bounds="${3:-}" 'BEGIN {
         print "ROWS"
         for (i = 0; i < rows; i++) print " L row" i
         print "COLUMNS"
         for (j = 0; j < 2 * rows; j++)
-            for (k = 0; k < 25; k++) print " column" j " row" (j * 7 + k * 9) % rows " " 1 + (j + k) % 9
+            for (k = 0; k < entries; k++) print " column" j " row" (j * 7 + k * 9) % rows " " 1 + (j + k) % 9
         print "RHS"
         for (i = 0; i < rows; i++) print " row" i " 1000000"
+        if (bounds) {
+            print "BOUNDS"
+            for (j = 0; j < 2 * rows; j++) print " UP column" j " 1000"
+        }
         print "ENDATA"
     }'
+}
+
+# A report of all members of such a model with upper bounds: each of their witnesses has so many values.
+witnesses() {
+    awk -v rows="$1" -v values="$2" '
+        function member(kind, name) {
+            print "member " kind " " name "\npoint"
+            for (k = 0; k < values; k++) print "value column" start + k " 1"
+            start = (start + 13) % (2 * rows - values)
+        }
+        BEGIN {
+            print "iisan report 2\ncommand iis deletion\nirreducible"
+            for (i = 0; i < rows; i++) member("rowup", "row" i)
+            for (j = 0; j < 2 * rows; j++) member("lower", "column" j)
+            for (j = 0; j < 2 * rows; j++) member("upper", "column" j)
+            print "proof\nleaf\nend\nreport end"
+        }'
 }
 
 # A report in which each column is 1, 2 or 3.
@@ -58,30 +80,42 @@ chain() {
         }'
 }
 
-# Verifies the report, and prints the words and what it took.
+# Verifies the report, which is to end as the second word says, and prints the words behind it and what it took.
 verified() {
     model=$1
-    shift
-    (cd "$work" && /usr/bin/time -f '%e %M' -o figures "$program" verify "$model" report >said) || true
-    grep -q '^accepted settled 1 unsettled 0$' "$work/said" || {
-        echo "not accepted: $(cat "$work/said")" >&2
+    end=$2
+    shift 2
+    (cd "$work" && /usr/bin/time -q -f '%e %M' -o figures "$program" verify "$model" report >said) || true
+    grep -q "^$end\$" "$work/said" || {
+        echo "not $end: $(cat "$work/said")" >&2
         exit 1
     }
     awk -v words="$*" '{ print words, $1, $2 / 1024 }' "$work/figures"
 }
 
+accepted="accepted settled 1 unsettled 0"
+
 find_program
 echo "rows columns entries bytes seconds megabytes"
 for rows in 250 1000 2000; do
-    model "$rows" >"$work/model.mps"
+    model "$rows" 25 >"$work/model.mps"
     report "$rows" >"$work/report"
-    verified model.mps "$rows" $((2 * rows)) $((50 * rows)) "$(wc -c <"$work/model.mps")"
+    verified model.mps "$accepted" "$rows" $((2 * rows)) $((50 * rows)) "$(wc -c <"$work/model.mps")"
+done
+echo "members values bytes seconds megabytes"
+for rows in 2000 20000; do
+    model "$rows" 10 bounds >"$work/model.mps"
+    for values in 0 1 20; do
+        witnesses "$rows" "$values" >"$work/report"
+        lines=$(wc -l <"$work/report")
+        verified model.mps "rejected line $((lines - 2))" $((5 * rows)) "$values" "$(wc -c <"$work/report")"
+    done
 done
 echo "splits leaves bytes seconds megabytes"
 for splits in 20000 100000 1300000; do
     for leaves in lower upper; do
         odd "$splits" >"$work/model.lp"
         chain "$splits" "$leaves" >"$work/report"
-        verified model.lp "$splits" "$leaves" "$(wc -c <"$work/report")"
+        verified model.lp "$accepted" "$splits" "$leaves" "$(wc -c <"$work/report")"
     done
 done
