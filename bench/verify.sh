@@ -1,8 +1,9 @@
 #!/bin/sh
 # Prints the seconds and the peak memory of `iisan verify`: first of models of 250, 1,000 and 2,000 rows in the MPS format, each
 # with a report that satisfies it; then of reports that list all members of a model, each with a witness of so many values that
-# are not 0, and are rejected behind the last of them; then of proofs that are a chain of splits, up to 64 MiB of text, in two
-# shapes: each lower child is a leaf, or each upper one. It wants GNU time (Debian's package `time`). A benchmark, no test.
+# are not 0, and are rejected behind the last of them; then of so many answers that a model is feasible, up to 64 MiB of text; then
+# of proofs that are a chain of splits, as long, in two shapes: each lower child is a leaf, or each upper one. It wants GNU time
+# (Debian's package `time`). A benchmark, no test.
 set -eu
 
 top=$(CDPATH='' cd -- "$(dirname -- "$0")/.." && pwd)
@@ -44,6 +45,20 @@ witnesses() {
             for (j = 0; j < 2 * rows; j++) member("upper", "column" j)
             print "proof\nleaf\nend\nreport end"
         }'
+}
+
+# A report of so many answers: each point has so many values.
+answers() {
+    awk -v rows="$1" -v answers="$2" -v values="$3" 'BEGIN {
+        print "iisan report 2"
+        for (i = 0; i < answers; i++) {
+            print "command check\nfeasible\npoint"
+            for (k = 0; k < values; k++) print "value column" start + k " 1"
+            print "end"
+            start = (start + 13) % (2 * rows - values)
+        }
+        print "report end"
+    }'
 }
 
 # A report in which each column is 1, 2 or 3.
@@ -110,6 +125,12 @@ for rows in 2000 20000; do
         lines=$(wc -l <"$work/report")
         verified model.mps "rejected line $((lines - 2))" $((5 * rows)) "$values" "$(wc -c <"$work/report")"
     done
+done
+echo "answers values bytes seconds megabytes"
+for count in "1 0" "1000 0" "2000000 0" "100000 20"; do
+    # shellcheck disable=SC2086
+    answers 20000 $count >"$work/report"
+    verified model.mps "accepted settled ${count% *} unsettled 0" "$count" "$(wc -c <"$work/report")"
 done
 echo "splits leaves bytes seconds megabytes"
 for splits in 20000 100000 1300000; do

@@ -1,14 +1,17 @@
 -- Entries one after another: where the trials of those that are left stop the check.
-use Rattle.std.proofs.Common.{◌≡◌, ◌<◌, ◌+◌, sym, ◌∙◌, ap, List, [], ◌∷◌, ◌++◌, length, take, drop, get_or, ℕ, Option, None, Result, Ok, Err}
-use Rattle.std.proofs.lemmas.List.{take_more}
+use Rattle.std.proofs.Common.{◌≡◌, ◌<◌, ◌+◌, refl, sym, ◌∙◌, ap, List, [], ◌∷◌, ◌++◌, length, take, drop, flat_map, get_or, ℕ, Option, None, Some, false, Result, Ok, Err}
+use Rattle.std.proofs.lemmas.Grind.{flat_map-append}
+use Rattle.std.proofs.lemmas.List.{append-nil, take_more}
+use Rattle.std.specs.Option.{is_some}
 use Rattle.std.specs.Prelude.{OnOk}
 use Rattle.lp_model.specs.Program.{Program}
-use Rattle.report_text.specs.History.{HistoryValue}
+use Rattle.report_text.specs.History.{Action, HistoryValue, after_edits, standing}
 use Rattle.report_text.specs.Session.{session_at, Takes}
 use Rattle.report_text.specs.declared.report.Answer.{Answer}
 use Rattle.report_text.specs.declared.report.Command.{Command}
+use Rattle.report_text.specs.declared.report.Command.TheVariants.{Check, Iis, Unbounded, Relax, Reduce, Edit, Undo, Pivots, Nodes}
 use Rattle.report_text.specs.declared.report.Entry.{Entry}
-use Rattle.report_text.specs.Turns.{after, answer_after, entry_commands}
+use Rattle.report_text.specs.Turns.{actions_of, after, answer_after, entry_commands}
 use Rattle.report_text.proofs.InTurn.{gathered-at, commands_push}
 use Rattle.cert_check.specs.declared.outcome.Stop.{Stop}
 use Rattle.cert_check.specs.declared.outcome.Stop.TheVariants.{Memory}
@@ -16,6 +19,11 @@ use Rattle.cert_check.specs.Trials.{Trial, claim_trials, reply_trials, entry_tri
 use Rattle.cert_check.specs.Stops.{first_stop, IsStop, Says}
 use Rattle.cert_check.specs.Replay.{Replays}
 use Rattle.cert_check.proofs.Firsts.{passed_over, stop_first, stop_of, says_second, says_of}
+
+-- what holds does so where nothing stops the check
+pub on_ok : {P : Type 0} (r : Result (Unit {0}) Stop) → P → OnOk r P
+on_ok (Ok done) p = p
+on_ok (Err s) p = tt
 
 -- ---- one entry, by the session before it
 module _ (old : HistoryValue) (e : Entry) where
@@ -36,10 +44,6 @@ module _ (old : HistoryValue) (e : Entry) where
   memory_stops new = record { says = λ first before is. tt; goes_on = tt }
 
   -- it passes, and what is said of the answer to an edit or an undo decides
-  on_ok : {P : Type 0} (r : Result (Unit {0}) Stop) → P → OnOk r P
-  on_ok (Ok done) p = p
-  on_ok (Err s) p = tt
-
   pub reply_says : (right : Option Answer) (new : HistoryValue) (r : Result (Unit {0}) Stop) → first_stop (claim_trials old.model e) ≡ None → Takes old e.command right new → Says (first_stop (reply_trials right e.line e.answer)) r → Replays old e r new
   reply_says right new r passes takes h = record {
     says = λ first before is.
@@ -47,6 +51,32 @@ module _ (old : HistoryValue) (e : Entry) where
         (says_of _ _ r (ap (λ o. first_stop (reply_trials o e.line e.answer)) (takes.answers first before is)) h);
     goes_on = on_ok r takes.goes_on;
   }
+
+-- ---- what no edit and no undo changes
+-- a command that is answered nothing here does nothing to the program
+nothing_done : (first : Program) (before : List Command) (command : Command) → answer_after first before command ≡ None → actions_of first command ≡ []
+nothing_done first before Check e = refl
+nothing_done first before (Iis method) e = refl
+nothing_done first before Unbounded e = refl
+nothing_done first before Relax e = refl
+nothing_done first before Reduce e = refl
+nothing_done first before (Edit edit) e = absurd (cc)
+nothing_done first before Undo e = absurd (cc)
+nothing_done first before (Pivots n) e = refl
+nothing_done first before (Nodes n) e = refl
+
+-- so that the program stays
+pub model_stays : (old new : HistoryValue) (command : Command) (first : Program) (before : List Command) → Takes old command None new → old ≡ session_at first before → new.model ≡ old.model
+model_stays old new command first before takes is =
+    let none = nothing_done first before command (sym (takes.answers first before is)) in
+    let same : flat_map (actions_of first) (before ++ command ∷ []) ≡ flat_map (actions_of first) before =
+    flat_map-append (actions_of first) before (command ∷ []) ∙ ap (λ (l : List Action). flat_map (actions_of first) before ++ (l ++ [])) none ∙ append-nil (flat_map (actions_of first) before) in
+    ap (λ (v : HistoryValue). v.model) (takes.goes_on first before is) ∙ ap (λ (l : List Action). after_edits first (standing first [] l)) same ∙ sym (ap (λ (v : HistoryValue). v.model) is)
+
+-- what is not there is none
+pub none_of : {A : Type 0} (o : Option A) → is_some o ≡ false → o ≡ None
+none_of None e = refl
+none_of (Some a) e = absurd (cc)
 
 -- ---- entries
 

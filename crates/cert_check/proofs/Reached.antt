@@ -20,10 +20,11 @@ use Rattle.certs.specs.declared.evidence.Checked.TheVariants.{Yes, No}
 use Rattle.certs.specs.Checks.{IsSetOf, outcome, unless_wide, point_steps, at_least_test, at_most_test}
 use Rattle.certs.specs.Packed.{HasNonzeros}
 use Rattle.certs.proofs.Walk.{member_decides}
+use Rattle.cert_check.specs.declared.active.Active.{Active}
 use Rattle.cert_check.specs.declared.sparse.Sparse.{Sparse}
-use Rattle.lp_model.specs.Members.{form, has, is_same}
+use Rattle.lp_model.specs.Members.{active_members, form, has, is_same}
 use Rattle.lp_model.specs.MemberSets.{SetValue, IsMemberFor, IsPossibleIn, IsWithin, possible_in, set_with, set_without}
-use Rattle.cert_check.specs.Sparse.{HasFailing, HasReached, IsListed, IsSparseFor, ListsRows, Passes, Reaches, listed_rows, nonzero_count}
+use Rattle.cert_check.specs.Sparse.{HasFailing, HasReached, IsActive, IsListed, IsSparseFor, Lacks, ListsRows, Passes, Reaches, listed_rows, nonzero_count}
 use Rattle.lp_model.proofs.Sets.{contains_of_has, has_of_contains, same_members, same_self}
 use Rattle.lp_model.proofs.Marked.{has_filter, possible_of}
 
@@ -212,36 +213,46 @@ left_true : (a b : Bool) → (a || b) ≡ true → b ≡ false → a ≡ true
 left_true true b e none = refl
 left_true false b e none = sym none ∙ e
 
--- The others of a set pass where those that the columns reach do, and all that fail at zeros are reached, or are the one that the others lack.
-module _ (model : Program) (lists : List (Vec ℕ)) (others part failing : SetValue) (member : Member) (columns : List ℕ) (values : List ℚ)
-    (rows : ListsRows model lists) (reached : HasReached lists others.members columns part.members) (nonzeros : HasNonzeros values columns) (fails : HasFailing model others.members failing.members)
-    (same : IsSetOf model others) (same_rows : part.rows ≡ others.rows) (same_columns : part.columns ≡ others.columns) (possible : All (IsPossibleIn others) others.members)
-    (without : has others.members member ≡ false) (hold : All (Passes model (values_at values)) part.members) (within : IsWithin failing (set_with part member)) where
-  one_passes : (m : Member) → Contains others.members m → Passes model (values_at values) m
+-- a part of a set, and the member that is taken out of the set, where one is
+abbrev pub joined : SetValue → Option Member → SetValue
+joined part None = part
+joined part (Some n) = set_with part n
+
+-- what is in neither of a set and its part but in these is that member, which the set lacks
+is_reached : (set part : SetValue) (without : Option Member) (m : Member) → Lacks set.members without → IsPossibleIn part m → has part.members m ≡ false → has (joined part without).members m ≡ true → has set.members m ≡ false
+is_reached set part None m lacks possible e there = absurd (true≢false (sym there ∙ e))
+is_reached set part (Some n) m lacks possible e there =
+    ap (has set.members) (same_members m n (left_true (is_same m n) (has part.members m) (sym (has_with part n m possible) ∙ there) e)) ∙ lacks
+
+-- What is left of a set passes where those that the columns reach do, and all that fail at zeros are reached, or are the one that is taken out.
+module _ (model : Program) (lists : List (Vec ℕ)) (left part failing : SetValue) (member : Option Member) (columns : List ℕ) (values : List ℚ)
+    (rows : ListsRows model lists) (reached : HasReached lists left.members columns part.members) (nonzeros : HasNonzeros values columns) (fails : HasFailing model left.members failing.members)
+    (same : IsSetOf model left) (same_rows : part.rows ≡ left.rows) (same_columns : part.columns ≡ left.columns) (possible : All (IsPossibleIn left) left.members)
+    (lacks : Lacks left.members member) (hold : All (Passes model (values_at values)) part.members) (within : IsWithin failing (joined part member)) where
+  one_passes : (m : Member) → Contains left.members m → Passes model (values_at values) m
   one_passes m at = by (has part.members m) refl (has failing.members m) refl
     where
-      h : has others.members m ≡ true
-      h = has_of_contains others.members m at
+      h : has left.members m ≡ true
+      h = has_of_contains left.members m at
 
-      mine : IsPossibleIn others m
-      mine = All-contains (IsPossibleIn others) others.members m possible at
+      mine : IsPossibleIn left m
+      mine = All-contains (IsPossibleIn left) left.members m possible at
 
       in_model : IsMemberFor (length model.rows) (length model.columns) m
-      in_model = subst (λ n. IsMemberFor n (length model.columns) m) same.rows (subst (λ n. IsMemberFor others.rows n m) same.columns mine)
+      in_model = subst (λ n. IsMemberFor n (length model.columns) m) same.rows (subst (λ n. IsMemberFor left.rows n m) same.columns mine)
 
       in_part : IsPossibleIn part m
-      in_part = subst (λ n. IsMemberFor n part.columns m) (sym same_rows) (subst (λ n. IsMemberFor others.rows n m) (sym same_columns) mine)
+      in_part = subst (λ n. IsMemberFor n part.columns m) (sym same_rows) (subst (λ n. IsMemberFor left.rows n m) (sym same_columns) mine)
 
       by : (b : Bool) → has part.members m ≡ b → (f : Bool) → has failing.members m ≡ f → Passes model (values_at values) m
       by true e f g = All-contains (Passes model (values_at values)) part.members m hold (contains_of_has part.members m e)
-      by false e false g = unreached model lists others.members part.members columns values m rows reached nonzeros in_model h e (fails m h g)
+      by false e false g = unreached model lists left.members part.members columns values m rows reached nonzeros in_model h e (fails m h g)
       by false e true g =
-          let there = has_of_contains (set_with part member).members m (All-contains (Contains (set_with part member).members) failing.members m within (contains_of_has failing.members m g)) in
-          let is = same_members m member (left_true (is_same m member) (has part.members m) (sym (has_with part member m in_part) ∙ there) e) in
-          absurd (true≢false (sym h ∙ ap (has others.members) is ∙ without))
+          let there = has_of_contains (joined part member).members m (All-contains (Contains (joined part member).members) failing.members m within (contains_of_has failing.members m g)) in
+          absurd (true≢false (sym h ∙ is_reached left part member m lacks in_part e there))
 
-  pub others_pass : All (Passes model (values_at values)) others.members
-  others_pass = All-weaker (Contains others.members) (Passes model (values_at values)) one_passes others.members (All-contains_itself others.members)
+  pub left_passes : All (Passes model (values_at values)) left.members
+  left_passes = All-weaker (Contains left.members) (Passes model (values_at values)) one_passes left.members (All-contains_itself left.members)
 
 -- ---- the check of a point
 -- a yes is said where each member passes
@@ -271,6 +282,10 @@ without_it set m = by (has (set_without set m).members m) refl
     by true e =
         let others = All-contains (λ n. not (is_same n m) ≡ true) (set_without set m).members m (filter_passes (λ n. not (is_same n m)) set.members) (contains_of_has (set_without set m).members m e) in
         absurd (true≢false (sym (same_self m) ∙ not_true (is_same m m) others))
+
+-- active members with what is kept for them now
+pub still_active : (model : Program) (a : Active) (now : Option Sparse) → IsActive model a → (IsSparseFor model (active_members model) a.sparse → IsSparseFor model (active_members model) now) → IsActive model (record { set = a.set; sparse = now })
+still_active model a now h stays = record { set = h.set; sparse = stays h.sparse }
 
 -- no more values are not 0 than there are
 pub few_nonzeros : (values : List ℚ) → nonzero_count values ≤ length values

@@ -6,12 +6,14 @@ use Rattle.rational.specs.Linear.{Assignment}
 use Rattle.lp_model.specs.declared.members.Member.{Member}
 use Rattle.lp_model.specs.declared.members.Member.TheVariants.{RowLo, RowUp, Lower, Upper, Whole}
 use Rattle.lp_model.specs.Program.{Program, row_at}
-use Rattle.lp_model.specs.Members.{has}
+use Rattle.lp_model.specs.Members.{active_members, has}
+use Rattle.lp_model.specs.MemberSets.{active_set}
 use Rattle.lp_model.specs.Satisfaction.{values_at}
 use Rattle.lp_model.specs.Shown.{most_columns}
 use Rattle.certs.specs.declared.evidence.Checked.TheVariants.{Yes}
 use Rattle.certs.specs.Checks.{IsSetOf, outcome, point_steps}
 use Rattle.cert_check.specs.declared.sparse.Sparse.{Sparse}
+use Rattle.cert_check.specs.declared.active.Active.{Active}
 
 -- nothing that is calculated for the member at the point is too wide, and it holds
 abbrev pub Passes : Program → Assignment → Member → Type 0
@@ -63,3 +65,18 @@ pub record IsSparse (model : Program) (set : List Member) (s : Sparse) : Type 0 
 abbrev pub IsSparseFor : Program → List Member → Option Sparse → Type 0
 IsSparseFor model set None = Unit {0}
 IsSparseFor model set (Some s) = IsSparse model set s
+
+-- the set does not have this member, where one is told
+abbrev pub Lacks : List Member → Option Member → Type 0
+Lacks set None = Unit {0}
+Lacks set (Some m) = has set m ≡ false
+
+-- these are the active members of the program, with what is kept for them
+pub record IsActive (model : Program) (a : Active) : Type 0 where
+  pub set : a.set ≡ active_set model
+  pub sparse : IsSparseFor model (active_members model) a.sparse
+
+-- where they are there
+abbrev pub IsActiveFor : Program → Option Active → Type 0
+IsActiveFor model None = Unit {0}
+IsActiveFor model (Some a) = IsActive model a

@@ -1,8 +1,11 @@
 //! Whether the entries of a report hold.
-ghost use Rattle.std.specs.Prelude.{◌≡◌, ◌+◌, ◌<◌, [], MatchResult, None, length, flat_map};
+ghost use Rattle.std.specs.Prelude.{◌≡◌, ◌+◌, ◌<◌, [], List, MatchResult, None, OnOk, length, flat_map};
+ghost use Rattle.lp_model.specs.Program.{Program};
 ghost use Rattle.lp_model.specs.Members.{active_members};
 ghost use Rattle.certs.specs.Checks.{IsSetOf};
 ghost use Rattle.report_text.specs.History.{history_of};
+ghost use Rattle.report_text.specs.Session.{session_at};
+ghost use Rattle.report_text.specs.declared.report.Command.{Command as OneCommand};
 ghost use Rattle.report_text.specs.declared.report.Answer.TheVariants.{Refused as RefusedBy};
 ghost use Rattle.report_text.specs.Form.{IsProofFor, IsPointFor, IsListed, IsCoreFor, IsAnswerFor, IsEntryFor, AreEntriesFor};
 ghost use Rattle.report_text.specs.Grammar.{answer_phrases, node_phrases, rounds_phrases, witness_phrases};
@@ -10,7 +13,9 @@ ghost use Rattle.cert_check.specs.Trials.{witnesses_of, feasible_trials, refuted
 ghost use Rattle.cert_check.specs.Stops.{first_stop, IsStop, Says};
 ghost use Rattle.cert_check.specs.Uses.{IsShort, AreShort};
 ghost use Rattle.cert_check.specs.Replay.{Replays};
+ghost use Rattle.cert_check.specs.Sparse.{IsActiveFor};
 
+use crate::active::{Active, check_active};
 use crate::leasts::check_least;
 use crate::members::{check_members, used_members};
 use crate::objectives::{check_bounded, check_unbounded};
@@ -19,7 +24,7 @@ use crate::prices::check_priced;
 use crate::trees::{check_tree, line_behind};
 use crate::witnesses::check_witnesses;
 use bound_checks::has_mark;
-use certs::{PackedPoint, Proof, check_point};
+use certs::{PackedPoint, Proof};
 use least_checks::rigid_set;
 use lp_model::{MemberSet, Model};
 use report_text::{
@@ -38,22 +43,35 @@ pub(crate) fn check_entries(
     requires short { AreShort session.old.model [] entries.now }
     ensures { Says (first_stop (entries_trials session.old.model [] entries.now)) result }
 {
+    let mut kept = None;
     for entry in entries {
-        check_entry(alloc, session, entry)?;
+        check_entry(alloc, session, &mut kept, entry)?;
     }
     Ok(())
 }
 
-// Checks an entry against the program as it stands, and then does to it what the command does.
-fn check_entry(alloc: Global, session: &mut CommandSession, entry: &Entry) -> Result<(), Stop>
+// Checks an entry against the program as it stands, and then does to it what the command does. The active members are kept
+// until an edit or an undo.
+fn check_entry(
+    alloc: Global,
+    session: &mut CommandSession,
+    kept: &mut Option<Active>,
+    entry: &Entry,
+) -> Result<(), Stop>
     requires form { IsEntryFor session.old.model entry.now }
     requires short { IsShort session.old.model entry.now }
-    ensures { Replays session.old entry.now result session.new }
+    requires kept { IsActiveFor session.old.model kept.old }
+    ensures replays { Replays session.old entry.now result session.new }
+    ensures kept { OnOk result ((first : Program) (before : List OneCommand)
+        → session.old ≡ session_at first before → IsActiveFor session.new.model kept.new) }
 {
-    check_claim(alloc, session.model(), entry)?;
+    check_claim(alloc, session.model(), kept, entry)?;
     let Ok(right) = session.take(&entry.command) else {
         return Err(Stop::Memory);
     };
+    if right.is_some() {
+        *kept = None;
+    }
     check_reply(right, &entry.answer, entry.line)
 }
 
@@ -93,13 +111,20 @@ fn is_refused(answer: &Answer, reason: Refusal) -> bool
 }
 
 // Checks what an entry claims of the program.
-fn check_claim(alloc: Global, model: &Model, entry: &Entry) -> Result<(), Stop>
+fn check_claim(
+    alloc: Global,
+    model: &Model,
+    kept: &mut Option<Active>,
+    entry: &Entry,
+) -> Result<(), Stop>
     requires form { IsAnswerFor model.now entry.now.answer }
     requires short { IsShort model.now entry.now }
-    ensures { Says (first_stop (claim_trials model.now entry.now)) result }
+    requires kept { IsActiveFor model.now kept.old }
+    ensures says { Says (first_stop (claim_trials model.now entry.now)) result }
+    ensures kept { OnOk result (IsActiveFor model.now kept.new) }
 {
     check_linear(alloc, model, entry)?;
-    check_answer(alloc, model, &entry.answer, entry.line)
+    check_answer(alloc, model, kept, &entry.answer, entry.line)
 }
 
 // Checks that no active member is a mark, where the answer settles a command that is for linear constraints alone.
@@ -140,13 +165,21 @@ pub fn settles(answer: &Answer) -> bool
 }
 
 // Checks an answer, of which the command stands on the given line.
-fn check_answer(alloc: Global, model: &Model, answer: &Answer, line: u32) -> Result<(), Stop>
+fn check_answer(
+    alloc: Global,
+    model: &Model,
+    kept: &mut Option<Active>,
+    answer: &Answer,
+    line: u32,
+) -> Result<(), Stop>
     requires form { IsAnswerFor model.now answer.now }
     requires short { line + length (answer_phrases model.now answer.now) < 4294967280 }
-    ensures { Says (first_stop (answer_trials model.now line answer.now)) result }
+    requires kept { IsActiveFor model.now kept.old }
+    ensures says { Says (first_stop (answer_trials model.now line answer.now)) result }
+    ensures kept { OnOk result (IsActiveFor model.now kept.new) }
 {
     match answer {
-        Answer::Feasible(point) => check_feasible(alloc, model, point, line),
+        Answer::Feasible(point) => check_feasible(alloc, model, kept, point, line),
         Answer::Infeasible(members, proof) => {
             check_infeasible(alloc, model, members, proof, line)
         }
@@ -166,18 +199,23 @@ fn check_answer(alloc: Global, model: &Model, answer: &Answer, line: u32) -> Res
 }
 
 // Checks a point against the active members.
-fn check_feasible(alloc: Global, model: &Model, point: &PackedPoint, line: u32) -> Result<(), Stop>
+fn check_feasible(
+    alloc: Global,
+    model: &Model,
+    kept: &mut Option<Active>,
+    point: &PackedPoint,
+    line: u32,
+) -> Result<(), Stop>
     requires form { IsPointFor model.now point.now }
     requires short { line + 2 < 4294967296 }
-    ensures { Says (first_stop (feasible_trials model.now line point.now)) result }
+    requires kept { IsActiveFor model.now kept.old }
+    ensures says { Says (first_stop (feasible_trials model.now line point.now)) result }
+    ensures kept { OnOk result (IsActiveFor model.now kept.new) }
 {
-    let Ok(active) = model.members(alloc) else {
+    let Ok(found) = check_active(alloc, model, kept, point) else {
         return Err(Stop::Memory);
     };
-    let Ok(point) = point.unpacked(alloc) else {
-        return Err(Stop::Memory);
-    };
-    settle(line + OPENING_LINES, check_point(model, &active, &point))
+    settle(line + OPENING_LINES, found)
 }
 
 // Checks active members and a proof that no point satisfies them.

@@ -1,6 +1,7 @@
 //! Checks a report against a program: which of its lines is the first that fails.
 #![tactic(auto)]
 
+mod active;
 mod entries;
 mod leasts;
 mod members;

@@ -1,17 +1,19 @@
 //! Whether points with few values satisfy a set, in a time that follows their values.
-ghost use Rattle.std.specs.Prelude.{◌≡◌, ◌<◌, ◌⊎◌, IfOk, OnOk, List, All, true, false, ℕ, length, replicate};
+ghost use Rattle.std.specs.Prelude.{◌≡◌, ◌<◌, ◌⊎◌, IfOk, IfSome, OnOk, List, All, true, false, ℕ, length, replicate};
 ghost use Rattle.rational.specs.Rational.{zero_ℚ};
 ghost use Rattle.lp_model.specs.declared.members.Member.{Member as OneMember};
 ghost use Rattle.lp_model.specs.Members.{has};
 ghost use Rattle.lp_model.specs.MemberSets.{IsPossibleIn};
 ghost use Rattle.lp_model.specs.Satisfaction.{values_at};
-ghost use Rattle.certs.specs.Checks.{IsSetOf};
+ghost use Rattle.certs.specs.Checks.{IsSetOf, outcome, point_steps};
 ghost use Rattle.certs.specs.Packed.{HasNonzeros};
-ghost use Rattle.cert_check.specs.Sparse.{Passes, HasFailing, HasReached, IsListed, IsSparse, IsSparseFor, ListsRows, Reaches, nonzero_count};
+ghost use Rattle.report_text.specs.Grammar.{witness_phrases};
+ghost use Rattle.cert_check.specs.Sparse.{Lacks, Passes, HasFailing, HasReached, IsListed, IsSparse, IsSparseFor, ListsRows, Reaches, nonzero_count};
 
-use certs::{PackedPoint, is_present};
+use certs::{Checked, PackedPoint, check_point, is_present};
 use frac128::Frac;
 use lp_model::{Member, MemberSet, Model, Term};
+use report_text::witness_length;
 use std::alloc::{AllocError, Global};
 
 /// From how many members on it pays to list the rows of columns.
@@ -65,60 +67,91 @@ impl Sparse {
         })
     }
 
-    /// Whether a point passes the check against the others of the set, which lack the one member, and how many of its
-    /// values are not 0. Where these are few, no members are looked at but those that they reach.
-    pub(crate) fn passes(
+    // Whether a point passes the check against the set, or what is left of it without a member, and how many of its values
+    // are not 0. Where these are few, no members are looked at but those that they reach.
+    fn passes(
         &mut self,
         alloc: Global,
         model: &Model,
-        others: &MemberSet,
-        member: Member,
+        left: &MemberSet,
+        without: Option<Member>,
         point: &PackedPoint,
     ) -> Result<(bool, u64), AllocError>
-        requires sparse { IsSparse model.now others.now.members self.old }
-        requires same { IsSetOf model.now others.now }
-        requires possible { IsPossibleIn others.now member }
-        requires without { has others.now.members member ≡ false }
+        requires sparse { IsSparse model.now left.now.members self.old }
+        requires same { IsSetOf model.now left.now }
+        requires possible { IfSome without (IsPossibleIn left.now) }
+        requires lacks { Lacks left.now.members without }
         requires point { length point.now.values ≡ length model.now.columns }
         ensures stays { OnOk result ((set : List OneMember) → IsSparse model.now set self.old → IsSparse model.now set self.new) }
-        ensures passes { IfOk result (λ r. r.0 ≡ true → All (Passes model.now (values_at point.now.values)) others.now.members) }
+        ensures passes { IfOk result (λ r. r.0 ≡ true → All (Passes model.now (values_at point.now.values)) left.now.members) }
         ensures count { IfOk result (λ r. r.1 ≡ nonzero_count point.now.values) }
     {
         let columns = point.values.spread(alloc, self.zeros.as_mut_slice())?;
-        let passes = self.all_pass(alloc, model, others, member, columns.as_slice())?;
+        let passes = self.all_pass(alloc, model, left, without, columns.as_slice())?;
         Ok((passes, clear(self.zeros.as_mut_slice(), columns.as_slice())))
     }
 
-    // Whether the others pass where the zeros have given way to values of these columns.
+    // Whether those that are left pass where the zeros have given way to values of these columns.
     fn all_pass(
         &self,
         alloc: Global,
         model: &Model,
-        others: &MemberSet,
-        member: Member,
+        left: &MemberSet,
+        without: Option<Member>,
         columns: &[u32],
     ) -> Result<bool, AllocError>
         requires rows { ListsRows model.now self.now.rows.items }
         requires failing { IsSetOf model.now self.now.failing }
-        requires fails { HasFailing model.now others.now.members self.now.failing.members }
-        requires same { IsSetOf model.now others.now }
-        requires possible { IsPossibleIn others.now member }
-        requires without { has others.now.members member ≡ false }
+        requires fails { HasFailing model.now left.now.members self.now.failing.members }
+        requires same { IsSetOf model.now left.now }
+        requires possible { IfSome without (IsPossibleIn left.now) }
+        requires lacks { Lacks left.now.members without }
         requires values { length self.now.zeros.items ≡ length model.now.columns }
         requires nonzeros { HasNonzeros self.now.zeros.items columns.now }
         requires within { All (λ j. j < length model.now.columns) columns.now }
-        ensures { IfOk result (λ yes. yes ≡ true → All (Passes model.now (values_at self.now.zeros.items)) others.now.members) }
+        ensures { IfOk result (λ yes. yes ≡ true → All (Passes model.now (values_at self.now.zeros.items)) left.now.members) }
     {
         let values = self.zeros.as_slice();
         if (columns.len() as u64).saturating_mul(MEMBERS_A_VALUE) >= self.members {
-            return Ok(hold(model, others, values));
+            return Ok(hold(model, left, values));
         }
-        others.stands_in_order();
-        let mut reached = reached(alloc, self.rows.as_slice(), others, columns)?;
+        left.stands_in_order();
+        let mut reached = reached(alloc, self.rows.as_slice(), left, columns)?;
         let hold = hold(model, &reached, values);
-        reached.insert(member);
+        if let Some(member) = without {
+            reached.insert(member);
+        }
         Ok(hold && self.failing.within(&reached))
     }
+}
+
+/// What the check of a point says of a set, or of what is left of it without a member, and how many lines a member has with
+/// this point as its witness.
+pub(crate) fn check_packed(
+    alloc: Global,
+    model: &Model,
+    left: &MemberSet,
+    sparse: &mut Option<Sparse>,
+    without: Option<Member>,
+    point: &PackedPoint,
+) -> Result<(Checked, u64), AllocError>
+    requires sparse { IsSparseFor model.now left.now.members sparse.old }
+    requires same { IsSetOf model.now left.now }
+    requires possible { IfSome without (IsPossibleIn left.now) }
+    requires lacks { Lacks left.now.members without }
+    requires point { length point.now.values ≡ length model.now.columns }
+    ensures stays { OnOk result ((set : List OneMember) → IsSparseFor model.now set sparse.old → IsSparseFor model.now set sparse.new) }
+    ensures found { IfOk result (λ r. r.0 ≡ outcome (point_steps model.now left.now.members (values_at point.now.values))) }
+    ensures lines { IfOk result (λ r. (m : OneMember) → r.1 ≡ length (witness_phrases (m, point.now))) }
+{
+    if let Some(sparse) = sparse {
+        let (passes, values) = sparse.passes(alloc, model, left, without, point)?;
+        if passes {
+            return Ok((Checked::Yes, 2 + values));
+        }
+    }
+    let point = point.unpacked(alloc)?;
+    Ok((check_point(model, left, &point), witness_length(&point)))
 }
 
 // For each column the rows in which it stands.

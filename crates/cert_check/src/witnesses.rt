@@ -1,21 +1,19 @@
 //! Whether the members of an irreducible set are active, and its witnesses satisfy the others.
-ghost use Rattle.std.specs.Prelude.{◌≡◌, ◌+◌, ◌<◌, ◌∷◌, [], List, All, IsTrue, IfOk, OnOk, MatchResult, false, length, zip, flat_map};
-ghost use Rattle.lp_model.specs.declared.members.Member.{Member as OneMember};
+ghost use Rattle.std.specs.Prelude.{◌≡◌, ◌+◌, ◌<◌, ◌∷◌, [], All, IsTrue, OnOk, MatchResult, None, length, zip, flat_map};
 ghost use Rattle.lp_model.specs.Members.{has};
 ghost use Rattle.lp_model.specs.MemberSets.{IsPossibleIn};
-ghost use Rattle.lp_model.specs.Satisfaction.{values_at};
-ghost use Rattle.certs.specs.Checks.{IsSetOf, outcome, point_steps};
+ghost use Rattle.certs.specs.Checks.{IsSetOf};
 ghost use Rattle.report_text.specs.Grammar.{witness_phrases};
 ghost use Rattle.cert_check.specs.Trials.{witness_trials};
 ghost use Rattle.cert_check.specs.Stops.{first_stop, IsStop};
 ghost use Rattle.cert_check.specs.Sparse.{IsSparseFor};
 
 use crate::outcome::{Stop, settle};
-use crate::sparse::{Sparse, sparse_for};
-use certs::{Checked, PackedPoint, check_point};
+use crate::sparse::{Sparse, check_packed, sparse_for};
+use certs::PackedPoint;
 use lp_model::{Member, MemberSet, Model};
-use report_text::{MEMBER_LINES, witness_length};
-use std::alloc::{AllocError, Global};
+use report_text::MEMBER_LINES;
+use std::alloc::Global;
 
 /// Checks each member with its witness, the first on the given line. It gives the number of the line after them.
 ///
@@ -80,39 +78,11 @@ fn check_witness(
         return Err(Stop::Rejected(line));
     }
     members.remove(member);
-    let found = look(alloc, model, members, sparse, member, witness);
+    let found = check_packed(alloc, model, members, sparse, Some(member), witness);
     members.insert(member);
     let Ok((found, lines)) = found else {
         return Err(Stop::Memory);
     };
     settle(line + MEMBER_LINES, found)?;
     Ok(lines as u32)
-}
-
-// What the check of a witness says of the others, and how many lines the member and its witness have.
-fn look(
-    alloc: Global,
-    model: &Model,
-    others: &MemberSet,
-    sparse: &mut Option<Sparse>,
-    member: Member,
-    witness: &PackedPoint,
-) -> Result<(Checked, u64), AllocError>
-    requires sparse { IsSparseFor model.now others.now.members sparse.old }
-    requires same { IsSetOf model.now others.now }
-    requires possible { IsPossibleIn others.now member }
-    requires without { has others.now.members member ≡ false }
-    requires point { length witness.now.values ≡ length model.now.columns }
-    ensures stays { OnOk result ((set : List OneMember) → IsSparseFor model.now set sparse.old → IsSparseFor model.now set sparse.new) }
-    ensures found { IfOk result (λ r. r.0 ≡ outcome (point_steps model.now others.now.members (values_at witness.now.values))) }
-    ensures lines { IfOk result (λ r. r.1 ≡ length (witness_phrases (member, witness.now))) }
-{
-    if let Some(sparse) = sparse {
-        let (passes, values) = sparse.passes(alloc, model, others, member, witness)?;
-        if passes {
-            return Ok((Checked::Yes, 2 + values));
-        }
-    }
-    let point = witness.unpacked(alloc)?;
-    Ok((check_point(model, others, &point), witness_length(&point)))
 }

@@ -24,18 +24,18 @@ check_core-requires-clause-short c =
     let fit = witnesses_fit c.args.model.now c.in-Irreducible.core in
     omega (arith, short, fit)
 
-pub returns-in-Infeasible : goal.returns-in-Infeasible
-returns-in-Infeasible c =
+pub returns-in-Infeasible-clause-says : goal.returns-in-Infeasible-clause-says
+returns-in-Infeasible-clause-says c =
     subst (λ (a : Answer). Says (first_stop (answer_trials c.args.model.now c.args.line a)) c.check_infeasible.result) (sym c.in-Infeasible.is) c.check_infeasible.ensures
 
-pub returns-in-RigidInfeasible : goal.returns-in-RigidInfeasible
-returns-in-RigidInfeasible c =
+pub returns-in-RigidInfeasible-clause-says : goal.returns-in-RigidInfeasible-clause-says
+returns-in-RigidInfeasible-clause-says c =
     subst (λ (a : Answer). Says (first_stop (answer_trials c.args.model.now c.args.line a)) c.check_rigid.result) (sym c.in-RigidInfeasible.is) c.check_rigid.ensures
 
-pub returns-in-Least : goal.returns-in-Least
-returns-in-Least c =
+pub returns-in-Least-clause-says : goal.returns-in-Least-clause-says
+returns-in-Least-clause-says c =
     subst (λ (a : Answer). Says (first_stop (answer_trials c.args.model.now c.args.line a)) c.check_least.result) (sym c.in-Least.is) c.check_least.ensures
 
-pub returns-in-Unbounded : goal.returns-in-Unbounded
-returns-in-Unbounded c =
+pub returns-in-Unbounded-clause-says : goal.returns-in-Unbounded-clause-says
+returns-in-Unbounded-clause-says c =
     subst (λ (a : Answer). Says (first_stop (answer_trials c.args.model.now c.args.line a)) c.check_unbounded.result) (sym c.in-Unbounded.is) c.check_unbounded.ensures

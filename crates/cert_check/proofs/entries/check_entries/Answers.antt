@@ -37,7 +37,7 @@ returns-in_err-check_entry c =
     let p = err_from_is_err_and c.from_residual.result c.from_residual.ensures.1 in
     rw (p.1, p.2)
     (stop_of _ _ s c.loop-entry.invariant.rest
-    (entry_stops first c.args.entries.now i c.entry-item.result c.loop-entry-test.true c.entry-item.is s (c.in_err-check_entry.ensures.says first (entry_commands (take i c.args.entries.now)) c.loop-entry.invariant.at)))
+    (entry_stops first c.args.entries.now i c.entry-item.result c.loop-entry-test.true c.entry-item.is s (c.in_err-check_entry.ensures.replays.says first (entry_commands (take i c.args.entries.now)) c.loop-entry.invariant.at)))
 
 pub loop-entry-preserved : goal.loop-entry-preserved
 loop-entry-preserved c =
@@ -46,8 +46,9 @@ loop-entry-preserved c =
     let entries = c.args.entries.now in
     let front = entry_commands (take i entries) in
     let e = c.entry-item.result in
-    let replays = c.in_ok-check_entry.ensures in
+    let replays = c.in_ok-check_entry.ensures.replays in
     record {
       at = replays.goes_on first front c.loop-entry.invariant.at ∙ ap (session_at first) (commands_more first entries i e c.loop-entry-test.true c.entry-item.is);
+      kept = c.in_ok-check_entry.ensures.kept first front c.loop-entry.invariant.at;
       rest = entry_passes first entries i e c.loop-entry-test.true c.entry-item.is (replays.says first front c.loop-entry.invariant.at) ∙ c.loop-entry.invariant.rest;
     }

@@ -1,27 +1,47 @@
-use Rattle.std.proofs.Common.{sym, ◌∙◌, ap}
+use Rattle.std.proofs.Common.{Option, sym, ◌∙◌, ap, subst}
 use Rattle.std.proofs.lemmas.Result.{err_from_is_err_and}
 use Rattle.lp_model.specs.Program.{Program}
+use Rattle.report_text.specs.Session.{Takes}
+use Rattle.report_text.specs.declared.report.Answer.{Answer}
 use Rattle.cert_check.specs.Trials.{claim_trials}
+use Rattle.cert_check.specs.Sparse.{IsActiveFor}
 use Rattle.cert_check.specs.Stops.{first_stop}
 use Rattle.cert_check.proofs.Firsts.{stop_of}
-use Rattle.cert_check.proofs.Entered.{claim_stops, memory_stops, reply_says}
+use Rattle.cert_check.proofs.Entered.{claim_stops, memory_stops, model_stays, none_of, on_ok, reply_says}
 use Rattle.cert_check.proofs.entries.check_entry.Goals as goal
+use Rattle.cert_check.proofs.entries.check_entry.Goals.{then-is_some+in-Some+in-Some-kept-2, then-is_some+in-Some+in-None-1, then-is_some+in-None-1, else-is_some}
 
-pub returns-in_err-check_claim : goal.returns-in_err-check_claim
-returns-in_err-check_claim c =
+pub returns-in_err-check_claim-clause-replays : goal.returns-in_err-check_claim-clause-replays
+returns-in_err-check_claim-clause-replays c =
     let e = c.args.entry.now in
     let s = c.in_err-check_claim.field-0.0 in
     let p = err_from_is_err_and c.from_residual.result c.from_residual.ensures.1 in
     rw (p.1, p.2)
     (claim_stops c.args.session.now e s c.args.session.now
-    (stop_of _ _ s (ap (λ (m : Program). first_stop (claim_trials m e)) c.model.ensures) c.in_err-check_claim.ensures))
+    (stop_of _ _ s (ap (λ (m : Program). first_stop (claim_trials m e)) c.model.ensures) c.in_err-check_claim.ensures.says))
 
-pub returns-in_default : goal.returns-in_default
-returns-in_default c = memory_stops c.args.session.now c.args.entry.now c.take.new.self
+pub returns-in_default-clause-replays : goal.returns-in_default-clause-replays
+returns-in_default-clause-replays c = memory_stops c.args.session.now c.args.entry.now c.take.new.self
 
-pub returns : goal.returns
-returns c =
+pub returns-clause-replays : goal.returns-clause-replays
+returns-clause-replays c =
     let e = c.args.entry.now in
     reply_says c.args.session.now e c.in-Ok.right c.take.new.self c.check_reply.result
-    (sym (ap (λ (m : Program). first_stop (claim_trials m e)) c.model.ensures) ∙ c.in_ok-check_claim.ensures)
+    (sym (ap (λ (m : Program). first_stop (claim_trials m e)) c.model.ensures) ∙ c.in_ok-check_claim.ensures.says)
     c.in-Ok.ensures.taken c.check_reply.ensures
+
+pub returns-clause-kept : goal.returns-clause-kept
+returns-clause-kept c =
+    let new = c.take.new.self in
+    on_ok c.check_reply.result (λ first before is. elim c.if-is_some.branch [
+      | then-is_some+in-Some+in-Some-kept-2 w ↦ subst (IsActiveFor new.model) (sym w.kept-is) tt
+      | then-is_some+in-Some+in-None-1 w ↦ subst (IsActiveFor new.model) (sym w.kept-is) tt
+      | then-is_some+in-None-1 w ↦ subst (IsActiveFor new.model) (sym w.kept-is) tt
+      | else-is_some w ↦
+          let e = c.args.entry.now in
+          let old = c.args.session.now in
+          let nothing = none_of c.in-Ok.right (sym c.is_some.ensures ∙ w.if-is_some.false) in
+          let takes = subst (λ (o : Option Answer). Takes old e.command o new) nothing c.in-Ok.ensures.taken in
+          let same = c.model.ensures ∙ sym (model_stays old new e.command first before takes is) in
+          subst (IsActiveFor new.model) (sym w.kept-is) (subst (λ (m : Program). IsActiveFor m c.check_claim.new.kept) same c.in_ok-check_claim.ensures.kept)
+    ])
