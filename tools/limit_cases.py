@@ -4,7 +4,7 @@ Each is a name, the words of a run, the files by name, the status, and what is w
 """
 
 MOST_BYTES = 16_777_216
-MOST_ENTRIES = 8_000_000
+MOST_ENTRIES = 64_000_000
 EMPTY = "iisan report 2\nreport end\n"
 MODEL = "ROWS\n G r\nCOLUMNS\n x r 2\nRHS\n r 3\nENDATA\n"
 
@@ -60,15 +60,16 @@ def scripts():
         yield f"10001 times {command.decode().strip()}", command * 10_001 + b"# end\n", 10_001
 
 
-def large(count):
-    """A model of so many rows of two columns each, most tables of which are too large: each row and its bounds may give way."""
-    rows = "".join(f" r{i}: x{i} + y{i} >= 0\n" for i in range(1, count + 1))
-    columns, elastic = 2 * count, (3 * count + 1) * 5 * count
-    whole = count * columns if count * columns > MOST_ENTRIES else None
-    sizes = {"unbounded": (count + 1) * columns, "check": whole, "iis deletion": whole, "iis additive": whole, "iis sensitivity": whole}
-    sizes |= {"relax": elastic, "iis elastic": elastic, "iis alternative": (columns + 2) * 3 * count}
+def large(rows):
+    """A model of so many rows of one of 4,000 columns each, most tables of which are too large: each row and bound may give way."""
+    columns = 4_000
+    text = "".join(f" r{i + 1}: x{i % columns + 1} >= 0\n" for i in range(rows))
+    members, whole = rows + columns, rows * columns if rows * columns > MOST_ENTRIES else None
+    sizes = {"unbounded": (rows + 1) * columns, "check": whole, "iis deletion": whole, "iis additive": whole, "iis sensitivity": whole}
+    elastic = (members + 1) * (columns + members)
+    sizes |= {"relax": elastic, "iis elastic": elastic, "iis alternative": (columns + 2) * members}
     answers = "".join(f"command {it}\n" + (f"too large {size}\nend\n" if size else "feasible\npoint\nend\n") for it, size in sizes.items())
-    return f"Minimize\n obj: x1\nSubject To\n{rows}End\n", "\n".join(sizes), f"iisan report 2\n{answers}report end\n"
+    return f"Minimize\n obj: x1\nSubject To\n{text}End\n", "\n".join(sizes), f"iisan report 2\n{answers}report end\n"
 
 
 def cases():
@@ -81,7 +82,7 @@ def cases():
     for name, text, told in scripts():
         answered = (0 if "undo" not in str(told) else 1, f"iisan report 2\n{told}report end\n")
         yield name, words, {"m": MODEL, "s": text}, *((6, f"script refused line {told}\n") if isinstance(told, int) else answered)
-    for count in (2_000, 2_001):
+    for count in (16_000, 16_001):
         model, script, report = large(count)
         yield f"tables of {count} rows that are too large", ["analyse", "m.lp", "s"], {"m.lp": model, "s": script}, 1, report
     for name, files in (("model", {"m": "\n" * (MOST_BYTES + 1), "s": ""}), ("script", {"m": MODEL, "s": "\n" * (MOST_BYTES + 1)})):

@@ -34,7 +34,7 @@ CROSS = "Minimize\nSubject To\n a: x >= 1\nBounds\n 3 <= x <= 2\nEnd\n"
 ENDLESS = "Minimize\nSubject To\n a: 2 x - 2 y = 1\nGeneral\n x y\nEnd\n"
 MPS = "ROWS\n N o\n {} a\nCOLUMNS\n x a 1\nRHS\n r a 3\n{}\nENDATA\n"
 WIDE = "Minimize\nSubject To\n a: 1e30 x + y = 1\n b: x + 1e30 y = 1\nEnd\n"
-LARGE = "Minimize\nSubject To\n" + "".join(f" r{i}: x{i} + x{i + 1} >= 1\n" for i in range(1500)) + "End\n"
+LARGE = "Minimize\nSubject To\n" + "".join(f" r{i}: x{i} + x{i + 1} >= 1\n" for i in range(3500)) + "End\n"
 
 
 def dense(seed: int) -> str:

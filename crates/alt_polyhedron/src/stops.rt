@@ -22,6 +22,7 @@ pub(crate) fn stop_of(alloc: Global, set: &MemberSet, stop: RunStop) -> Stop
     match stop {
         RunStop::Wide(turn, operation) => Stop::Wide(site, turn, operation),
         RunStop::Pivots => Stop::Pivots(site),
+        RunStop::Memory => Stop::Memory,
     }
 }
 

@@ -11,7 +11,7 @@ use report_text::Answer;
 use std::alloc::{AllocError, Global};
 
 /// The most entries that the dictionary of a run may have.
-pub const MOST_ENTRIES: u64 = 8_000_000;
+pub const MOST_ENTRIES: u64 = 64_000_000;
 
 /// The size of the dictionary of the active members' plain system, with a row more or none, where it passes the most.
 pub(crate) fn too_large(

@@ -68,8 +68,8 @@ fn tell_settling(rt: &HostRuntime, words: &[String]) -> io::Result<()> {
     }
     let told = settling::run_network(rt.alloc(), network, number(words, 3, 1))?;
     println!(rt;
-        "rows {rows} columns {columns} pivots {} turns {} end {}",
-        told.pivots, told.turns, told.end
+        "rows {rows} columns {columns} pivots {} turns {} stored {} end {}",
+        told.pivots, told.turns, told.stored, told.end
     )
 }
 

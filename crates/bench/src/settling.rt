@@ -109,11 +109,12 @@ fn columns(alloc: Global, network: Network) -> Result<Vec<Limits>, AllocError> {
     Ok(columns)
 }
 
-/// What a run came to.
+/// What a run came to, and how many entries the dictionary keeps where it ends.
 #[derive(Clone, Copy)]
 pub(crate) struct Told {
     pub(crate) pivots: u64,
     pub(crate) turns: u64,
+    pub(crate) stored: u64,
     pub(crate) end: &'static str,
 }
 
@@ -136,6 +137,7 @@ fn stop_word(stop: RunStop) -> &'static str {
     match stop {
         RunStop::Wide(_, _) => "wide",
         RunStop::Pivots => "spent",
+        RunStop::Memory => "memory",
     }
 }
 
@@ -147,11 +149,13 @@ fn run(alloc: Global, system: &System) -> Result<Told, AllocError>
     let mut dictionary = Dictionary::<Frac>::start(alloc, system)?;
     let mut left = BUDGET;
     let mut turns = 0;
-    let end = word(settle(&mut dictionary, &mut left, &mut turns));
+    let end = settle(&mut dictionary, &mut left, &mut turns);
+    let stored = if end.is_ok() { dictionary.stored() } else { 0 };
     Ok(Told {
         pivots: BUDGET.wrapping_sub(left),
         turns,
-        end,
+        stored,
+        end: word(end),
     })
 }
 
@@ -160,6 +164,7 @@ fn told_without_a_run(end: &'static str) -> Told {
     Told {
         pivots: 0,
         turns: 0,
+        stored: 0,
         end,
     }
 }

@@ -1,33 +1,25 @@
 -- The fields of a dictionary at the start.
-use Rattle.std.proofs.Common.{◌≡◌, ◌+◌, ◌-◌, ◌*◌, ◌<◌, ◌≤◌, ◌^◌, refl, sym, ◌∙◌, ap, subst, ℕ, zero, suc, Bool, true, false, true≢false, cond, List, [], ◌∷◌, ◌++◌, length, take, map, replicate, is_some, arith, inl, inr, Option, nat_lt}
-use Rattle.std.specs.Prelude.{slice_index, slice_index_or, pos}
-use Rattle.std.proofs.lemmas.Bool.{cases_lt, cond-true, cond-false, lt-ltb, le-ltb}
-use Rattle.std.proofs.lemmas.List.{take_at, length-map}
-use Rattle.rational.specs.Rational.{ℚ, ◌+ℚ◌, one_ℚ, whole}
-use Rattle.rational.specs.Sum.{sum_below}
+use Rattle.std.proofs.Common.{◌≡◌, ◌+◌, ◌-◌, ◌<◌, ◌≤◌, ◌^◌, refl, sym, ◌∙◌, ap, subst, ℕ, suc, Bool, true, false, true≢false, cond, List, [], ◌∷◌, ◌++◌, length, length-append, take, map, replicate, is_some, arith, inl, inr, Option, Some, None}
+use Rattle.std.specs.Prelude.{All, IfSome, slice_index_or}
+use Rattle.std.proofs.lemmas.Bool.{cases_lt}
+use Rattle.std.proofs.lemmas.List.{take_at, length-map, length-replicate, get_or-append_right, get_or_append_left, get_or-replicate, get_or_past}
+use Rattle.std.proofs.lemmas.List.Elements.{All-nil, All-cons, All-append, All-map}
 use Rattle.rational.specs.Linear.{Term, factor_of}
-use Rattle.rational.proofs.Whole.{whole-add, same_from_whole}
+use Rattle.lp_model.specs.Program.{IsForm}
 use Rattle.lp_model.specs.declared.parts.Row.{Row}
 use Rattle.certs.specs.Rows.{row_of}
 use Rattle.certs.specs.System.{Limits, SystemRow, LinearSystem, no_limits, Place, is_basic}
 use Rattle.certs.specs.System.Place.{Basic}
-use Rattle.certs.specs.Tableau.{variables, all_limits, basics, nonbasics, start_place, start_basis, start_forms, start_tableau, IsTableauOf, IsWellFormedSystem}
+use Rattle.certs.specs.Tableau.{variables, all_limits, start_place, start_basis, start_forms, start_tableau, forms_of, IsTableauOf, IsWellFormedSystem}
 use Rattle.certs.proofs.Tableaus.{same_of, basic_below}
-use Rattle.certs.proofs.Starts.{n, m, o, length_start, length_limits, column_nonbasic, row_basic, start_sum, start_law}
-use Rattle.dictionary.specs.Cells.{at, cell}
-use Rattle.dictionary.specs.Layouts.{IsLayout, IsStartLayout}
+use Rattle.certs.proofs.Starts.{n, m, o, length_start, length_limits, column_nonbasic, row_basic, start_law}
+use Rattle.dictionary.specs.Rows.{IsSparse, AreSparse}
 use Rattle.dictionary.specs.Sound.{IsSound}
-use Rattle.dictionary.proofs.Exchanges.{ones, pos_same, both_kinds}
-use Rattle.dictionary.proofs.Parts.{rows_below}
 
 -- what is made of rows one after another
 pub twice : {X Y Z : Type 0} (f : X → Y) (h : Y → Z) (xs : List X) → map h (map f xs) ≡ map (λ x. h (f x)) xs
 twice f h [] = refl
 twice f h (x ∷ xs) = ap (λ z. h (f x) ∷ z) (twice f h xs)
-
-ones_below : (k : ℕ) → sum_below k (λ j. one_ℚ) ≡ whole (pos k)
-ones_below zero = refl
-ones_below (suc k) = ap (λ z. z +ℚ one_ℚ) (ones_below k) ∙ sym (whole-add (pos k) (pos 1)) ∙ ap (λ z. whole (pos z)) (let e : k + 1 ≡ suc k = omega arith in e)
 
 module _ (system : LinearSystem) where
   all_basic : (rows : List SystemRow) (b : Bool) → replicate (length rows + cond b 1 0) Basic ≡ map (λ (r : SystemRow). Basic) rows ++ cond b (Basic ∷ []) []
@@ -42,15 +34,6 @@ module _ (system : LinearSystem) where
       ∙ ap (λ k. map (λ l. start_place l) system.columns ++ replicate k Basic) (ap (λ z. z - n system) (length_limits system) ∙ (let q : n system + (m system + o system) - n system ≡ m system + o system = omega arith in q))
       ∙ ap (λ l. map (λ l. start_place l) system.columns ++ l) (all_basic system.rows (is_some system.objective))
 
-  pub nonbasics_many : length (nonbasics (start_basis system)) ≡ n system
-  nonbasics_many = pos_same _ _ (same_from_whole (pos (length (nonbasics (start_basis system)))) (pos (n system)) (sym (ones (nonbasics (start_basis system))) ∙ start_sum system (λ k. one_ℚ) ∙ ones_below (n system)))
-
-  pub basics_many : length (basics (start_basis system)) ≡ m system + o system
-  basics_many = by _ _ _ (both_kinds (length (start_basis system)) (is_basic (start_basis system))) nonbasics_many (length_start system)
-    where
-      by : (a b d : ℕ) → a + b ≡ d → b ≡ n system → d ≡ n system + (m system + o system) → a ≡ m system + o system
-      by a b d e f g = omega arith
-
   -- a variable is basic exactly where it is past the columns
   pub past_columns : (i : ℕ) → is_basic (start_basis system) i ≡ true → (n system ≤ i) × (i < n system + (m system + o system))
   past_columns i b = (
@@ -58,45 +41,69 @@ module _ (system : LinearSystem) where
     subst (λ z. i < z) (length_start system) (basic_below (start_basis system) i b),
   )
 
-  pub column_is : (k : ℕ) → k < length (start_basis system) → is_basic (start_basis system) k ≡ false → k < n system
-  column_is k l b = elim (cases_lt k (n system)) [ inl h ↦ h | inr h ↦ absurd (true≢false (sym (row_basic system k h (subst (λ z. k < z) (length_start system) l)) ∙ b)) ]
+  -- ---- the rows
+  abbrev pub rows : List (List Term)
+  rows = replicate (n system) [] ++ start_forms system
 
-  module _ (slots basic nonbasic order : List ℕ) (width : ℕ) (start : IsStartLayout (start_basis system) (n system) slots basic nonbasic order width) where
-    pub row_slot : (i : ℕ) → is_basic (start_basis system) i ≡ true → slice_index slots i ≡ i - n system
-    row_slot i b = start.slots_are i (basic_below (start_basis system) i b) ∙ cond-false (nat_lt i (n system)) i (i - n system) (le-ltb i (n system) (past_columns i b).0)
+  objective_many : (o : Option (List Term)) → length (forms_of o) ≡ cond (is_some o) 1 0
+  objective_many None = refl
+  objective_many (Some terms) = refl
 
-    pub column_slot : (k : ℕ) → k < length (start_basis system) → is_basic (start_basis system) k ≡ false → slice_index slots k ≡ k
-    column_slot k l b = start.slots_are k l ∙ cond-true (nat_lt k (n system)) k (k - n system) (lt-ltb k (n system) (column_is k l b))
+  forms_many : length (start_forms system) ≡ m system + o system
+  forms_many = length-append (map (λ (r : SystemRow). r.terms) system.rows) (forms_of system.objective) ∙ ap (λ z. z + length (forms_of system.objective)) (length-map system.rows (λ (r : SystemRow). r.terms)) ∙ ap (λ z. m system + z) (objective_many system.objective)
 
-    pub start_is_layout : (size : ℕ) → size ≡ (m system + o system) * n system → IsLayout (start_basis system) slots basic nonbasic order width size
-    start_is_layout size e = record {
-      long = start.long;
-      basics_are = start.basics_are;
-      nonbasics_are = start.nonbasics_are;
-      order_is = start.order_is;
-      rows_fit = λ i b.
+  rows_many : length rows ≡ n system + (m system + o system)
+  rows_many = length-append (replicate (n system) []) (start_forms system) ∙ ap (λ z. z + length (start_forms system)) (length-replicate (n system) []) ∙ ap (λ z. n system + z) forms_many
+
+  row_at : (i : ℕ) → n system ≤ i → slice_index_or rows i [] ≡ slice_index_or (start_forms system) (i - n system) []
+  row_at i l = get_or-append_right (replicate (n system) []) (start_forms system) (n system) i [] (length-replicate (n system) []) l
+
+  no_row : (k : ℕ) → k < n system → slice_index_or rows k [] ≡ []
+  no_row k l = get_or_append_left (replicate (n system) []) (start_forms system) [] k (subst (λ z. k < z) (sym (length-replicate (n system) [])) l) ∙ get_or-replicate (n system) k [] [] l
+
+  module _ (formed : IsWellFormedSystem system) where
+    objective_forms : (o : Option (List Term)) → IfSome o (IsForm (n system)) → All (IsForm (n system)) (forms_of o)
+    objective_forms None h = All-nil (IsForm (n system))
+    objective_forms (Some terms) h = All-cons (IsForm (n system)) terms [] h (All-nil (IsForm (n system)))
+
+    all_forms : All (IsForm (n system)) (start_forms system)
+    all_forms = All-append (IsForm (n system)) (map (λ (r : SystemRow). r.terms) system.rows) (forms_of system.objective) (All-map (IsForm (n system)) (λ (r : SystemRow). r.terms) system.rows formed.rows) (objective_forms system.objective formed.objective)
+
+    form_sparse : (row : List Term) → IsForm (n system) row → IsSparse (start_basis system) row
+    form_sparse row form = record {
+      is_row = record { ascending = form.ascending; nonzero = form.nonzero };
+      nonbasic = λ k d l. (
+        (let a = form.known k d l in let b = length_start system in subst (λ z. (slice_index_or row k d).column < z) (sym b) (omega (arith, a))),
+        column_nonbasic system (slice_index_or row k d).column (form.known k d l),
+      );
+    }
+
+    pub start_sparse : AreSparse (start_basis system) rows
+    start_sparse = record {
+      long = rows_many ∙ sym (length_start system);
+      sparse = λ i b.
           (let p = past_columns i b in
-          subst (λ w. slice_index slots i * w + w ≤ size) (sym start.width_is)
-          (subst (λ s. s * n system + n system ≤ size) (sym (row_slot i b)) (subst (λ z. (i - n system) * n system + n system ≤ z) (sym e) (rows_below (i - n system) (m system + o system) (n system) (less i p.0 p.1)))));
-      rows_apart = λ i j a b q. back i j (past_columns i a).0 (past_columns j b).0 (sym (row_slot i a) ∙ q ∙ row_slot j b);
-      columns_fit = λ k l b. subst (λ w. slice_index slots k < w) (sym start.width_is) (subst (λ s. s < n system) (sym (column_slot k l b)) (column_is k l b));
-      columns_apart = λ k j l h a b q. sym (column_slot k l a) ∙ q ∙ column_slot j h b;
+          subst (IsSparse (start_basis system)) (sym (row_at i p.0)) (form_sparse _ (all_forms (i - n system) [] (subst (λ z. i - n system < z) (sym forms_many) (less i p.0 p.1)))));
+      empty = λ k b.
+          elim (cases_lt k (n system)) [
+            | inl l ↦ no_row k l
+            | inr l ↦
+                elim (cases_lt k (n system + (m system + o system))) [
+                  | inl h ↦ absurd (true≢false (sym (row_basic system k l h) ∙ b))
+                  | inr h ↦ get_or_past rows k [] (subst (λ z. z ≤ k) (sym rows_many) h)
+                ]
+          ];
     }
       where
         less : (i : ℕ) → n system ≤ i → i < n system + (m system + o system) → i - n system < m system + o system
         less i a b = omega arith
 
-        back : (i j : ℕ) → n system ≤ i → n system ≤ j → i - n system ≡ j - n system → i ≡ j
-        back i j a b q = omega arith
-
-    pub start_is_sound : (bounds size room : ℕ) (objective : Bool) → bounds ≡ length (all_limits system) → variables system < 2 ^ 31 → size ≡ (m system + o system) * n system → room ≡ n system → objective ≡ is_some system.objective
-        → IsSound bounds (start_basis system) slots basic nonbasic order width size room objective
-    start_is_sound bounds size room objective eb few es er eo = record {
-      layout = start_is_layout size es;
+    pub start_is_sound : (bounds : ℕ) (objective : Bool) → bounds ≡ length (all_limits system) → variables system < 2 ^ 31 → objective ≡ is_some system.objective → IsSound bounds (start_basis system) rows objective true
+    start_is_sound bounds objective eb few eo = record {
       bounded = eb ∙ length_limits system ∙ sym (length_start system);
       few = subst (λ z. z < 2 ^ 31) (plain (length_start system)) few;
-      room_is = er ∙ sym start.width_is;
       objective_basic = λ t. last (ap (λ b. cond b 1 0) (sym eo ∙ t));
+      sparse = λ _. start_sparse;
     }
       where
         plain : length (start_basis system) ≡ n system + (m system + o system) → variables system ≡ length (start_basis system)
@@ -106,21 +113,11 @@ module _ (system : LinearSystem) where
         last one = subst (λ z. is_basic (start_basis system) (z - 1) ≡ true) (sym (length_start system)) (row_basic system (n system + (m system + o system) - 1) (omega arith) (omega arith))
 
     -- the tableau
-    pub start_is_of : (limits : List Limits) (objective : Bool) (basis : List Place) (entries : List ℚ) → IsWellFormedSystem system → limits ≡ all_limits system → objective ≡ is_some system.objective → basis ≡ start_basis system
-        → ((k c : ℕ) → k < m system + o system → c < n system → at entries (k * n system + c) ≡ factor_of (slice_index_or (start_forms system) k []) c)
-        → IsTableauOf system (record { limits = limits; objective = objective; basis = basis; factor = λ i k. cell slots width entries i (slice_index slots k) })
-    start_is_of limits objective basis entries formed el eo eb filled =
-        same_of system (start_tableau system) (record { limits = limits; objective = objective; basis = basis; factor = λ i k. cell slots width entries i (slice_index slots k) }) el eo eb
-        (λ i k b l c.
-        (let p = past_columns i b in
-        ap (λ w. at entries (slice_index slots i * w + slice_index slots k)) start.width_is
-        ∙ ap (λ s. at entries (s * n system + slice_index slots k)) (row_slot i b)
-        ∙ ap (λ s. at entries ((i - n system) * n system + s)) (column_slot k l c)
-        ∙ filled (i - n system) k (less i p.0 p.1) (column_is k l c)))
-        (start_law system formed)
-      where
-        less : (i : ℕ) → n system ≤ i → i < n system + (m system + o system) → i - n system < m system + o system
-        less i a b = omega arith
+    pub start_is_of : (limits : List Limits) (objective : Bool) (basis : List Place) → limits ≡ all_limits system → objective ≡ is_some system.objective → basis ≡ start_basis system
+        → IsTableauOf system (record { limits = limits; objective = objective; basis = basis; factor = λ i k. factor_of (slice_index_or rows i []) k })
+    start_is_of limits objective basis el eo eb =
+        same_of system (start_tableau system) (record { limits = limits; objective = objective; basis = basis; factor = λ i k. factor_of (slice_index_or rows i []) k }) el eo eb
+        (λ i k b l c. ap (λ r. factor_of r k) (row_at i (past_columns i b).0)) (start_law system formed)
 
   -- what the fields are made of
   pub limits_made : (columns : List Limits) (rows : List Row) (objective : Option (List Term)) (limits : List Limits) (cs : List Limits) (rs : List Row) (b : Bool)
@@ -145,3 +142,12 @@ module _ (system : LinearSystem) where
 
   pub bounds_many : {B : Type 0} (view : B → Limits) (bounds : List B) → map view bounds ≡ all_limits system → length bounds ≡ n system + (m system + o system)
   bounds_many view bounds el = sym (length-map bounds view) ∙ ap length el ∙ length_limits system
+
+  pub rows_made : (rows' : List (List Term)) (columns : ℕ) (given rs : List Row) (objective : Option (List Term)) (cs : List Limits) → system ≡ record { columns = cs; rows = map row_of rs; objective = objective } → given ≡ rs → columns ≡ length system.columns
+      → rows' ≡ replicate columns [] ++ (map (λ (r : Row). r.terms) given ++ forms_of objective) → rows' ≡ rows
+  rows_made rows' columns given rs objective cs e eg ec h =
+      h
+      ∙ ap (λ k. replicate k [] ++ (map (λ (r : Row). r.terms) given ++ forms_of objective)) ec
+      ∙ ap (λ z. replicate (n system) [] ++ (map (λ (r : Row). r.terms) z ++ forms_of objective)) eg
+      ∙ ap (λ z. replicate (n system) [] ++ (z ++ forms_of objective)) (sym (twice row_of (λ (r : SystemRow). r.terms) rs))
+      ∙ ap (λ s. replicate (n system) [] ++ start_forms s) (sym e)

@@ -1,13 +1,14 @@
-pub mod Counts
-pub mod Steps
-pub mod Changes
-pub mod Parts
-pub mod Grids
-pub mod Below
-pub mod Standing
-pub mod Exchanges
-pub mod Pivots
-pub mod Sounds
-pub mod Fills
-pub mod Begins
+mod Counts
+mod Lists
+mod Merges
+mod Steps
+mod Terms
+mod Listed
+mod Changes
+mod Pivots
+mod Tables
+mod Values
+mod Standing
+mod Sounds
+mod Begins
 mod Formed

@@ -1,32 +1,24 @@
 -- What holds of a dictionary's fields stays so.
-use Rattle.std.proofs.Common.{◌≡◌, ◌-◌, ◌<◌, ◌^◌, refl, sym, ◌∙◌, ap, subst, ℕ, zero, suc, Bool, true, false, cond, not, List, [], ◌∷◌, ◌++◌, length, get_or, set, map, arith, inl, inr}
-use Rattle.std.specs.Prelude.{slice_index}
+use Rattle.std.proofs.Common.{◌≡◌, ◌-◌, ◌<◌, ◌^◌, refl, sym, ◌∙◌, ap, subst, ℕ, Bool, true, false, cond, List, [], length, get_or, set, arith, inl, inr}
 use Rattle.std.proofs.lemmas.Bool.{cases_eq}
 use Rattle.std.proofs.lemmas.List.{get_or-set_same, get_or-set_other}
+use Rattle.rational.specs.Linear.{Term}
 use Rattle.lp_model.specs.declared.members.Side.{Side}
 use Rattle.certs.specs.System.{Place, is_basic}
 use Rattle.certs.specs.System.Place.{Basic, AtLower, AtUpper, AtZero}
-use Rattle.certs.specs.Tableau.{below, basics, nonbasics}
 use Rattle.certs.specs.Turns.{exchanged, other_place}
 use Rattle.certs.proofs.Tableaus.{place_basic, exchanged-length, exchanged-other, exchanged-entering}
+use Rattle.dictionary.specs.Rows.{AreSparse}
 use Rattle.dictionary.specs.Sound.{IsSound}
-use Rattle.dictionary.proofs.Exchanges.{layout_after}
 
--- lists of other numbers, as many
-pub sound_resized : (bounds : ℕ) (basis : List Place) (slots basic nonbasic order : List ℕ) (width n n' r r' : ℕ) (objective : Bool) → n' ≡ n → r' ≡ r → IsSound bounds basis slots basic nonbasic order width n r objective → IsSound bounds basis slots basic nonbasic order width n' r' objective
-sound_resized bounds basis slots basic nonbasic order width n n' r r' objective e f sound =
-    subst (λ z. IsSound bounds basis slots basic nonbasic order width z r' objective) (sym e) (subst (λ z. IsSound bounds basis slots basic nonbasic order width n z objective) (sym f) sound)
-
-pub sound_after : (bounds : ℕ) (basis next : List Place) (slots moved basic basic' nonbasic nonbasic' order order' : List ℕ) (width width' size size' room room' : ℕ) (objective : Bool) (i j : ℕ) (side : Side)
-    → IsSound bounds basis slots basic nonbasic order width size room objective → is_basic basis i ≡ true → is_basic basis j ≡ false → j < length basis → i < cond objective (length basis - 1) (length basis)
-    → next ≡ exchanged basis i side j → moved ≡ set (set slots i (slice_index slots j)) j (slice_index slots i) → basic' ≡ basics next → nonbasic' ≡ nonbasics next → order' ≡ map (λ k. slice_index moved k) nonbasic'
-    → width' ≡ width → size' ≡ size → room' ≡ room → IsSound bounds next moved basic' nonbasic' order' width' size' room' objective
-sound_after bounds basis next slots moved basic basic' nonbasic nonbasic' order order' width width' size size' room room' objective i j side sound bi bj lj li en em eb ec eo ew es er =
-    subst (λ b. IsSound bounds b moved basic' nonbasic' order' width' size' room' objective) (sym en)
-    (subst (λ m. IsSound bounds (exchanged basis i side j) m basic' nonbasic' order' width' size' room' objective) (sym em)
-    (subst (λ w. IsSound bounds (exchanged basis i side j) (set (set slots i (slice_index slots j)) j (slice_index slots i)) basic' nonbasic' order' w size' room' objective) (sym ew)
-    (sound_resized bounds (exchanged basis i side j) (set (set slots i (slice_index slots j)) j (slice_index slots i)) basic' nonbasic' order' width size size' room room' objective es er exact)))
+-- after a pivot
+pub sound_after : (bounds : ℕ) (basis next : List Place) (rows rows' : List (List Term)) (objective usable usable' : Bool) (i j : ℕ) (side : Side) → IsSound bounds basis rows objective usable → j < length basis → i < cond objective (length basis - 1) (length basis)
+    → next ≡ exchanged basis i side j → AreSparse (exchanged basis i side j) rows' → IsSound bounds next rows' objective usable'
+sound_after bounds basis next rows rows' objective usable usable' i j side sound lj li e sparse = subst (λ b. IsSound bounds b rows' objective usable') (sym e) exact
   where
+    clash : (a b : ℕ) → a < b → b ≡ a → ⊥
+    clash a b h e = omega arith
+
     last : objective ≡ true → is_basic (exchanged basis i side j) (length (exchanged basis i side j) - 1) ≡ true
     last o =
         subst (λ n. is_basic (exchanged basis i side j) (n - 1) ≡ true) (sym (exchanged-length basis i j side))
@@ -35,41 +27,34 @@ sound_after bounds basis next slots moved basic basic' nonbasic nonbasic' order 
           | inl e ↦ subst (λ v. is_basic (exchanged basis i side j) v ≡ true) (sym e) (exchanged-entering basis i j side lj)
           | inr e ↦ (exchanged-other basis i j side (length basis - 1) (λ d. absurd (clash i (length basis - 1) m d)) e ∙ sound.objective_basic o)
         ])
-      where
-        clash : (a b : ℕ) → a < b → b ≡ a → ⊥
-        clash a b h e = omega arith
 
-    exact : IsSound bounds (exchanged basis i side j) (set (set slots i (slice_index slots j)) j (slice_index slots i)) basic' nonbasic' order' width size room objective
+    exact : IsSound bounds (exchanged basis i side j) rows' objective usable'
     exact = record {
-      layout = layout_after basis slots basic nonbasic order width size sound.layout i j side bi bj lj basic' nonbasic' order' (eb ∙ ap basics en) (ec ∙ ap nonbasics en) (eo ∙ ap (λ m. map (λ k. slice_index m k) nonbasic') em);
       bounded = sound.bounded ∙ sym (exchanged-length basis i j side);
       few = subst (λ n. n < 2 ^ 31) (sym (exchanged-length basis i j side)) sound.few;
-      room_is = sound.room_is;
       objective_basic = last;
+      sparse = λ _. sparse;
     }
 
--- a basis in which the same variables stand
-same_below : (n : ℕ) (f g : ℕ → Bool) → ((v : ℕ) → f v ≡ g v) → below n f ≡ below n g
-same_below zero f g h = refl
-same_below (suc n) f g h = ap (λ b. below n f ++ cond b (n ∷ []) []) (h n) ∙ ap (λ l. l ++ cond (g n) (n ∷ []) []) (same_below n f g h)
+-- rows that are of no more use
+pub sound_lost : (bounds : ℕ) (basis : List Place) (rows rows' : List (List Term)) (objective usable : Bool) → IsSound bounds basis rows objective usable → IsSound bounds basis rows' objective false
+sound_lost bounds basis rows rows' objective usable sound = record { bounded = sound.bounded; few = sound.few; objective_basic = sound.objective_basic; sparse = λ e. cc }
 
-pub sound_same : (bounds : ℕ) (basis next : List Place) (slots basic nonbasic order : List ℕ) (width size room : ℕ) (objective : Bool) → length next ≡ length basis → ((v : ℕ) → is_basic next v ≡ is_basic basis v)
-    → IsSound bounds basis slots basic nonbasic order width size room objective → IsSound bounds next slots basic nonbasic order width size room objective
-sound_same bounds basis next slots basic nonbasic order width size room objective e h sound = record {
-  layout = record {
-    long = sound.layout.long ∙ sym e;
-    basics_are = sound.layout.basics_are ∙ same_below (length basis) (is_basic basis) (is_basic next) (λ v. sym (h v)) ∙ ap (λ n. below n (is_basic next)) (sym e);
-    nonbasics_are = sound.layout.nonbasics_are ∙ same_below (length basis) (λ v. not (is_basic basis v)) (λ v. not (is_basic next v)) (λ v. ap not (sym (h v))) ∙ ap (λ n. below n (λ v. not (is_basic next v))) (sym e);
-    order_is = sound.layout.order_is;
-    rows_fit = λ i b. sound.layout.rows_fit i (sym (h i) ∙ b);
-    rows_apart = λ i j b d. sound.layout.rows_apart i j (sym (h i) ∙ b) (sym (h j) ∙ d);
-    columns_fit = λ k l b. sound.layout.columns_fit k (subst (λ n. k < n) e l) (sym (h k) ∙ b);
-    columns_apart = λ k j l m b d. sound.layout.columns_apart k j (subst (λ n. k < n) e l) (subst (λ n. j < n) e m) (sym (h k) ∙ b) (sym (h j) ∙ d);
-  };
+-- a basis in which the same variables stand
+pub sound_same : (bounds : ℕ) (basis next : List Place) (rows : List (List Term)) (objective usable : Bool) → length next ≡ length basis → ((v : ℕ) → is_basic next v ≡ is_basic basis v) → IsSound bounds basis rows objective usable → IsSound bounds next rows objective usable
+sound_same bounds basis next rows objective usable e h sound = record {
   bounded = sound.bounded ∙ sym e;
   few = subst (λ n. n < 2 ^ 31) (sym e) sound.few;
-  room_is = sound.room_is;
   objective_basic = λ o. h (length next - 1) ∙ subst (λ n. is_basic basis (n - 1) ≡ true) (sym e) (sound.objective_basic o);
+  sparse = λ u.
+      (let s = sound.sparse u in
+      record {
+        long = s.long ∙ sym e;
+        sparse = λ i b.
+            (let r = s.sparse i (sym (h i) ∙ b) in
+            record { is_row = r.is_row; nonbasic = λ k d l. (let o = r.nonbasic k d l in (subst (λ n. (get_or (get_or rows i []) k d).column < n) (sym e) o.0, h (get_or (get_or rows i []) k d).column ∙ o.1)) });
+        empty = λ k b. s.empty k (sym (h k) ∙ b);
+      });
 }
 
 other_code : (p : Place) → place_basic (other_place p) ≡ place_basic p

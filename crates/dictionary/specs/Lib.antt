@@ -1,4 +1,4 @@
-pub mod Cells
+pub mod Rows
 pub mod Layouts
 pub mod Value
 pub mod Sound

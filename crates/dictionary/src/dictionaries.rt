@@ -1,5 +1,5 @@
 //! The dictionary.
-ghost use Rattle.std.specs.Prelude.{◌≡◌, ◌+◌, ◌<◌, MatchResult, IfOk, Some, None, IsSome, true, false, cond, ◌-◌, length};
+ghost use Rattle.std.specs.Prelude.{◌≡◌, ◌+◌, ◌<◌, MatchResult, IfOk, Some, None, IsSome, true, false, cond, ◌-◌, length, [], slice_index_or};
 ghost use Rattle.std.specs.Option.{option_map};
 ghost use Rattle.frac128.specs.Calculation.{first_wide};
 ghost use Rattle.certs.specs.System.{LinearSystem, is_basic};
@@ -7,14 +7,15 @@ ghost use Rattle.certs.specs.Tableau.{IsTableauOf, IsWellFormedSystem, basic_val
 ghost use Rattle.certs.specs.Turns.{CanPivot, IsPivoted, flipped, operations_of, pivot_operations, value_operations};
 ghost use Rattle.dictionary.specs.Layouts.{side_of};
 ghost use Rattle.dictionary.specs.Starts.{FitSystem};
-ghost use Rattle.dictionary.specs.Stops.{wide_of};
-ghost use Rattle.dictionary.specs.Value.{tableau_of};
+ghost use Rattle.dictionary.specs.Stops.{IsPivotStop};
+ghost use Rattle.dictionary.specs.Rows.{terms_of, IsSparse};
+ghost use Rattle.dictionary.specs.Value.{nonzero_pairs, tableau_of};
 
-use crate::layouts::{Layout, exchange, is_standing, start_layout};
-use crate::numbers::{is_zero, product, sum};
-use crate::places::{Bounds, Place, other_limit, place_number};
-use crate::starts::{all_bounds, start_entries, start_places, zeros};
-use crate::table::change_table;
+use crate::entries::{Entry, factor_in};
+use crate::numbers::{product, sum};
+use crate::places::{Bounds, Place, is_standing, limit_place, other_limit, place_number};
+use crate::starts::{all_bounds, start_places, start_rows};
+use crate::table::{exchange_rows, make_room};
 use certs::System;
 use frac128::{Exact, Wide};
 use std::alloc::{AllocError, Global};
@@ -30,9 +31,9 @@ pub struct Dictionary<N: Exact> {
     objective: bool,
     bounds: Vec<Bounds<N>>,
     places: Vec<Place>,
-    layout: Layout,
-    entries: Vec<N>,
-    quotients: Vec<N>,
+    rows: Vec<Vec<Entry<N>>>,
+    quotients: Vec<Entry<N>>,
+    spare: Vec<Entry<N>>,
     usable: bool,
 }
 
@@ -44,6 +45,7 @@ impl<N: Exact> Model for Dictionary<N> {
     ghost Value = { DictionaryValue };
 
     ghost use Rattle.dictionary.specs.Layouts.{basis_of};
+    ghost use Rattle.dictionary.specs.Rows.{rows_of};
     ghost use Rattle.dictionary.specs.Sound.{IsSound};
 
     ghost view = { λ d. record {
@@ -51,13 +53,11 @@ impl<N: Exact> Model for Dictionary<N> {
       objective = d.objective;
       limits = map (λ b. record { lower = option_map N.value b.lower; upper = option_map N.value b.upper }) d.bounds.items;
       basis = basis_of d.places.items;
-      slots = d.layout.slots.items;
-      width = d.layout.width;
-      entries = map N.value d.entries.items;
+      rows = rows_of N.value d.rows.items;
       usable = d.usable;
     } };
 
-    ghost invariant = { λ d. IsSound (length d.bounds.items) (basis_of d.places.items) d.layout.slots.items d.layout.basics.items d.layout.nonbasics.items d.layout.order.items d.layout.width (length d.entries.items) (length d.quotients.items) d.objective };
+    ghost invariant = { λ d. IsSound (length d.bounds.items) (basis_of d.places.items) (rows_of N.value d.rows.items) d.objective d.usable };
 }
 
 impl<N: Exact> Dictionary<N> {
@@ -76,17 +76,15 @@ impl<N: Exact> Dictionary<N> {
             system.objective.is_some(),
         )?;
         let places = start_places(alloc, &bounds, columns)?;
-        let layout = start_layout(alloc, &places, columns)?;
-        let entries = start_entries(alloc, columns, &system.rows, &system.objective)?;
-        let quotients = zeros(alloc, columns)?;
+        let rows = start_rows(alloc, columns, &system.rows, &system.objective)?;
         Ok(Dictionary {
             columns: columns as u32,
             objective: system.objective.is_some(),
             bounds,
             places,
-            layout,
-            entries,
-            quotients,
+            rows,
+            quotients: Vec::new(alloc),
+            spare: Vec::new(alloc),
             usable: true,
         })
     }
@@ -120,7 +118,7 @@ impl<N: Exact> Dictionary<N> {
         requires known { variable < length self.now.basis }
         ensures { result ≡ is_basic self.now.basis variable }
     {
-        is_standing(self.places[variable as usize], true)
+        is_standing(self.places[variable as usize])
     }
 
     /// The lower limit of a variable, where it has one.
@@ -159,9 +157,7 @@ impl<N: Exact> Dictionary<N> {
         requires nonbasic { is_basic self.now.basis nonbasic ≡ false }
         ensures { N.value result ≡ (tableau_of self.now).factor basic nonbasic }
     {
-        let row = self.layout.slots[basic as usize] as usize;
-        let column = self.layout.slots[nonbasic as usize] as usize;
-        self.entries[row * self.layout.width + column]
+        factor_in(self.row(basic), nonbasic)
     }
 
     /// Puts a nonbasic variable with both limits at the other one; all else stays.
@@ -203,22 +199,33 @@ impl<N: Exact> Dictionary<N> {
             (λ w. first_wide N.most (value_operations (tableau_of self.now) variable) ≡ Some w) }
     {
         let mut total = N::zero();
-        for nonbasic in self.nonbasics() {
-            let factor = self.entry(variable, *nonbasic);
-            if is_zero(factor) {
-                continue;
-            }
-            let part = product(factor, self.place(*nonbasic))?;
+        for entry in self.row(variable) {
+            let part = product(entry.factor, self.place(entry.variable))?;
             total = sum(total, part)?;
         }
         Ok(total)
     }
 
-    // The nonbasic variables, in order.
-    fn nonbasics(&self) -> &[u32]
-        ensures { result.now ≡ nonbasics self.now.basis }
+    // The entries of a basic variable.
+    fn row(&self, basic: u32) -> &[Entry<N>]
+        requires usable { self.now.usable ≡ true }
+        requires basic { is_basic self.now.basis basic ≡ true }
+        ensures row { terms_of N.value result.now ≡ slice_index_or self.now.rows basic [] }
+        ensures sparse { IsSparse self.now.basis (terms_of N.value result.now) }
     {
-        self.layout.nonbasics.as_slice()
+        self.rows[basic as usize].as_slice()
+    }
+
+    /// How many entries are kept: as many as there are pairs of a basic and a nonbasic variable whose factor is not 0.
+    pub fn stored(&self) -> u64
+        requires usable { self.now.usable ≡ true }
+        ensures { result ≡ nonzero_pairs (tableau_of self.now) }
+    {
+        let mut count = 0;
+        for row in &self.rows {
+            count += row.len() as u64;
+        }
+        count
     }
 }
 
@@ -227,47 +234,43 @@ impl<N: Exact> Dictionary<N> {
 pub enum PivotStop {
     /// This operation is too wide, and it is the first of the pivot's that is.
     Wide(Wide),
-}
-
-impl PivotStop {
-    /// The operation that is too wide.
-    pub fn wide(self) -> Wide
-        ensures { result ≡ wide_of self }
-    {
-        match self {
-            PivotStop::Wide(wide) => wide,
-        }
-    }
+    /// Memory was refused.
+    Memory,
 }
 
 impl<N: Exact> Dictionary<N> {
     /// Makes a pivot: a basic variable leaves to its upper or its lower limit, and a nonbasic one enters.
     ///
     /// `Wide` comes exactly where an operation of the pivot is too wide, with the first; the dictionary must then not be
-    /// used. No memory is taken.
+    /// used. `Memory` comes where there is no room for the rows that change; the dictionary is then as it was.
     pub fn pivot(&mut self, leaving: u32, upper: bool, entering: u32) -> Result<(), PivotStop>
         requires usable { self.old.usable ≡ true }
         requires can { CanPivot (tableau_of self.old) leaving (side_of upper) entering }
         ensures done { MatchResult result
             (λ done. (first_wide N.most (pivot_operations (tableau_of self.old) leaving entering) ≡ None)
             × (IsPivoted (tableau_of self.old) (tableau_of self.new) leaving (side_of upper) entering × (self.new.usable ≡ true)))
-            (λ stop. (first_wide N.most (pivot_operations (tableau_of self.old) leaving entering) ≡ Some (wide_of stop)) × (self.new.usable ≡ false)) }
+            (IsPivotStop N.most self.old self.new leaving entering) }
         ensures columns { self.new.columns ≡ self.old.columns }
         ensures system { (system : LinearSystem) → IsTableauOf system (tableau_of self.old) → IfOk result (λ done. IsTableauOf system (tableau_of self.new)) }
     {
+        let count = self.rows[leaving as usize].len();
+        let room = make_room(&mut self.rows, &mut self.spare, entering, count);
+        if room.is_err() {
+            return Err(PivotStop::Memory);
+        }
         self.usable = false;
-        let column = self.layout.slots[entering as usize];
-        let changed = change_table(
-            &mut self.entries,
+        let changed = exchange_rows(
+            &mut self.rows,
             &mut self.quotients,
-            &self.layout,
+            &mut self.spare,
             leaving,
-            column,
+            entering,
         );
         if let Err(wide) = changed {
             return Err(PivotStop::Wide(wide));
         }
-        exchange(&mut self.places, &mut self.layout, leaving, upper, entering);
+        self.places[leaving as usize] = limit_place(upper);
+        self.places[entering as usize] = Place::Basic;
         self.usable = true;
         Ok(())
     }

@@ -2,8 +2,8 @@
 #![tactic(auto)]
 
 mod dictionaries;
+mod entries;
 mod forming;
-mod layouts;
 mod numbers;
 mod places;
 mod rows;

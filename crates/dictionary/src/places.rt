@@ -3,8 +3,8 @@ ghost use Rattle.std.specs.Prelude.{◌≡◌};
 ghost use Rattle.std.specs.Option.{option_map};
 ghost use Rattle.certs.specs.Combination.{number_or_zero as limit_or_zero};
 ghost use Rattle.certs.specs.Tableau.{value_at_place};
-ghost use Rattle.certs.specs.Turns.{other_place};
-ghost use Rattle.dictionary.specs.Layouts.{place_of_code};
+ghost use Rattle.certs.specs.Turns.{at_limit, other_place};
+ghost use Rattle.dictionary.specs.Layouts.{place_of_code, side_of, stands_code};
 
 use frac128::Exact;
 
@@ -54,5 +54,26 @@ pub(crate) fn other_limit(place: Place) -> Place
         Place::AtLower => Place::AtUpper,
         Place::AtUpper => Place::AtLower,
         _ => place,
+    }
+}
+
+/// The place at a limit.
+pub(crate) fn limit_place(upper: bool) -> Place
+    ensures { place_of_code result ≡ at_limit (side_of upper) }
+{
+    if upper {
+        Place::AtUpper
+    } else {
+        Place::AtLower
+    }
+}
+
+/// Whether a place is in the basis.
+pub(crate) fn is_standing(place: Place) -> bool
+    ensures { result ≡ stands_code place }
+{
+    match place {
+        Place::Basic => true,
+        _ => false,
     }
 }

@@ -1,113 +1,159 @@
-//! The changes that a pivot makes to single rows of a table.
-ghost use Rattle.std.specs.Prelude.{◌≡◌, ◌≢◌, ℕ, ◌<◌, MatchResult, Some, None, All, map, length};
-ghost use Rattle.rational.specs.Rational.{◌-ℚ◌, ◌*ℚ◌, ◌/ℚ◌, neg_ℚ, zero_ℚ};
+//! The changes that a pivot makes to single rows.
+ghost use Rattle.std.specs.Prelude.{◌≡◌, ◌≢◌, ℕ, ◌+◌, ◌<◌, ◌≤◌, ◌++◌, MatchResult, OnOk, Some, None, [], map, flat_map, length, vec_capacity};
+ghost use Rattle.rational.specs.Rational.{◌-ℚ◌, ◌*ℚ◌, ◌/ℚ◌, neg_ℚ, zero_ℚ, one_ℚ};
+ghost use Rattle.rational.specs.Linear.{factor_of};
 ghost use Rattle.frac128.specs.Calculation.{first_wide};
-ghost use Rattle.certs.specs.Turns.{others, quotient_operations, reduce_operations, row_operations};
-ghost use Rattle.dictionary.specs.Cells.{at, IsApart, IsChanged, IsReplaced};
+ghost use Rattle.certs.specs.Turns.{counted};
+ghost use Rattle.dictionary.specs.Rows.{terms_of, without, quotients_of, reductions, row_work, IsRow, IsRowChanged};
 
-use crate::numbers::{difference, is_zero, product, quotient};
-use frac128::{Exact, Wide};
+use crate::entries::{Entry, pass, push_counted, put_entry, take_entry};
+use crate::numbers::{difference, product, quotient};
+use frac128::{Exact, Op, Wide};
 
-/// Writes the quotients of a row by the pivot, in order, but that of the entering column.
-pub(crate) fn divide_row<N: Exact>(
-    quotients: &mut [N],
-    row: &[N],
-    order: &[u32],
-    column: u32,
-    pivot: N,
-) -> Result<(), Wide>
-    requires known { All (λ c. c < length row.now) order.now }
-    requires room { length quotients.old ≡ length row.now }
-    requires apart { IsApart order.now }
-    requires nonzero { N.value pivot ≢ zero_ℚ }
-    ensures { let f = at (map N.value row.now) in
+/// Divides the factors of a row, in order.
+pub(crate) fn divide_row<N: Exact>(row: &mut [Entry<N>], pivot: N) -> Result<(), Wide>
+    requires { N.value pivot ≢ zero_ℚ }
+    ensures { let work = flat_map
+        (λ t. counted Op.Over t.factor (N.value pivot)) (terms_of N.value row.old) in
         MatchResult result
-        (λ done. (first_wide N.most (quotient_operations f (N.value pivot) (others column order.now)) ≡ None)
-        × IsChanged order.now column (λ c. f c /ℚ N.value pivot) (map N.value quotients.old) (map N.value quotients.new))
-        (λ w. first_wide N.most (quotient_operations f (N.value pivot) (others column order.now)) ≡ Some w) }
+        (λ done. (first_wide N.most work ≡ None)
+        × (terms_of N.value row.new ≡ map
+        (λ t. record { column = t.column; factor = t.factor /ℚ N.value pivot }) (terms_of N.value row.old)))
+        (λ w. first_wide N.most work ≡ Some w) }
 {
-    for place in order {
-        if *place == column {
-            continue;
-        }
-        quotients[*place as usize] = quotient(row[*place as usize], pivot)?;
+    for place in 0..row.len() {
+        let entry = row[place];
+        let factor = quotient(entry.factor, pivot)?;
+        row[place] = Entry {
+            variable: entry.variable,
+            factor,
+        };
     }
     Ok(())
 }
 
-/// Takes the products of a factor and the quotients from a row, in order, but not from the entering column.
-pub(crate) fn reduce_row<N: Exact>(
-    row: &mut [N],
-    order: &[u32],
-    column: u32,
-    factor: N,
-    quotients: &[N],
-) -> Result<(), Wide>
-    requires known { All (λ c. c < length row.old) order.now }
-    requires room { length quotients.now ≡ length row.old }
-    requires apart { IsApart order.now }
-    ensures { let f = at (map N.value row.old) in
-        let q = at (map N.value quotients.now) in
-        MatchResult result
-        (λ done. (first_wide N.most (reduce_operations (N.value factor) f q (others column order.now)) ≡ None)
-        × IsChanged order.now column (λ c. f c -ℚ N.value factor *ℚ q c) (map N.value row.old) (map N.value row.new))
-        (λ w. first_wide N.most (reduce_operations (N.value factor) f q (others column order.now)) ≡ Some w) }
+/// Puts the opposite of each factor in its place.
+pub(crate) fn negate_row<N: Exact>(row: &mut [Entry<N>])
+    ensures { terms_of N.value row.new ≡ map
+        (λ t. record { column = t.column; factor = neg_ℚ t.factor }) (terms_of N.value row.old) }
 {
-    for place in order {
-        if *place == column {
-            continue;
-        }
-        let quotient = quotients[*place as usize];
-        if is_zero(quotient) {
-            continue;
-        }
-        let product = product(factor, quotient)?;
-        row[*place as usize] = difference(row[*place as usize], product)?;
+    for place in 0..row.len() {
+        let entry = row[place];
+        row[place] = Entry {
+            variable: entry.variable,
+            factor: entry.factor.negate(),
+        };
     }
+}
+
+/// Writes a row, from which a factor times each quotient is taken, in order, into an empty one with room for both.
+pub(crate) fn reduce_row<N: Exact>(
+    out: &mut Vec<Entry<N>>,
+    row: &[Entry<N>],
+    factor: N,
+    quotients: &[Entry<N>],
+) -> Result<(), Wide>
+    requires row { IsRow (terms_of N.value row.now) }
+    requires quotients { IsRow (terms_of N.value quotients.now) }
+    requires empty { out.old.items ≡ [] }
+    requires room { length row.now + length quotients.now ≤ vec_capacity out.old }
+    ensures reduced { let work = reductions (N.value factor) (terms_of N.value row.now) (terms_of N.value quotients.now) in
+        MatchResult result
+        (λ done. (first_wide N.most work ≡ None)
+        × (IsRow (terms_of N.value out.new.items)
+        × ((k : ℕ) → factor_of (terms_of N.value out.new.items) k
+        ≡ factor_of (terms_of N.value row.now) k -ℚ N.value factor *ℚ factor_of (terms_of N.value quotients.now) k)))
+        (λ w. first_wide N.most work ≡ Some w) }
+    ensures longer { OnOk result (length out.new.items ≤ length row.now + length quotients.now) }
+    ensures capacity { vec_capacity out.old ≤ vec_capacity out.new }
+{
+    let mut next = 0;
+    for quotient in quotients {
+        let (old, passed) = pass(out, &row[next..], quotient.variable);
+        let taken = product(factor, quotient.factor)?;
+        let reduced = difference(old, taken)?;
+        push_counted(out, quotient.variable, reduced);
+        next += passed;
+    }
+    out.extend_from_slice(&row[next..]).unwrap();
     Ok(())
 }
 
 /// Changes a row other than the leaving one.
 ///
-/// Its factor of the entering column becomes that factor times the inverse of the pivot, and from each other factor it
-/// loses its factor of the entering column times the quotient there. A row whose factor is 0 stays.
+/// Its factor of the entering variable goes, times the inverse of the pivot, to the leaving one, and each other factor
+/// loses it times the quotient there. A row in which the entering variable does not count stays.
 pub(crate) fn change_row<N: Exact>(
-    row: &mut [N],
-    order: &[u32],
-    column: u32,
+    row: &mut Vec<Entry<N>>,
+    spare: &mut Vec<Entry<N>>,
+    leaving: u32,
+    entering: u32,
     inverse: N,
-    quotients: &[N],
+    quotients: &[Entry<N>],
 ) -> Result<(), Wide>
-    requires known { All (λ c. c < length row.old) order.now }
-    requires room { length quotients.now ≡ length row.old }
-    requires apart { IsApart order.now }
-    requires column { column < length row.old }
-    ensures { let f = at (map N.value row.old) in
-        let q = at (map N.value quotients.now) in
+    requires row { IsRow (terms_of N.value row.old.items) }
+    requires leaving { factor_of (terms_of N.value row.old.items) leaving ≡ zero_ℚ }
+    requires quotients { IsRow (terms_of N.value quotients.now) }
+    requires no_leaving { factor_of (terms_of N.value quotients.now) leaving ≡ zero_ℚ }
+    requires no_entering { factor_of (terms_of N.value quotients.now) entering ≡ zero_ℚ }
+    requires apart { leaving ≢ entering }
+    requires inverse { N.value inverse ≢ zero_ℚ }
+    requires room { factor_of (terms_of N.value row.old.items) entering ≢ zero_ℚ
+        → length row.old.items + length quotients.now ≤ vec_capacity row.old }
+    requires spare { factor_of (terms_of N.value row.old.items) entering ≢ zero_ℚ
+        → length row.old.items ≤ vec_capacity spare.old }
+    ensures changed { let work = row_work entering (N.value inverse) (terms_of N.value quotients.now) (terms_of N.value row.old.items) in
         MatchResult result
-        (λ done. (first_wide N.most (row_operations (f column) (N.value inverse) f q (others column order.now)) ≡ None)
-        × IsReplaced order.now column (f column *ℚ N.value inverse) (λ c. f c -ℚ f column *ℚ q c) (at (map N.value row.new)))
-        (λ w. first_wide N.most (row_operations (f column) (N.value inverse) f q (others column order.now)) ≡ Some w) }
+        (λ done. (first_wide N.most work ≡ None)
+        × IsRowChanged leaving entering (N.value inverse) (terms_of N.value quotients.now) (terms_of N.value row.old.items) (terms_of N.value row.new.items))
+        (λ w. first_wide N.most work ≡ Some w) }
+    ensures spare { vec_capacity spare.old ≤ vec_capacity spare.new }
 {
-    let factor = row[column as usize];
-    if is_zero(factor) {
+    let Some(factor) = take_entry(row, entering) else {
         return Ok(());
-    }
+    };
     let own = product(factor, inverse)?;
-    reduce_row(row, order, column, factor, quotients)?;
-    row[column as usize] = own;
+    spare.clear();
+    spare.extend_from_slice(row).unwrap();
+    row.clear();
+    reduce_row(row, spare, factor, quotients)?;
+    put_entry(row, leaving, own);
     Ok(())
 }
 
-/// Writes the row that is solved for the entering variable: the opposite quotients, and the inverse of the pivot.
-pub(crate) fn solve_row<N: Exact>(row: &mut [N], quotients: &[N], column: u32, inverse: N)
-    requires room { length quotients.now ≡ length row.old }
-    requires column { column < length row.old }
-    ensures others { (c : ℕ) → c < length row.old → c ≢ column → at (map N.value row.new) c ≡ neg_ℚ (at (map N.value quotients.now) c) }
-    ensures own { at (map N.value row.new) column ≡ N.value inverse }
+/// Takes the entering variable out of the leaving row, divides the others by its factor, and gives the inverse of that.
+pub(crate) fn split_row<N: Exact>(row: &mut Vec<Entry<N>>, entering: u32) -> Result<N, Wide>
+    requires row { IsRow (terms_of N.value row.old.items) }
+    requires nonzero { factor_of (terms_of N.value row.old.items) entering ≢ zero_ℚ }
+    ensures split { let p = factor_of (terms_of N.value row.old.items) entering in
+        let work = counted Op.Over one_ℚ p ++ flat_map (λ t. counted Op.Over t.factor p) (without entering (terms_of N.value row.old.items)) in
+        MatchResult result
+        (λ inverse. (first_wide N.most work ≡ None)
+        × ((N.value inverse ≡ one_ℚ /ℚ p) × (terms_of N.value row.new.items
+        ≡ quotients_of entering (terms_of N.value row.old.items))))
+        (λ w. first_wide N.most work ≡ Some w) }
+    ensures shorter { OnOk result (length row.new.items < length row.old.items) }
+    ensures capacity { vec_capacity row.new ≡ vec_capacity row.old }
 {
-    for place in 0..row.len() {
-        row[place] = quotients[place].negate();
-    }
-    row[column as usize] = inverse;
+    let Some(pivot) = take_entry(row, entering) else {
+        unreachable!()
+    };
+    let inverse = quotient(N::one(), pivot)?;
+    divide_row(row, pivot)?;
+    Ok(inverse)
+}
+
+/// Makes of the quotients the row that is solved for the entering variable.
+pub(crate) fn solve_row<N: Exact>(row: &mut Vec<Entry<N>>, leaving: u32, inverse: N)
+    requires row { IsRow (terms_of N.value row.old.items) }
+    requires new { factor_of (terms_of N.value row.old.items) leaving ≡ zero_ℚ }
+    requires nonzero { N.value inverse ≢ zero_ℚ }
+    requires room { length row.old.items < vec_capacity row.old }
+    ensures row { IsRow (terms_of N.value row.new.items) }
+    ensures own { factor_of (terms_of N.value row.new.items) leaving ≡ N.value inverse }
+    ensures others { (k : ℕ) → k ≢ leaving → factor_of (terms_of N.value row.new.items) k
+        ≡ neg_ℚ (factor_of (terms_of N.value row.old.items) k) }
+{
+    negate_row(row);
+    put_entry(row, leaving, inverse);
 }

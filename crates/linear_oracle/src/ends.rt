@@ -9,14 +9,13 @@ ghost use Rattle.certs.specs.Checks.{IsSetOf};
 ghost use Rattle.certs.specs.Named.{named};
 ghost use Rattle.certs.specs.Plain.{crossing_shares, first_crossing, plain_system};
 ghost use Rattle.certs.specs.Runs.End.{Feasible as IsFeasible, Infeasible as IsInfeasible};
-ghost use Rattle.certs.specs.Solves.{RunEnds};
 ghost use Rattle.certs.specs.Tableau.{IsTableauOf, IsWellFormedSystem};
 ghost use Rattle.certs.specs.Tales.{IsNodeEnd, IsNodeSite};
 ghost use Rattle.certs.specs.Turns.{limited, settle_choice, settle_values};
 ghost use Rattle.dictionary.specs.Value.{tableau_of};
-ghost use Rattle.simplex.specs.Ends.{IsEnd, end_of};
+ghost use Rattle.simplex.specs.Ends.{IsEnd};
 ghost use Rattle.simplex.specs.declared.settling.Settled.TheVariants.{Feasible, Infeasible};
-ghost use Rattle.linear_oracle.specs.Ended.{HasEnded};
+ghost use Rattle.linear_oracle.specs.Ended.{HasEnded, IsStopOf};
 
 use certs::{
     Branch, BranchPath, Combo, MemberSet, NodeEnd, Path, Shares, Side, Site, SiteKind, Stop,
@@ -110,7 +109,7 @@ fn crossing_combo(alloc: Global, columns: u32, variable: u32) -> Result<Combo, A
 /// The stop of the settle run of a set's plain system on a path, with its site; or want of memory, where there is none for
 /// the site.
 pub fn stop_end(alloc: Global, set: &MemberSet, path: &[Branch], stop: RunStop) -> Stop
-    ensures { (model : Program) (pivots : ℕ) → IsSetOf model set.now → RunEnds (plain_system model set.now.members path.now false) pivots (end_of (Err stop)) → IsNodeEnd model set.now.members path.now pivots (Err result) }
+    ensures { (model : Program) (pivots : ℕ) → IsSetOf model set.now → IsStopOf (plain_system model set.now.members path.now false) pivots stop → IsNodeEnd model set.now.members path.now pivots (Err result) }
 {
     let Ok(site) = settle_site(alloc, set, path) else {
         return Stop::Memory;
@@ -118,6 +117,7 @@ pub fn stop_end(alloc: Global, set: &MemberSet, path: &[Branch], stop: RunStop) 
     match stop {
         RunStop::Wide(turn, operation) => Stop::Wide(site, turn, operation),
         RunStop::Pivots => Stop::Pivots(site),
+        RunStop::Memory => Stop::Memory,
     }
 }
 

@@ -1,18 +1,18 @@
 -- Runs of reduced systems in code.
-use Rattle.std.proofs.Common.{◌≡◌, ◌<◌, ◌^◌, refl, sym, ◌∙◌, ap, subst, ℕ, cond, true, List, [], length, is_some, Err, arith}
+use Rattle.std.proofs.Common.{◌≡◌, ◌≢◌, ◌<◌, ◌^◌, refl, sym, ◌∙◌, ap, subst, ℕ, cond, true, List, [], length, is_some, Err, arith}
 use Rattle.lp_model.specs.declared.members.Member.{Member}
 use Rattle.lp_model.specs.Program.{Program, IsWellFormed}
 use Rattle.frac128.specs.Limit.{limit}
 use Rattle.certs.specs.Runs.{End}
-use Rattle.certs.specs.Solves.{RunEnds}
+use Rattle.certs.specs.Runs.End.{TooWide, Spent}
 use Rattle.certs.specs.System.{LinearSystem}
 use Rattle.certs.specs.Tableau.{IsWellFormedSystem, start_basis, variables}
 use Rattle.dictionary.specs.Value.{DictionaryValue}
-use Rattle.simplex.specs.Ends.{HasRun, end_of}
+use Rattle.simplex.specs.Ends.{HasRun, RanBy}
 use Rattle.simplex.specs.declared.settling.RunStop.{RunStop}
-use Rattle.simplex.specs.declared.settling.RunStop.TheVariants.{Wide, Pivots}
-use Rattle.linear_oracle.specs.Ended.{HasEnded}
-use Rattle.linear_oracle.proofs.Runs.{has_ended, run_ends}
+use Rattle.simplex.specs.declared.settling.RunStop.TheVariants.{Wide, Pivots, Memory}
+use Rattle.linear_oracle.specs.Ended.{HasEnded, IsStopOf}
+use Rattle.linear_oracle.proofs.Runs.{has_ended, run_ends, stop_is}
 use Rattle.reductions.specs.declared.steps.Step.{Step}
 use Rattle.reductions.specs.declared.steps.Trace.{Trace}
 use Rattle.reductions.specs.Known.{IsTraceOf}
@@ -53,24 +53,25 @@ module _ (model : Program) (set : List Member) (trace : Trace) (last : Stage) (f
 -- ---- a run from the start of what is left
 module _ (system : LinearSystem) (last : Stage) (is : system ≡ last.system) (reduced : IsReduced last) (start now : DictionaryValue) (pivots left turns : ℕ) (basis : start.basis ≡ start_basis system) where
   -- where it stops, the system before the steps is not eased
-  pub stop_excludes : (whole : LinearSystem) (trace : Trace) → LeadsTo whole trace last → (stop : RunStop) → HasRun limit system start.basis pivots 0 (end_of (Err stop)) now left turns → IsEased whole pivots → ⊥
-  stop_excludes whole trace leads (Wide turn operation) run =
+  pub stop_excludes : (whole : LinearSystem) (trace : Trace) → LeadsTo whole trace last → (stop : RunStop) → RanBy limit system start.basis pivots 0 (Err stop) now left turns → stop ≢ Memory → IsEased whole pivots → ⊥
+  stop_excludes whole trace leads (Wide turn operation) run other =
       wide_not_eased whole pivots trace.steps last leads.reduces reduced turn operation
-      (run_ends last.system start now pivots left turns (end_of (Err (Wide turn operation))) (reduced_apart last reduced) (basis ∙ ap start_basis is)
-      (subst (λ (s : LinearSystem). HasRun limit s start.basis pivots 0 (end_of (Err (Wide turn operation))) now left turns) is run))
-  stop_excludes whole trace leads Pivots run =
+      (run_ends last.system start now pivots left turns (TooWide turn operation) (reduced_apart last reduced) (basis ∙ ap start_basis is)
+      (subst (λ (s : LinearSystem). HasRun limit s start.basis pivots 0 (TooWide turn operation) now left turns) is run))
+  stop_excludes _ trace leads Memory run other = absurd (other refl)
+  stop_excludes whole trace leads Pivots run other =
       spent_not_eased whole pivots trace.steps last leads.reduces reduced
-      (run_ends last.system start now pivots left turns (end_of (Err Pivots)) (reduced_apart last reduced) (basis ∙ ap start_basis is)
-      (subst (λ (s : LinearSystem). HasRun limit s start.basis pivots 0 (end_of (Err Pivots)) now left turns) is run))
+      (run_ends last.system start now pivots left turns Spent (reduced_apart last reduced) (basis ∙ ap start_basis is)
+      (subst (λ (s : LinearSystem). HasRun limit s start.basis pivots 0 Spent now left turns) is run))
 
   -- where nothing was reduced it is the stop of the system's own run
   pub stop_own : (whole : LinearSystem) (trace : Trace) → LeadsTo whole trace last → trace.steps ≡ [] → (stop : RunStop)
-      → HasRun limit system start.basis pivots 0 (end_of (Err stop)) now left turns → RunEnds whole pivots (end_of (Err stop))
+      → RanBy limit system start.basis pivots 0 (Err stop) now left turns → IsStopOf whole pivots stop
   stop_own whole trace leads none stop run =
       let same : start_stage whole ≡ last = subst (λ (steps : List Step). Reduces (start_stage whole) steps last) none leads.reduces in
-      subst (λ (s : LinearSystem). RunEnds s pivots (end_of (Err stop))) (sym (ap (λ (s : Stage). s.system) same))
-      (run_ends last.system start now pivots left turns (end_of (Err stop)) (reduced_apart last reduced) (basis ∙ ap start_basis is)
-      (subst (λ (s : LinearSystem). HasRun limit s start.basis pivots 0 (end_of (Err stop)) now left turns) is run))
+      subst (λ (s : LinearSystem). IsStopOf s pivots stop) (sym (ap (λ (s : Stage). s.system) same))
+      (stop_is last.system start now pivots left turns stop (reduced_apart last reduced) (basis ∙ ap start_basis is)
+      (subst (λ (s : LinearSystem). RanBy limit s start.basis pivots 0 (Err stop) now left turns) is run))
 
   -- where it ends, the dictionary stands at its end
   pub ended : (end : End) → now.usable ≡ true → now.columns ≡ length system.columns → HasRun limit system start.basis pivots 0 end now left turns → HasEnded last.system pivots now end

@@ -1,10 +1,9 @@
 //! Sets whose plain systems their reduction makes easy.
-ghost use Rattle.std.specs.Prelude.{◌≡◌, ◌≤◌, ◌<◌, ◌^◌, [], ℕ, Err, IfOk, List};
+ghost use Rattle.std.specs.Prelude.{◌≡◌, ◌≢◌, ◌≤◌, ◌<◌, ◌^◌, [], ℕ, false, IfOk, List};
 ghost use Rattle.lp_model.specs.Program.{IsWellFormed, Program};
 ghost use Rattle.lp_model.specs.declared.members.Member.{Member as OneMember};
 ghost use Rattle.certs.specs.Checks.{IsSetOf};
-ghost use Rattle.certs.specs.Solves.{RunEnds};
-ghost use Rattle.simplex.specs.Ends.{end_of};
+ghost use Rattle.linear_oracle.specs.Ended.{IsStopOf};
 ghost use Rattle.presolve.specs.Reduced.{IsReductionOf};
 ghost use Rattle.presolve.specs.declared.reduction.Reduction.TheVariants.{Reduced};
 ghost use Rattle.presolve_laws.specs.Answers.{set_system};
@@ -76,11 +75,21 @@ fn easing_of(found: Option<Verdict>) -> Easing
     }
 }
 
+// Whether a run stops because memory was refused.
+fn is_refused(stop: &RunStop) -> bool
+    ensures { result ≡ false → stop.now ≢ RunStop.Memory }
+{
+    match stop {
+        RunStop::Memory => true,
+        _ => false,
+    }
+}
+
 // What a run that stops leads to: where nothing was reduced it is the plain system's own run.
 fn stopped(alloc: Global, set: &MemberSet, trace: &Trace, stop: RunStop) -> Easing
     ensures { (model : Program) (pivots : ℕ) → let system = set_system model set.now.members in
         IsSetOf model set.now → (IsEased system pivots → ⊥)
-        → (trace.now.steps ≡ [] → RunEnds system pivots (end_of (Err stop)))
+        → (trace.now.steps ≡ [] → IsStopOf system pivots stop)
         → IsEasingEnd model set.now.members pivots result }
 {
     if trace.steps.as_slice().is_empty() {
@@ -88,6 +97,24 @@ fn stopped(alloc: Global, set: &MemberSet, trace: &Trace, stop: RunStop) -> Easi
     } else {
         Easing::Uneased
     }
+}
+
+// The same, or want of memory where the run was refused it.
+fn stop_told(
+    alloc: Global,
+    set: &MemberSet,
+    trace: &Trace,
+    stop: RunStop,
+) -> Result<Easing, AllocError>
+    ensures { (model : Program) (pivots : ℕ) → let system = set_system model set.now.members in
+        IsSetOf model set.now → (stop ≢ RunStop.Memory → IsEased system pivots → ⊥)
+        → (trace.now.steps ≡ [] → IsStopOf system pivots stop)
+        → IfOk result (IsEasingEnd model set.now.members pivots) }
+{
+    if is_refused(&stop) {
+        return Err(AllocError);
+    }
+    Ok(stopped(alloc, set, trace, stop))
 }
 
 // What the run of the reduced system gives, brought back. The pivots that it makes are added to a count.
@@ -134,7 +161,7 @@ fn run_back(
     let mut turn = 0;
     let settled = match settle(&mut dictionary, pivots, &mut turn) {
         Ok(settled) => settled,
-        Err(stop) => return Ok(stopped(alloc, set, trace, stop)),
+        Err(stop) => return stop_told(alloc, set, trace, stop),
     };
     match settled {
         Settled::Feasible => {

@@ -12,8 +12,8 @@ use Rattle.certs.specs.Solves.{ImproveStops}
 use Rattle.dictionary.specs.Value.{DictionaryValue}
 use Rattle.simplex.specs.Ends.{HasRun}
 use Rattle.simplex.specs.declared.settling.RunStop.{RunStop}
-use Rattle.simplex.specs.declared.settling.RunStop.TheVariants.{Wide, Pivots}
-use Rattle.simplex.specs.ImproveEnds.{HasImproved, end_of as improve_end}
+use Rattle.simplex.specs.declared.settling.RunStop.TheVariants.{Wide, Pivots, Memory}
+use Rattle.simplex.specs.ImproveEnds.{HasImproved, ImprovedBy}
 use Rattle.unbounded.specs.Runs.{StopsSo}
 
 module _ (system : LinearSystem) (start middle now : DictionaryValue) (pivots left turns left_at turns_at : ℕ) (apart : first_crossing system ≡ None) (e : start.basis ≡ start_basis system) (usable : middle.usable ≡ true)
@@ -34,6 +34,7 @@ module _ (system : LinearSystem) (start middle now : DictionaryValue) (pivots le
     further = further.run;
   }
 
-  pub improve_stops : (stop : RunStop) → HasImproved limit system middle.basis left turns (improve_end (Err stop)) now left_at turns_at → StopsSo system pivots stop
+  pub improve_stops : (stop : RunStop) → ImprovedBy limit system middle.basis left turns (Err stop) now left_at turns_at → StopsSo system pivots stop
   improve_stops (Wide turn o) further = inr (stops_at (ImproveTooWide turn o) further)
   improve_stops Pivots further = inr (stops_at ImproveSpent further)
+  improve_stops Memory further = tt

@@ -84,6 +84,7 @@ fn stop_of(
     match stop {
         RunStop::Wide(turn, operation) => Stop::Wide(site, turn, operation),
         RunStop::Pivots => Stop::Pivots(site),
+        RunStop::Memory => Stop::Memory,
     }
 }
 

@@ -3,6 +3,7 @@ pub mod Narrow
 pub mod Combining
 pub mod Nearer
 pub mod Walks
+pub mod Stops
 pub mod Steps
 pub mod Turned
 pub mod Ends

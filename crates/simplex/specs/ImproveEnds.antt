@@ -1,26 +1,24 @@
 -- How an improve run ends, in code.
-use Rattle.std.specs.Prelude.{◌≡◌, ◌<◌, ◌≤◌, ◌^◌, ℕ, true, false, List, None, IsSome, Result, Ok, Err}
+use Rattle.std.specs.Prelude.{◌≡◌, ◌+◌, ◌<◌, ◌≤◌, ◌^◌, ℕ, suc, true, false, List, None, IsSome, Result, Ok, Err}
 use Rattle.frac128.specs.Calculation.{first_wide}
 use Rattle.certs.specs.System.{LinearSystem, Place}
 use Rattle.certs.specs.Tableau.{Tableau, IsTableauOf, IsWellFormedSystem, limits_at, value_of}
 use Rattle.certs.specs.Ended.{IsWithin}
 use Rattle.certs.specs.Runs.{IsSettledAt, TableauAt}
-use Rattle.certs.specs.Improves.{Improvement, ImproveEnd, ImproveRun, improve_choice, improve_values}
+use Rattle.certs.specs.Improves.{Improvement, ImproveEnd, ImproveRun, Improves, improve_choice, improve_values}
 use Rattle.certs.specs.Improves.Improvement.{Optimal as NothingRaises, Free}
 use Rattle.certs.specs.Improves.ImproveEnd.{AtOptimum, Unbounded as WithoutEnd, TooWide, Spent}
 use Rattle.bland_law.specs.Ends.{limited_count}
 use Rattle.dictionary.specs.Value.{DictionaryValue, tableau_of}
 use Rattle.simplex.specs.declared.settling.RunStop.{RunStop}
-use Rattle.simplex.specs.declared.settling.RunStop.TheVariants.{Wide, Pivots}
+use Rattle.simplex.specs.declared.settling.RunStop.TheVariants.{Wide, Pivots, Memory}
 use Rattle.simplex.specs.declared.improving.Improved.{Improved}
 use Rattle.simplex.specs.declared.improving.Improved.TheVariants.{Optimal, Unbounded}
 
--- the end that the result names
-abbrev pub end_of : Result Improved RunStop → ImproveEnd
-end_of (Ok Optimal) = AtOptimum
-end_of (Ok (Unbounded j)) = WithoutEnd j
-end_of (Err (Wide turn o)) = TooWide turn o
-end_of (Err Pivots) = Spent
+-- the end that is told
+abbrev pub end_of : Improved → ImproveEnd
+end_of Optimal = AtOptimum
+end_of (Unbounded j) = WithoutEnd j
 
 -- The improve run from a basis, with a budget and after so many turns, ends so; where the dictionary may still be used it
 -- stands at the run's last basis, and its tableau is one of the system. It may no longer be used only where every operation of
@@ -30,6 +28,22 @@ pub record HasImproved (most : ℕ) (system : LinearSystem) (basis : List Place)
   pub run : ImproveRun most system basis budget begun end last left turns
   pub stands : now.usable ≡ true → (now.basis ≡ last) × IsTableauOf system (tableau_of now)
   pub lost : now.usable ≡ false → (here : TableauAt system last) × (first_wide most (improve_values here.tableau) ≡ None)
+
+-- Memory was refused: the run from the basis has come to the dictionary's, and its next turn is begun.
+pub record IsInterrupted (most : ℕ) (system : LinearSystem) (basis : List Place) (budget begun : ℕ) (now : DictionaryValue) (left turns : ℕ) : Type 0 where
+  pub made : ℕ
+  pub budget_is : made + left ≡ budget
+  pub reaches : Improves most system made basis now.basis
+  pub turns_are : turns ≡ suc (begun + made)
+  pub usable : now.usable ≡ true
+  pub is_of : IsTableauOf system (tableau_of now)
+
+-- the improve run from a basis ends or stops as the result says
+abbrev pub ImprovedBy : ℕ → LinearSystem → List Place → ℕ → ℕ → Result Improved RunStop → DictionaryValue → ℕ → ℕ → Type 0
+ImprovedBy most system basis budget begun (Ok improved) now left turns = HasImproved most system basis budget begun (end_of improved) now left turns
+ImprovedBy most system basis budget begun (Err (Wide turn o)) now left turns = HasImproved most system basis budget begun (TooWide turn o) now left turns
+ImprovedBy most system basis budget begun (Err Pivots) now left turns = HasImproved most system basis budget begun Spent now left turns
+ImprovedBy most system basis budget begun (Err Memory) now left turns = IsInterrupted most system basis budget begun now left turns
 
 -- the dictionary's tableau is one of a system with an objective
 pub record HasObjective (now : DictionaryValue) : Type 0 where
@@ -51,6 +65,7 @@ abbrev pub IsSpent : Result Improved RunStop → Type 0
 IsSpent (Ok improved) = ⊥
 IsSpent (Err (Wide turn o)) = ⊥
 IsSpent (Err Pivots) = Unit {0}
+IsSpent (Err Memory) = ⊥
 
 -- a well-formed system with an objective, and a basis of it where no variable is outside its limits
 pub record IsSettledStart (most : ℕ) (system : LinearSystem) (basis : List Place) : Type 0 where
@@ -70,7 +85,7 @@ NeverSpent most system basis budget result = IsSettledStart most system basis �
 -- the run from the dictionary's basis ends as the result says
 abbrev pub IsRun : ℕ → DictionaryValue → ℕ → ℕ → Result Improved RunStop → DictionaryValue → ℕ → ℕ → Type 0
 IsRun most old budget begun result now left turns =
-    (system : LinearSystem) → IsTableauOf system (tableau_of old) → HasImproved most system old.basis budget begun (end_of result) now left turns
+    (system : LinearSystem) → IsTableauOf system (tableau_of old) → ImprovedBy most system old.basis budget begun result now left turns
 
 -- where no variable is outside its limits before, none is after
 abbrev pub KeepsSettled : ℕ → DictionaryValue → DictionaryValue → Type 0

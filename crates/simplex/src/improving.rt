@@ -4,6 +4,7 @@ ghost use Rattle.simplex.specs.ImproveEnds.{EndsAt, HasObjective, IsEnough, IsRu
 
 use crate::RunStop;
 use crate::improve_choices::{Choice, choose};
+use crate::settling::told;
 use dictionary::Dictionary;
 use frac128::Exact;
 
@@ -24,7 +25,8 @@ pub enum Improved {
 ///
 /// # Errors
 ///
-/// `Wide` and `Pivots` come exactly where the run stops so. With a budget of `bland_law::basis_bound` pivots, where that is a
+/// `Wide` and `Pivots` come exactly where the run stops so, and `Memory` where there is no room for a pivot: the dictionary then
+/// stands at the basis to which the run has come. With a budget of `bland_law::basis_bound` pivots, where that is a
 /// number, a run from a basis with no variable outside its limits never answers `Pivots`. After a pivot that was too wide the
 /// dictionary must not be used; after another operation that was, it may be.
 pub fn improve<N: Exact>(
@@ -67,7 +69,7 @@ pub fn improve<N: Exact>(
                     return Err(RunStop::Pivots);
                 }
                 if let Err(stop) = dictionary.pivot(leaving, upper, entering) {
-                    return Err(RunStop::Wide(*turn, stop.wide()));
+                    return Err(told(*turn, stop));
                 }
                 *pivots -= 1;
             }

@@ -26,11 +26,11 @@ use Rattle.certs.proofs.PlainForms.{plain_formed}
 use Rattle.certs.proofs.Refuted.{combination_law}
 use Rattle.certs.proofs.Translated.{length_numbers, translation}
 use Rattle.dictionary.specs.Value.{DictionaryValue}
-use Rattle.simplex.specs.Ends.{HasRun, end_of as settle_end}
+use Rattle.simplex.specs.Ends.{HasRun, RanBy}
 use Rattle.simplex.specs.declared.settling.RunStop.{RunStop}
-use Rattle.simplex.specs.declared.settling.RunStop.TheVariants.{Wide, Pivots}
+use Rattle.simplex.specs.declared.settling.RunStop.TheVariants.{Wide, Pivots, Memory}
 use Rattle.linear_oracle.proofs.Runs.{run_ends}
-use Rattle.simplex.specs.ImproveEnds.{EndsAt, HasImproved, end_of as improve_end}
+use Rattle.simplex.specs.ImproveEnds.{EndsAt, HasImproved, ImprovedBy, end_of as improve_end}
 use Rattle.simplex.specs.declared.improving.Improved.{Improved}
 use Rattle.unbounded.specs.Runs.{EndsSo, HasNoCombination, StopsSo}
 use Rattle.unbounded.proofs.Systems.{columns_are}
@@ -76,9 +76,10 @@ few_variables model set r c =
 
 -- ---- stops
 pub settle_stops : (system : LinearSystem) (start now : DictionaryValue) (pivots left turns : ℕ) (stop : RunStop) → first_crossing system ≡ None → start.basis ≡ start_basis system
-    → HasRun limit system start.basis pivots 0 (settle_end (Err stop)) now left turns → StopsSo system pivots stop
+    → RanBy limit system start.basis pivots 0 (Err stop) now left turns → StopsSo system pivots stop
 settle_stops system start now pivots left turns (Wide turn o) apart e h = inl (run_ends system start now pivots left turns (TooWide turn o) apart e h)
 settle_stops system start now pivots left turns Pivots apart e h = inl (run_ends system start now pivots left turns Spent apart e h)
+settle_stops system start now pivots left turns Memory apart e h = tt
 
 module _ (system : LinearSystem) (start middle now : DictionaryValue) (pivots left turns left_at turns_at : ℕ) (apart : first_crossing system ≡ None) (e : start.basis ≡ start_basis system) (usable : middle.usable ≡ true)
     (h : HasRun limit system start.basis pivots 0 Settles middle left turns) where
@@ -98,13 +99,14 @@ module _ (system : LinearSystem) (start middle now : DictionaryValue) (pivots le
     further = further.run;
   }
 
-  pub improve_stops : (result : Result Improved RunStop) → HasImproved limit system middle.basis left turns (improve_end result) now left_at turns_at → IfErr result (StopsSo system pivots)
+  pub improve_stops : (result : Result Improved RunStop) → ImprovedBy limit system middle.basis left turns result now left_at turns_at → IfErr result (StopsSo system pivots)
   improve_stops (Ok improved) further = tt
   improve_stops (Err (Wide turn o)) further = inr (stops_at (ImproveTooWide turn o) further)
   improve_stops (Err Pivots) further = inr (stops_at ImproveSpent further)
+  improve_stops (Err Memory) further = tt
 
-  pub improve_ends_so : (result : Result Improved RunStop) → HasImproved limit system middle.basis left turns (improve_end result) now left_at turns_at → IfOk result (EndsAt limit now)
-      → IfOk result (λ end. EndsSo system pivots (improve_end (Ok end)) now.basis)
+  pub improve_ends_so : (result : Result Improved RunStop) → ImprovedBy limit system middle.basis left turns result now left_at turns_at → IfOk result (EndsAt limit now)
+      → IfOk result (λ end. EndsSo system pivots (improve_end end) now.basis)
   unfolding stops_at
-  improve_ends_so (Ok improved) further ended = record { run = stops_at (improve_end (Ok improved)) further; last_is = sym (further.stands ended.0).0 }
+  improve_ends_so (Ok improved) further ended = record { run = stops_at (improve_end improved) further; last_is = sym (further.stands ended.0).0 }
   improve_ends_so (Err stop) further ended = tt

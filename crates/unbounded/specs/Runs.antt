@@ -15,17 +15,18 @@ use Rattle.certs.specs.System.{LinearSystem, Place, VariableShare, IsVariableCom
 use Rattle.certs.specs.Tableau.{IsTableauOf, IsWellFormedSystem, value_of}
 use Rattle.dictionary.specs.Value.{DictionaryValue, tableau_of}
 use Rattle.simplex.specs.declared.settling.RunStop.{RunStop}
-use Rattle.simplex.specs.declared.settling.RunStop.TheVariants.{Wide, Pivots}
+use Rattle.simplex.specs.declared.settling.RunStop.TheVariants.{Wide, Pivots, Memory}
 use Rattle.simplex.specs.ImproveEnds.{KeepsLimits}
 
 -- nothing contradicts the system
 abbrev pub HasNoCombination : LinearSystem → Type 0
 HasNoCombination system = (shares : List VariableShare) → IsVariableCombination system shares → ⊥
 
--- the settle run stops so, or the improve run after it
+-- the settle run stops so, or the improve run after it; a refusal of memory tells nothing of them
 abbrev pub StopsSo : LinearSystem → ℕ → RunStop → Type 0
 StopsSo system pivots (Wide turn operation) = RunEnds system pivots (TooWide turn operation) ⊎ ImproveStops system pivots (ImproveTooWide turn operation)
 StopsSo system pivots Pivots = RunEnds system pivots Spent ⊎ ImproveStops system pivots ImproveSpent
+StopsSo system pivots Memory = Unit {0}
 
 -- the dictionary stands at a basis of the set's plain system with the objective where no variable is outside its limits
 pub record IsEndOf (model : Program) (set : List Member) (now : DictionaryValue) : Type 0 where

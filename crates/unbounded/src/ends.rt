@@ -44,7 +44,7 @@ pub(crate) fn diagnosis_at(
     ensures found { IfOk result (IsDiagnosis model.now set.now.members) }
     ensures passed { IfOk result (λ d. PassesOn set.now.members (Ok (Feasible asked)) (Ok d)) }
     ensures last { let system = system_of model.now set.now.members [] true in
-        (pivots : ℕ) → EndsSo system pivots (end_of (Ok end)) dictionary.now.basis
+        (pivots : ℕ) → EndsSo system pivots (end_of end) dictionary.now.basis
         → some_mark set.now.members ≡ false
         → IfOk result (HasLastPoint model.now set.now.members pivots) }
 {
@@ -144,6 +144,7 @@ pub(crate) fn stop_at(alloc: Global, set: &MemberSet, stop: RunStop) -> Stop
     match stop {
         RunStop::Wide(turn, operation) => Stop::Wide(site, turn, operation),
         RunStop::Pivots => Stop::Pivots(site),
+        RunStop::Memory => Stop::Memory,
     }
 }
 

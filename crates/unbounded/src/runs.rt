@@ -34,7 +34,7 @@ pub(crate) fn run(
     ensures is_of { IfOk result (λ end. IsTableauOf system.now (tableau_of dictionary.new)) }
     ensures within { IfOk result (λ end. KeepsLimits system.now (tableau_of dictionary.new)) }
     ensures run { let basis = dictionary.new.basis in
-        IfOk result (λ end. EndsSo system.now pivots (end_of (Ok end)) basis) }
+        IfOk result (λ end. EndsSo system.now pivots (end_of end) basis) }
     ensures columns { dictionary.new.columns ≡ dictionary.old.columns }
     ensures stop { IfErr result (StopsSo system.now pivots) }
 {

@@ -4,6 +4,8 @@
 #[cfg(test)]
 mod calls;
 #[cfg(test)]
+mod entries;
+#[cfg(test)]
 mod fractions;
 #[cfg(test)]
 mod sets;

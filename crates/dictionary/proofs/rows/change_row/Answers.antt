@@ -1,93 +1,154 @@
-use Rattle.std.proofs.Common.{◌≡◌, ◌<◌, ℕ, List, ◌∷◌, length, set, map, sym, ◌∙◌, ap, subst, Some, None, Option, cond, [], false, true}
-use Rattle.std.specs.Prelude.{slice_index, ◌++◌}
+use Rattle.std.proofs.Common.{◌≡◌, ◌≢◌, ℕ, ◌++◌, length, sym, ◌∙◌, ap, subst, Some, None, not, ◌==◌, arith}
 use Rattle.std.proofs.lemmas.Result.{err_from_is_err_and}
-use Rattle.std.proofs.lemmas.List.{map-set, length-map, get_or-set_same, get_or-set_other}
-use Rattle.algebra.proofs.Ring.{x0, x1, ◌:-◌, ◌:*◌, zero_of}
-use Rattle.rational.specs.Rational.{ℚ, ◌-ℚ◌, ◌*ℚ◌, zero_ℚ, eq_ℚ}
-use Rattle.rational.proofs.Field.{ring_ℚ}
+use Rattle.rational.specs.Rational.{ℚ, ◌-ℚ◌, ◌*ℚ◌, zero_ℚ}
+use Rattle.rational.specs.Linear.{factor_of}
 use Rattle.frac128.specs.declared.Op.TheVariants.{Times}
-use Rattle.frac128.specs.declared.Wide.{Wide as Operation}
 use Rattle.frac128.specs.Calculation.{first_wide}
-use Rattle.frac128.proofs.Calculations.{first_wide-past, first_wide-before, first_wide-nil}
-use Rattle.certs.specs.Turns.{counted, others, reduce_operations, row_operations}
-use Rattle.dictionary.specs.Cells.{at, IsChanged, IsReplaced}
-use Rattle.dictionary.proofs.Changes.{at_read}
-use Rattle.dictionary.proofs.Counts.{is_zero, zero_times}
+use Rattle.frac128.proofs.Calculations.{first_wide-past, first_wide-before}
+use Rattle.certs.specs.Turns.{counted}
+use Rattle.dictionary.specs.Rows.{terms_of, reductions, without, IsRow, IsRowChanged}
+use Rattle.dictionary.proofs.Terms.{succeeded}
+use Rattle.dictionary.proofs.Lists.{rises, rises-kept, row_of_rises, without_none}
+use Rattle.dictionary.proofs.Changes.{product-nonzero, stays, leaving_new, changes, work-none, work-some}
 use Rattle.dictionary.proofs.rows.change_row.Goals as goal
 
--- the operations of a row whose factor is not 0
-nonzero_row : (m : ℕ) (a inverse : ℚ) (f q : ℕ → ℚ) (list : List ℕ) (t : Option Operation) → eq_ℚ a zero_ℚ ≡ false → first_wide m (counted Times a inverse ++ reduce_operations a f q list) ≡ t → first_wide m (row_operations a inverse f q list) ≡ t
-nonzero_row m a inverse f q list t e h = ap (λ b. first_wide m (cond b [] (counted Times a inverse ++ reduce_operations a f q list))) e ∙ h
-
-zero_row : (m : ℕ) (a inverse : ℚ) (f q : ℕ → ℚ) (list : List ℕ) → eq_ℚ a zero_ℚ ≡ true → first_wide m (row_operations a inverse f q list) ≡ None
-zero_row m a inverse f q list e = ap (λ b. first_wide m (cond b [] (counted Times a inverse ++ reduce_operations a f q list))) e ∙ first_wide-nil m
-
--- a row with factor 0 is what it would become
-zero_kept : (a b q : ℚ) → a ≡ zero_ℚ → b ≡ b -ℚ a *ℚ q
-zero_kept a b q e = ring_ℚ (b ∷ q ∷ []) x0 (x0 :- zero_of :* x1) tt ∙ ap (λ z. b -ℚ z *ℚ q) (sym e)
-
-replaced : (order : List ℕ) (one : ℕ) (change : ℕ → ℚ) (old new : List ℚ) (number v : ℚ) → one < length new → v ≡ number → IsChanged order one change old new → IsReplaced order one number change (at (set new one v))
-replaced order one change old new number v l e is = record {
-  changed = λ k m d. get_or-set_other new one (slice_index order k) v zero_ℚ d ∙ is.changed k m d;
-  own = get_or-set_same new one v zero_ℚ l ∙ e;
-}
-
-pub returns-then-is_zero : goal.returns-then-is_zero
-returns-then-is_zero g c =
+pub returns-in_default-clause-changed : goal.returns-in_default-clause-changed
+returns-in_default-clause-changed g c =
     let v = g.N.Exact.value in
-    let f = at (map v c.args.row.now) in
-    let q = at (map v c.args.quotients.now) in
-    let a = f c.args.column in
-    let is : a ≡ v c.index-row-column.result = at_read v c.args.row.now c.args.column c.index-row-column.result c.requires.column c.index-row-column.is in
-    let e : eq_ℚ a zero_ℚ ≡ true = ap (λ z. eq_ℚ z zero_ℚ) is ∙ sym c.is_zero.ensures ∙ c.if-is_zero.true in
-    let z : a ≡ zero_ℚ = is ∙ is_zero _ _ c.is_zero.ensures c.if-is_zero.true in (
-      zero_row g.N.Exact.most a (v c.args.inverse) f q (others c.args.column c.args.order.now) e,
-      record { changed = λ k l d. zero_kept a (f (slice_index c.args.order.now k)) (q (slice_index c.args.order.now k)) z; own = z ∙ zero_times a (v c.args.inverse) z },
+    let old = terms_of v c.args.row.now.items in
+    let Q = terms_of v c.args.quotients.now in
+    let J = c.args.entering in
+    let z : factor_of old J ≡ zero_ℚ = c.in_default.ensures.factor in
+    let same : terms_of v c.take_entry.new.row.items ≡ old = c.in_default.ensures.rest ∙ without_none 0 J old (rises old c.requires.row) z in (
+      work-none c.args.leaving J (v c.args.inverse) Q old g.N.Exact.most z,
+      subst (λ n. IsRowChanged c.args.leaving J (v c.args.inverse) Q old n) (sym same) (stays c.args.leaving J (v c.args.inverse) Q old c.requires.row c.requires.leaving z),
     )
 
-pub returns-in_err-own : goal.returns-in_err-own
-returns-in_err-own g c =
+-- the factor is one that is not 0
+counts : (a x : ℚ) → x ≡ a → x ≢ zero_ℚ → a ≢ zero_ℚ
+counts a x e d z = d (e ∙ z)
+
+pub returns-in_err-own-clause-changed : goal.returns-in_err-own-clause-changed
+returns-in_err-own-clause-changed g c =
     let v = g.N.Exact.value in
     let m = g.N.Exact.most in
-    let f = at (map v c.args.row.now) in
-    let q = at (map v c.args.quotients.now) in
-    let a = f c.args.column in
-    let list = others c.args.column c.args.order.now in
-    let is : a ≡ v c.index-row-column.result = at_read v c.args.row.now c.args.column c.index-row-column.result c.requires.column c.index-row-column.is in
-    let e : eq_ℚ a zero_ℚ ≡ false = ap (λ z. eq_ℚ z zero_ℚ) is ∙ sym c.is_zero.ensures ∙ c.if-is_zero.false in
-    let w = subst (λ z. first_wide m (counted Times z (v c.args.inverse)) ≡ Some c.in_err-own.field-0.0) (sym is) c.in_err-own.ensures in
+    let old = terms_of v c.args.row.now.items in
+    let Q = terms_of v c.args.quotients.now in
+    let J = c.args.entering in
+    let f = c.in-Some.ensures.factor in
+    let e : first_wide m (counted Times (factor_of old J) (v c.args.inverse)) ≡ Some c.in_err-own.field-0.0 = ap (λ z. first_wide m (counted Times z (v c.args.inverse))) (sym f.0) ∙ c.in_err-own.ensures in
     let p = err_from_is_err_and c.from_residual.result c.from_residual.ensures.1 in
-    rw (p.1, p.2) (nonzero_row m a (v c.args.inverse) f q list _ e (first_wide-before m (counted Times a (v c.args.inverse)) (reduce_operations a f q list) _ w))
+    rw (p.1, p.2)
+    (work-some c.args.leaving J (v c.args.inverse) Q old m _ (counts _ _ f.0 f.1) (first_wide-before m (counted Times (factor_of old J) (v c.args.inverse)) (reductions (factor_of old J) (without J old) Q) _ e))
 
-pub returns-in_err-reduce_row : goal.returns-in_err-reduce_row
-returns-in_err-reduce_row g c =
+pub unwrap-requires : goal.unwrap-requires
+unwrap-requires g c =
+    let f = c.in-Some.ensures.factor in
+    c.extend_from_slice.ensures.succeeds
+    (let s = c.requires.spare (counts _ _ f.0 f.1) in
+    let a = c.clear.ensures.len in
+    let b = c.clear.ensures.capacity in
+    let n = ap length c.deref.ensures.value in
+    let h = c.in-Some.ensures.shorter in
+    omega (arith, s, a, b, n, h))
+
+pub reduce_row-requires : goal.reduce_row-requires
+reduce_row-requires g c =
     let v = g.N.Exact.value in
     let m = g.N.Exact.most in
-    let f = at (map v c.args.row.now) in
-    let q = at (map v c.args.quotients.now) in
-    let a = f c.args.column in
-    let list = others c.args.column c.args.order.now in
-    let is : a ≡ v c.index-row-column.result = at_read v c.args.row.now c.args.column c.index-row-column.result c.requires.column c.index-row-column.is in
-    let e : eq_ℚ a zero_ℚ ≡ false = ap (λ z. eq_ℚ z zero_ℚ) is ∙ sym c.is_zero.ensures ∙ c.if-is_zero.false in
-    let first = subst (λ z. first_wide m (counted Times z (v c.args.inverse)) ≡ None) (sym is) c.in_ok-own.ensures.1 in
-    let w = subst (λ z. first_wide m (reduce_operations z f q list) ≡ Some c.in_err-reduce_row.field-0.0) (sym is) c.in_err-reduce_row.ensures in
+    let old = terms_of v c.args.row.now.items in
+    let Q = terms_of v c.args.quotients.now in
+    let J = c.args.entering in
+    let a = factor_of old J in
+    let f = c.in-Some.ensures.factor in
+    let spare : c.deref-2.result.now ≡ c.take_entry.new.row.items =
+    c.deref-2.ensures.value ∙ succeeded c.extend_from_slice.result c.unwrap.result (c.clear.new.self.items ++ c.deref.result.now) c.clear.new.self.items c.extend_from_slice.new.self.items c.unwrap.ensures c.extend_from_slice.ensures.items
+    ∙ ap (λ z. z ++ c.deref.result.now) c.clear.ensures.items ∙ c.deref.ensures.value in
+    let held : terms_of v c.deref-2.result.now ≡ without J old = ap (terms_of v) spare ∙ c.in-Some.ensures.rest in
+    record {
+      row = subst IsRow (sym held) (row_of_rises 0 (without J old) (rises-kept (λ t. not (t.column == J)) 0 old (rises old c.requires.row)));
+      quotients = c.requires.quotients;
+      empty = c.clear-2.ensures.items;
+      room = (let r = c.requires.room (counts _ _ f.0 f.1) in
+          let n = ap length spare in
+          let h = c.in-Some.ensures.shorter in
+          let k = c.clear-2.ensures.capacity in
+          let q = c.in-Some.ensures.capacity in
+          omega (arith, r, n, h, k, q));
+    }
+
+pub returns-in_err-reduce_row-clause-changed : goal.returns-in_err-reduce_row-clause-changed
+returns-in_err-reduce_row-clause-changed g c =
+    let v = g.N.Exact.value in
+    let m = g.N.Exact.most in
+    let old = terms_of v c.args.row.now.items in
+    let Q = terms_of v c.args.quotients.now in
+    let J = c.args.entering in
+    let a = factor_of old J in
+    let f = c.in-Some.ensures.factor in
+    let spare : c.deref-2.result.now ≡ c.take_entry.new.row.items =
+    c.deref-2.ensures.value ∙ succeeded c.extend_from_slice.result c.unwrap.result (c.clear.new.self.items ++ c.deref.result.now) c.clear.new.self.items c.extend_from_slice.new.self.items c.unwrap.ensures c.extend_from_slice.ensures.items
+    ∙ ap (λ z. z ++ c.deref.result.now) c.clear.ensures.items ∙ c.deref.ensures.value in
+    let held : terms_of v c.deref-2.result.now ≡ without J old = ap (terms_of v) spare ∙ c.in-Some.ensures.rest in
+    let e : first_wide m (counted Times a (v c.args.inverse)) ≡ None = ap (λ z. first_wide m (counted Times z (v c.args.inverse))) (sym f.0) ∙ c.in_ok-own.ensures.1 in
+    let w : first_wide m (reductions a (without J old) Q) ≡ Some c.in_err-reduce_row.field-0.0 =
+    ap (λ z. first_wide m (reductions a z Q)) (sym held) ∙ ap (λ z. first_wide m (reductions z (terms_of v c.deref-2.result.now) Q)) (sym f.0) ∙ c.in_err-reduce_row.ensures.reduced in
     let p = err_from_is_err_and c.from_residual-in_err-reduce_row.result c.from_residual-in_err-reduce_row.ensures.1 in
-    rw (p.1, p.2) (nonzero_row m a (v c.args.inverse) f q list _ e (first_wide-past m (counted Times a (v c.args.inverse)) (reduce_operations a f q list) first ∙ w))
+    rw (p.1, p.2)
+    (work-some c.args.leaving J (v c.args.inverse) Q old m _ (counts _ _ f.0 f.1) (first_wide-past m (counted Times a (v c.args.inverse)) (reductions a (without J old) Q) e ∙ w))
 
-pub returns : goal.returns
-returns g c =
+pub put_entry-requires : goal.put_entry-requires
+put_entry-requires g c =
     let v = g.N.Exact.value in
     let m = g.N.Exact.most in
-    let f = at (map v c.args.row.now) in
-    let q = at (map v c.args.quotients.now) in
-    let a = f c.args.column in
-    let list = others c.args.column c.args.order.now in
-    let is : a ≡ v c.index-row-column.result = at_read v c.args.row.now c.args.column c.index-row-column.result c.requires.column c.index-row-column.is in
-    let e : eq_ℚ a zero_ℚ ≡ false = ap (λ z. eq_ℚ z zero_ℚ) is ∙ sym c.is_zero.ensures ∙ c.if-is_zero.false in
-    let first = subst (λ z. first_wide m (counted Times z (v c.args.inverse)) ≡ None) (sym is) c.in_ok-own.ensures.1 in
-    let own = c.in_ok-own.ensures.0 ∙ ap (λ z. z *ℚ v c.args.inverse) (sym is) in
-    let reduced = subst (λ z. (first_wide m (reduce_operations z f q list) ≡ None) × IsChanged c.args.order.now c.args.column (λ k. f k -ℚ z *ℚ q k) (map v c.args.row.now) (map v c.reduce_row.new.row)) (sym is) c.in_ok-reduce_row.ensures in
-    let l = subst (λ n. c.args.column < n) (sym (length-map c.reduce_row.new.row v ∙ c.reduce_row.auto.row)) c.requires.column in (
-      nonzero_row m a (v c.args.inverse) f q list _ e (first_wide-past m (counted Times a (v c.args.inverse)) (reduce_operations a f q list) first ∙ reduced.0),
-      rw (map-set v c.reduce_row.new.row c.args.column c.in_ok-own.own) (replaced c.args.order.now c.args.column (λ k. f k -ℚ a *ℚ q k) (map v c.args.row.now) (map v c.reduce_row.new.row) (a *ℚ v c.args.inverse) (v c.in_ok-own.own) l own reduced.1),
+    let old = terms_of v c.args.row.now.items in
+    let Q = terms_of v c.args.quotients.now in
+    let J = c.args.entering in
+    let a = factor_of old J in
+    let f = c.in-Some.ensures.factor in
+    let spare : c.deref-2.result.now ≡ c.take_entry.new.row.items =
+    c.deref-2.ensures.value ∙ succeeded c.extend_from_slice.result c.unwrap.result (c.clear.new.self.items ++ c.deref.result.now) c.clear.new.self.items c.extend_from_slice.new.self.items c.unwrap.ensures c.extend_from_slice.ensures.items
+    ∙ ap (λ z. z ++ c.deref.result.now) c.clear.ensures.items ∙ c.deref.ensures.value in
+    let held : terms_of v c.deref-2.result.now ≡ without J old = ap (terms_of v) spare ∙ c.in-Some.ensures.rest in
+    record {
+      row = c.in_ok-reduce_row.ensures.reduced.1.0;
+      new = (let done = c.in_ok-reduce_row.ensures.reduced in
+          let M = terms_of v c.reduce_row.new.out.items in
+          let factors : (k : ℕ) → factor_of M k ≡ factor_of (without J old) k -ℚ a *ℚ factor_of Q k =
+          λ k. done.1.1 k ∙ ap (λ z. factor_of z k -ℚ v c.in-Some.factor *ℚ factor_of Q k) held ∙ ap (λ z. factor_of (without J old) k -ℚ z *ℚ factor_of Q k) f.0 in
+          leaving_new c.args.leaving J (v c.args.inverse) Q old M factors c.requires.leaving c.requires.no_leaving c.requires.apart);
+      nonzero = λ z. product-nonzero (v c.in-Some.factor) (v c.args.inverse) f.1 c.requires.inverse (sym c.in_ok-own.ensures.0 ∙ z);
+      room = (let r = c.requires.room (counts _ _ f.0 f.1) in
+          let n = ap length spare in
+          let h = c.in-Some.ensures.shorter in
+          let k = c.clear-2.ensures.capacity in
+          let q = c.in-Some.ensures.capacity in
+          let u = c.in_ok-reduce_row.ensures.longer in
+          let w = c.reduce_row.ensures.capacity in
+          omega (arith, r, n, h, k, q, u, w));
+    }
+
+pub returns-clause-changed : goal.returns-clause-changed
+returns-clause-changed g c =
+    let v = g.N.Exact.value in
+    let m = g.N.Exact.most in
+    let old = terms_of v c.args.row.now.items in
+    let Q = terms_of v c.args.quotients.now in
+    let J = c.args.entering in
+    let a = factor_of old J in
+    let f = c.in-Some.ensures.factor in
+    let spare : c.deref-2.result.now ≡ c.take_entry.new.row.items =
+    c.deref-2.ensures.value ∙ succeeded c.extend_from_slice.result c.unwrap.result (c.clear.new.self.items ++ c.deref.result.now) c.clear.new.self.items c.extend_from_slice.new.self.items c.unwrap.ensures c.extend_from_slice.ensures.items
+    ∙ ap (λ z. z ++ c.deref.result.now) c.clear.ensures.items ∙ c.deref.ensures.value in
+    let held : terms_of v c.deref-2.result.now ≡ without J old = ap (terms_of v) spare ∙ c.in-Some.ensures.rest in
+    let e : first_wide m (counted Times a (v c.args.inverse)) ≡ None = ap (λ z. first_wide m (counted Times z (v c.args.inverse))) (sym f.0) ∙ c.in_ok-own.ensures.1 in
+    let done = c.in_ok-reduce_row.ensures.reduced in
+    let M = terms_of v c.reduce_row.new.out.items in
+    let factors : (k : ℕ) → factor_of M k ≡ factor_of (without J old) k -ℚ a *ℚ factor_of Q k =
+    λ k. done.1.1 k ∙ ap (λ z. factor_of z k -ℚ v c.in-Some.factor *ℚ factor_of Q k) held ∙ ap (λ z. factor_of (without J old) k -ℚ z *ℚ factor_of Q k) f.0 in
+    let work : first_wide m (reductions a (without J old) Q) ≡ None =
+    ap (λ z. first_wide m (reductions a z Q)) (sym held) ∙ ap (λ z. first_wide m (reductions z (terms_of v c.deref-2.result.now) Q)) (sym f.0) ∙ done.0 in (
+      work-some c.args.leaving J (v c.args.inverse) Q old m None (counts _ _ f.0 f.1) (first_wide-past m (counted Times a (v c.args.inverse)) (reductions a (without J old) Q) e ∙ work),
+      changes c.args.leaving J (v c.args.inverse) Q old M factors (terms_of v c.put_entry.new.row.items) (v c.in_ok-own.own) c.put_entry.ensures.row (c.in_ok-own.ensures.0 ∙ ap (λ z. z *ℚ v c.args.inverse) f.0)
+          c.put_entry.ensures.own c.put_entry.ensures.others c.requires.apart c.requires.no_entering,
     )

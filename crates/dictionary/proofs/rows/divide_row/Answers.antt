@@ -1,73 +1,65 @@
-use Rattle.std.proofs.Common.{◌≡◌, ◌<◌, ℕ, length, map, refl, sym, ◌∙◌, ap, subst, Some, None}
-use Rattle.std.specs.Prelude.{slice_index}
+use Rattle.std.proofs.Common.{◌≡◌, ◌<◌, ◌≤◌, length, map, refl, sym, ◌∙◌, ap, subst, Some, None}
 use Rattle.std.proofs.lemmas.Result.{err_from_is_err_and}
-use Rattle.std.proofs.lemmas.List.{map-set, length-map}
-use Rattle.rational.specs.Rational.{ℚ, ◌/ℚ◌}
+use Rattle.std.proofs.lemmas.List.{take_all}
+use Rattle.rational.specs.Rational.{◌/ℚ◌}
+use Rattle.rational.specs.Linear.{Term}
 use Rattle.frac128.specs.declared.Op.TheVariants.{Over}
 use Rattle.frac128.specs.Calculation.{Calculation, first_wide}
+use Rattle.rational.specs.Rational.{ℚ}
 use Rattle.certs.specs.Turns.{counted}
-use Rattle.dictionary.specs.Cells.{at}
-use Rattle.dictionary.proofs.Steps.{first_of-left_out, first_of-wide, first_of-next, first_of-end}
-use Rattle.dictionary.proofs.Changes.{changed-none, changed-all, changed-skip, changed-more, at_read}
+use Rattle.dictionary.specs.Rows.{terms_of}
+use Rattle.dictionary.proofs.Terms.{term}
+use Rattle.dictionary.proofs.Steps.{first-wide, first-next, first-end, same_here, changed-back, changed-front}
 use Rattle.dictionary.proofs.rows.divide_row.Goals as goal
 
--- the operation at a place
-abbrev work : (ℕ → ℚ) → ℚ → ℕ → Calculation
-work f p k = counted Over (f k) p
+-- the operation for a term, and what becomes of it
+abbrev work : ℚ → Term → Calculation
+work p t = counted Over t.factor p
 
-abbrev change : (ℕ → ℚ) → ℚ → ℕ → ℚ
-change f p k = f k /ℚ p
+abbrev change : ℚ → Term → Term
+change p t = record { column = t.column; factor = t.factor /ℚ p }
 
 pub loop-place-init : goal.loop-place-init
-loop-place-init g c =
-    let v = g.N.Exact.value in
-    record { width = refl; cells = changed-none c.args.order.now c.args.column (change (at (map v c.args.row.now)) (v c.args.pivot)) (map v c.args.quotients.now) }
+loop-place-init g c = record { width = refl; front = refl; back = refl }
 
-pub loop-place-preserved-then-place-column : goal.loop-place-preserved-then-place-column
-loop-place-preserved-then-place-column g c =
-    let v = g.N.Exact.value in
-    let f = at (map v c.args.row.now) in
-    let i = c.loop-place.place-index in
-    record {
-      width = sym (first_of-left_out g.N.Exact.most (work f (v c.args.pivot)) c.args.column c.args.order.now i c.loop-place-test.true c.if-place-column.true) ∙ c.loop-place.invariant.width;
-      cells = changed-skip c.args.order.now c.args.column (change f (v c.args.pivot)) (map v c.args.quotients.now) i (map v c.loop-place.quotients) c.loop-place-test.true c.loop-place.invariant.cells c.if-place-column.true;
-    }
-
-pub returns-in_err-quotients : goal.returns-in_err-quotients
-returns-in_err-quotients g c =
+pub returns-in_err-factor : goal.returns-in_err-factor
+returns-in_err-factor g c =
     let v = g.N.Exact.value in
     let m = g.N.Exact.most in
-    let f = at (map v c.args.row.now) in
-    let i = c.loop-place.place-index in
-    let k = slice_index c.args.order.now i in
-    let fk : f k ≡ v c.index-row-place.result = at_read v c.args.row.now k c.index-row-place.result (c.requires.known i 0 c.loop-place-test.true) c.index-row-place.is in
-    let e = subst (λ z. first_wide m (counted Over z (v c.args.pivot)) ≡ Some c.in_err-quotients.field-0.0) (sym fk) c.in_err-quotients.ensures in
-    let p = err_from_is_err_and c.from_residual.result c.from_residual.ensures.1 in
-    rw (p.1, p.2) (sym c.loop-place.invariant.width ∙ first_of-wide m (work f (v c.args.pivot)) c.args.column c.args.order.now i c.loop-place-test.true c.if-place-column.false _ e)
+    let p = v c.args.pivot in
+    let i = c.loop-place.place in
+    let l = c.loop-place-test.true in
+    let k : i < length c.loop-place.row = subst (λ n. i < n) (sym c.loop-place.auto.row) l in
+    let x = c.index-row-place.result in
+    let here = same_here (term v) (change p) c.args.row.now c.loop-place.row i c.loop-place.invariant.front c.loop-place.invariant.back x l k in
+    let e : first_wide m (work p (term v x)) ≡ Some c.in_err-factor.field-0.0 = c.in_err-factor.ensures in
+    let q = err_from_is_err_and c.from_residual.result c.from_residual.ensures.1 in
+    rw (q.1, q.2) (sym c.loop-place.invariant.width ∙ first-wide m (term v) (work p) c.args.row.now i x l _ (ap (λ z. first_wide m (work p (term v z))) (sym here) ∙ ap (λ z. first_wide m (work p (term v z))) (sym c.index-row-place.is) ∙ e))
 
 pub loop-place-preserved : goal.loop-place-preserved
 loop-place-preserved g c =
     let v = g.N.Exact.value in
     let m = g.N.Exact.most in
-    let f = at (map v c.args.row.now) in
-    let i = c.loop-place.place-index in
-    let k = slice_index c.args.order.now i in
-    let known = c.requires.known i 0 c.loop-place-test.true in
-    let fk : f k ≡ v c.index-row-place.result = at_read v c.args.row.now k c.index-row-place.result known c.index-row-place.is in
-    let e = subst (λ z. first_wide m (counted Over z (v c.args.pivot)) ≡ None) (sym fk) c.in_ok-quotients.ensures.1 in
-    let value = c.in_ok-quotients.ensures.0 ∙ ap (λ z. z /ℚ v c.args.pivot) (sym fk) in
-    let l : k < length c.loop-place.quotients = subst (λ n. k < n) (sym (c.loop-place.auto.quotients ∙ c.requires.room)) known in
+    let p = v c.args.pivot in
+    let i = c.loop-place.place in
+    let l = c.loop-place-test.true in
+    let k : i < length c.loop-place.row = subst (λ n. i < n) (sym c.loop-place.auto.row) l in
+    let x = c.index-row-place.result in
+    let here = same_here (term v) (change p) c.args.row.now c.loop-place.row i c.loop-place.invariant.front c.loop-place.invariant.back x l k in
+    let e : first_wide m (work p (term v x)) ≡ None = c.in_ok-factor.ensures.1 in
     record {
-      width = sym (first_of-next m (work f (v c.args.pivot)) c.args.column c.args.order.now i c.loop-place-test.true c.if-place-column.false e) ∙ c.loop-place.invariant.width;
-      cells = rw (map-set v c.loop-place.quotients k c.in_ok-quotients.field-0) (changed-more c.args.order.now c.args.column (change f (v c.args.pivot)) (map v c.args.quotients.now) i (map v c.loop-place.quotients) c.loop-place-test.true c.loop-place.invariant.cells c.requires.apart c.if-place-column.false
-          (subst (λ n. k < n) (sym (length-map c.loop-place.quotients v)) l) (v c.in_ok-quotients.field-0) value);
+      width = sym (first-next m (term v) (work p) c.args.row.now i x l (ap (λ z. first_wide m (work p (term v z))) (sym here) ∙ ap (λ z. first_wide m (work p (term v z))) (sym c.index-row-place.is) ∙ e)) ∙ c.loop-place.invariant.width;
+      front = changed-front (term v) (change p) c.args.row.now c.loop-place.row i c.loop-place.invariant.front c.loop-place.invariant.back x l k _ ((λ z. record { column = x.variable; factor = c.in_ok-factor.ensures.0 z }) ∙ ap (λ e. change p (term v e)) c.index-row-place.is);
+      back = changed-back (term v) (change p) c.args.row.now c.loop-place.row i c.loop-place.invariant.front c.loop-place.invariant.back x l k _;
     }
 
 pub returns : goal.returns
 returns g c =
     let v = g.N.Exact.value in
-    let f = at (map v c.args.row.now) in
-    let i = c.loop-place.place-index in (
-      sym c.loop-place.invariant.width ∙ first_of-end g.N.Exact.most (work f (v c.args.pivot)) c.args.column c.args.order.now i c.loop-place-test.false,
-      changed-all c.args.order.now c.args.column (change f (v c.args.pivot)) (map v c.args.quotients.now) i (map v c.loop-place.quotients) c.loop-place-test.false c.loop-place.invariant.cells,
+    let m = g.N.Exact.most in
+    let p = v c.args.pivot in
+    let i = c.loop-place.place in
+    let l = c.loop-place-test.false in (
+      sym c.loop-place.invariant.width ∙ first-end m (term v) (work p) c.args.row.now i l,
+      ap (terms_of v) (sym (take_all i c.loop-place.row (subst (λ n. n ≤ i) (sym c.loop-place.auto.row) l))) ∙ c.loop-place.invariant.front ∙ ap (λ z. map (change p) (terms_of v z)) (take_all i c.args.row.now l),
     )

@@ -1,18 +1,20 @@
-use Rattle.std.proofs.Common.{◌≡◌, drop, map}
-use Rattle.rational.specs.Rational.{◌-ℚ◌, ◌*ℚ◌}
+use Rattle.std.proofs.Common.{◌≡◌, ◌+◌, ◌≤◌, ◌++◌, length, drop, vec_capacity}
 use Rattle.frac128.specs.Calculation.{first_wide}
-use Rattle.certs.specs.Turns.{others, reduce_operations}
-use Rattle.dictionary.specs.Cells.{at}
-use Rattle.dictionary.proofs.Changes.{IsChangedTo}
+use Rattle.dictionary.specs.Rows.{terms_of, reductions}
+use Rattle.dictionary.proofs.Merges.{merged}
 use Rattle.dictionary.proofs.rows.reduce_row.Given as goal
 
--- the first wide operation is still to come, and the places passed are changed
-abbrev pub invariant-loop-place : goal.invariant-loop-place
-invariant-loop-place g l =
-    let value = g.N.Exact.value in
-    let f = at (map value l.fn.row) in
-    let q = at (map value l.quotients) in
+-- what is written, and then what is left of both, makes the whole; and the first wide operation is still to come
+abbrev pub invariant-loop-quotient : goal.invariant-loop-quotient
+invariant-loop-quotient g l =
+    let v = g.N.Exact.value in
+    let m = g.N.Exact.most in
+    let a = v l.factor in
     record {
-      width : first_wide g.N.Exact.most (reduce_operations (value l.factor) f q (others l.column (drop l.place-index l.order))) ≡ first_wide g.N.Exact.most (reduce_operations (value l.factor) f q (others l.column l.order));
-      cells : IsChangedTo l.place-index l.order l.column (λ c. f c -ℚ value l.factor *ℚ q c) (map value l.fn.row) (map value l.row);
+      within : l.next ≤ length l.row;
+      items : terms_of v l.out.items ++ merged a (terms_of v (drop l.next l.row)) (terms_of v (drop l.quotient-index l.quotients)) ≡ merged a (terms_of v l.row) (terms_of v l.quotients);
+      width : first_wide m (reductions a (terms_of v (drop l.next l.row)) (terms_of v (drop l.quotient-index l.quotients))) ≡ first_wide m (reductions a (terms_of v l.row) (terms_of v l.quotients));
+      passed : l.quotient-index ≤ length l.quotients;
+      longer : length l.out.items ≤ l.next + l.quotient-index;
+      capacity : vec_capacity l.fn.out ≤ vec_capacity l.out;
     }

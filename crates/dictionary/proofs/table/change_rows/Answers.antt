@@ -1,151 +1,142 @@
-use Rattle.std.proofs.Common.{◌≡◌, ◌+◌, ◌-◌, ◌*◌, ◌<◌, ◌≤◌, ℕ, List, length, take, drop, map, refl, sym, ◌∙◌, ap, subst, Some, None, arith}
-use Rattle.std.proofs.lemmas.Grind.{common_steps}
-use Rattle.std.specs.Prelude.{slice_index, Contains}
+use Rattle.std.proofs.Common.{◌≡◌, ◌≢◌, ◌+◌, ◌<◌, ◌≤◌, List, [], length, get_or, set, vec_capacity, refl, sym, ◌∙◌, ap, subst, Some, None, arith, inl, inr}
+use Rattle.std.specs.Prelude.{slice_index_or}
+use Rattle.std.proofs.lemmas.Bool.{cases_eq}
 use Rattle.std.proofs.lemmas.Result.{err_from_is_err_and}
-use Rattle.std.proofs.lemmas.List.{length-map, get_or_read}
-use Rattle.rational.specs.Rational.{ℚ}
+use Rattle.std.proofs.lemmas.List.{get_or-set_same, get_or-set_other, drop-set-lt}
+use Rattle.rational.specs.Rational.{zero_ℚ}
+use Rattle.rational.specs.Linear.{Term, factor_of}
 use Rattle.frac128.specs.Calculation.{Calculation, first_wide}
-use Rattle.certs.specs.Turns.{others, row_operations}
-use Rattle.dictionary.specs.Cells.{at, cell, IsGrid, IsRowChanged, rows_operations}
-use Rattle.dictionary.proofs.Steps.{first_of-left_out, first_of-wide, first_of-next, first_of-end}
-use Rattle.dictionary.proofs.Grids.{AreRowsChangedTo, rows-none, rows-all, rows-skip, rows-more, part-operations, part-changed, part_cells, part_put, part_length}
+use Rattle.dictionary.specs.Rows.{terms_of, rows_of, row_work, IsRow, IsRowChanged}
+use Rattle.dictionary.proofs.Steps.{first-wide, first-next, first-end, left_item, left_rest}
+use Rattle.dictionary.proofs.Tables.{rows_set, rows_at, rows-length}
 use Rattle.dictionary.proofs.table.change_rows.Goals as goal
 
--- the operations in a row
-abbrev work : (ℕ → ℕ → ℚ) → ℚ → (ℕ → ℚ) → ℕ → List ℕ → ℕ → Calculation
-work rows inverse q column order r = row_operations (rows r column) inverse (rows r) q (others column order)
+pub loop-place-init : goal.loop-place-init
+loop-place-init g c = record { width = refl; front = λ k l. absurd (omega (arith, l)); back = refl; capacity = omega arith }
 
-pub loop-basic-init : goal.loop-basic-init
-loop-basic-init g c =
+pub change_row-requires-clause-row : goal.change_row-requires-clause-row
+change_row-requires-clause-row g c =
     let v = g.N.Exact.value in
-    let slots = c.args.layout.now.slots.items in
-    let order = c.args.layout.now.order.items in
-    let w = c.args.layout.now.width in
-    let items = c.deref-basic-items.ensures.value in
-    let basics = c.deref-basic-items.result.now in
-    let old = map v c.args.entries.now in
-    let q = at (map v c.args.quotients.now) in
-    let grid = subst (λ b. IsGrid slots b order w (length c.args.entries.now)) (sym items) c.requires.grid in
-    let there = subst (λ b. Contains b c.args.leaving) (sym items) c.requires.leaving in
-    record {
-      width = refl;
-      cells = rows-none slots basics order w (length c.args.entries.now) c.args.leaving c.args.column (v c.args.inverse) q old grid there c.requires.column;
-      items = items;
-    }
+    let m = g.N.Exact.most in
+    let J = c.args.entering in
+    let Q = terms_of v c.args.quotients.now in
+    let old = c.args.rows.now in
+    let now = c.loop-place.rows in
+    let i = c.loop-place.place in
+    let x = c.index-rows-place.result in
+    let l = c.loop-place-test.true in
+    let k : i < length now = subst (λ n. i < n) (sym c.loop-place.auto.rows) l in
+    let item : get_or now i x ≡ get_or old i x = left_item old now i c.loop-place.invariant.back x l k in
+    subst (λ r. IsRow (terms_of v r.items)) (sym item) (c.requires.rows i x l)
 
-pub loop-basic-preserved-then-basic-leaving : goal.loop-basic-preserved-then-basic-leaving
-loop-basic-preserved-then-basic-leaving g c =
+pub change_row-requires-clause-leaving : goal.change_row-requires-clause-leaving
+change_row-requires-clause-leaving g c =
     let v = g.N.Exact.value in
-    let slots = c.args.layout.now.slots.items in
-    let order = c.args.layout.now.order.items in
-    let w = c.args.layout.now.width in
-    let items = c.loop-basic.invariant.items in
-    let basics = c.deref-basic-items.result.now in
-    let old = map v c.args.entries.now in
-    let q = at (map v c.args.quotients.now) in
-    let i = c.loop-basic.basic-index in
-    let grid = subst (λ b. IsGrid slots b order w (length c.args.entries.now)) (sym items) c.requires.grid in
-    let there = subst (λ b. Contains b c.args.leaving) (sym items) c.requires.leaving in
-    record {
-      width = sym (first_of-left_out g.N.Exact.most (work (cell slots w old) (v c.args.inverse) q c.args.column order) c.args.leaving basics i c.loop-basic-test.true c.if-basic-leaving.true) ∙ c.loop-basic.invariant.width;
-      cells = rows-skip slots basics order w (length c.args.entries.now) c.args.leaving c.args.column (v c.args.inverse) q old grid there c.requires.column i (map v c.loop-basic.entries) c.loop-basic-test.true c.loop-basic.invariant.cells c.if-basic-leaving.true;
-      items = items;
-    }
+    let m = g.N.Exact.most in
+    let J = c.args.entering in
+    let Q = terms_of v c.args.quotients.now in
+    let old = c.args.rows.now in
+    let now = c.loop-place.rows in
+    let i = c.loop-place.place in
+    let x = c.index-rows-place.result in
+    let l = c.loop-place-test.true in
+    let k : i < length now = subst (λ n. i < n) (sym c.loop-place.auto.rows) l in
+    let item : get_or now i x ≡ get_or old i x = left_item old now i c.loop-place.invariant.back x l k in
+    ap (λ r. factor_of (terms_of v r.items) c.args.leaving) item ∙ c.requires.leaving i x l
+
+pub change_row-requires-clause-room : goal.change_row-requires-clause-room
+change_row-requires-clause-room g c =
+    let v = g.N.Exact.value in
+    let m = g.N.Exact.most in
+    let J = c.args.entering in
+    let Q = terms_of v c.args.quotients.now in
+    let old = c.args.rows.now in
+    let now = c.loop-place.rows in
+    let i = c.loop-place.place in
+    let x = c.index-rows-place.result in
+    let l = c.loop-place-test.true in
+    let k : i < length now = subst (λ n. i < n) (sym c.loop-place.auto.rows) l in
+    let item : get_or now i x ≡ get_or old i x = left_item old now i c.loop-place.invariant.back x l k in
+    subst (λ r. factor_of (terms_of v r.items) J ≢ zero_ℚ → length r.items + length c.args.quotients.now ≤ vec_capacity r) (sym item) (c.requires.room i x l)
+
+pub change_row-requires-clause-spare : goal.change_row-requires-clause-spare
+change_row-requires-clause-spare g c =
+    let v = g.N.Exact.value in
+    let m = g.N.Exact.most in
+    let J = c.args.entering in
+    let Q = terms_of v c.args.quotients.now in
+    let old = c.args.rows.now in
+    let now = c.loop-place.rows in
+    let i = c.loop-place.place in
+    let x = c.index-rows-place.result in
+    let l = c.loop-place-test.true in
+    let k : i < length now = subst (λ n. i < n) (sym c.loop-place.auto.rows) l in
+    let item : get_or now i x ≡ get_or old i x = left_item old now i c.loop-place.invariant.back x l k in
+    let r = subst (λ r. factor_of (terms_of v r.items) J ≢ zero_ℚ → length r.items ≤ vec_capacity c.args.spare.now) (sym item) (c.requires.spare i x l) in
+    let w = c.loop-place.invariant.capacity in
+    λ n. (let a = r n in omega (arith, a, w))
 
 pub returns-in_err-change_row : goal.returns-in_err-change_row
 returns-in_err-change_row g c =
     let v = g.N.Exact.value in
     let m = g.N.Exact.most in
-    let slots = c.args.layout.now.slots.items in
-    let order = c.args.layout.now.order.items in
-    let w = c.args.layout.now.width in
-    let items = c.loop-basic.invariant.items in
-    let basics = c.deref-basic-items.result.now in
-    let old = map v c.args.entries.now in
-    let q = at (map v c.args.quotients.now) in
-    let i = c.loop-basic.basic-index in
-    let r = slice_index basics i in
-    let grid = subst (λ b. IsGrid slots b order w (length c.args.entries.now)) (sym items) c.requires.grid in
-    let there = subst (λ b. Contains b c.args.leaving) (sym items) c.requires.leaving in
-    let s = c.index.result.now in
-    let slot : s ≡ slice_index slots r = get_or_read slots r s (grid.known i c.loop-basic-test.true) c.index.ensures 0 in
-    let part = map v (take ((s * w + w) - s * w) (drop (s * w) c.loop-basic.entries)) in
-    let raw = subst (λ o. first_wide m (row_operations (at part c.args.column) (v c.args.inverse) (at part) q (others c.args.column o)) ≡ Some c.in_err-change_row.field-0.0) c.deref.ensures.value c.in_err-change_row.ensures in
-    let same = part-operations slots basics order w (length c.args.entries.now) c.args.leaving c.args.column (v c.args.inverse) q old grid there c.requires.column i (map v c.loop-basic.entries) c.loop-basic-test.true c.loop-basic.invariant.cells part
-    (λ k l. part_cells v slots c.loop-basic.entries r s w k slot l) in
+    let J = c.args.entering in
+    let Q = terms_of v c.args.quotients.now in
+    let old = c.args.rows.now in
+    let now = c.loop-place.rows in
+    let i = c.loop-place.place in
+    let x = c.index-rows-place.result in
+    let l = c.loop-place-test.true in
+    let k : i < length now = subst (λ n. i < n) (sym c.loop-place.auto.rows) l in
+    let item : get_or now i x ≡ get_or old i x = left_item old now i c.loop-place.invariant.back x l k in
+    let F : List Term → Calculation = λ row. row_work J (v c.args.inverse) Q row in
+    let e : first_wide m (F (terms_of v (get_or now i x).items)) ≡ Some c.in_err-change_row.field-0.0 = c.in_err-change_row.ensures.changed in
     let p = err_from_is_err_and c.from_residual.result c.from_residual.ensures.1 in
-    rw (p.1, p.2)
-    (subst (λ b. first_wide m (rows_operations (cell slots w old) (v c.args.inverse) q c.args.leaving c.args.column b order) ≡ Some c.in_err-change_row.field-0.0) items
-    (sym c.loop-basic.invariant.width
-    ∙ first_of-wide m (work (cell slots w old) (v c.args.inverse) q c.args.column order) c.args.leaving basics i c.loop-basic-test.true c.if-basic-leaving.false _ (ap (first_wide m) (sym same) ∙ raw)))
+    rw (p.1, p.2) (sym c.loop-place.invariant.width ∙ first-wide m (λ r. terms_of v r.items) F old i x l _ (ap (λ r. first_wide m (F (terms_of v r.items))) (sym item) ∙ e))
 
-pub loop-basic-preserved : goal.loop-basic-preserved
-loop-basic-preserved g c =
+pub loop-place-preserved : goal.loop-place-preserved
+loop-place-preserved g c =
     let v = g.N.Exact.value in
     let m = g.N.Exact.most in
-    let slots = c.args.layout.now.slots.items in
-    let order = c.args.layout.now.order.items in
-    let w = c.args.layout.now.width in
-    let items = c.loop-basic.invariant.items in
-    let basics = c.deref-basic-items.result.now in
-    let old = map v c.args.entries.now in
-    let now = map v c.loop-basic.entries in
-    let q = at (map v c.args.quotients.now) in
-    let i = c.loop-basic.basic-index in
-    let r = slice_index basics i in
-    let size = length c.args.entries.now in
-    let grid = subst (λ b. IsGrid slots b order w size) (sym items) c.requires.grid in
-    let there = subst (λ b. Contains b c.args.leaving) (sym items) c.requires.leaving in
-    let s = c.index.result.now in
-    let slot : s ≡ slice_index slots r = get_or_read slots r s (grid.known i c.loop-basic-test.true) c.index.ensures 0 in
-    let part = map v (take ((s * w + w) - s * w) (drop (s * w) c.loop-basic.entries)) in
-    let cells : (k : ℕ) → k < w → at part k ≡ cell slots w now r k = λ k l. part_cells v slots c.loop-basic.entries r s w k slot l in
-    let row = map v c.change_row.new.row in
-    let raw = subst (λ o. (first_wide m (row_operations (at part c.args.column) (v c.args.inverse) (at part) q (others c.args.column o)) ≡ None) × IsRowChanged o c.args.column (v c.args.inverse) q (at part) (at row)) c.deref.ensures.value c.in_ok-change_row.ensures in
-    let same = part-operations slots basics order w size c.args.leaving c.args.column (v c.args.inverse) q old grid there c.requires.column i now c.loop-basic-test.true c.loop-basic.invariant.cells part cells in
-    let changed = part-changed slots basics order w size c.args.leaving c.args.column (v c.args.inverse) q old grid there c.requires.column i now c.loop-basic-test.true c.loop-basic.invariant.cells part cells row raw.1 in
-    let fit : s * w + w ≤ length c.loop-basic.entries = subst (λ n. s * w + w ≤ n) (sym c.loop-basic.auto.entries) (subst (λ z. z * w + w ≤ size) (sym slot) (grid.fits i c.loop-basic-test.true)) in
-    let long : length row ≡ w = length-map c.change_row.new.row v ∙ c.change_row.auto.row ∙ part_length c.loop-basic.entries (s * w) w fit in
-    let room : length now ≡ size = length-map c.loop-basic.entries v ∙ c.loop-basic.auto.entries in
+    let J = c.args.entering in
+    let Q = terms_of v c.args.quotients.now in
+    let old = c.args.rows.now in
+    let now = c.loop-place.rows in
+    let i = c.loop-place.place in
+    let x = c.index-rows-place.result in
+    let l = c.loop-place-test.true in
+    let k : i < length now = subst (λ n. i < n) (sym c.loop-place.auto.rows) l in
+    let item : get_or now i x ≡ get_or old i x = left_item old now i c.loop-place.invariant.back x l k in
+    let F : List Term → Calculation = λ row. row_work J (v c.args.inverse) Q row in
+    let new = c.change_row.new.row in
+    let done = c.in_ok-change_row.ensures.changed in
+    let e : first_wide m (F (terms_of v (get_or now i x).items)) ≡ None = done.0 in
+    let changed : IsRowChanged c.args.leaving J (v c.args.inverse) Q (terms_of v (get_or now i x).items) (terms_of v new.items) = done.1 in
+    let is : terms_of v (get_or now i x).items ≡ slice_index_or (rows_of v old) i [] = ap (λ r. terms_of v r.items) item ∙ sym (rows_at v old i x l) in
     record {
-      width = sym (first_of-next m (work (cell slots w old) (v c.args.inverse) q c.args.column order) c.args.leaving basics i c.loop-basic-test.true c.if-basic-leaving.false (ap (first_wide m) (sym same) ∙ raw.0)) ∙ c.loop-basic.invariant.width;
-      cells = subst (λ z. AreRowsChangedTo (i + 1) slots basics order w c.args.leaving c.args.column (v c.args.inverse) q old z) (sym (part_put v slots c.loop-basic.entries c.change_row.new.row r s w slot))
-          (rows-more slots basics order w size c.args.leaving c.args.column (v c.args.inverse) q old grid there c.requires.column i now c.loop-basic-test.true c.loop-basic.invariant.cells row long room c.if-basic-leaving.false changed);
-      items = items;
+      width = sym (first-next m (λ r. terms_of v r.items) F old i x l (ap (λ r. first_wide m (F (terms_of v r.items))) (sym item) ∙ e)) ∙ c.loop-place.invariant.width;
+      front = λ n h.
+          elim (cases_eq n i) [
+            | inl d ↦
+                subst (λ z. IsRowChanged c.args.leaving J (v c.args.inverse) Q (slice_index_or (rows_of v old) z []) (slice_index_or (rows_of v (set now i new)) z [])) (sym d)
+                (subst (λ z. IsRowChanged c.args.leaving J (v c.args.inverse) Q (slice_index_or (rows_of v old) i []) z)
+                (sym (ap (λ z. slice_index_or z i []) (rows_set v now i new) ∙ get_or-set_same (rows_of v now) i (terms_of v new.items) [] (subst (λ z. i < z) (sym (rows-length v now)) k)))
+                (subst (λ z. IsRowChanged c.args.leaving J (v c.args.inverse) Q z (terms_of v new.items)) is changed))
+            | inr d ↦
+                subst (λ z. IsRowChanged c.args.leaving J (v c.args.inverse) Q (slice_index_or (rows_of v old) n []) z)
+                (sym (ap (λ z. slice_index_or z n []) (rows_set v now i new) ∙ get_or-set_other (rows_of v now) i n (terms_of v new.items) [] d))
+                (c.loop-place.invariant.front n (omega (arith, h, d)))
+          ];
+      back = drop-set-lt (i + 1) now i new (omega arith) ∙ left_rest old now i c.loop-place.invariant.back x l k;
+      capacity = (let a = c.loop-place.invariant.capacity in let b = c.change_row.ensures.spare in omega (arith, a, b));
     }
 
 pub returns : goal.returns
 returns g c =
     let v = g.N.Exact.value in
     let m = g.N.Exact.most in
-    let slots = c.args.layout.now.slots.items in
-    let order = c.args.layout.now.order.items in
-    let w = c.args.layout.now.width in
-    let items = c.loop-basic.invariant.items in
-    let basics = c.deref-basic-items.result.now in
-    let old = map v c.args.entries.now in
-    let now = map v c.loop-basic.entries in
-    let q = at (map v c.args.quotients.now) in
-    let i = c.loop-basic.basic-index in
-    let size = length c.args.entries.now in
-    let grid = subst (λ b. IsGrid slots b order w size) (sym items) c.requires.grid in
-    let there = subst (λ b. Contains b c.args.leaving) (sym items) c.requires.leaving in
-    rw (sym items) (
-      sym c.loop-basic.invariant.width ∙ first_of-end m (work (cell slots w old) (v c.args.inverse) q c.args.column order) c.args.leaving basics i c.loop-basic-test.false,
-      rows-all slots basics order w size c.args.leaving c.args.column (v c.args.inverse) q old grid there c.requires.column i now c.loop-basic-test.false c.loop-basic.invariant.cells,
+    let F : List Term → Calculation = λ row. row_work c.args.entering (v c.args.inverse) (terms_of v c.args.quotients.now) row in
+    let t = c.loop-place-test.false in (
+      sym c.loop-place.invariant.width ∙ first-end m (λ r. terms_of v r.items) F c.args.rows.now c.loop-place.place t,
+      λ r l. c.loop-place.invariant.front r (omega (arith, l, t)),
     )
-
-pub offset_bounds-basic-items-basic-index : goal.offset_bounds-basic-items-basic-index
-offset_bounds-basic-items-basic-index g c = grind (arith, common_steps)
-
-pub overflow_mul-start : goal.overflow_mul-start
-overflow_mul-start g c = grind (arith, common_steps)
-
-pub overflow_add-start : goal.overflow_add-start
-overflow_add-start g c = grind (arith, common_steps)
-
-pub offset_bounds-entries-start : goal.offset_bounds-entries-start
-offset_bounds-entries-start g c = grind (arith, common_steps)
-
-pub slice_bounds-change_row-end : goal.slice_bounds-change_row-end
-slice_bounds-change_row-end g c = grind (arith, common_steps)

@@ -30,7 +30,7 @@ returns-in-Err c =
     let stop = c.in-Err.stop in
     let run = c.in-Err.ensures.run c.args.system.now start.ensures.0 in
     let basis = start.ensures.1.0 in
-    c.stopped.ensures model c.args.pivots.now c.requires.same
+    c.stop_told.ensures model c.args.pivots.now c.requires.same
     (stop_excludes c.args.system.now last is reduced start.dictionary new.dictionary c.args.pivots.now new.pivots new.turn basis whole trace leads stop run)
     (λ none. stop_own c.args.system.now last is reduced start.dictionary new.dictionary c.args.pivots.now new.pivots new.turn basis whole trace leads none stop run)
 
@@ -44,9 +44,9 @@ returns-in-Feasible c =
     let (last, (leads, (is, reduced))) = c.requires.reduced in
     let start = c.in_ok-dictionary in
     let new = c.settle.new in
-    let run = subst (λ (z : Settled). HasRun limit c.args.system.now start.dictionary.basis c.args.pivots.now 0 (end_of (Ok z)) new.dictionary new.pivots new.turn) c.in-Feasible.is (c.in-Ok.ensures.run c.args.system.now start.ensures.0) in
-    let at : HasEnded last.system c.args.pivots.now new.dictionary (end_of (Ok Feasible)) =
-    ended c.args.system.now last is reduced start.dictionary new.dictionary c.args.pivots.now new.pivots new.turn start.ensures.1.0 (end_of (Ok Feasible)) c.in-Ok.ensures.ended.0 (c.settle.ensures.columns ∙ start.ensures.1.1.0) run in
+    let run = subst (λ (z : Settled). HasRun limit c.args.system.now start.dictionary.basis c.args.pivots.now 0 (end_of z) new.dictionary new.pivots new.turn) c.in-Feasible.is (c.in-Ok.ensures.run c.args.system.now start.ensures.0) in
+    let at : HasEnded last.system c.args.pivots.now new.dictionary (end_of Feasible) =
+    ended c.args.system.now last is reduced start.dictionary new.dictionary c.args.pivots.now new.pivots new.turn start.ensures.1.0 (end_of Feasible) c.in-Ok.ensures.ended.0 (c.settle.ensures.columns ∙ start.ensures.1.1.0) run in
     c.easing_of.ensures c.args.model.now c.args.set.now.members c.args.pivots.now (c.in_ok-found-in-Feasible.ensures c.args.model.now c.args.set.now.members c.args.pivots.now last leads reduced at)
 
 pub shares_back-requires-clause-reduced : goal.shares_back-requires-clause-reduced
@@ -55,9 +55,9 @@ shares_back-requires-clause-reduced c =
     let start = c.in_ok-dictionary in
     let new = c.settle.new in
     let v = c.in-Infeasible.variable in
-    let run = subst (λ (z : Settled). HasRun limit c.args.system.now start.dictionary.basis c.args.pivots.now 0 (end_of (Ok z)) new.dictionary new.pivots new.turn) c.in-Infeasible.is (c.in-Ok.ensures.run c.args.system.now start.ensures.0) in
-    let at : HasEnded last.system c.args.pivots.now new.dictionary (end_of (Ok (Infeasible v))) =
-    ended c.args.system.now last is reduced start.dictionary new.dictionary c.args.pivots.now new.pivots new.turn start.ensures.1.0 (end_of (Ok (Infeasible v))) c.in-Ok.ensures.ended.0 (c.settle.ensures.columns ∙ start.ensures.1.1.0) run in
+    let run = subst (λ (z : Settled). HasRun limit c.args.system.now start.dictionary.basis c.args.pivots.now 0 (end_of z) new.dictionary new.pivots new.turn) c.in-Infeasible.is (c.in-Ok.ensures.run c.args.system.now start.ensures.0) in
+    let at : HasEnded last.system c.args.pivots.now new.dictionary (end_of (Infeasible v)) =
+    ended c.args.system.now last is reduced start.dictionary new.dictionary c.args.pivots.now new.pivots new.turn start.ensures.1.0 (end_of (Infeasible v)) c.in-Ok.ensures.ended.0 (c.settle.ensures.columns ∙ start.ensures.1.1.0) run in
     (last, (leads, (reduced, (c.args.pivots.now, at))))
 
 pub returns : goal.returns
@@ -66,7 +66,7 @@ returns c =
     let start = c.in_ok-dictionary in
     let new = c.settle.new in
     let v = c.in-Infeasible.variable in
-    let run = subst (λ (z : Settled). HasRun limit c.args.system.now start.dictionary.basis c.args.pivots.now 0 (end_of (Ok z)) new.dictionary new.pivots new.turn) c.in-Infeasible.is (c.in-Ok.ensures.run c.args.system.now start.ensures.0) in
-    let at : HasEnded last.system c.args.pivots.now new.dictionary (end_of (Ok (Infeasible v))) =
-    ended c.args.system.now last is reduced start.dictionary new.dictionary c.args.pivots.now new.pivots new.turn start.ensures.1.0 (end_of (Ok (Infeasible v))) c.in-Ok.ensures.ended.0 (c.settle.ensures.columns ∙ start.ensures.1.1.0) run in
+    let run = subst (λ (z : Settled). HasRun limit c.args.system.now start.dictionary.basis c.args.pivots.now 0 (end_of z) new.dictionary new.pivots new.turn) c.in-Infeasible.is (c.in-Ok.ensures.run c.args.system.now start.ensures.0) in
+    let at : HasEnded last.system c.args.pivots.now new.dictionary (end_of (Infeasible v)) =
+    ended c.args.system.now last is reduced start.dictionary new.dictionary c.args.pivots.now new.pivots new.turn start.ensures.1.0 (end_of (Infeasible v)) c.in-Ok.ensures.ended.0 (c.settle.ensures.columns ∙ start.ensures.1.1.0) run in
     c.easing_of-in-Infeasible.ensures c.args.model.now c.args.set.now.members c.args.pivots.now (c.in_ok-found-in-Infeasible.ensures c.args.pivots.now last leads reduced at)

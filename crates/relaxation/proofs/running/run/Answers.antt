@@ -21,8 +21,8 @@ returns-in_err-improved-clause-stop c =
     let middle = c.settle.new in
     let now = c.improve.new in
     let ended = c.in_ok-settled.ensures.ended in
-    let first : HasRun limit system start.basis c.args.pivots 0 (end_of (Ok Feasible)) middle.dictionary middle.pivots middle.turn =
-    subst (λ (z : Settled). HasRun limit system start.basis c.args.pivots 0 (end_of (Ok z)) middle.dictionary middle.pivots middle.turn) c.in_default.is (c.in_ok-settled.ensures.run system c.requires.is_of) in
+    let first : HasRun limit system start.basis c.args.pivots 0 (end_of Feasible) middle.dictionary middle.pivots middle.turn =
+    subst (λ (z : Settled). HasRun limit system start.basis c.args.pivots 0 (end_of z) middle.dictionary middle.pivots middle.turn) c.in_default.is (c.in_ok-settled.ensures.run system c.requires.is_of) in
     let stop : StopsSo system c.args.pivots c.in_err-improved.field-0.0 =
     improve_stops system start middle.dictionary now.dictionary c.args.pivots middle.pivots middle.turn now.pivots now.turn c.requires.apart c.requires.start ended.0 first c.in_err-improved.field-0.0
     (c.in_err-improved.ensures.run system (first.stands ended.0).1) in

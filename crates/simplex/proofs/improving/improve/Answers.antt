@@ -1,16 +1,20 @@
-use Rattle.std.proofs.Common.{◌≡◌, ◌≢◌, ◌+◌, ◌-◌, ◌^◌, ◌<◌, ◌≤◌, ℕ, suc, true, true≢false, Some, refl, sym, ◌∙◌, ap, arith}
+use Rattle.std.proofs.Common.{◌≡◌, ◌≢◌, ◌+◌, ◌-◌, ◌^◌, ◌<◌, ◌≤◌, ℕ, suc, true≢false, Some, Err, refl, sym, ◌∙◌, ap, subst, arith}
 use Rattle.std.proofs.Common.{List, None}
 use Rattle.frac128.proofs.Calculations.{first_wide-nil}
 use Rattle.certs.specs.System.{Place}
-use Rattle.certs.specs.Tableau.{Tableau}
+use Rattle.certs.specs.Tableau.{Tableau, limits_at, value_of}
 use Rattle.certs.specs.Improves.{Improvement, improve_choice, improved}
 use Rattle.certs.specs.Improves.Improvement.{Optimal, Free, Flip, Leaves}
 use Rattle.dictionary.specs.Layouts.{side_of}
-use Rattle.dictionary.specs.Value.{tableau_of}
+use Rattle.dictionary.specs.Value.{DictionaryValue, tableau_of}
 use Rattle.bland_law.specs.Ends.{limited_count}
 use Rattle.bland_law.proofs.Bases.{few_turns}
 use Rattle.bland_law.proofs.Climbs.{stays_within}
+use Rattle.certs.specs.Ended.{IsWithin}
 use Rattle.simplex.specs.ImproveChosen.{choice_named}
+use Rattle.simplex.specs.declared.settling.RunStop.{RunStop}
+use Rattle.simplex.specs.ImproveEnds.{HasObjective, ImprovedBy, IsInterrupted, IsSpent}
+use Rattle.simplex.proofs.Stops.{by_stop, improve_not_spent}
 use Rattle.simplex.proofs.Turned.{HasLimits, work_values, work_leave, can_leave, has_limits}
 use Rattle.simplex.proofs.improving.improve.Goals as goal
 
@@ -246,21 +250,61 @@ pub returns-in-Err-pivot-clause-run : goal.returns-in-Err-pivot-clause-run
 returns-in-Err-pivot-clause-run g c = λ system of.
     (let i = c.loop-choice.invariant in
     let d = c.loop-choice.dictionary in
+    let new = c.pivot.new.self in
+    let m = g.N.Exact.most in
     let t = tableau_of d in
     let r = i.made.1.1.1 system of in
+    let n = next_turn c.loop-choice.turn c.args.turn.now i.made.0 i.made.1.1.0 in
     let chosen : improve_choice t ≡ Leaves c.in-Leaves.leaving (side_of c.in-Leaves.upper) c.in-Leaves.entering = sym (ap choice_named (sym c.in-Leaves.is) ∙ c.in-Ok.ensures.1) in
+    let P : RunStop → Type 0 = λ z. ImprovedBy m system c.args.dictionary.now.basis c.args.pivots.now c.args.turn.now (Err z) new c.loop-choice.pivots (c.loop-choice.turn + 1) in
+    subst P (sym c.told.ensures)
+    (by_stop m d new c.in-Leaves.leaving c.in-Leaves.entering (c.loop-choice.turn + 1) P c.in-Err-pivot.stop c.in-Err-pivot.ensures.done
+    (λ o h lost.
     record {
       last = d.basis;
       run = record {
         made = i.made.0;
         budget_is = i.made.1.0;
         reaches = r.1;
-        turns_are = next_turn c.loop-choice.turn c.args.turn.now i.made.0 i.made.1.1.0;
-        ends = (refl, record { here = record { tableau = t; is_of = r.0; at = refl }; first = work_leave g.N.Exact.most t c.loop-choice.pivots (Leaves c.in-Leaves.leaving (side_of c.in-Leaves.upper) c.in-Leaves.entering) (Some c.wide.result) c.if-pivots-eq0-2.false chosen c.in-Ok.ensures.0 (c.in-Err-pivot.ensures.done.0 ∙ ap (λ o. Some o) (sym c.wide.ensures)) });
+        turns_are = n;
+        ends = (refl, record { here = record { tableau = t; is_of = r.0; at = refl }; first = work_leave m t c.loop-choice.pivots (Leaves c.in-Leaves.leaving (side_of c.in-Leaves.upper) c.in-Leaves.entering) (Some o) c.if-pivots-eq0-2.false chosen c.in-Ok.ensures.0 h });
       };
-      stands = λ u. absurd (true≢false (sym u ∙ c.in-Err-pivot.ensures.done.1));
+      stands = λ u. absurd (true≢false (sym u ∙ lost));
       lost = λ u. (record { tableau = t; is_of = r.0; at = refl }, c.in-Ok.ensures.0);
     })
+    (λ same.
+    subst (λ w. IsInterrupted m system c.args.dictionary.now.basis c.args.pivots.now c.args.turn.now w c.loop-choice.pivots (c.loop-choice.turn + 1)) (sym same)
+    (record { made = i.made.0; budget_is = i.made.1.0; reaches = r.1; turns_are = n; usable = i.usable; is_of = r.0 }))))
+
+pub returns-in-Err-pivot-clause-spent : goal.returns-in-Err-pivot-clause-spent
+returns-in-Err-pivot-clause-spent g c = λ s. absurd (improve_not_spent (c.loop-choice.turn + 1) c.in-Err-pivot.stop (subst (λ z. IsSpent (Err z)) c.told.ensures s))
+
+pub returns-in-Err-pivot-clause-keeps : goal.returns-in-Err-pivot-clause-keeps
+returns-in-Err-pivot-clause-keeps g c = λ system of start usable v l.
+    (let i = c.loop-choice.invariant in
+    let d = c.loop-choice.dictionary in
+    let new = c.pivot.new.self in
+    let m = g.N.Exact.most in
+    let t = tableau_of d in
+    let r = i.made.1.1.1 system of in
+    by_stop m d new c.in-Leaves.leaving c.in-Leaves.entering 0 (λ z. IsWithin (limits_at (tableau_of new) v) (value_of (tableau_of new) v)) c.in-Err-pivot.stop c.in-Err-pivot.ensures.done (λ o h lost. absurd (true≢false (sym usable ∙ lost)))
+    (λ same.
+    subst (λ (w : DictionaryValue). IsWithin (limits_at (tableau_of w) v) (value_of (tableau_of w) v)) (sym same)
+    (stays_within m system c.args.dictionary.now.basis d.basis i.made.0 start.formed start.objective start.settled r.1 t r.0 refl v l)))
+
+pub returns-in-Err-pivot-clause-never_spent : goal.returns-in-Err-pivot-clause-never_spent
+returns-in-Err-pivot-clause-never_spent g c = λ system of start enough s. improve_not_spent (c.loop-choice.turn + 1) c.in-Err-pivot.stop (subst (λ z. IsSpent (Err z)) c.told.ensures s)
+
+pub returns-in-Err-pivot-clause-objective : goal.returns-in-Err-pivot-clause-objective
+returns-in-Err-pivot-clause-objective g c = λ usable.
+    (let i = c.loop-choice.invariant in
+    let d = c.loop-choice.dictionary in
+    let new = c.pivot.new.self in
+    let m = g.N.Exact.most in
+    let t = tableau_of d in
+    let o = c.requires.objective in
+    by_stop m d new c.in-Leaves.leaving c.in-Leaves.entering 0 (λ z. HasObjective new) c.in-Err-pivot.stop c.in-Err-pivot.ensures.done (λ w h lost. absurd (true≢false (sym usable ∙ lost)))
+    (λ same. subst HasObjective (sym same) (record { system = o.system; of = (i.made.1.1.1 o.system o.of).0; objective = o.objective })))
 
 pub loop-choice-preserved : goal.loop-choice-preserved
 loop-choice-preserved g c =

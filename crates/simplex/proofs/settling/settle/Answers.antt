@@ -1,8 +1,11 @@
-use Rattle.std.proofs.Common.{◌≡◌, ◌≢◌, ◌+◌, ◌-◌, ◌^◌, ◌<◌, ◌≤◌, ℕ, suc, true≢false, Some, refl, sym, ◌∙◌, ap, subst, arith}
+use Rattle.std.proofs.Common.{◌≡◌, ◌≢◌, ◌+◌, ◌-◌, ◌^◌, ◌<◌, ◌≤◌, ℕ, suc, true≢false, Err, refl, sym, ◌∙◌, subst, arith}
 use Rattle.certs.specs.Turns.{settle_choice}
 use Rattle.dictionary.specs.Layouts.{side_of}
 use Rattle.dictionary.specs.Value.{tableau_of}
 use Rattle.simplex.specs.Chosen.{IsChosen}
+use Rattle.simplex.specs.declared.settling.RunStop.{RunStop}
+use Rattle.simplex.specs.Ends.{IsInterrupted, IsSpent, RanBy}
+use Rattle.simplex.proofs.Stops.{by_stop, not_spent}
 use Rattle.bland_law.specs.Ends.{limited_count}
 use Rattle.bland_law.proofs.Endings.{few_pivots_law}
 use Rattle.certs.proofs.Choices.{can_of, work-values, work-pivot}
@@ -129,10 +132,15 @@ pub returns-in-Err-pivot-clause-run : goal.returns-in-Err-pivot-clause-run
 returns-in-Err-pivot-clause-run g c = λ system of.
     (let i = c.loop-choice.invariant in
     let d = c.loop-choice.dictionary in
+    let new = c.pivot.new.self in
     let r = i.made.1.1.1 system of in
+    let m = g.N.Exact.most in
     let n = next_turn c.loop-choice.turn c.args.turn.now i.made.0 i.made.1.1.0 in
     let chosen = subst (λ z. IsChosen z (settle_choice (tableau_of d))) c.in-Exchange.is c.in-Ok.ensures.1 in
-    let wide = c.in-Err-pivot.ensures.done.0 ∙ ap (λ o. Some o) (sym c.wide.ensures) in
+    let P : RunStop → Type 0 = λ z. RanBy m system c.args.dictionary.now.basis c.args.pivots.now c.args.turn.now (Err z) new c.loop-choice.pivots (c.loop-choice.turn + 1) in
+    subst P (sym c.told.ensures)
+    (by_stop m d new c.in-Exchange.leaving c.in-Exchange.entering (c.loop-choice.turn + 1) P c.in-Err-pivot.stop c.in-Err-pivot.ensures.done
+    (λ o h lost.
     record {
       last = d.basis;
       run = record {
@@ -144,13 +152,22 @@ returns-in-Err-pivot-clause-run g c = λ system of.
           refl,
           record {
             here = record { tableau = tableau_of d; is_of = r.0; at = refl };
-            first = work-pivot g.N.Exact.most (tableau_of d) c.loop-choice.pivots _ _ _ _ c.if-pivots-eq0.false chosen c.in-Ok.ensures.0 wide;
+            first = work-pivot m (tableau_of d) c.loop-choice.pivots _ _ _ _ c.if-pivots-eq0.false chosen c.in-Ok.ensures.0 h;
           },
         );
       };
-      stands = λ u. absurd (true≢false (sym u ∙ c.in-Err-pivot.ensures.done.1));
+      stands = λ u. absurd (true≢false (sym u ∙ lost));
       lost = λ u. (record { tableau = tableau_of d; is_of = r.0; at = refl }, c.in-Ok.ensures.0);
     })
+    (λ same.
+    subst (λ w. IsInterrupted m system c.args.dictionary.now.basis c.args.pivots.now c.args.turn.now w c.loop-choice.pivots (c.loop-choice.turn + 1)) (sym same)
+    (record { made = i.made.0; budget_is = i.made.1.0; reaches = r.1; turns_are = n; usable = i.usable; is_of = r.0 }))))
+
+pub returns-in-Err-pivot-clause-spent : goal.returns-in-Err-pivot-clause-spent
+returns-in-Err-pivot-clause-spent g c = λ s. absurd (not_spent (c.loop-choice.turn + 1) c.in-Err-pivot.stop (subst (λ z. IsSpent (Err z)) c.told.ensures s))
+
+pub returns-in-Err-pivot-clause-never_spent : goal.returns-in-Err-pivot-clause-never_spent
+returns-in-Err-pivot-clause-never_spent g c = λ system of formed enough s. not_spent (c.loop-choice.turn + 1) c.in-Err-pivot.stop (subst (λ z. IsSpent (Err z)) c.told.ensures s)
 
 pub returns-in-Err-clause-sum : goal.returns-in-Err-clause-sum
 returns-in-Err-clause-sum g c =

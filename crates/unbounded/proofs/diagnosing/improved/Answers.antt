@@ -58,4 +58,4 @@ diagnosis_at-requires-clause-stands c =
 
 pub returns-clause-last : goal.returns-clause-last
 returns-clause-last c =
-    c.in-Ok-diagnosis_at.ensures.last c.args.pivots (subst (λ (s : LinearSystem). EndsSo s c.args.pivots (end_of (Ok c.in-Ok-run.end)) c.run.new.dictionary.basis) c.in-Ok.ensures c.in-Ok-run.ensures.run)
+    c.in-Ok-diagnosis_at.ensures.last c.args.pivots (subst (λ (s : LinearSystem). EndsSo s c.args.pivots (end_of c.in-Ok-run.end) c.run.new.dictionary.basis) c.in-Ok.ensures c.in-Ok-run.ensures.run)

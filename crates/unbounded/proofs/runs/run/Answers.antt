@@ -28,8 +28,8 @@ returns-clause-stop c =
     let middle = c.settle.new in
     let now = c.improve.new in
     let ended = c.in-Ok.ensures.ended in
-    let first : HasRun limit system start.basis c.args.pivots 0 (end_of (Ok Feasible)) middle.dictionary middle.pivots middle.turn =
-    subst (λ (z : Settled). HasRun limit system start.basis c.args.pivots 0 (end_of (Ok z)) middle.dictionary middle.pivots middle.turn) c.in-Feasible.is (c.in-Ok.ensures.run system c.requires.is_of) in
+    let first : HasRun limit system start.basis c.args.pivots 0 (end_of Feasible) middle.dictionary middle.pivots middle.turn =
+    subst (λ (z : Settled). HasRun limit system start.basis c.args.pivots 0 (end_of z) middle.dictionary middle.pivots middle.turn) c.in-Feasible.is (c.in-Ok.ensures.run system c.requires.is_of) in
     improve_stops system start middle.dictionary now.dictionary c.args.pivots middle.pivots middle.turn now.pivots now.turn c.requires.apart c.requires.start ended.0 first c.improve.result
     (c.improve.ensures.run system (first.stands ended.0).1)
 
@@ -40,7 +40,7 @@ returns-clause-run c =
     let middle = c.settle.new in
     let now = c.improve.new in
     let ended = c.in-Ok.ensures.ended in
-    let first : HasRun limit system start.basis c.args.pivots 0 (end_of (Ok Feasible)) middle.dictionary middle.pivots middle.turn =
-    subst (λ (z : Settled). HasRun limit system start.basis c.args.pivots 0 (end_of (Ok z)) middle.dictionary middle.pivots middle.turn) c.in-Feasible.is (c.in-Ok.ensures.run system c.requires.is_of) in
+    let first : HasRun limit system start.basis c.args.pivots 0 (end_of Feasible) middle.dictionary middle.pivots middle.turn =
+    subst (λ (z : Settled). HasRun limit system start.basis c.args.pivots 0 (end_of z) middle.dictionary middle.pivots middle.turn) c.in-Feasible.is (c.in-Ok.ensures.run system c.requires.is_of) in
     improve_ends_so system start middle.dictionary now.dictionary c.args.pivots middle.pivots middle.turn now.pivots now.turn c.requires.apart c.requires.start ended.0 first c.improve.result
     (c.improve.ensures.run system (first.stands ended.0).1) c.improve.ensures.ended

@@ -1,13 +1,14 @@
-use Rattle.std.proofs.Common.{◌≡◌, ◌<◌, List, length, get_or, set, map, sym, ◌∙◌, ap, subst, arith}
+use Rattle.std.proofs.Common.{◌≡◌, ◌<◌, List, [], length, get_or, set, map, sym, ◌∙◌, ap, subst, arith}
 use Rattle.std.proofs.lemmas.Grind.{common_steps}
 use Rattle.std.proofs.lemmas.List.{map-set, length-set, get_or_read}
 use Rattle.certs.specs.System.Place.{AtZero}
 use Rattle.certs.specs.System.{Place}
 use Rattle.certs.specs.Turns.{other_place}
 use Rattle.certs.specs.Tableau.{Tableau, IsTableauOf}
-use Rattle.std.specs.Prelude.{slice_index}
+use Rattle.std.specs.Prelude.{slice_index_or}
+use Rattle.rational.specs.Linear.{factor_of}
 use Rattle.std.specs.Option.{option_map}
-use Rattle.dictionary.specs.Cells.{cell}
+use Rattle.dictionary.specs.Rows.{rows_of}
 use Rattle.certs.proofs.Tableaus.{flip_law}
 use Rattle.dictionary.specs.declared.places.Place.TheVariants.{Basic as IsBasic}
 use Rattle.dictionary.specs.Layouts.{basis_of, place_of_code}
@@ -27,9 +28,9 @@ invariant_of-self g c =
     let read : c.index.result.now ≡ get_or d.places.items k IsBasic = get_or_read d.places.items k c.index.result.now lp c.index.ensures IsBasic in
     let p : place_of_code c.other_limit.result ≡ other_place (get_or basis k AtZero) = c.other_limit.ensures ∙ ap (λ q. other_place (place_of_code q)) read ∙ ap other_place (sym (basis_at d.places.items k lp)) in
     let e = map-set place_of_code d.places.items k c.other_limit.result in
-    subst (λ b. IsSound (length d.bounds.items) b d.layout.slots.items d.layout.basics.items d.layout.nonbasics.items d.layout.order.items d.layout.width (length d.entries.items) (length d.quotients.items) d.objective) (sym e)
-    (sound_same (length d.bounds.items) basis (set basis k (place_of_code c.other_limit.result)) d.layout.slots.items d.layout.basics.items d.layout.nonbasics.items d.layout.order.items d.layout.width (length d.entries.items) (length d.quotients.items) d.objective
-    (length-set basis k (place_of_code c.other_limit.result)) (turned_basic basis k (place_of_code c.other_limit.result) l p) c.self.invariant)
+    subst (λ b. IsSound (length d.bounds.items) b (rows_of g.N.Exact.value d.rows.items) d.objective d.usable) (sym e)
+    (sound_same (length d.bounds.items) basis (set basis k (place_of_code c.other_limit.result)) (rows_of g.N.Exact.value d.rows.items) d.objective d.usable (length-set basis k (place_of_code c.other_limit.result))
+    (turned_basic basis k (place_of_code c.other_limit.result) l p) c.self.invariant)
 
 pub returns-clause-turned : goal.returns-clause-turned
 returns-clause-turned g c =
@@ -47,7 +48,7 @@ returns-clause-turned g c =
       limits = map (λ b. record { lower = option_map v b.lower; upper = option_map v b.upper }) d.bounds.items;
       objective = d.objective;
       basis = b;
-      factor = λ i k. cell d.layout.slots.items d.layout.width (map v d.entries.items) i (slice_index d.layout.slots.items k);
+      factor = λ i k. factor_of (slice_index_or (rows_of v d.rows.items) i []) k;
     } in
     rw (← c.self.view_is) (ap T e)
 

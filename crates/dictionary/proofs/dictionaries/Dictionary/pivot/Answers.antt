@@ -1,163 +1,316 @@
-use Rattle.std.proofs.Common.{◌≡◌, ◌<◌, ℕ, List, [], ◌++◌, true, length, take, drop, map, refl, sym, ◌∙◌, ap, subst, Some, None, arith}
-use Rattle.std.proofs.lemmas.Grind.{common_steps}
-use Rattle.std.specs.Prelude.{slice_index}
-use Rattle.std.proofs.lemmas.List.{get_or_read}
-use Rattle.rational.specs.Rational.{ℚ}
-use Rattle.frac128.specs.Calculation.{Calculation, first_wide}
-use Rattle.certs.specs.Tableau.{basics, nonbasics}
+use Rattle.std.proofs.Common.{◌≡◌, ◌≢◌, ◌+◌, ◌<◌, ◌≤◌, List, [], ◌++◌, true, true≢false, length, set, take, drop, map, vec_capacity, refl, sym, ◌∙◌, ap, subst, Some, arith}
+use Rattle.std.specs.Prelude.{All, slice_index_or}
+use Rattle.std.specs.Option.{option_map}
+use Rattle.std.proofs.lemmas.List.{map-set}
+use Rattle.rational.specs.Rational.{zero_ℚ}
+use Rattle.rational.specs.Linear.{Term, factor_of}
+use Rattle.frac128.specs.Calculation.{first_wide}
+use Rattle.certs.specs.System.{is_basic}
+use Rattle.certs.specs.System.Place.{Basic}
 use Rattle.certs.specs.Turns.{CanPivot, exchanged, pivot_operations}
-use Rattle.certs.proofs.Tableaus.{pivot_law}
-use Rattle.dictionary.specs.Cells.{cell, IsGrid, IsExchanged, table_operations}
-use Rattle.dictionary.specs.Layouts.{basis_of, side_of}
-use Rattle.dictionary.specs.Value.{tableau_of}
-use Rattle.dictionary.proofs.Exchanges.{grid_of, listed_basic, basics-many, nonbasics-many}
-use Rattle.dictionary.proofs.Pivots.{pivot_work, is_pivoted, refilled}
-use Rattle.dictionary.proofs.Sounds.{sound_resized, sound_after}
+use Rattle.certs.proofs.Tableaus.{basic_below, pivot_law}
+use Rattle.dictionary.specs.declared.places.Place.TheVariants.{Basic as IsBasic}
+use Rattle.dictionary.specs.Layouts.{basis_of, place_of_code, side_of}
+use Rattle.dictionary.specs.Rows.{terms_of, rows_of, rows_work, IsRow, AreSparse, AreRowsExchanged}
+use Rattle.dictionary.specs.Sound.{IsSound}
+use Rattle.dictionary.specs.Value.{DictionaryValue, tableau_of}
+use Rattle.dictionary.proofs.Changes.{quotient-nonzero}
+use Rattle.dictionary.proofs.Pivots.{pivot_work, pivoted_factor, sparse_after}
+use Rattle.dictionary.proofs.Sounds.{sound_after, sound_lost}
+use Rattle.dictionary.proofs.Standing.{basis-length}
+use Rattle.dictionary.proofs.Tables.{rows_at, rows-length, rows_same, sparse_row, basic_absent, on_ok}
+use Rattle.dictionary.proofs.Terms.{refilled, terms-length}
 use Rattle.dictionary.proofs.dictionaries.Dictionary.pivot.Goals as goal
 
-pub change_table-changed-requires-clause-grid : goal.change_table-changed-requires-clause-grid
-change_table-changed-requires-clause-grid g c =
+pub index-requires : goal.index-requires
+index-requires g c =
+    let v = g.N.Exact.value in
+    let m = g.N.Exact.most in
     let d = c.self.inside in
-    let lay = d.layout in
-    subst (λ n. IsGrid lay.slots.items lay.basics.items lay.order.items lay.width n) (ap length (sym c.deref_mut.ensures.value))
-    (grid_of (basis_of d.places.items) lay.slots.items lay.basics.items lay.nonbasics.items lay.order.items lay.width (length d.entries.items) c.self.invariant.layout)
+    let I = c.args.leaving in
+    let J = c.args.entering in
+    let side = side_of c.args.upper in
+    let basis = basis_of d.places.items in
+    let R = rows_of v d.rows.items in
+    let can = subst (λ d. CanPivot (tableau_of d) I side J) (sym c.self.view_is) c.requires.can in
+    let u : d.usable ≡ true = subst (λ d. d.usable ≡ true) (sym c.self.view_is) c.requires.usable in
+    let s : AreSparse basis R = c.self.invariant.sparse u in
+    let many : length d.rows.items ≡ length basis = sym (rows-length v d.rows.items) ∙ s.long in
+    let l = basic_below basis I can.basic in
+    let n = d.rows.ok.0 in
+    omega (arith, l, n, many)
 
-pub change_table-changed-requires-clause-leaving : goal.change_table-changed-requires-clause-leaving
-change_table-changed-requires-clause-leaving g c =
+pub make_room-room-requires : goal.make_room-room-requires
+make_room-room-requires g c =
+    let v = g.N.Exact.value in
+    let m = g.N.Exact.most in
     let d = c.self.inside in
-    let lay = d.layout in
-    let can = subst (λ d. CanPivot (tableau_of d) c.args.leaving (side_of c.args.upper) c.args.entering) (sym c.self.view_is) c.requires.can in
-    listed_basic (basis_of d.places.items) lay.slots.items lay.basics.items lay.nonbasics.items lay.order.items lay.width (length d.entries.items) c.self.invariant.layout c.args.leaving can.basic
+    let I = c.args.leaving in
+    let J = c.args.entering in
+    let side = side_of c.args.upper in
+    let basis = basis_of d.places.items in
+    let R = rows_of v d.rows.items in
+    let can = subst (λ d. CanPivot (tableau_of d) I side J) (sym c.self.view_is) c.requires.can in
+    let u : d.usable ≡ true = subst (λ d. d.usable ≡ true) (sym c.self.view_is) c.requires.usable in
+    let s : AreSparse basis R = c.self.invariant.sparse u in
+    let many : length d.rows.items ≡ length basis = sym (rows-length v d.rows.items) ∙ s.long in
+    let all : All (λ r. IsRow (terms_of v r.items)) d.rows.items = λ k e l. subst IsRow (rows_at v d.rows.items k e l) (sparse_row basis R s k) in
+    subst (All (λ r. IsRow (terms_of v r.items))) (sym c.deref_mut.ensures.value) all
 
-pub change_table-changed-requires-clause-column : goal.change_table-changed-requires-clause-column
-change_table-changed-requires-clause-column g c =
+pub returns-then-is_err-clause-done : goal.returns-then-is_err-clause-done
+returns-then-is_err-clause-done g c =
+    let v = g.N.Exact.value in
+    let m = g.N.Exact.most in
     let d = c.self.inside in
-    let lay = d.layout in
-    let can = subst (λ d. CanPivot (tableau_of d) c.args.leaving (side_of c.args.upper) c.args.entering) (sym c.self.view_is) c.requires.can in
-    let known : c.args.entering < length lay.slots.items = subst (λ n. c.args.entering < n) (sym c.self.invariant.layout.long) can.known in
-    let slot : c.index-column.result.now ≡ slice_index lay.slots.items c.args.entering = get_or_read lay.slots.items c.args.entering c.index-column.result.now known c.index-column.ensures 0 in
-    subst (λ z. z < lay.width) (sym slot) (c.self.invariant.layout.columns_fit c.args.entering can.known can.nonbasic)
+    let I = c.args.leaving in
+    let J = c.args.entering in
+    let side = side_of c.args.upper in
+    let basis = basis_of d.places.items in
+    let R = rows_of v d.rows.items in
+    let can = subst (λ d. CanPivot (tableau_of d) I side J) (sym c.self.view_is) c.requires.can in
+    let u : d.usable ≡ true = subst (λ d. d.usable ≡ true) (sym c.self.view_is) c.requires.usable in
+    let s : AreSparse basis R = c.self.invariant.sparse u in
+    let many : length d.rows.items ≡ length basis = sym (rows-length v d.rows.items) ∙ s.long in
+    let rows1 = c.make_room-room.new.rows in
+    let taken : take d.rows.len (rows1 ++ drop (length rows1) d.rows.items) ≡ rows1 = refilled rows1 d.rows.items d.rows.len (c.make_room-room.auto.rows ∙ ap length c.deref_mut.ensures.value ∙ sym d.rows.ok.0) in
+    let same : rows_of v rows1 ≡ R = rows_same v rows1 d.rows.items (c.make_room-room.ensures.same ∙ ap (map (λ r. r.items)) c.deref_mut.ensures.value) in
+    let kept : rows_of v (take d.rows.len (rows1 ++ drop (length rows1) d.rows.items)) ≡ R = ap (rows_of v) taken ∙ same in
+    let V : List (List Term) → DictionaryValue =
+    λ r. record {
+      columns = d.columns;
+      objective = d.objective;
+      limits = map (λ b. record { lower = option_map v b.lower; upper = option_map v b.upper }) d.bounds.items;
+      basis = basis;
+      rows = r;
+      usable = d.usable;
+    } in
+    ap V kept ∙ c.self.view_is
 
 pub invariant_of-self : goal.invariant_of-self
 invariant_of-self g c =
+    let v = g.N.Exact.value in
+    let m = g.N.Exact.most in
     let d = c.self.inside in
-    let lay = d.layout in
-    let new = c.change_table-changed.new in
-    let auto = c.change_table-changed.auto in
-    let e : length (take d.entries.len (new.entries ++ drop (length new.entries) d.entries.items)) ≡ length d.entries.items =
-    ap length (refilled new.entries d.entries.items d.entries.len (auto.entries ∙ ap length c.deref_mut.ensures.value ∙ sym d.entries.ok.0)) ∙ auto.entries ∙ ap length c.deref_mut.ensures.value in
-    let q : length (take d.quotients.len (new.quotients ++ drop (length new.quotients) d.quotients.items)) ≡ length d.quotients.items =
-    ap length (refilled new.quotients d.quotients.items d.quotients.len (auto.quotients ∙ ap length c.deref_mut-2.ensures.value ∙ sym d.quotients.ok.0)) ∙ auto.quotients ∙ ap length c.deref_mut-2.ensures.value in
-    sound_resized (length d.bounds.items) (basis_of d.places.items) lay.slots.items lay.basics.items lay.nonbasics.items lay.order.items lay.width (length d.entries.items) _ (length d.quotients.items) _ d.objective e q c.self.invariant
+    let I = c.args.leaving in
+    let J = c.args.entering in
+    let side = side_of c.args.upper in
+    let basis = basis_of d.places.items in
+    let R = rows_of v d.rows.items in
+    let can = subst (λ d. CanPivot (tableau_of d) I side J) (sym c.self.view_is) c.requires.can in
+    let u : d.usable ≡ true = subst (λ d. d.usable ≡ true) (sym c.self.view_is) c.requires.usable in
+    let s : AreSparse basis R = c.self.invariant.sparse u in
+    let many : length d.rows.items ≡ length basis = sym (rows-length v d.rows.items) ∙ s.long in
+    let rows1 = c.make_room-room.new.rows in
+    let taken : take d.rows.len (rows1 ++ drop (length rows1) d.rows.items) ≡ rows1 = refilled rows1 d.rows.items d.rows.len (c.make_room-room.auto.rows ∙ ap length c.deref_mut.ensures.value ∙ sym d.rows.ok.0) in
+    let same : rows_of v rows1 ≡ R = rows_same v rows1 d.rows.items (c.make_room-room.ensures.same ∙ ap (map (λ r. r.items)) c.deref_mut.ensures.value) in
+    let kept : rows_of v (take d.rows.len (rows1 ++ drop (length rows1) d.rows.items)) ≡ R = ap (rows_of v) taken ∙ same in
+    subst (λ r. IsSound (length d.bounds.items) basis r d.objective d.usable) (sym kept) c.self.invariant
+
+pub exchange_rows-changed-requires : goal.exchange_rows-changed-requires
+exchange_rows-changed-requires g c =
+    let v = g.N.Exact.value in
+    let m = g.N.Exact.most in
+    let d = c.self.inside in
+    let I = c.args.leaving in
+    let J = c.args.entering in
+    let side = side_of c.args.upper in
+    let basis = basis_of d.places.items in
+    let R = rows_of v d.rows.items in
+    let can = subst (λ d. CanPivot (tableau_of d) I side J) (sym c.self.view_is) c.requires.can in
+    let u : d.usable ≡ true = subst (λ d. d.usable ≡ true) (sym c.self.view_is) c.requires.usable in
+    let s : AreSparse basis R = c.self.invariant.sparse u in
+    let many : length d.rows.items ≡ length basis = sym (rows-length v d.rows.items) ∙ s.long in
+    let rows1 = c.make_room-room.new.rows in
+    let taken : take d.rows.len (rows1 ++ drop (length rows1) d.rows.items) ≡ rows1 = refilled rows1 d.rows.items d.rows.len (c.make_room-room.auto.rows ∙ ap length c.deref_mut.ensures.value ∙ sym d.rows.ok.0) in
+    let same : rows_of v rows1 ≡ R = rows_same v rows1 d.rows.items (c.make_room-room.ensures.same ∙ ap (map (λ r. r.items)) c.deref_mut.ensures.value) in
+    let kept : rows_of v (take d.rows.len (rows1 ++ drop (length rows1) d.rows.items)) ≡ R = ap (rows_of v) taken ∙ same in
+    let rows' = c.deref_mut-2.result.now in
+    let is : rows' ≡ rows1 = c.deref_mut-2.ensures.value ∙ taken in
+    let RR : rows_of v rows' ≡ R = ap (rows_of v) is ∙ same in
+    let long : length rows' ≡ length basis = sym (rows-length v rows') ∙ ap length RR ∙ s.long in
+    let ok = sym c.is_err.ensures.value ∙ c.if-is_err.false in
+    record {
+      rows = λ k e l. subst IsRow (ap (λ r. slice_index_or r k []) (sym RR) ∙ rows_at v rows' k e l) (sparse_row basis R s k);
+      no_leaving = λ k e l. ap (λ r. factor_of r I) (sym (rows_at v rows' k e l) ∙ ap (λ r. slice_index_or r k []) RR) ∙ basic_absent basis R s I can.basic k;
+      leaving = subst (λ n. I < n) (sym long) (basic_below basis I can.basic);
+      entering = subst (λ n. J < n) (sym long) can.known;
+      apart = λ e. true≢false (sym can.basic ∙ ap (is_basic basis) e ∙ can.nonbasic);
+      nonzero = λ z. can.nonzero (ap (λ r. factor_of (slice_index_or r I []) J) (sym RR) ∙ z);
+      room = (let P = All (λ r. factor_of (terms_of v r.items) J ≢ zero_ℚ → length r.items + c.len-count.result ≤ vec_capacity r) in
+          let h : P rows' = subst P (sym is) (on_ok c.make_room-room.result (P rows1) ok c.make_room-room.ensures.room) in
+          let x = c.index.result.now in
+          let n : length (slice_index_or (rows_of v rows') I []) ≡ c.len-count.result =
+          ap (λ r. length (slice_index_or r I [])) RR ∙ ap length (rows_at v d.rows.items I x (subst (λ n. I < n) (sym many) (basic_below basis I can.basic)) ∙ ap (λ r. terms_of v r.items) (sym c.index.ensures))
+          ∙ terms-length v x.items ∙ sym x.ok.0 ∙ sym c.len-count.ensures in
+          λ k e l f. (let a = h k e l f in omega (arith, a, n)));
+      spare = (let P = All (λ r. factor_of (terms_of v r.items) J ≢ zero_ℚ → length r.items ≤ vec_capacity c.make_room-room.new.spare) in
+          subst P (sym is) (on_ok c.make_room-room.result (P rows1) ok c.make_room-room.ensures.spare));
+    }
+
+pub invariant_of-self-in-Err : goal.invariant_of-self-in-Err
+invariant_of-self-in-Err g c =
+    let v = g.N.Exact.value in
+    let m = g.N.Exact.most in
+    let d = c.self.inside in
+    let I = c.args.leaving in
+    let J = c.args.entering in
+    let side = side_of c.args.upper in
+    let basis = basis_of d.places.items in
+    let R = rows_of v d.rows.items in
+    let can = subst (λ d. CanPivot (tableau_of d) I side J) (sym c.self.view_is) c.requires.can in
+    let u : d.usable ≡ true = subst (λ d. d.usable ≡ true) (sym c.self.view_is) c.requires.usable in
+    let s : AreSparse basis R = c.self.invariant.sparse u in
+    let many : length d.rows.items ≡ length basis = sym (rows-length v d.rows.items) ∙ s.long in
+    sound_lost (length d.bounds.items) basis R _ d.objective d.usable c.self.invariant
 
 pub returns-in-Err-clause-done : goal.returns-in-Err-clause-done
 returns-in-Err-clause-done g c =
-    let m = g.N.Exact.most in
     let v = g.N.Exact.value in
+    let m = g.N.Exact.most in
     let d = c.self.inside in
-    let lay = d.layout in
-    let can = subst (λ d. CanPivot (tableau_of d) c.args.leaving (side_of c.args.upper) c.args.entering) (sym c.self.view_is) c.requires.can in
-    let known : c.args.entering < length lay.slots.items = subst (λ n. c.args.entering < n) (sym c.self.invariant.layout.long) can.known in
-    let slot : c.index-column.result.now ≡ slice_index lay.slots.items c.args.entering = get_or_read lay.slots.items c.args.entering c.index-column.result.now known c.index-column.ensures 0 in
-    let work : ℕ → List ℚ → Calculation = λ z e. table_operations (cell lay.slots.items lay.width e c.args.leaving) (cell lay.slots.items lay.width e) c.args.leaving z lay.basics.items lay.order.items in
-    let raw = subst (λ e. first_wide m (work c.index-column.result.now (map v e)) ≡ Some c.in-Err.wide) c.deref_mut.ensures.value c.in-Err.ensures in
-    let found = subst (λ z. first_wide m (work z (map v d.entries.items)) ≡ Some c.in-Err.wide) slot raw in
-    let same = pivot_work (basis_of d.places.items) lay.slots.items lay.basics.items lay.nonbasics.items lay.order.items lay.width (length d.entries.items) c.self.invariant.layout c.args.leaving c.args.entering (side_of c.args.upper) can.basic can.nonbasic can.known (map v d.entries.items) in (
-      subst (λ d. first_wide m (pivot_operations (tableau_of d) c.args.leaving c.args.entering) ≡ Some c.in-Err.wide) c.self.view_is (ap (first_wide m) (sym (same [] true)) ∙ found),
+    let I = c.args.leaving in
+    let J = c.args.entering in
+    let side = side_of c.args.upper in
+    let basis = basis_of d.places.items in
+    let R = rows_of v d.rows.items in
+    let can = subst (λ d. CanPivot (tableau_of d) I side J) (sym c.self.view_is) c.requires.can in
+    let u : d.usable ≡ true = subst (λ d. d.usable ≡ true) (sym c.self.view_is) c.requires.usable in
+    let s : AreSparse basis R = c.self.invariant.sparse u in
+    let many : length d.rows.items ≡ length basis = sym (rows-length v d.rows.items) ∙ s.long in
+    let rows1 = c.make_room-room.new.rows in
+    let taken : take d.rows.len (rows1 ++ drop (length rows1) d.rows.items) ≡ rows1 = refilled rows1 d.rows.items d.rows.len (c.make_room-room.auto.rows ∙ ap length c.deref_mut.ensures.value ∙ sym d.rows.ok.0) in
+    let same : rows_of v rows1 ≡ R = rows_same v rows1 d.rows.items (c.make_room-room.ensures.same ∙ ap (map (λ r. r.items)) c.deref_mut.ensures.value) in
+    let kept : rows_of v (take d.rows.len (rows1 ++ drop (length rows1) d.rows.items)) ≡ R = ap (rows_of v) taken ∙ same in
+    let rows' = c.deref_mut-2.result.now in
+    let is : rows' ≡ rows1 = c.deref_mut-2.ensures.value ∙ taken in
+    let RR : rows_of v rows' ≡ R = ap (rows_of v) is ∙ same in
+    let long : length rows' ≡ length basis = sym (rows-length v rows') ∙ ap length RR ∙ s.long in
+    let p = factor_of (slice_index_or R I []) J in
+    let nonzero = quotient-nonzero p can.nonzero in
+    let limits = map (λ b. record { lower = option_map v b.lower; upper = option_map v b.upper }) d.bounds.items in
+    let work = pivot_work basis R s I J side can.basic can.nonbasic can.known nonzero limits d.objective in (
+      subst (λ d. first_wide m (pivot_operations (tableau_of d) I J) ≡ Some c.in-Err.wide) c.self.view_is (ap (first_wide m) (sym work) ∙ ap (λ r. first_wide m (rows_work I J r)) (sym RR) ∙ c.in-Err.ensures),
       refl,
     )
 
-pub exchange-requires-clause-basics : goal.exchange-requires-clause-basics
-exchange-requires-clause-basics g c =
-    let d = c.self.inside in
-    let can = subst (λ d. CanPivot (tableau_of d) c.args.leaving (side_of c.args.upper) c.args.entering) (sym c.self.view_is) c.requires.can in
-    ap length c.self.invariant.layout.basics_are
-    ∙ sym (basics-many (basis_of d.places.items) c.args.leaving c.args.entering (side_of c.args.upper) can.basic can.nonbasic can.known)
-    ∙ ap (λ p. length (basics (exchanged (basis_of p) c.args.leaving (side_of c.args.upper) c.args.entering))) (sym c.deref_mut-3.ensures.value)
-
-pub exchange-requires-clause-nonbasics : goal.exchange-requires-clause-nonbasics
-exchange-requires-clause-nonbasics g c =
-    let d = c.self.inside in
-    let can = subst (λ d. CanPivot (tableau_of d) c.args.leaving (side_of c.args.upper) c.args.entering) (sym c.self.view_is) c.requires.can in
-    ap length c.self.invariant.layout.nonbasics_are
-    ∙ sym (nonbasics-many (basis_of d.places.items) c.args.leaving c.args.entering (side_of c.args.upper) can.basic can.nonbasic can.known)
-    ∙ ap (λ p. length (nonbasics (exchanged (basis_of p) c.args.leaving (side_of c.args.upper) c.args.entering))) (sym c.deref_mut-3.ensures.value)
-
 pub invariant_of-self-2 : goal.invariant_of-self-2
 invariant_of-self-2 g c =
+    let v = g.N.Exact.value in
+    let m = g.N.Exact.most in
     let d = c.self.inside in
-    let lay = d.layout in
-    let can = subst (λ d. CanPivot (tableau_of d) c.args.leaving (side_of c.args.upper) c.args.entering) (sym c.self.view_is) c.requires.can in
-    let new = c.change_table-changed.new in
-    let auto = c.change_table-changed.auto in
-    let e : length (take d.entries.len (new.entries ++ drop (length new.entries) d.entries.items)) ≡ length d.entries.items =
-    ap length (refilled new.entries d.entries.items d.entries.len (auto.entries ∙ ap length c.deref_mut.ensures.value ∙ sym d.entries.ok.0)) ∙ auto.entries ∙ ap length c.deref_mut.ensures.value in
-    let q : length (take d.quotients.len (new.quotients ++ drop (length new.quotients) d.quotients.items)) ≡ length d.quotients.items =
-    ap length (refilled new.quotients d.quotients.items d.quotients.len (auto.quotients ∙ ap length c.deref_mut-2.ensures.value ∙ sym d.quotients.ok.0)) ∙ auto.quotients ∙ ap length c.deref_mut-2.ensures.value in
-    let places = c.exchange.new.places in
-    let p : take d.places.len (places ++ drop (length places) d.places.items) ≡ places = refilled places d.places.items d.places.len (c.exchange.auto.places ∙ ap length c.deref_mut-3.ensures.value ∙ sym d.places.ok.0) in
-    let b = c.exchange.ensures.basis ∙ ap (λ p. exchanged (basis_of p) c.args.leaving (side_of c.args.upper) c.args.entering) c.deref_mut-3.ensures.value in
-    sound_after (length d.bounds.items) (basis_of d.places.items) _ lay.slots.items _ lay.basics.items _ lay.nonbasics.items _ lay.order.items _ lay.width _ (length d.entries.items) _ (length d.quotients.items) _ d.objective
-    c.args.leaving c.args.entering (side_of c.args.upper) c.self.invariant can.basic can.nonbasic can.known can.limited (ap basis_of p ∙ b) c.exchange.ensures.slots (c.exchange.ensures.basics ∙ ap (λ p. basics (basis_of p)) (sym p))
-    (c.exchange.ensures.nonbasics ∙ ap (λ p. nonbasics (basis_of p)) (sym p)) c.exchange.ensures.order c.exchange.ensures.width e q
+    let I = c.args.leaving in
+    let J = c.args.entering in
+    let side = side_of c.args.upper in
+    let basis = basis_of d.places.items in
+    let R = rows_of v d.rows.items in
+    let can = subst (λ d. CanPivot (tableau_of d) I side J) (sym c.self.view_is) c.requires.can in
+    let u : d.usable ≡ true = subst (λ d. d.usable ≡ true) (sym c.self.view_is) c.requires.usable in
+    let s : AreSparse basis R = c.self.invariant.sparse u in
+    let many : length d.rows.items ≡ length basis = sym (rows-length v d.rows.items) ∙ s.long in
+    let rows1 = c.make_room-room.new.rows in
+    let taken : take d.rows.len (rows1 ++ drop (length rows1) d.rows.items) ≡ rows1 = refilled rows1 d.rows.items d.rows.len (c.make_room-room.auto.rows ∙ ap length c.deref_mut.ensures.value ∙ sym d.rows.ok.0) in
+    let same : rows_of v rows1 ≡ R = rows_same v rows1 d.rows.items (c.make_room-room.ensures.same ∙ ap (map (λ r. r.items)) c.deref_mut.ensures.value) in
+    let kept : rows_of v (take d.rows.len (rows1 ++ drop (length rows1) d.rows.items)) ≡ R = ap (rows_of v) taken ∙ same in
+    let rows' = c.deref_mut-2.result.now in
+    let is : rows' ≡ rows1 = c.deref_mut-2.ensures.value ∙ taken in
+    let RR : rows_of v rows' ≡ R = ap (rows_of v) is ∙ same in
+    let long : length rows' ≡ length basis = sym (rows-length v rows') ∙ ap length RR ∙ s.long in
+    let p = factor_of (slice_index_or R I []) J in
+    let nonzero = quotient-nonzero p can.nonzero in
+    let rows2 = c.exchange_rows-changed.new.rows in
+    let filled : take d.rows.len (rows2 ++ drop (length rows2) (take d.rows.len (rows1 ++ drop (length rows1) d.rows.items))) ≡ rows2 =
+    refilled rows2 (take d.rows.len (rows1 ++ drop (length rows1) d.rows.items)) d.rows.len (c.exchange_rows-changed.auto.rows ∙ long ∙ sym many ∙ sym d.rows.ok.0) in
+    let changed : AreRowsExchanged I J R (rows_of v rows2) = subst (λ r. AreRowsExchanged I J r (rows_of v rows2)) RR c.in_default.ensures.1 in
+    let next : basis_of (set (set d.places.items I c.limit_place.result) J IsBasic) ≡ exchanged basis I side J =
+    map-set place_of_code (set d.places.items I c.limit_place.result) J IsBasic ∙ ap (λ z. set z J Basic) (map-set place_of_code d.places.items I c.limit_place.result ∙ ap (set basis I) c.limit_place.ensures) in
+    subst (λ r. IsSound (length d.bounds.items) (basis_of (set (set d.places.items I c.limit_place.result) J IsBasic)) r d.objective true) (ap (rows_of v) (sym filled))
+    (sound_after (length d.bounds.items) basis (basis_of (set (set d.places.items I c.limit_place.result) J IsBasic)) R (rows_of v rows2) d.objective d.usable true I J side c.self.invariant can.known can.limited next
+    (sparse_after basis R s I J side can.basic can.nonbasic can.known nonzero (rows_of v rows2) changed))
 
 pub returns-clause-done : goal.returns-clause-done
 returns-clause-done g c =
-    let m = g.N.Exact.most in
     let v = g.N.Exact.value in
+    let m = g.N.Exact.most in
     let d = c.self.inside in
-    let lay = d.layout in
-    let i = c.args.leaving in
-    let j = c.args.entering in
+    let I = c.args.leaving in
+    let J = c.args.entering in
     let side = side_of c.args.upper in
-    let can = subst (λ d. CanPivot (tableau_of d) i side j) (sym c.self.view_is) c.requires.can in
-    let known : j < length lay.slots.items = subst (λ n. j < n) (sym c.self.invariant.layout.long) can.known in
-    let slot : c.index-column.result.now ≡ slice_index lay.slots.items j = get_or_read lay.slots.items j c.index-column.result.now known c.index-column.ensures 0 in
-    let new = c.change_table-changed.new in
-    let old = map v d.entries.items in
-    let After : ℕ → List ℚ → Type 0 =
-    λ z e. (first_wide m (table_operations (cell lay.slots.items lay.width e i) (cell lay.slots.items lay.width e) i z lay.basics.items lay.order.items) ≡ None)
-    × IsExchanged lay.slots.items lay.basics.items lay.order.items lay.width i z e (map v new.entries) in
-    let raw = subst (λ e. After c.index-column.result.now (map v e)) c.deref_mut.ensures.value c.in_default.ensures in
-    let found : After (slice_index lay.slots.items j) old = subst (λ z. After z old) slot raw in
-    let e : take d.entries.len (new.entries ++ drop (length new.entries) d.entries.items) ≡ new.entries =
-    refilled new.entries d.entries.items d.entries.len (c.change_table-changed.auto.entries ∙ ap length c.deref_mut.ensures.value ∙ sym d.entries.ok.0) in
-    let places = c.exchange.new.places in
-    let p : take d.places.len (places ++ drop (length places) d.places.items) ≡ places = refilled places d.places.items d.places.len (c.exchange.auto.places ∙ ap length c.deref_mut-3.ensures.value ∙ sym d.places.ok.0) in
-    let b = c.exchange.ensures.basis ∙ ap (λ p. exchanged (basis_of p) i side j) c.deref_mut-3.ensures.value in
-    let same = pivot_work (basis_of d.places.items) lay.slots.items lay.basics.items lay.nonbasics.items lay.order.items lay.width (length d.entries.items) c.self.invariant.layout i j side can.basic can.nonbasic can.known old in
+    let basis = basis_of d.places.items in
+    let R = rows_of v d.rows.items in
+    let can = subst (λ d. CanPivot (tableau_of d) I side J) (sym c.self.view_is) c.requires.can in
+    let u : d.usable ≡ true = subst (λ d. d.usable ≡ true) (sym c.self.view_is) c.requires.usable in
+    let s : AreSparse basis R = c.self.invariant.sparse u in
+    let many : length d.rows.items ≡ length basis = sym (rows-length v d.rows.items) ∙ s.long in
+    let rows1 = c.make_room-room.new.rows in
+    let taken : take d.rows.len (rows1 ++ drop (length rows1) d.rows.items) ≡ rows1 = refilled rows1 d.rows.items d.rows.len (c.make_room-room.auto.rows ∙ ap length c.deref_mut.ensures.value ∙ sym d.rows.ok.0) in
+    let same : rows_of v rows1 ≡ R = rows_same v rows1 d.rows.items (c.make_room-room.ensures.same ∙ ap (map (λ r. r.items)) c.deref_mut.ensures.value) in
+    let kept : rows_of v (take d.rows.len (rows1 ++ drop (length rows1) d.rows.items)) ≡ R = ap (rows_of v) taken ∙ same in
+    let rows' = c.deref_mut-2.result.now in
+    let is : rows' ≡ rows1 = c.deref_mut-2.ensures.value ∙ taken in
+    let RR : rows_of v rows' ≡ R = ap (rows_of v) is ∙ same in
+    let long : length rows' ≡ length basis = sym (rows-length v rows') ∙ ap length RR ∙ s.long in
+    let p = factor_of (slice_index_or R I []) J in
+    let nonzero = quotient-nonzero p can.nonzero in
+    let limits = map (λ b. record { lower = option_map v b.lower; upper = option_map v b.upper }) d.bounds.items in
+    let rows2 = c.exchange_rows-changed.new.rows in
+    let filled : take d.rows.len (rows2 ++ drop (length rows2) (take d.rows.len (rows1 ++ drop (length rows1) d.rows.items))) ≡ rows2 =
+    refilled rows2 (take d.rows.len (rows1 ++ drop (length rows1) d.rows.items)) d.rows.len (c.exchange_rows-changed.auto.rows ∙ long ∙ sym many ∙ sym d.rows.ok.0) in
+    let changed : AreRowsExchanged I J R (rows_of v rows2) = subst (λ r. AreRowsExchanged I J r (rows_of v rows2)) RR c.in_default.ensures.1 in
+    let next : basis_of (set (set d.places.items I c.limit_place.result) J IsBasic) ≡ exchanged basis I side J =
+    map-set place_of_code (set d.places.items I c.limit_place.result) J IsBasic ∙ ap (λ z. set z J Basic) (map-set place_of_code d.places.items I c.limit_place.result ∙ ap (set basis I) c.limit_place.ensures) in
+    let work = pivot_work basis R s I J side can.basic can.nonbasic can.known nonzero limits d.objective in
     rw (← c.self.view_is) (
-      ap (first_wide m) (sym (same [] true)) ∙ found.0,
+      ap (first_wide m) (sym work) ∙ ap (λ r. first_wide m (rows_work I J r)) (sym RR) ∙ c.in_default.ensures.0,
       (
-        (is_pivoted (basis_of d.places.items) lay.slots.items lay.basics.items lay.nonbasics.items lay.order.items lay.width (length d.entries.items) c.self.invariant.layout i j side can.basic can.nonbasic can.known old (map v new.entries) found.1
-            _ d.objective _ _ _ _ (ap basis_of p ∙ b) c.exchange.ensures.slots c.exchange.ensures.width (ap (map v) e)),
+        record {
+          limits = refl;
+          objective = refl;
+          basis = next;
+          factor = λ r k b l e.
+              ap (λ z. factor_of (slice_index_or (rows_of v z) r []) k) filled
+              ∙ pivoted_factor basis R s I J side can.basic can.nonbasic can.known nonzero (rows_of v rows2) changed r k (ap (λ z. is_basic z r) (sym next) ∙ b) (ap (λ z. is_basic z k) (sym next) ∙ e);
+        },
         refl,
       ),
     )
 
 pub returns-clause-system : goal.returns-clause-system
-returns-clause-system g c = λ system of. pivot_law system _ _ c.args.leaving (side_of c.args.upper) c.args.entering of c.requires.can (returns-clause-done g c).1.0
+returns-clause-system g c = λ system of. pivot_law system (tableau_of c.args.self.now) _ c.args.leaving (side_of c.args.upper) c.args.entering of c.requires.can (returns-clause-done g c).1.0
 
-pub index-column-requires : goal.index-column-requires
-index-column-requires g c = grind (arith, common_steps)
+pub index_mut-requires : goal.index_mut-requires
+index_mut-requires g c =
+    let v = g.N.Exact.value in
+    let m = g.N.Exact.most in
+    let d = c.self.inside in
+    let I = c.args.leaving in
+    let J = c.args.entering in
+    let side = side_of c.args.upper in
+    let basis = basis_of d.places.items in
+    let R = rows_of v d.rows.items in
+    let can = subst (λ d. CanPivot (tableau_of d) I side J) (sym c.self.view_is) c.requires.can in
+    let u : d.usable ≡ true = subst (λ d. d.usable ≡ true) (sym c.self.view_is) c.requires.usable in
+    let s : AreSparse basis R = c.self.invariant.sparse u in
+    let many : length d.rows.items ≡ length basis = sym (rows-length v d.rows.items) ∙ s.long in
+    let l = basic_below basis I can.basic in
+    let n = basis-length d.places.items in
+    let o = d.places.ok.0 in
+    omega (arith, l, n, o)
 
-pub change_table-changed-requires-clause-room : goal.change_table-changed-requires-clause-room
-change_table-changed-requires-clause-room g c = grind (arith, common_steps)
-
-pub change_table-changed-requires-clause-known : goal.change_table-changed-requires-clause-known
-change_table-changed-requires-clause-known g c = grind (arith, common_steps)
-
-pub exchange-requires-clause-long : goal.exchange-requires-clause-long
-exchange-requires-clause-long g c = grind (arith, common_steps)
-
-pub exchange-requires-clause-few : goal.exchange-requires-clause-few
-exchange-requires-clause-few g c = grind (arith, common_steps)
-
-pub exchange-requires-clause-leaving : goal.exchange-requires-clause-leaving
-exchange-requires-clause-leaving g c = grind (arith, common_steps)
-
-pub exchange-requires-clause-entering : goal.exchange-requires-clause-entering
-exchange-requires-clause-entering g c = grind (arith, common_steps)
-
-pub exchange-requires-clause-order : goal.exchange-requires-clause-order
-exchange-requires-clause-order g c = grind (arith, common_steps)
+pub index_mut-requires-2 : goal.index_mut-requires-2
+index_mut-requires-2 g c =
+    let v = g.N.Exact.value in
+    let m = g.N.Exact.most in
+    let d = c.self.inside in
+    let I = c.args.leaving in
+    let J = c.args.entering in
+    let side = side_of c.args.upper in
+    let basis = basis_of d.places.items in
+    let R = rows_of v d.rows.items in
+    let can = subst (λ d. CanPivot (tableau_of d) I side J) (sym c.self.view_is) c.requires.can in
+    let u : d.usable ≡ true = subst (λ d. d.usable ≡ true) (sym c.self.view_is) c.requires.usable in
+    let s : AreSparse basis R = c.self.invariant.sparse u in
+    let many : length d.rows.items ≡ length basis = sym (rows-length v d.rows.items) ∙ s.long in
+    let l = can.known in
+    let n = basis-length d.places.items in
+    let o = d.places.ok.0 in
+    omega (arith, l, n, o)
