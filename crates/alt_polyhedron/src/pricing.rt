@@ -10,8 +10,8 @@ use crate::reading::{price_of, total_of};
 use crate::stops::stop_of;
 use crate::supports::{support, used_members};
 use crate::{
-    alternative_system, alternative_systems_are_apart, alternative_systems_are_bounded,
-    alternative_systems_are_few, alternative_systems_are_formed, bounding_members,
+    alternative_system, alternative_systems_are_bounded, alternative_systems_are_few,
+    alternative_systems_are_formed, bounding_members,
 };
 use certs::{Combo, MemberSet, Point, Stop};
 use dictionary::Dictionary;
@@ -19,7 +19,6 @@ use evidence_laws::{
     last_table_is_cheapest, last_table_is_irreducible, no_weighting_gives_point, tableau_is_table,
 };
 use frac128::Frac;
-use linear_oracle::started;
 use lp_model::Model;
 use relaxation::{Reached, run};
 use simplex::point_of;
@@ -61,7 +60,6 @@ pub fn cheapest(alloc: Global, model: &Model, set: &MemberSet, pivots: u64) -> R
     let _rows = model.row_count();
     let _columns = model.column_count();
     set.stands_in_order();
-    alternative_systems_are_apart();
     alternative_systems_are_formed();
     alternative_systems_are_few();
     alternative_systems_are_bounded();
@@ -69,17 +67,14 @@ pub fn cheapest(alloc: Global, model: &Model, set: &MemberSet, pivots: u64) -> R
     let Ok(system) = alternative_system(alloc, model, set) else {
         return Err(Stop::Memory);
     };
-    let Ok(mut dictionary) = started(alloc, &system) else {
-        return Err(Stop::Memory);
-    };
-    let reached = match run(&system, &mut dictionary, pivots) {
-        Ok(reached) => reached,
+    let ran = match run(alloc, &system, pivots) {
+        Ok(ran) => ran,
         Err(stop) => return Err(stop_of(alloc, set, stop)),
     };
-    match reached {
+    match ran.reached {
         Reached::Blocked(_) => Ok(Priced::Feasible),
         Reached::Best => {
-            let Ok(priced) = cheapest_at(alloc, model, set, &dictionary) else {
+            let Ok(priced) = cheapest_at(alloc, model, set, &ran.dictionary) else {
                 return Err(Stop::Memory);
             };
             Ok(priced)

@@ -3,7 +3,7 @@ ghost use Rattle.std.specs.Prelude.{ℕ, IfOk};
 ghost use Rattle.lp_model.specs.Program.{Program};
 ghost use Rattle.certs.specs.Checks.{IsSetOf};
 ghost use Rattle.certs.specs.System.{alternative_system};
-ghost use Rattle.unbounded.specs.Runs.{StopsSo};
+ghost use Rattle.two_widths.specs.Ends.{StopsSo};
 ghost use Rattle.alt_polyhedron.specs.Pricing.{IsAlternativeSite, IsPricingStop};
 
 use certs::{MemberSet, Path, Site, SiteKind, Stop};

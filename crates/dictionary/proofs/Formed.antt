@@ -2,14 +2,13 @@
 use Rattle.std.proofs.Common.{◌≡◌, ◌≢◌, ◌+◌, ◌<◌, ◌≤◌, ◌^◌, refl, sym, ◌∙◌, ap, subst, ℕ, suc, Bool, true, false, true≢false, ◌&&◌, not, List, [], ◌∷◌, length, drop, take, get_or, map, cond, nat_lt, arith, Option, Some, None, is_some}
 use Rattle.std.specs.Prelude.{All, AllPairs, IfSome}
 use Rattle.std.proofs.lemmas.Bool.{and_parts, and_from, not-true, not_from_false, ltb-true, ltb-false, lt-ltb, le-ltb, false_from_ne_true}
-use Rattle.std.proofs.lemmas.List.{at_drop_more, take_all, length-map}
+use Rattle.std.proofs.lemmas.List.{at_drop_more, take_all, length-map, get_or-map}
 use Rattle.std.proofs.lemmas.List.Elements.{All-nil, All-cons, All-head, All-tail, All-weaker, All-append, All-map}
 use Rattle.std.proofs.lemmas.List.Kept.{AllPairs-cons}
 use Rattle.rational.specs.Rational.{ℚ, zero_ℚ, eq_ℚ, lt_q, ◌≤ℚ◌}
 use Rattle.rational.specs.Linear.{Term}
 use Rattle.rational.proofs.Compare.{eq-Decides, lt_q-Decides}
 use Rattle.rational.proofs.Order.{lt_q-false, lt-le_clash_ℚ}
-use Rattle.frac128.specs.Limit.{limit}
 use Rattle.lp_model.specs.declared.parts.Row.{Row}
 use Rattle.lp_model.specs.Program.{IsForm}
 use Rattle.certs.specs.Rows.{row_of}
@@ -81,6 +80,10 @@ every_step test xs i x l is h = sym (at_drop_more (every test) xs i x l ∙ ap (
 pub every_item_fits : {X : Type 0} (P : X → Type 0) (xs : List X) (i : ℕ) → length xs ≤ i → All P (take i xs) → All P xs
 every_item_fits P xs i l h = subst (All P) (take_all i xs l) h
 
+-- what holds of each made thing holds of each it is made of
+pub unmapped : {X Y : Type 0} (P : Y → Type 0) (f : X → Y) (xs : List X) → All P (map f xs) → All (λ x. P (f x)) xs
+unmapped P f xs h k d l = subst P (get_or-map f xs k d (f d) l) (h k (f d) (subst (λ n. k < n) (sym (length-map xs f)) l))
+
 -- ---- limits
 abbrev pub IsOrdered : Limits → Type 0
 IsOrdered limits = IfSome limits.lower (λ l. IfSome limits.upper (λ u. l ≤ℚ u))
@@ -137,13 +140,7 @@ module _ (system : LinearSystem) where
   columns_pass formed = every_passes uncrossed IsOrdered (λ l e. in_order_of l.lower l.upper e) system.columns (all_front IsOrdered system.columns _ formed.ordered)
 
   rows_ordered : IsWellFormedSystem system → All (λ (r : SystemRow). IsOrdered r.limits) system.rows
-  rows_ordered formed = unmapped system.rows (all_front IsOrdered (map (λ (r : SystemRow). r.limits) system.rows) _ (all_back IsOrdered system.columns _ formed.ordered))
-    where
-      unmapped : (rows : List SystemRow) → All IsOrdered (map (λ (r : SystemRow). r.limits) rows) → All (λ (r : SystemRow). IsOrdered r.limits) rows
-      unmapped [] h = All-nil (λ (r : SystemRow). IsOrdered r.limits)
-      unmapped (r ∷ rows) h =
-          All-cons (λ (r : SystemRow). IsOrdered r.limits) r rows (All-head IsOrdered r.limits (map (λ (r : SystemRow). r.limits) rows) h)
-          (unmapped rows (All-tail IsOrdered r.limits (map (λ (r : SystemRow). r.limits) rows) h))
+  rows_ordered formed = unmapped IsOrdered (λ (r : SystemRow). r.limits) system.rows (all_front IsOrdered (map (λ (r : SystemRow). r.limits) system.rows) _ (all_back IsOrdered system.columns _ formed.ordered))
 
   pub rows_pass : IsWellFormedSystem system → every (passes (length system.columns)) system.rows ≡ true
   rows_pass formed = by system.rows formed.rows (rows_ordered formed)
@@ -175,14 +172,14 @@ module _ (columns : List Limits) (rows : List Row) (objective : Option (List Ter
   pub objective_passing : (n : ℕ) → n ≡ length columns → IsWellFormedSystem seen → Ascends n objective
   objective_passing n e formed = subst (λ n. Ascends n objective) (sym e) (objective_passes seen formed)
 
-  pub fitting : (n m : ℕ) (b : Bool) → n ≡ length columns → m ≡ length rows → b ≡ is_some objective → nat_lt (n + m + cond b 1 0) (2 ^ 31) ≡ true
-      → All (FitLimits limit) columns → All (λ (r : Row). FitLimits limit (row_of r).limits) rows → All (λ (r : Row). FitForm limit r.terms) rows → IfSome objective (FitForm limit) → FitSystem limit seen
-  fitting n m b e f g few columns_fit rows_fit forms_fit objective_fits = record {
+  pub fitting : (most n m : ℕ) (b : Bool) → n ≡ length columns → m ≡ length rows → b ≡ is_some objective → nat_lt (n + m + cond b 1 0) (2 ^ 31) ≡ true
+      → All (FitLimits most) columns → All (λ (r : Row). FitLimits most (row_of r).limits) rows → All (λ (r : Row). FitForm most r.terms) rows → IfSome objective (FitForm most) → FitSystem most seen
+  fitting most n m b e f g few columns_fit rows_fit forms_fit objective_fits = record {
     few =
         subst (λ z. z < 2 ^ 31) (ap (λ z. z + m + cond b 1 0) e ∙ ap (λ z. length columns + z + cond b 1 0) (f ∙ sym (length-map rows row_of)) ∙ ap (λ z. length columns + length (map row_of rows) + cond z 1 0) g)
         (ltb-true (n + m + cond b 1 0) (2 ^ 31) few);
     columns = columns_fit;
-    row_limits = All-map (λ (r : SystemRow). FitLimits limit r.limits) row_of rows rows_fit;
-    row_forms = All-map (λ (r : SystemRow). FitForm limit r.terms) row_of rows forms_fit;
+    row_limits = All-map (λ (r : SystemRow). FitLimits most r.limits) row_of rows rows_fit;
+    row_forms = All-map (λ (r : SystemRow). FitForm most r.terms) row_of rows forms_fit;
     objective = objective_fits;
   }

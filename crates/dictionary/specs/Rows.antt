@@ -1,12 +1,14 @@
 -- Rows of a dictionary: what counts in a basic variable.
 use Rattle.std.specs.Prelude.{◌≡◌, ◌≢◌, ℕ, ◌<◌, ◌==◌, true, false, not, cond, List, [], ◌++◌, map, length, filter, flat_map, slice_index_or, slice_set, All, AllPairs, Vec}
+use Rattle.std.specs.Option.{option_map}
 use Rattle.rational.specs.Rational.{ℚ, ◌-ℚ◌, ◌*ℚ◌, ◌/ℚ◌, neg_ℚ, zero_ℚ, one_ℚ, eq_ℚ}
 use Rattle.rational.specs.Linear.{Term, factor_of}
 use Rattle.frac128.specs.declared.Op.TheVariants.{Minus, Over, Times}
 use Rattle.frac128.specs.Calculation.{Calculation}
-use Rattle.certs.specs.System.{Place, is_basic}
+use Rattle.certs.specs.System.{Limits, Place, is_basic}
 use Rattle.certs.specs.Turns.{counted}
 use Rattle.dictionary.specs.declared.entries.Entry.{Entry}
+use Rattle.dictionary.specs.declared.places.Bounds.{Bounds}
 
 -- the terms for which entries stand
 abbrev pub terms_of : {N : Type 0} → (N → ℚ) → List (Entry N) → List Term
@@ -15,6 +17,10 @@ terms_of value entries = map (λ e. record { column = e.variable; factor = value
 -- and those of rows
 abbrev pub rows_of : {N A : Type 0} → (N → ℚ) → List (Vec (Entry N) A) → List (List Term)
 rows_of value rows = map (λ r. terms_of value r.items) rows
+
+-- the limits for which those of variables stand
+abbrev pub bounds_of : {N : Type 0} → (N → ℚ) → List (Bounds N) → List Limits
+bounds_of value bounds = map (λ b. record { lower = option_map value b.lower; upper = option_map value b.upper }) bounds
 
 -- the variables ascend, and no factor is 0
 pub record IsRow (row : List Term) : Type 0 where

@@ -16,8 +16,9 @@ use crate::numbers::{product, sum};
 use crate::places::{Bounds, Place, is_standing, limit_place, other_limit, place_number};
 use crate::starts::{all_bounds, start_places, start_rows};
 use crate::table::{exchange_rows, make_room};
+use crate::widening::{widened_bounds, widened_rows};
 use certs::System;
-use frac128::{Exact, Wide};
+use frac128::{Exact, Frac, Frac64, Wide};
 use std::alloc::{AllocError, Global};
 use std::marker::Model;
 
@@ -273,5 +274,26 @@ impl<N: Exact> Dictionary<N> {
         self.places[entering as usize] = Place::Basic;
         self.usable = true;
         Ok(())
+    }
+}
+
+impl Dictionary<Frac64> {
+    /// The same with fractions of 128 bits.
+    pub fn widened(&self, alloc: Global) -> Result<Dictionary<Frac>, AllocError>
+        ensures { IfOk result (λ d. d ≡ self.now) }
+    {
+        let bounds = widened_bounds(alloc, &self.bounds)?;
+        let places = Vec::from_slice(alloc, &self.places)?;
+        let rows = widened_rows(alloc, &self.rows)?;
+        Ok(Dictionary {
+            columns: self.columns,
+            objective: self.objective,
+            bounds,
+            places,
+            rows,
+            quotients: Vec::new(alloc),
+            spare: Vec::new(alloc),
+            usable: self.usable,
+        })
     }
 }

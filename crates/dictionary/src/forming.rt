@@ -34,8 +34,8 @@ pub fn is_formed(system: &System) -> bool
     is_objective(columns, &system.objective)
 }
 
-// Whether there are fewer than 2^31 variables.
-fn are_few(columns: usize, rows: usize, objective: bool) -> bool
+/// Whether there are fewer than 2^31 variables.
+pub(crate) fn are_few(columns: usize, rows: usize, objective: bool) -> bool
     ensures { result ≡ nat_lt (columns + rows + cond objective 1 0) (2 ^ 31) }
 {
     if columns >= MOST_VARIABLES {

@@ -15,7 +15,8 @@ ghost use Rattle.certs.specs.Turns.{limited, settle_choice, settle_values};
 ghost use Rattle.dictionary.specs.Value.{tableau_of};
 ghost use Rattle.simplex.specs.Ends.{IsEnd};
 ghost use Rattle.simplex.specs.declared.settling.Settled.TheVariants.{Feasible, Infeasible};
-ghost use Rattle.linear_oracle.specs.Ended.{HasEnded, IsStopOf};
+ghost use Rattle.two_widths.specs.Ends.{IsStopOf};
+ghost use Rattle.linear_oracle.specs.Ended.{HasEnded};
 
 use certs::{
     Branch, BranchPath, Combo, MemberSet, NodeEnd, Path, Shares, Side, Site, SiteKind, Stop,

@@ -9,4 +9,3 @@ mod solve;
 pub use crossings::first_crossing;
 pub use ends::{settle_site, stop_end};
 pub use oracle::{LinearOracle, leaf_proof};
-pub use solve::started;

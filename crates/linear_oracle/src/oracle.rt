@@ -58,7 +58,7 @@ impl<'a> LinearOracle<'a> {
         self.pivots
     }
 
-    /// How many pivots its runs made so far, for measurements; it stays at its greatest value once there.
+    /// How many pivots its runs that ended made so far, for measurements; it stays at its greatest value once there.
     pub fn pivots_made(&self) -> u64
         ensures { result ≡ self.now.made }
     {

@@ -1,18 +1,17 @@
--- Runs of reduced systems in code.
-use Rattle.std.proofs.Common.{◌≡◌, ◌≢◌, ◌<◌, ◌^◌, refl, sym, ◌∙◌, ap, subst, ℕ, cond, true, List, [], length, is_some, Err, arith}
+-- Runs of reduced systems.
+use Rattle.std.proofs.Common.{◌≡◌, ◌≢◌, ◌<◌, ◌^◌, refl, sym, ◌∙◌, ap, subst, ℕ, cond, List, [], length, None, is_some, arith}
 use Rattle.lp_model.specs.declared.members.Member.{Member}
 use Rattle.lp_model.specs.Program.{Program, IsWellFormed}
-use Rattle.frac128.specs.Limit.{limit}
 use Rattle.certs.specs.Runs.{End}
 use Rattle.certs.specs.Runs.End.{TooWide, Spent}
+use Rattle.certs.specs.Solves.{RunEnds, StartRun}
 use Rattle.certs.specs.System.{LinearSystem}
-use Rattle.certs.specs.Tableau.{IsWellFormedSystem, start_basis, variables}
-use Rattle.dictionary.specs.Value.{DictionaryValue}
-use Rattle.simplex.specs.Ends.{HasRun, RanBy}
+use Rattle.certs.specs.Tableau.{IsTableauOf, IsWellFormedSystem, variables}
+use Rattle.dictionary.specs.Value.{DictionaryValue, tableau_of}
 use Rattle.simplex.specs.declared.settling.RunStop.{RunStop}
 use Rattle.simplex.specs.declared.settling.RunStop.TheVariants.{Wide, Pivots, Memory}
-use Rattle.linear_oracle.specs.Ended.{HasEnded, IsStopOf}
-use Rattle.linear_oracle.proofs.Runs.{has_ended, run_ends, stop_is}
+use Rattle.two_widths.specs.Ends.{IsStopOf}
+use Rattle.linear_oracle.specs.Ended.{HasEnded}
 use Rattle.reductions.specs.declared.steps.Step.{Step}
 use Rattle.reductions.specs.declared.steps.Trace.{Trace}
 use Rattle.reductions.specs.Known.{IsTraceOf}
@@ -50,31 +49,26 @@ module _ (model : Program) (set : List Member) (trace : Trace) (last : Stage) (f
       let all : columns ≡ length whole.columns = count ∙ ap (λ (s : LinearSystem). length s.columns) is ∙ large.columns in
       subst (λ (a : ℕ). IsTraceOf a trace.rows trace) (sym all) (subst (λ (b : ℕ). IsTraceOf (length whole.columns) b trace) (sym leads.known.rows_are) leads.known)
 
--- ---- a run from the start of what is left
-module _ (system : LinearSystem) (last : Stage) (is : system ≡ last.system) (reduced : IsReduced last) (start now : DictionaryValue) (pivots left turns : ℕ) (basis : start.basis ≡ start_basis system) where
+  -- and has no objective
+  pub none_left : (system : LinearSystem) → system ≡ last.system → system.objective ≡ None
+  none_left system is = ap (λ (s : LinearSystem). s.objective) is ∙ no_objective (start_stage whole) last trace.steps refl leads.reduces
+
+-- ---- the run of what is left
+module _ (system : LinearSystem) (last : Stage) (is : system ≡ last.system) (pivots : ℕ) where
   -- where it stops, the system before the steps is not eased
-  pub stop_excludes : (whole : LinearSystem) (trace : Trace) → LeadsTo whole trace last → (stop : RunStop) → RanBy limit system start.basis pivots 0 (Err stop) now left turns → stop ≢ Memory → IsEased whole pivots → ⊥
-  stop_excludes whole trace leads (Wide turn operation) run other =
-      wide_not_eased whole pivots trace.steps last leads.reduces reduced turn operation
-      (run_ends last.system start now pivots left turns (TooWide turn operation) (reduced_apart last reduced) (basis ∙ ap start_basis is)
-      (subst (λ (s : LinearSystem). HasRun limit s start.basis pivots 0 (TooWide turn operation) now left turns) is run))
-  stop_excludes _ trace leads Memory run other = absurd (other refl)
-  stop_excludes whole trace leads Pivots run other =
-      spent_not_eased whole pivots trace.steps last leads.reduces reduced
-      (run_ends last.system start now pivots left turns Spent (reduced_apart last reduced) (basis ∙ ap start_basis is)
-      (subst (λ (s : LinearSystem). HasRun limit s start.basis pivots 0 Spent now left turns) is run))
+  pub stop_excludes : (whole : LinearSystem) (trace : Trace) → LeadsTo whole trace last → IsReduced last → (stop : RunStop) → IsStopOf system pivots stop → stop ≢ Memory → IsEased whole pivots → ⊥
+  stop_excludes whole trace leads reduced (Wide turn operation) h other =
+      wide_not_eased whole pivots trace.steps last leads.reduces reduced turn operation (subst (λ (s : LinearSystem). RunEnds s pivots (TooWide turn operation)) is h)
+  stop_excludes whole trace leads reduced Pivots h other =
+      spent_not_eased whole pivots trace.steps last leads.reduces reduced (subst (λ (s : LinearSystem). RunEnds s pivots Spent) is h)
+  stop_excludes whole trace leads reduced Memory h other = absurd (other refl)
 
   -- where nothing was reduced it is the stop of the system's own run
-  pub stop_own : (whole : LinearSystem) (trace : Trace) → LeadsTo whole trace last → trace.steps ≡ [] → (stop : RunStop)
-      → RanBy limit system start.basis pivots 0 (Err stop) now left turns → IsStopOf whole pivots stop
-  stop_own whole trace leads none stop run =
+  pub stop_own : (whole : LinearSystem) (trace : Trace) → LeadsTo whole trace last → trace.steps ≡ [] → (stop : RunStop) → IsStopOf system pivots stop → IsStopOf whole pivots stop
+  stop_own whole trace leads none stop h =
       let same : start_stage whole ≡ last = subst (λ (steps : List Step). Reduces (start_stage whole) steps last) none leads.reduces in
-      subst (λ (s : LinearSystem). IsStopOf s pivots stop) (sym (ap (λ (s : Stage). s.system) same))
-      (stop_is last.system start now pivots left turns stop (reduced_apart last reduced) (basis ∙ ap start_basis is)
-      (subst (λ (s : LinearSystem). RanBy limit s start.basis pivots 0 (Err stop) now left turns) is run))
+      subst (λ (s : LinearSystem). IsStopOf s pivots stop) (is ∙ sym (ap (λ (s : Stage). s.system) same)) h
 
   -- where it ends, the dictionary stands at its end
-  pub ended : (end : End) → now.usable ≡ true → now.columns ≡ length system.columns → HasRun limit system start.basis pivots 0 end now left turns → HasEnded last.system pivots now end
-  ended end usable columns run =
-      has_ended last.system start now pivots left turns end (reduced_apart last reduced) (basis ∙ ap start_basis is) usable (columns ∙ ap (λ (s : LinearSystem). length s.columns) is)
-      (subst (λ (s : LinearSystem). HasRun limit s start.basis pivots 0 end now left turns) is run)
+  pub ended : (end : End) (now : DictionaryValue) → StartRun system pivots end now.basis → IsTableauOf system (tableau_of now) → now.columns ≡ length system.columns → HasEnded last.system pivots now end
+  ended end now run of columns = subst (λ (s : LinearSystem). HasEnded s pivots now end) is (record { run = run; is_of = of; columns = columns })

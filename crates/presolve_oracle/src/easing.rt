@@ -3,7 +3,7 @@ ghost use Rattle.std.specs.Prelude.{◌≡◌, ◌≢◌, ◌≤◌, ◌<◌, �
 ghost use Rattle.lp_model.specs.Program.{IsWellFormed, Program};
 ghost use Rattle.lp_model.specs.declared.members.Member.{Member as OneMember};
 ghost use Rattle.certs.specs.Checks.{IsSetOf};
-ghost use Rattle.linear_oracle.specs.Ended.{IsStopOf};
+ghost use Rattle.two_widths.specs.Ends.{IsStopOf};
 ghost use Rattle.presolve.specs.Reduced.{IsReductionOf};
 ghost use Rattle.presolve.specs.declared.reduction.Reduction.TheVariants.{Reduced};
 ghost use Rattle.presolve_laws.specs.Answers.{set_system};
@@ -12,12 +12,13 @@ ghost use Rattle.presolve_oracle.specs.Easing.{IsEasing, IsEasingEnd};
 
 use crate::backs::{cut_back, infeasible, shares_back, values_back};
 use certs::{MemberSet, Stop, System, Verdict, plain_system};
-use linear_oracle::{started, stop_end};
+use linear_oracle::stop_end;
 use lp_model::Model;
 use presolve::{Reduction, reduce};
 use reductions::Trace;
-use simplex::{RunStop, Settled, settle};
+use simplex::RunStop;
 use std::alloc::{AllocError, Global};
+use two_widths::{End, solve};
 
 /// What the reduction of a set's plain system leads to.
 #[derive(Drop)]
@@ -55,7 +56,7 @@ pub(crate) fn eased(
     let reduction = reduce(alloc, system)?;
     match reduction {
         Reduction::Reduced { system, trace } => {
-            counted_run(alloc, model, set, &system, &trace, pivots, made)
+            run_back(alloc, model, set, &system, &trace, pivots, made)
         }
         Reduction::Decided { combo, trace } => {
             let proof = cut_back(alloc, model, set, &trace, &combo)?;
@@ -118,7 +119,7 @@ fn stop_told(
 }
 
 // What the run of the reduced system gives, brought back. The pivots that it makes are added to a count.
-fn counted_run(
+fn run_back(
     alloc: Global,
     model: &Model,
     set: &MemberSet,
@@ -135,42 +136,21 @@ fn counted_run(
     ensures eased { IfOk result (IsEasingEnd model.now set.now.members pivots) }
     ensures made { made.old ≤ made.new }
 {
-    let mut left = pivots;
-    let easing = run_back(alloc, model, set, system, trace, &mut left);
-    *made = made.saturating_add(pivots.saturating_sub(left));
-    easing
-}
-
-// What the run of the reduced system gives, brought back. What it leaves of the pivots is told.
-fn run_back(
-    alloc: Global,
-    model: &Model,
-    set: &MemberSet,
-    system: &System,
-    trace: &Trace,
-    pivots: &mut u64,
-) -> Result<Easing, AllocError>
-    requires same { IsSetOf model.now set.now }
-    requires budget { pivots.old < 2 ^ 63 }
-    requires formed { IsWellFormed model.now }
-    requires reduced { IsReductionOf (set_system model.now set.now.members)
-        (Reduced system.now trace.now) }
-    ensures { IfOk result (IsEasingEnd model.now set.now.members pivots.old) }
-{
-    let mut dictionary = started(alloc, system)?;
-    let mut turn = 0;
-    let settled = match settle(&mut dictionary, pivots, &mut turn) {
-        Ok(settled) => settled,
+    let solved = match solve(alloc, system, pivots) {
+        Ok(solved) => solved,
         Err(stop) => return stop_told(alloc, set, trace, stop),
     };
-    match settled {
-        Settled::Feasible => {
-            let found = values_back(alloc, &dictionary, trace)?;
+    *made = made.saturating_add(solved.made);
+    match solved.end {
+        End::Feasible => {
+            let found = values_back(alloc, &solved.dictionary, trace)?;
             Ok(easing_of(found))
         }
-        Settled::Infeasible(variable) => {
-            let found = shares_back(alloc, model, set, &dictionary, trace, variable)?;
+        End::Infeasible(variable) => {
+            let found = shares_back(alloc, model, set, &solved.dictionary, trace, variable)?;
             Ok(easing_of(found))
         }
+        End::Optimal => unreachable!(),
+        End::Ray(_) => unreachable!(),
     }
 }

@@ -54,7 +54,7 @@ impl<'a> PresolveOracle<'a> {
         }
     }
 
-    /// How many pivots its runs made so far, those of reduced systems and of nodes too, for measurements; it stays at
+    /// How many pivots its runs that ended made so far, those of reduced systems and of nodes too, for measurements; it stays at
     /// its greatest value once there.
     pub fn pivots_made(&self) -> u64
         ensures { self.now.inner.made ≤ result }

@@ -5,7 +5,6 @@ mod Plain
 mod Eased
 mod Least
 mod Totals
-mod Stops
 mod Bounded
 mod Shares
 mod BestEnds

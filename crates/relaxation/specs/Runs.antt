@@ -28,7 +28,7 @@ use Rattle.simplex.specs.ImproveEnds.{EndsAt, KeepsLimits}
 use Rattle.simplex.specs.declared.improving.Improved.TheVariants.{Optimal as ImprovesOptimal}
 use Rattle.simplex.specs.Duals.{IsNamedDual}
 use Rattle.simplex.specs.Rays.{IsVariableRay}
-use Rattle.unbounded.specs.Runs.{StopsSo}
+use Rattle.two_widths.specs.Ends.{StopsSo}
 use Rattle.relaxation.specs.declared.systems.Costs.{Costs}
 use Rattle.relaxation.specs.declared.systems.Costs.TheVariants.{Ones, Weights}
 use Rattle.relaxation.specs.Costs.{system_by}

@@ -16,6 +16,6 @@ pub use laws::{elastic_systems_are_few, elastic_systems_are_formed};
 pub use naming::named_shares;
 pub use origins::member_number;
 pub use relaxing::{Relaxed, relax};
-pub use running::{Reached, run};
+pub use running::{Ran, Reached, run};
 pub use stretching::ElasticStretcher;
 pub use systems::{Costs, elastic_system, member_cost};

@@ -1,15 +1,15 @@
 //! The runs of a system whose objective has an end.
-ghost use Rattle.std.specs.Prelude.{◌≡◌, ◌<◌, ◌^◌, IfErr, IfOk, IsSome, None, true};
-ghost use Rattle.certs.specs.Plain.{first_crossing};
-ghost use Rattle.certs.specs.Tableau.{IsTableauOf, IsWellFormedSystem, start_basis};
-ghost use Rattle.dictionary.specs.Value.{tableau_of};
-ghost use Rattle.unbounded.specs.Runs.{StopsSo};
+ghost use Rattle.std.specs.Prelude.{◌≡◌, ◌<◌, ◌^◌, IfErr, IfOk, IsSome, length};
+ghost use Rattle.certs.specs.Tableau.{IsWellFormedSystem, variables};
+ghost use Rattle.two_widths.specs.Ends.{StopsSo};
 ghost use Rattle.relaxation.specs.Runs.{HasNoRay, IsReached};
 
 use certs::System;
 use dictionary::Dictionary;
 use frac128::Frac;
-use simplex::{Improved, RunStop, Settled, improve, settle};
+use simplex::RunStop;
+use std::alloc::Global;
+use two_widths::{End, solve};
 
 /// Where the runs end: nothing helps this variable, which is outside its limits; or nothing raises the objective.
 #[derive(Clone, Copy)]
@@ -18,37 +18,42 @@ pub enum Reached {
     Best,
 }
 
-/// Settles and improves from the start of a system whose objective no ray raises, with so many pivots for both together.
+/// The dictionary there.
+#[derive(Drop)]
+pub struct Ran {
+    pub dictionary: Dictionary<Frac>,
+    pub reached: Reached,
+}
+
+/// Settles and improves a system whose objective no ray raises from its start, with so many pivots for both together.
 ///
 /// # Errors
 ///
 /// The stop of the settle run, or that of the improve run.
-pub fn run(
-    system: &System,
-    dictionary: &mut Dictionary<Frac>,
-    pivots: u64,
-) -> Result<Reached, RunStop>
+pub fn run(alloc: Global, system: &System, pivots: u64) -> Result<Ran, RunStop>
     requires formed { IsWellFormedSystem system.now }
     requires objective { IsSome system.now.objective }
-    requires apart { first_crossing system.now ≡ None }
+    requires few { variables system.now < 2 ^ 31 }
     requires bounded { HasNoRay system.now }
-    requires start { dictionary.old.basis ≡ start_basis system.now }
-    requires is_of { IsTableauOf system.now (tableau_of dictionary.old) }
-    requires usable { dictionary.old.usable ≡ true }
     requires budget { pivots < 2 ^ 63 }
-    ensures reached { IfOk result (IsReached system.now dictionary.new) }
-    ensures columns { dictionary.new.columns ≡ dictionary.old.columns }
+    ensures reached { IfOk result (λ r. IsReached system.now r.dictionary r.reached) }
+    ensures columns { IfOk result (λ r. r.dictionary.columns ≡ length system.now.columns) }
     ensures stop { IfErr result (StopsSo system.now pivots) }
 {
-    let mut left = pivots;
-    let mut turn = 0;
-    let settled = settle(dictionary, &mut left, &mut turn)?;
-    if let Settled::Infeasible(variable) = settled {
-        return Ok(Reached::Blocked(variable));
-    }
-    let improved = improve(dictionary, &mut left, &mut turn)?;
-    match improved {
-        Improved::Optimal => Ok(Reached::Best),
-        Improved::Unbounded(_) => unreachable!(),
+    let solved = match solve(alloc, system, pivots) {
+        Ok(solved) => solved,
+        Err(stop) => return Err(stop),
+    };
+    match solved.end {
+        End::Infeasible(variable) => Ok(Ran {
+            dictionary: solved.dictionary,
+            reached: Reached::Blocked(variable),
+        }),
+        End::Optimal => Ok(Ran {
+            dictionary: solved.dictionary,
+            reached: Reached::Best,
+        }),
+        End::Feasible => unreachable!(),
+        End::Ray(_) => unreachable!(),
     }
 }

@@ -8,7 +8,7 @@ ghost use Rattle.relaxation.specs.Runs.{HasNoRay, IsFailure, IsSolved};
 use crate::running::{Reached, run};
 use certs::{Combo, Dual, Point, Shares, Side, System};
 use frac128::Frac;
-use linear_oracle::{first_crossing, started};
+use linear_oracle::first_crossing;
 use simplex::{RunStop, combo_of, dual_of, limit_share, point_of};
 use std::alloc::{AllocError, Global};
 
@@ -45,25 +45,22 @@ pub(crate) fn solve(alloc: Global, system: &System, pivots: u64) -> Result<Solve
     if let Some(variable) = first_crossing(system) {
         return crossing(alloc, system, variable);
     }
-    let Ok(mut dictionary) = started(alloc, system) else {
-        return Err(Failure::OutOfMemory);
-    };
-    let reached = match run(system, &mut dictionary, pivots) {
-        Ok(reached) => reached,
+    let ran = match run(alloc, system, pivots) {
+        Ok(ran) => ran,
         Err(stop) => return Err(Failure::Stopped(stop)),
     };
-    match reached {
+    match ran.reached {
         Reached::Blocked(variable) => {
-            let Ok(combo) = combo_of(alloc, &dictionary, variable) else {
+            let Ok(combo) = combo_of(alloc, &ran.dictionary, variable) else {
                 return Err(Failure::OutOfMemory);
             };
             Ok(Solved::Infeasible(combo))
         }
         Reached::Best => {
-            let Ok(dual) = dual_of(alloc, &dictionary) else {
+            let Ok(dual) = dual_of(alloc, &ran.dictionary) else {
                 return Err(Failure::OutOfMemory);
             };
-            let Ok(values) = point_of(alloc, &dictionary) else {
+            let Ok(values) = point_of(alloc, &ran.dictionary) else {
                 return Err(Failure::OutOfMemory);
             };
             Ok(Solved::Optimal(values, dual))

@@ -1,32 +1,22 @@
 -- Runs of systems that can be satisfied.
-use Rattle.std.specs.Prelude.{◌≡◌, ◌<◌, ◌⊎◌, ℕ, true, List, [], length, All}
+use Rattle.std.specs.Prelude.{◌≡◌, ◌<◌, ℕ, true, List, [], length, All}
 use Rattle.lp_model.specs.declared.members.Member.{Member}
 use Rattle.lp_model.specs.Program.{Program, IsWellFormed}
 use Rattle.lp_model.specs.MemberSets.{IsMemberFor}
 use Rattle.lp_model.specs.Satisfaction.{values_at}
 use Rattle.rational.specs.Rational.{ℚ}
 use Rattle.certs.specs.Improves.{ImproveEnd}
-use Rattle.certs.specs.Improves.ImproveEnd.{TooWide as ImproveTooWide, Spent as ImproveSpent}
 use Rattle.certs.specs.Plain.{plain_system}
 use Rattle.certs.specs.Runs.{TableauAt}
-use Rattle.certs.specs.Runs.End.{TooWide, Spent}
-use Rattle.certs.specs.Solves.{ImproveStops, RunEnds}
 use Rattle.certs.specs.System.{LinearSystem, Place, VariableShare, IsVariableCombination}
 use Rattle.certs.specs.Tableau.{IsTableauOf, IsWellFormedSystem, value_of}
 use Rattle.dictionary.specs.Value.{DictionaryValue, tableau_of}
-use Rattle.simplex.specs.declared.settling.RunStop.{RunStop}
-use Rattle.simplex.specs.declared.settling.RunStop.TheVariants.{Wide, Pivots, Memory}
 use Rattle.simplex.specs.ImproveEnds.{KeepsLimits}
+use Rattle.two_widths.specs.Ends.{EndsSo}
 
 -- nothing contradicts the system
 abbrev pub HasNoCombination : LinearSystem → Type 0
 HasNoCombination system = (shares : List VariableShare) → IsVariableCombination system shares → ⊥
-
--- the settle run stops so, or the improve run after it; a refusal of memory tells nothing of them
-abbrev pub StopsSo : LinearSystem → ℕ → RunStop → Type 0
-StopsSo system pivots (Wide turn operation) = RunEnds system pivots (TooWide turn operation) ⊎ ImproveStops system pivots (ImproveTooWide turn operation)
-StopsSo system pivots Pivots = RunEnds system pivots Spent ⊎ ImproveStops system pivots ImproveSpent
-StopsSo system pivots Memory = Unit {0}
 
 -- the dictionary stands at a basis of the set's plain system with the objective where no variable is outside its limits
 pub record IsEndOf (model : Program) (set : List Member) (now : DictionaryValue) : Type 0 where
@@ -36,11 +26,6 @@ pub record IsEndOf (model : Program) (set : List Member) (now : DictionaryValue)
   pub is_of : IsTableauOf (plain_system model set [] true) (tableau_of now)
   pub columns : now.columns ≡ length model.columns
   pub within : KeepsLimits (plain_system model set [] true) (tableau_of now)
-
--- the settle run from the start ends feasible, and the improve run after it ends so at the basis, within so many pivots
-pub record EndsSo (system : LinearSystem) (pivots : ℕ) (end : ImproveEnd) (basis : List Place) : Type 0 where
-  pub run : ImproveStops system pivots end
-  pub last_is : run.last ≡ basis
 
 -- the values are those of the columns at the end of that run for the set's plain system with the objective
 pub record IsLastPoint (model : Program) (set : List Member) (pivots : ℕ) (end : ImproveEnd) (values : List ℚ) : Type 0 where

@@ -12,7 +12,6 @@ use crate::ends::{diagnosis_at, stop_at};
 use crate::runs::run;
 use certs::{Dual, MemberSet, Oracle, Point, Proof, Ray, Stop, Verdict, plain_system};
 use frac128::Frac;
-use linear_oracle::started;
 use lp_model::Model;
 use std::alloc::Global;
 
@@ -90,14 +89,11 @@ fn improved(
     let Ok(system) = plain_system(alloc, model, set, true) else {
         return Err(Stop::Memory);
     };
-    let Ok(mut dictionary) = started(alloc, &system) else {
-        return Err(Stop::Memory);
-    };
-    let end = match run(&system, &mut dictionary, pivots) {
-        Ok(end) => end,
+    let ran = match run(alloc, &system, pivots) {
+        Ok(ran) => ran,
         Err(stop) => return Err(stop_at(alloc, set, stop)),
     };
-    let Ok(diagnosis) = diagnosis_at(alloc, model, set, &dictionary, end, asked) else {
+    let Ok(diagnosis) = diagnosis_at(alloc, model, set, &ran.dictionary, ran.end, asked) else {
         return Err(Stop::Memory);
     };
     Ok(diagnosis)

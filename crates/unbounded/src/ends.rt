@@ -15,8 +15,9 @@ ghost use Rattle.certs.specs.Trees.{has_mark as some_mark};
 ghost use Rattle.dictionary.specs.Value.{tableau_of};
 ghost use Rattle.simplex.specs.ImproveEnds.{EndsAt, end_of};
 ghost use Rattle.simplex.specs.declared.improving.Improved.TheVariants.{Optimal, Unbounded};
+ghost use Rattle.two_widths.specs.Ends.{EndsSo, StopsSo};
 ghost use Rattle.unbounded.specs.Diagnosed.{HasLastPoint, IsDiagnosis, IsImproveSite, IsOwnStop, PassesOn};
-ghost use Rattle.unbounded.specs.Runs.{EndsSo, IsEndOf, StopsSo};
+ghost use Rattle.unbounded.specs.Runs.{IsEndOf};
 
 use crate::diagnosing::Diagnosis;
 use crate::values::value_told;

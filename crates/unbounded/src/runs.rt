@@ -1,51 +1,59 @@
 //! The run of a system that can be satisfied.
-ghost use Rattle.std.specs.Prelude.{◌≡◌, ◌<◌, ◌^◌, IfErr, IfOk, IsSome, None, Ok, true};
+ghost use Rattle.std.specs.Prelude.{◌≡◌, ◌<◌, ◌^◌, IfErr, IfOk, IsSome, length};
 ghost use Rattle.frac128.specs.Limit.{limit};
-ghost use Rattle.certs.specs.Plain.{first_crossing};
-ghost use Rattle.certs.specs.Tableau.{IsTableauOf, IsWellFormedSystem, start_basis};
+ghost use Rattle.certs.specs.Tableau.{IsTableauOf, IsWellFormedSystem, variables};
 ghost use Rattle.dictionary.specs.Value.{tableau_of};
 ghost use Rattle.simplex.specs.ImproveEnds.{EndsAt, KeepsLimits, end_of};
-ghost use Rattle.unbounded.specs.Runs.{EndsSo, HasNoCombination, StopsSo};
+ghost use Rattle.two_widths.specs.Ends.{EndsSo, StopsSo};
+ghost use Rattle.unbounded.specs.Runs.{HasNoCombination};
 
 use certs::System;
 use dictionary::Dictionary;
 use frac128::Frac;
-use simplex::{Improved, RunStop, Settled, improve, settle};
+use simplex::{Improved, RunStop};
+use std::alloc::Global;
+use two_widths::{End, solve};
 
-/// Settles and improves from the start of a system that nothing contradicts, with so many pivots for both together.
+/// The dictionary at the end of the improve run.
+#[derive(Drop)]
+pub(crate) struct Ran {
+    pub(crate) dictionary: Dictionary<Frac>,
+    pub(crate) end: Improved,
+}
+
+/// Settles and improves a system that nothing contradicts from its start, with so many pivots for both together.
 ///
 /// # Errors
 ///
 /// The stop of the settle run, or that of the improve run.
-pub(crate) fn run(
-    system: &System,
-    dictionary: &mut Dictionary<Frac>,
-    pivots: u64,
-) -> Result<Improved, RunStop>
+pub(crate) fn run(alloc: Global, system: &System, pivots: u64) -> Result<Ran, RunStop>
     requires formed { IsWellFormedSystem system.now }
     requires objective { IsSome system.now.objective }
-    requires apart { first_crossing system.now ≡ None }
+    requires few { variables system.now < 2 ^ 31 }
     requires satisfied { HasNoCombination system.now }
-    requires start { dictionary.old.basis ≡ start_basis system.now }
-    requires is_of { IsTableauOf system.now (tableau_of dictionary.old) }
-    requires usable { dictionary.old.usable ≡ true }
     requires budget { pivots < 2 ^ 63 }
-    ensures ended { IfOk result (EndsAt limit dictionary.new) }
-    ensures is_of { IfOk result (λ end. IsTableauOf system.now (tableau_of dictionary.new)) }
-    ensures within { IfOk result (λ end. KeepsLimits system.now (tableau_of dictionary.new)) }
-    ensures run { let basis = dictionary.new.basis in
-        IfOk result (λ end. EndsSo system.now pivots (end_of end) basis) }
-    ensures columns { dictionary.new.columns ≡ dictionary.old.columns }
+    ensures ended { IfOk result (λ r. EndsAt limit r.dictionary r.end) }
+    ensures is_of { IfOk result (λ r. IsTableauOf system.now (tableau_of r.dictionary)) }
+    ensures within { IfOk result (λ r. KeepsLimits system.now (tableau_of r.dictionary)) }
+    ensures run { let ends = EndsSo system.now pivots in
+        IfOk result (λ r. ends (end_of r.end) r.dictionary.basis) }
+    ensures columns { IfOk result (λ r. r.dictionary.columns ≡ length system.now.columns) }
     ensures stop { IfErr result (StopsSo system.now pivots) }
 {
-    let mut left = pivots;
-    let mut turn = 0;
-    let settled = match settle(dictionary, &mut left, &mut turn) {
-        Ok(settled) => settled,
+    let solved = match solve(alloc, system, pivots) {
+        Ok(solved) => solved,
         Err(stop) => return Err(stop),
     };
-    match settled {
-        Settled::Infeasible(_) => unreachable!(),
-        Settled::Feasible => improve(dictionary, &mut left, &mut turn),
+    match solved.end {
+        End::Optimal => Ok(Ran {
+            dictionary: solved.dictionary,
+            end: Improved::Optimal,
+        }),
+        End::Ray(variable) => Ok(Ran {
+            dictionary: solved.dictionary,
+            end: Improved::Unbounded(variable),
+        }),
+        End::Feasible => unreachable!(),
+        End::Infeasible(_) => unreachable!(),
     }
 }

@@ -8,12 +8,7 @@ use std::alloc::{AllocError, Global};
 use std::test::Fail;
 
 // A row in which two columns count so often.
-fn row(
-    alloc: Global,
-    factor: i64,
-    lo: Option<Frac>,
-    up: Option<Frac>,
-) -> Result<Row, AllocError> {
+fn row(alloc: Global, factor: i64, lo: Option<Frac>, up: Option<Frac>) -> Result<Row, AllocError> {
     let mut terms = Vec::new(alloc);
     for column in 0..2 {
         terms.push(Term {
@@ -24,8 +19,8 @@ fn row(
     Ok(Row::new(Terms::new(terms), lo, up))
 }
 
-// `3 x + 3 y <= 1` and `x + y >= 1/2`, where neither column is below 0.
-fn system(alloc: Global) -> Result<System, AllocError> {
+/// `3 x + 3 y <= 1` and `x + y >= 1/2`, where neither column is below 0.
+pub(crate) fn system(alloc: Global) -> Result<System, AllocError> {
     let least = Limits {
         lo: Some(Frac::whole(0)),
         up: None,

@@ -9,3 +9,5 @@ mod entries;
 mod fractions;
 #[cfg(test)]
 mod sets;
+#[cfg(test)]
+mod widths;

@@ -39,7 +39,7 @@ returns-clause-fits c =
     let d = c.system.inside in
     let many : c.len-columns.result ≡ length d.columns.items = c.len-columns.ensures ∙ d.columns.ok.0 in
     λ h. subst (FitSystem limit) c.system.view_is
-    (fitting d.columns.items d.rows.items d.objective c.len-columns.result c.len.result c.is_some.result many (c.len.ensures ∙ d.rows.ok.0) c.is_some.ensures (sym c.are_few.ensures ∙ c.if-not-are_few.false)
+    (fitting d.columns.items d.rows.items d.objective limit c.len-columns.result c.len.result c.is_some.result many (c.len.ensures ∙ d.rows.ok.0) c.is_some.ensures (sym c.are_few.ensures ∙ c.if-not-are_few.false)
     (subst (λ l. All (FitLimits limit) l) c.deref.ensures.value (c.are_uncrossed.ensures.fits c.if-not-are_uncrossed.false))
     (subst (λ l. All (λ (r : Row). FitLimits limit (row_of r).limits) l) c.deref-2.ensures.value (c.are_rows.ensures.fits c.if-not-are_rows.false))
     (subst (λ l. All (λ (r : Row). FitForm limit r.terms) l) c.deref-2.ensures.value (c.are_rows.ensures.forms_fit c.if-not-are_rows.false))

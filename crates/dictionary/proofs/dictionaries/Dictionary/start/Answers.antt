@@ -1,8 +1,7 @@
-use Rattle.std.proofs.Common.{◌≡◌, ◌+◌, ◌<◌, ◌≤◌, refl, sym, ◌∙◌, ap, subst, ℕ, List, [], length, map, is_some, cond, true, arith}
+use Rattle.std.proofs.Common.{◌≡◌, ◌+◌, ◌≤◌, refl, sym, ◌∙◌, ap, subst, ℕ, [], length, map, is_some, cond, true, arith}
 use Rattle.std.proofs.lemmas.Grind.{common_steps}
 use Rattle.std.specs.Prelude.{All, slice_index_or}
 use Rattle.std.specs.Option.{option_map}
-use Rattle.std.proofs.lemmas.List.{length-map, get_or-map}
 use Rattle.rational.specs.Linear.{factor_of}
 use Rattle.lp_model.specs.declared.parts.Row.{Row}
 use Rattle.certs.specs.Rows.{row_of}
@@ -15,11 +14,8 @@ use Rattle.dictionary.specs.Rows.{rows_of}
 use Rattle.dictionary.specs.Sound.{IsSound}
 use Rattle.dictionary.specs.Starts.{FitSystem, FitLimits, FitForm}
 use Rattle.dictionary.proofs.Begins.{rows, start_is_sound, start_is_of, limits_made, basis_made, bounds_many, rows_made}
+use Rattle.dictionary.proofs.Formed.{unmapped}
 use Rattle.dictionary.proofs.dictionaries.Dictionary.start.Goals as goal
-
--- what holds of each made thing holds of each it is made of
-unmapped : {X Y : Type 0} (P : Y → Type 0) (f : X → Y) (xs : List X) → All P (map f xs) → All (λ x. P (f x)) xs
-unmapped P f xs h k d l = subst P (get_or-map f xs k d (f d) l) (h k (f d) (subst (λ n. k < n) (sym (length-map xs f)) l))
 
 pub all_bounds-requires-clause-rows : goal.all_bounds-requires-clause-rows
 all_bounds-requires-clause-rows g c =

@@ -1,0 +1,6 @@
+mod Apart
+mod Alike
+mod Once
+mod Wider
+mod Running
+mod Narrow
