@@ -17,15 +17,15 @@ use Rattle.certs.proofs.Choices.{found_is, below_all, can_of}
 
 -- ---- lists whose members have a fact
 module _ (P : ℕ → Type 0) where
-  find-same : (f g : ℕ → Bool) → ((k : ℕ) → P k → f k ≡ g k) → (xs : List ℕ) → All P xs → find f xs ≡ find g xs
+  pub find-same : (f g : ℕ → Bool) → ((k : ℕ) → P k → f k ≡ g k) → (xs : List ℕ) → All P xs → find f xs ≡ find g xs
   find-same f g h [] a = refl
   find-same f g h (x ∷ xs) a = ap (λ b. cond b (Some x) (find f xs)) (h x (All-head P x xs a)) ∙ ap (λ r. cond (g x) (Some x) r) (find-same f g h xs (All-tail P x xs a))
 
-  flat_map-same : (f g : ℕ → Calculation) → ((k : ℕ) → P k → f k ≡ g k) → (xs : List ℕ) → All P xs → flat_map f xs ≡ flat_map g xs
+  pub flat_map-same : {B : Type 0} (f g : ℕ → List B) → ((k : ℕ) → P k → f k ≡ g k) → (xs : List ℕ) → All P xs → flat_map f xs ≡ flat_map g xs
   flat_map-same f g h [] a = refl
   flat_map-same f g h (x ∷ xs) a = ap (λ c. c ++ flat_map f xs) (h x (All-head P x xs a)) ∙ ap (λ r. g x ++ r) (flat_map-same f g h xs (All-tail P x xs a))
 
-  sum_operations-same : (f g x : ℕ → ℚ) → ((k : ℕ) → P k → f k ≡ g k) → (sum : ℚ) (ks : List ℕ) → All P ks → sum_operations f x sum ks ≡ sum_operations g x sum ks
+  pub sum_operations-same : (f g x : ℕ → ℚ) → ((k : ℕ) → P k → f k ≡ g k) → (sum : ℚ) (ks : List ℕ) → All P ks → sum_operations f x sum ks ≡ sum_operations g x sum ks
   sum_operations-same f g x h sum [] a = refl
   sum_operations-same f g x h sum (k ∷ ks) a =
       ap (λ q. counted Times q (x k) ++ (counted Plus sum (q *ℚ x k) ++ sum_operations f x (sum +ℚ q *ℚ x k) ks)) (h k (All-head P k ks a))
@@ -33,35 +33,35 @@ module _ (P : ℕ → Type 0) where
 
 -- ---- tables that are the same on the basic and the nonbasic variables
 module _ (limits : List Limits) (objective : Bool) (basis : List Place) (f g : ℕ → ℕ → ℚ) (same : (i k : ℕ) → is_basic basis i ≡ true → k < length basis → is_basic basis k ≡ false → f i k ≡ g i k) where
-  abbrev t : Tableau
+  abbrev pub t : Tableau
   t = record { limits = limits; objective = objective; basis = basis; factor = f }
 
-  abbrev u : Tableau
+  abbrev pub u : Tableau
   u = record { limits = limits; objective = objective; basis = basis; factor = g }
 
   -- the numbers of basic and of nonbasic variables
   abbrev IsRow : ℕ → Type 0
   IsRow i = (i < length basis) × (is_basic basis i ≡ true)
 
-  abbrev IsFree : ℕ → Type 0
+  abbrev pub IsFree : ℕ → Type 0
   IsFree k = (k < length basis) × (not (is_basic basis k) ≡ true)
 
-  abbrev IsLimitedRow : ℕ → Type 0
+  abbrev pub IsLimitedRow : ℕ → Type 0
   IsLimitedRow i = (i < limited t) × (is_basic basis i ≡ true)
 
-  all_free : All IsFree (nonbasics basis)
+  pub all_free : All IsFree (nonbasics basis)
   all_free = below_all (λ k. not (is_basic basis k)) (length basis)
 
   all_rows : All IsRow (basics basis)
   all_rows = below_all (is_basic basis) (length basis)
 
-  all_limited : All IsLimitedRow (limited_basics t)
+  pub all_limited : All IsLimitedRow (limited_basics t)
   all_limited = below_all (is_basic basis) (limited t)
 
-  factor_same : (i : ℕ) → is_basic basis i ≡ true → (k : ℕ) → IsFree k → f i k ≡ g i k
+  pub factor_same : (i : ℕ) → is_basic basis i ≡ true → (k : ℕ) → IsFree k → f i k ≡ g i k
   factor_same i b k free = same i k b free.0 (not-true (is_basic basis k) free.1)
 
-  value_same : (i : ℕ) → is_basic basis i ≡ true → basic_value t i ≡ basic_value u i
+  pub value_same : (i : ℕ) → is_basic basis i ≡ true → basic_value t i ≡ basic_value u i
   value_same i b = sum_nonbasic basis (λ k. f i k *ℚ place_value t k) (λ k. g i k *ℚ place_value t k) (λ k l n. ap (λ q. q *ℚ place_value t k) (same i k b l n))
 
   outside_same : (i : ℕ) → IsLimitedRow i → is_outside t i ≡ is_outside u i
@@ -70,7 +70,7 @@ module _ (limits : List Limits) (objective : Bool) (basis : List Place) (f g : �
   missed_same : (i : ℕ) → is_basic basis i ≡ true → missed_by t i ≡ missed_by u i
   missed_same i b = ap (missed_side (limits_at t i)) (value_same i b)
 
-  helps_same : (side : Side) (i : ℕ) → is_basic basis i ≡ true → (k : ℕ) → IsFree k → helps t side i k ≡ helps u side i k
+  pub helps_same : (side : Side) (i : ℕ) → is_basic basis i ≡ true → (k : ℕ) → IsFree k → helps t side i k ≡ helps u side i k
   helps_same Lo i b k free = ap (λ q. (lt_q zero_ℚ q && can_rise t k) || (lt_q q zero_ℚ && can_fall t k)) (factor_same i b k free)
   helps_same Up i b k free = ap (λ q. (lt_q q zero_ℚ && can_rise t k) || (lt_q zero_ℚ q && can_fall t k)) (factor_same i b k free)
 
@@ -95,7 +95,7 @@ module _ (limits : List Limits) (objective : Bool) (basis : List Place) (f g : �
   table_choice = at_same (find (is_outside t) (limited_basics t)) refl ∙ ap (choice_at u) first_same
 
   -- ---- the values
-  value_operations_same : (i : ℕ) → is_basic basis i ≡ true → value_operations t i ≡ value_operations u i
+  pub value_operations_same : (i : ℕ) → is_basic basis i ≡ true → value_operations t i ≡ value_operations u i
   value_operations_same i b = sum_operations-same IsFree (f i) (g i) (place_value t) (factor_same i b) zero_ℚ (nonbasics basis) all_free
 
   to_outside_same : (list : List ℕ) → All IsLimitedRow list → operations_to_outside t list ≡ operations_to_outside u list
@@ -150,7 +150,7 @@ module _ (limits : List Limits) (objective : Bool) (basis : List Place) (f g : �
         ∙ ap (λ a. row_operations a (one_ℚ /ℚ g i j) (f r) (λ k. f i k /ℚ g i j) list) (same r j row.1 lj bj)
         ∙ ap (λ c. cond (eq_ℚ (g r j) zero_ℚ) [] (counted Times (g r j) (one_ℚ /ℚ g i j) ++ c)) (reduce_same (g r j) (g i j) (f r) (g r) (factor_same r row.1))
 
-    table_pivot : pivot_operations t i j ≡ pivot_operations u i j
+    pub table_pivot : pivot_operations t i j ≡ pivot_operations u i j
     table_pivot =
         ap (λ p. counted Over one_ℚ p ++ (quotients f ++ flat_map (row_of f f) (others i (basics basis)))) pivot_same
         ∙ ap (λ c. counted Over one_ℚ (g i j) ++ (c ++ flat_map (row_of f f) (others i (basics basis)))) quotients_same

@@ -8,6 +8,7 @@ mod Changes
 mod Pivots
 mod Tables
 mod Values
+mod Kept
 mod Standing
 mod Sounds
 mod Begins

@@ -15,14 +15,18 @@ pub record DictionaryValue : Type 0 where
   pub rows : List (List Term)
   pub usable : Bool
 
--- its tableau
-abbrev pub tableau_of : DictionaryValue → Tableau
-tableau_of d = record {
-  limits = d.limits;
-  objective = d.objective;
-  basis = d.basis;
-  factor = λ i k. factor_of (slice_index_or d.rows i []) k;
+-- the tableau of limits, a basis and rows
+abbrev pub table_of : List Limits → Bool → List Place → List (List Term) → Tableau
+table_of limits objective basis rows = record {
+  limits = limits;
+  objective = objective;
+  basis = basis;
+  factor = λ i k. factor_of (slice_index_or rows i []) k;
 }
+
+-- that of a dictionary
+abbrev pub tableau_of : DictionaryValue → Tableau
+tableau_of d = table_of d.limits d.objective d.basis d.rows
 
 -- how many pairs of a basic and a nonbasic variable have a factor that is not 0
 abbrev pub nonzero_pairs : Tableau → ℕ

@@ -14,8 +14,8 @@ ghost use Rattle.dictionary.specs.Value.{nonzero_pairs, tableau_of};
 use crate::entries::{Entry, factor_in};
 use crate::numbers::{product, sum};
 use crate::places::{Bounds, Place, is_standing, limit_place, other_limit, place_number};
-use crate::starts::{all_bounds, start_places, start_rows};
-use crate::table::{exchange_rows, make_room};
+use crate::starts::{all_bounds, no_values, start_places, start_rows};
+use crate::table::{exchange_rows, forget, make_room};
 use crate::widening::{widened_bounds, widened_rows};
 use certs::System;
 use frac128::{Exact, Frac, Frac64, Wide};
@@ -35,19 +35,21 @@ pub struct Dictionary<N: Exact> {
     rows: Vec<Vec<Entry<N>>>,
     quotients: Vec<Entry<N>>,
     spare: Vec<Entry<N>>,
+    values: Vec<Option<N>>,
     usable: bool,
 }
 
 impl<N: Exact> Model for Dictionary<N> {
-    ghost use Rattle.std.specs.Prelude.{map, length};
+    ghost use Rattle.std.specs.Prelude.{◌≡◌, true, map, length};
     ghost use Rattle.std.specs.Option.{option_map};
     ghost use Rattle.dictionary.specs.Value.{DictionaryValue};
 
     ghost Value = { DictionaryValue };
 
     ghost use Rattle.dictionary.specs.Layouts.{basis_of};
-    ghost use Rattle.dictionary.specs.Rows.{rows_of};
-    ghost use Rattle.dictionary.specs.Sound.{IsSound};
+    ghost use Rattle.dictionary.specs.Rows.{bounds_of, rows_of};
+    ghost use Rattle.dictionary.specs.Sound.{AreValues, IsSound};
+    ghost use Rattle.dictionary.specs.Value.{table_of};
 
     ghost view = { λ d. record {
       columns = d.columns;
@@ -58,7 +60,8 @@ impl<N: Exact> Model for Dictionary<N> {
       usable = d.usable;
     } };
 
-    ghost invariant = { λ d. IsSound (length d.bounds.items) (basis_of d.places.items) (rows_of N.value d.rows.items) d.objective d.usable };
+    ghost invariant = { λ d. IsSound (length d.bounds.items) (basis_of d.places.items) (rows_of N.value d.rows.items) d.objective d.usable
+        × (d.usable ≡ true → AreValues N.most N.value (table_of (bounds_of N.value d.bounds.items) d.objective (basis_of d.places.items) (rows_of N.value d.rows.items)) d.values.items) };
 }
 
 impl<N: Exact> Dictionary<N> {
@@ -78,6 +81,7 @@ impl<N: Exact> Dictionary<N> {
         )?;
         let places = start_places(alloc, &bounds, columns)?;
         let rows = start_rows(alloc, columns, &system.rows, &system.objective)?;
+        let values = no_values(alloc, places.len())?;
         Ok(Dictionary {
             columns: columns as u32,
             objective: system.objective.is_some(),
@@ -86,6 +90,7 @@ impl<N: Exact> Dictionary<N> {
             rows,
             quotients: Vec::new(alloc),
             spare: Vec::new(alloc),
+            values,
             usable: true,
         })
     }
@@ -173,6 +178,7 @@ impl<N: Exact> Dictionary<N> {
         ensures usable { self.new.usable ≡ true }
         ensures system { (system : LinearSystem) → IsTableauOf system (tableau_of self.old) → IsTableauOf system (tableau_of self.new) }
     {
+        forget(&self.rows, &mut self.values, nonbasic);
         self.places[nonbasic as usize] = other_limit(self.places[nonbasic as usize]);
     }
 
@@ -188,7 +194,26 @@ impl<N: Exact> Dictionary<N> {
         if !self.is_basic(variable) {
             return Ok(self.place(variable));
         }
+        if let Some(value) = self.values[variable as usize] {
+            return Ok(value);
+        }
         self.basic_value(variable)
+    }
+
+    /// The value of a variable, as `value` has it; that of a basic one is kept until a pivot or a flip changes it.
+    pub fn valued(&mut self, variable: u32) -> Result<N, Wide>
+        requires usable { self.old.usable ≡ true }
+        requires known { variable < length self.old.basis }
+        ensures same { self.new ≡ self.old }
+        ensures value { MatchResult result
+            (λ r. (N.value r ≡ value_of (tableau_of self.old) variable) × (first_wide N.most (operations_of (tableau_of self.old) variable) ≡ None))
+            (λ w. first_wide N.most (operations_of (tableau_of self.old) variable) ≡ Some w) }
+    {
+        let value = self.value(variable)?;
+        if self.is_basic(variable) {
+            self.values[variable as usize] = Some(value);
+        }
+        Ok(value)
     }
 
     // The value of a basic variable.
@@ -259,6 +284,7 @@ impl<N: Exact> Dictionary<N> {
         if room.is_err() {
             return Err(PivotStop::Memory);
         }
+        forget(&self.rows, &mut self.values, entering);
         self.usable = false;
         let changed = exchange_rows(
             &mut self.rows,
@@ -285,6 +311,7 @@ impl Dictionary<Frac64> {
         let bounds = widened_bounds(alloc, &self.bounds)?;
         let places = Vec::from_slice(alloc, &self.places)?;
         let rows = widened_rows(alloc, &self.rows)?;
+        let values = no_values(alloc, places.len())?;
         Ok(Dictionary {
             columns: self.columns,
             objective: self.objective,
@@ -293,6 +320,7 @@ impl Dictionary<Frac64> {
             rows,
             quotients: Vec::new(alloc),
             spare: Vec::new(alloc),
+            values,
             usable: self.usable,
         })
     }

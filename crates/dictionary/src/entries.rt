@@ -23,17 +23,7 @@ pub(crate) fn count_below<N: Exact>(row: &[Entry<N>], variable: u32) -> usize
     ensures back { drop result (terms_of N.value row.now) ≡ filter
         (λ t. not (nat_lt t.column variable)) (terms_of N.value row.now) }
 {
-    let mut low = 0;
-    let mut high = row.len();
-    while low < high {
-        let middle = low + (high - low) / 2;
-        if row[middle].variable < variable {
-            low = middle + 1;
-        } else {
-            high = middle;
-        }
-    }
-    low
+    row.partition_point(|entry| entry.variable < variable)
 }
 
 // Whether an entry of this variable stands at a place.

@@ -1,5 +1,5 @@
 //! What a dictionary starts from.
-ghost use Rattle.std.specs.Prelude.{◌≡◌, ◌-◌, ◌≤◌, [], ◌∷◌, ◌++◌, cond, IfOk, IfSome, All, map, length, take, replicate};
+ghost use Rattle.std.specs.Prelude.{◌≡◌, ◌-◌, ◌≤◌, [], ◌∷◌, ◌++◌, cond, IfOk, IfSome, All, map, length, take, replicate, None};
 ghost use Rattle.std.specs.Option.{option_map};
 ghost use Rattle.certs.specs.Rows.{row_of};
 ghost use Rattle.certs.specs.System.{no_limits};
@@ -146,4 +146,11 @@ pub(crate) fn start_rows<N: Exact>(
     };
     forms.push(narrowed_row(alloc, terms.as_slice())?)?;
     Ok(forms)
+}
+
+/// The kept values of so many variables at the start: none.
+pub(crate) fn no_values<N: Exact>(alloc: Global, count: usize) -> Result<Vec<Option<N>>, AllocError>
+    ensures { IfOk result (λ v. v.items ≡ replicate count None) }
+{
+    Ok(vec![in alloc; None; count]?)
 }

@@ -4,6 +4,7 @@ ghost use Rattle.rational.specs.Rational.{zero_ℚ};
 ghost use Rattle.rational.specs.Linear.{factor_of};
 ghost use Rattle.frac128.specs.Calculation.{first_wide};
 ghost use Rattle.dictionary.specs.Rows.{terms_of, rows_of, row_work, rows_work, IsRow, IsRowChanged, AreRowsExchanged};
+ghost use Rattle.dictionary.specs.Sound.{AreForgotten};
 
 use crate::entries::{Entry, factor_in};
 use crate::numbers::is_zero;
@@ -57,6 +58,20 @@ fn make_row_room<N: Exact>(
     row.try_reserve_exact(more)?;
     spare.try_reserve(row.len())?;
     Ok(())
+}
+
+/// Forgets the kept values of the rows in which a variable counts.
+pub(crate) fn forget<N: Exact>(rows: &[Vec<Entry<N>>], values: &mut [Option<N>], variable: u32)
+    requires rows { All (λ r. IsRow (terms_of N.value r.items)) rows.now }
+    requires long { length values.old ≡ length rows.now }
+    ensures { AreForgotten (rows_of N.value rows.now) variable values.old values.new }
+{
+    for place in 0..rows.len() {
+        if is_zero(factor_in(&rows[place], variable)) {
+            continue;
+        }
+        values[place] = None;
+    }
 }
 
 // Changes all rows but that of the leaving variable, which is empty.

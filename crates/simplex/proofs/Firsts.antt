@@ -8,7 +8,12 @@ use Rattle.frac128.specs.declared.Wide.{Wide as Operation}
 use Rattle.frac128.specs.Calculation.{first_wide, or_else}
 use Rattle.frac128.proofs.Calculations.{first_wide-append, first_wide-past, first_wide-before, first_wide-nil}
 use Rattle.certs.specs.Tableau.{Tableau, below}
-use Rattle.certs.specs.Turns.{is_outside, value_operations, operations_to_outside}
+use Rattle.certs.specs.Turns.{is_outside, limited, value_operations, operations_to_outside}
+use Rattle.dictionary.specs.Value.{DictionaryValue, tableau_of}
+
+-- how many variables there are but the objective, where a dictionary stays
+pub limited_same : {d e : DictionaryValue} (n : ℕ) → e ≡ d → n ≡ limited (tableau_of d) → n ≡ limited (tableau_of e)
+limited_same n same is = is ∙ ap (λ d. limited (tableau_of d)) (sym same)
 
 -- one number more
 pub below-yes : (test : ℕ → Bool) (n : ℕ) → test n ≡ true → below (n + 1) test ≡ below n test ++ n ∷ []

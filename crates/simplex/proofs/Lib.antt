@@ -12,3 +12,4 @@ pub mod Optimal
 pub mod Free
 pub mod Listed
 pub mod Meaning
+mod Reached

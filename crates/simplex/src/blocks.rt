@@ -128,8 +128,8 @@ fn directed<N: Exact>(rises: bool, factor: N) -> N
     factor.negate()
 }
 
-// The value of a basic variable, no operation of which is too wide.
-fn narrow_value<N: Exact>(dictionary: &Dictionary<N>, basic: u32) -> N
+/// The value of a basic variable, no operation of which is too wide.
+pub(crate) fn narrow_value<N: Exact>(dictionary: &Dictionary<N>, basic: u32) -> N
     requires usable { dictionary.now.usable ≡ true }
     requires known { basic < length dictionary.now.basis }
     requires basic { is_basic dictionary.now.basis basic ≡ true }

@@ -112,9 +112,12 @@ pub fn entering<N: Exact>(dictionary: &Dictionary<N>, basic: u32, upper: bool) -
 }
 
 /// The least basic variable, but the objective, that is outside its limits.
-pub(crate) fn first_outside<N: Exact>(dictionary: &Dictionary<N>) -> Result<Option<Missed>, Wide>
-    requires usable { dictionary.now.usable ≡ true }
-    ensures { let t = tableau_of dictionary.now in
+pub(crate) fn first_outside<N: Exact>(
+    dictionary: &mut Dictionary<N>,
+) -> Result<Option<Missed>, Wide>
+    requires usable { dictionary.old.usable ≡ true }
+    ensures same { dictionary.new ≡ dictionary.old }
+    ensures found { let t = tableau_of dictionary.new in
         MatchResult result
         (λ found. (first_wide N.most (settle_values t) ≡ None)
         × MatchOption found (find (is_outside t) (limited_basics t) ≡ None)
@@ -125,7 +128,7 @@ pub(crate) fn first_outside<N: Exact>(dictionary: &Dictionary<N>) -> Result<Opti
         if !dictionary.is_basic(variable) {
             continue;
         }
-        let value = dictionary.value(variable)?;
+        let value = dictionary.valued(variable)?;
         if falls_short(dictionary.lower(variable), value) {
             return Ok(Some(Missed {
                 variable,
@@ -164,9 +167,10 @@ pub(crate) enum Choice {
 }
 
 /// The choice of a settle turn.
-pub(crate) fn choose<N: Exact>(dictionary: &Dictionary<N>) -> Result<Choice, Wide>
-    requires usable { dictionary.now.usable ≡ true }
-    ensures { let t = tableau_of dictionary.now in
+pub(crate) fn choose<N: Exact>(dictionary: &mut Dictionary<N>) -> Result<Choice, Wide>
+    requires usable { dictionary.old.usable ≡ true }
+    ensures same { dictionary.new ≡ dictionary.old }
+    ensures choice { let t = tableau_of dictionary.new in
         MatchResult result
         (λ choice. (first_wide N.most (settle_values t) ≡ None) × IsChosen choice (settle_choice t))
         (λ w. first_wide N.most (settle_values t) ≡ Some w) }

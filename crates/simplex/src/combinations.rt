@@ -17,7 +17,8 @@ ghost use Rattle.simplex.specs.Ends.{IsEnd};
 ghost use Rattle.simplex.specs.declared.settling.Settled.TheVariants.{Infeasible};
 ghost use Rattle.simplex.specs.Combined.{column_shares, is_on, row_shares};
 
-use crate::choices::{Missed, first_outside, is_less, limited_variables};
+use crate::blocks::narrow_value;
+use crate::choices::{Missed, falls_short, is_less, limited_variables};
 use certs::{Combo, Share, Shares, Source};
 use dictionary::Dictionary;
 use frac128::Frac;
@@ -54,9 +55,10 @@ fn missed_one(dictionary: &Dictionary<Frac>, row: u32) -> Missed
     ensures row { result.variable ≡ row }
     ensures basic { is_basic dictionary.now.basis result.variable ≡ true }
 {
-    match first_outside(dictionary) {
-        Ok(Some(missed)) => missed,
-        _ => unreachable!(),
+    let value = narrow_value(dictionary, row);
+    Missed {
+        variable: row,
+        upper: !falls_short(dictionary.lower(row), value),
     }
 }
 

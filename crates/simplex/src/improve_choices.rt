@@ -26,9 +26,10 @@ pub enum Choice {
 }
 
 // Looks whether the value of a basic variable but the objective has an operation that is too wide.
-fn look_at_values<N: Exact>(dictionary: &Dictionary<N>) -> Result<(), Wide>
-    requires usable { dictionary.now.usable ≡ true }
-    ensures { let t = tableau_of dictionary.now in
+fn look_at_values<N: Exact>(dictionary: &mut Dictionary<N>) -> Result<(), Wide>
+    requires usable { dictionary.old.usable ≡ true }
+    ensures same { dictionary.new ≡ dictionary.old }
+    ensures narrow { let t = tableau_of dictionary.new in
         MatchResult result
         (λ done. first_wide N.most (flat_map (value_operations t) (limited_basics t)) ≡ None)
         (λ w. first_wide N.most (flat_map (value_operations t) (limited_basics t)) ≡ Some w) }
@@ -37,7 +38,7 @@ fn look_at_values<N: Exact>(dictionary: &Dictionary<N>) -> Result<(), Wide>
         if !dictionary.is_basic(variable) {
             continue;
         }
-        dictionary.value(variable)?;
+        dictionary.valued(variable)?;
     }
     Ok(())
 }
@@ -67,10 +68,11 @@ fn improving<N: Exact>(dictionary: &Dictionary<N>) -> Option<u32>
 }
 
 /// The choice of an improve turn.
-pub(crate) fn choose<N: Exact>(dictionary: &Dictionary<N>) -> Result<Choice, Wide>
-    requires usable { dictionary.now.usable ≡ true }
-    requires objective { is_basic dictionary.now.basis (length dictionary.now.basis - 1) ≡ true }
-    ensures { let t = tableau_of dictionary.now in
+pub(crate) fn choose<N: Exact>(dictionary: &mut Dictionary<N>) -> Result<Choice, Wide>
+    requires usable { dictionary.old.usable ≡ true }
+    requires objective { is_basic dictionary.old.basis (length dictionary.old.basis - 1) ≡ true }
+    ensures same { dictionary.new ≡ dictionary.old }
+    ensures choice { let t = tableau_of dictionary.new in
         MatchResult result
         (λ choice. (first_wide N.most (improve_values t) ≡ None) × (choice_named choice ≡ improve_choice t))
         (λ w. first_wide N.most (improve_values t) ≡ Some w) }

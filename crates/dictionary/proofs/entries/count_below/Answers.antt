@@ -1,70 +1,39 @@
-use Rattle.std.proofs.Common.{◌≡◌, ◌+◌, ◌-◌, ◌/◌, ◌<◌, ◌≤◌, ℕ, length, sym, ap, subst, arith, inl, inr}
-use Rattle.std.specs.Prelude.{slice_index_or}
-use Rattle.std.proofs.lemmas.Bool.{cases_eq}
+use Rattle.std.proofs.Common.{◌<◌, ◌≤◌, ℕ, List, [], ◌∷◌, length, get_or, nat_lt, sym, ap, subst, arith, rules, inl, inr}
+use Rattle.std.specs.List.Sorted.{IsNonDecreasingBy}
+use Rattle.std.proofs.lemmas.Bool.{cases_eq, ltb-true, ltb-false}
+use Rattle.std.proofs.lemmas.List.Sorted.{IsPartitionPoint-from_clause, IsPartitionedBy-ltb}
+use Rattle.rational.specs.Rational.{ℚ}
 use Rattle.rational.specs.Linear.{Term}
-use Rattle.dictionary.specs.Rows.{terms_of}
-use Rattle.dictionary.proofs.Terms.{terms-length, terms_get}
+use Rattle.dictionary.specs.declared.entries.Entry.{Entry}
+use Rattle.dictionary.specs.Rows.{terms_of, IsRow}
+use Rattle.dictionary.proofs.Terms.{terms_get, terms_held, terms_within, some_term}
 use Rattle.dictionary.proofs.Lists.{split_front}
 use Rattle.dictionary.proofs.entries.count_below.Goals as goal
 
-pub loop-low-init : goal.loop-low-init
-loop-low-init g c = record { within = omega arith; ordered = omega arith; less = λ k d l. absurd (omega (arith, l)); others = λ k d l m. absurd (omega (arith, l, m)) }
+ascends : {N : Type 0} (v : N → ℚ) (xs : List (Entry N)) → IsRow (terms_of v xs) → IsNonDecreasingBy (λ (e : Entry N). e.variable) xs
+ascends v xs row i j d l m =
+    elim (cases_eq i j) [
+      | inl e ↦ (let a = ap (λ k. (get_or xs k d).variable) e in omega arith)
+      | inr e ↦
+          (let h : i < length xs = omega arith in
+          let a = row.ascending i j some_term (omega arith) (terms_within v xs j m) in
+          let b = ap (λ (t : Term). t.column) (terms_get v xs i d some_term h) in
+          let c = ap (λ (t : Term). t.column) (terms_get v xs j d some_term m) in
+          omega (arith, a, b, c))
+    ]
 
-pub loop-low-preserved-then-row-middle : goal.loop-low-preserved-then-row-middle
-loop-low-preserved-then-row-middle g c =
-    let v = g.N.Exact.value in
-    let row = terms_of v c.args.row.now in
-    let low = c.loop-low.low in
-    let high = c.loop-low.high in
-    let middle : ℕ = low + (high - low) / 2 in
-    let t = c.loop-low-test.true in
-    let w = c.loop-low.invariant.within in
-    let l : middle < length c.args.row.now = omega arith in
-    let n : middle < length row = subst (λ z. middle < z) (sym (terms-length v c.args.row.now)) l in
-    record {
-      within = w;
-      ordered = omega arith;
-      less = λ k d h.
-          (let here : (slice_index_or row middle d).column < c.args.variable = subst (λ z. z < c.args.variable) (sym (ap (λ (s : Term). s.column) (terms_get v c.args.row.now middle c.index-row-middle.result d l))) c.if-row-middle.true in
-          elim (cases_eq k middle) [
-            | inl e ↦ subst (λ z. (slice_index_or row z d).column < c.args.variable) (sym e) here
-            | inr e ↦ (let before = c.requires.ascending k middle d (omega (arith, h, e)) n in omega (arith, before, here))
-          ]);
-      others = c.loop-low.invariant.others;
-    }
+some_item : {X : Type 0} (xs : List X) (k : ℕ) → k < length xs → X
+some_item [] k l = absurd (omega arith)
+some_item (x ∷ xs) k l = x
 
-pub loop-low-preserved : goal.loop-low-preserved
-loop-low-preserved g c =
+pub returns : goal.returns
+returns g c =
     let v = g.N.Exact.value in
-    let row = terms_of v c.args.row.now in
-    let low = c.loop-low.low in
-    let high = c.loop-low.high in
-    let middle : ℕ = low + (high - low) / 2 in
-    let t = c.loop-low-test.true in
-    let w = c.loop-low.invariant.within in
-    let l : middle < length c.args.row.now = omega arith in
-    record {
-      within = omega arith;
-      ordered = omega arith;
-      less = c.loop-low.invariant.less;
-      others = λ k d h m.
-          (let here : c.args.variable ≤ (slice_index_or row middle d).column = subst (λ z. c.args.variable ≤ z) (sym (ap (λ (s : Term). s.column) (terms_get v c.args.row.now middle c.index-row-middle.result d l))) c.if-row-middle.false in
-          elim (cases_eq k middle) [
-            | inl e ↦ subst (λ z. c.args.variable ≤ (slice_index_or row z d).column) (sym e) here
-            | inr e ↦ (let behind = c.requires.ascending middle k d (omega (arith, h, e)) (subst (λ z. k < z) (sym (terms-length v c.args.row.now)) m) in omega (arith, behind, here))
-          ]);
-    }
-
-pub returns-clause-front : goal.returns-clause-front
-returns-clause-front g c =
-    let v = g.N.Exact.value in
-    let e : c.loop-low.low ≡ c.loop-low.high = (let a = c.loop-low-test.false in let b = c.loop-low.invariant.ordered in omega arith) in
-    (split_front c.args.variable c.loop-low.low (terms_of v c.args.row.now) (λ k d l m. c.loop-low.invariant.less k d l)
-    (λ k d l m. c.loop-low.invariant.others k d (omega (arith, l, e)) (subst (λ z. k < z) (terms-length v c.args.row.now) m))).0
-
-pub returns-clause-back : goal.returns-clause-back
-returns-clause-back g c =
-    let v = g.N.Exact.value in
-    let e : c.loop-low.low ≡ c.loop-low.high = (let a = c.loop-low-test.false in let b = c.loop-low.invariant.ordered in omega arith) in
-    (split_front c.args.variable c.loop-low.low (terms_of v c.args.row.now) (λ k d l m. c.loop-low.invariant.less k d l)
-    (λ k d l m. c.loop-low.invariant.others k d (omega (arith, l, e)) (subst (λ z. k < z) (terms-length v c.args.row.now) m))).1
+    let xs = c.args.row.now in
+    let n = c.args.variable in
+    let parted = IsPartitionedBy-ltb (λ e. e.variable) xs n (ascends v xs c.requires) in
+    let point = IsPartitionPoint-from_clause (λ e. nat_lt e.variable n) xs _ c.partition_point.ensures.partitioned parted (λ a r q k. search rules) in
+    let split = split_front n c.partition_point.result (terms_of v xs)
+    (λ k d l m. (let h = terms_held v xs k m in let x = some_item xs k h in subst (λ z. z < n) (sym (ap (λ (t : Term). t.column) (terms_get v xs k x d h))) (ltb-true _ _ (point.0 k x (omega arith) l))))
+    (λ k d l m. (let h = terms_held v xs k m in let x = some_item xs k h in subst (λ z. n ≤ z) (sym (ap (λ (t : Term). t.column) (terms_get v xs k x d h))) (ltb-false _ _ (point.1 k x l h)))) in
+    record { within = c.partition_point.ensures.bound; front = split.0; back = split.1 }

@@ -6,8 +6,11 @@ use Rattle.certs.specs.Turns.{value_operations}
 use Rattle.dictionary.specs.Value.{tableau_of}
 use Rattle.simplex.proofs.improve_choices.look_at_values.Given as goal
 
--- no operation of the values passed is too wide
+-- the dictionary stays, and no operation of the values passed is too wide
 abbrev pub invariant-loop-variable : goal.invariant-loop-variable
 invariant-loop-variable g l =
     let t = tableau_of l.dictionary in
-    first_wide g.N.Exact.most (flat_map (value_operations t) (below l.variable (is_basic t.basis))) ≡ None
+    record {
+      same : l.dictionary ≡ l.fn.dictionary;
+      narrow : first_wide g.N.Exact.most (flat_map (value_operations t) (below l.variable (is_basic t.basis))) ≡ None;
+    }

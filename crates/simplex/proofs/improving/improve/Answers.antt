@@ -16,6 +16,7 @@ use Rattle.simplex.specs.declared.settling.RunStop.{RunStop}
 use Rattle.simplex.specs.ImproveEnds.{HasObjective, ImprovedBy, IsInterrupted, IsSpent}
 use Rattle.simplex.proofs.Stops.{by_stop, improve_not_spent}
 use Rattle.simplex.proofs.Turned.{HasLimits, work_values, work_leave, can_leave, has_limits}
+use Rattle.simplex.proofs.Reached.{still_reached}
 use Rattle.simplex.proofs.improving.improve.Goals as goal
 
 none : (n : ℕ) → n ≡ 0 → n ≡ 1 → ⊥
@@ -39,8 +40,8 @@ one_some e = none 1 e refl
 
 pub returns-in-Err-clause-run : goal.returns-in-Err-clause-run
 returns-in-Err-clause-run g c = λ system of.
-    (let i = c.loop-choice.invariant in
-    let d = c.loop-choice.dictionary in
+    (let i = still_reached c.choose.ensures.same c.loop-choice.invariant in
+    let d = c.choose.new.dictionary in
     let t = tableau_of d in
     let r = i.made.1.1.1 system of in
     record {
@@ -50,7 +51,7 @@ returns-in-Err-clause-run g c = λ system of.
         budget_is = i.made.1.0;
         reaches = r.1;
         turns_are = next_turn c.loop-choice.turn c.args.turn.now i.made.0 i.made.1.1.0;
-        ends = (refl, record { here = record { tableau = t; is_of = r.0; at = refl }; first = work_values g.N.Exact.most t c.loop-choice.pivots c.in-Err.wide c.in-Err.ensures });
+        ends = (refl, record { here = record { tableau = t; is_of = r.0; at = refl }; first = work_values g.N.Exact.most t c.loop-choice.pivots c.in-Err.wide c.in-Err.ensures.choice });
       };
       stands = λ u. (refl, r.0);
       lost = λ u. absurd (true≢false (sym i.usable ∙ u));
@@ -58,18 +59,18 @@ returns-in-Err-clause-run g c = λ system of.
 
 pub returns-in-Err-clause-keeps : goal.returns-in-Err-clause-keeps
 returns-in-Err-clause-keeps g c = λ system of start usable v l.
-    (let i = c.loop-choice.invariant in
-    let d = c.loop-choice.dictionary in
+    (let i = still_reached c.choose.ensures.same c.loop-choice.invariant in
+    let d = c.choose.new.dictionary in
     let r = i.made.1.1.1 system of in
     stays_within g.N.Exact.most system c.args.dictionary.now.basis d.basis i.made.0 start.formed start.objective start.settled r.1 (tableau_of d) r.0 refl v l)
 
 pub returns-in-Optimal-clause-run : goal.returns-in-Optimal-clause-run
 returns-in-Optimal-clause-run g c = λ system of.
-    (let i = c.loop-choice.invariant in
-    let d = c.loop-choice.dictionary in
+    (let i = still_reached c.choose.ensures.same c.loop-choice.invariant in
+    let d = c.choose.new.dictionary in
     let t = tableau_of d in
     let r = i.made.1.1.1 system of in
-    let chosen : improve_choice t ≡ Optimal = sym (ap choice_named (sym c.in-Optimal.is) ∙ c.in-Ok.ensures.1) in
+    let chosen : improve_choice t ≡ Optimal = sym (ap choice_named (sym c.in-Optimal.is) ∙ c.in-Ok.ensures.choice.1) in
     record {
       last = d.basis;
       run = record {
@@ -77,7 +78,7 @@ returns-in-Optimal-clause-run g c = λ system of.
         budget_is = i.made.1.0;
         reaches = r.1;
         turns_are = next_turn c.loop-choice.turn c.args.turn.now i.made.0 i.made.1.1.0;
-        ends = record { here = record { tableau = t; is_of = r.0; at = refl }; chosen = chosen; narrow = c.in-Ok.ensures.0 };
+        ends = record { here = record { tableau = t; is_of = r.0; at = refl }; chosen = chosen; narrow = c.in-Ok.ensures.choice.0 };
       };
       stands = λ u. (refl, r.0);
       lost = λ u. absurd (true≢false (sym i.usable ∙ u));
@@ -85,18 +86,18 @@ returns-in-Optimal-clause-run g c = λ system of.
 
 pub returns-in-Optimal-clause-keeps : goal.returns-in-Optimal-clause-keeps
 returns-in-Optimal-clause-keeps g c = λ system of start usable v l.
-    (let i = c.loop-choice.invariant in
-    let d = c.loop-choice.dictionary in
+    (let i = still_reached c.choose.ensures.same c.loop-choice.invariant in
+    let d = c.choose.new.dictionary in
     let r = i.made.1.1.1 system of in
     stays_within g.N.Exact.most system c.args.dictionary.now.basis d.basis i.made.0 start.formed start.objective start.settled r.1 (tableau_of d) r.0 refl v l)
 
 pub returns-in-Free-clause-run : goal.returns-in-Free-clause-run
 returns-in-Free-clause-run g c = λ system of.
-    (let i = c.loop-choice.invariant in
-    let d = c.loop-choice.dictionary in
+    (let i = still_reached c.choose.ensures.same c.loop-choice.invariant in
+    let d = c.choose.new.dictionary in
     let t = tableau_of d in
     let r = i.made.1.1.1 system of in
-    let chosen : improve_choice t ≡ Free c.in-Free.variable = sym (ap choice_named (sym c.in-Free.is) ∙ c.in-Ok.ensures.1) in
+    let chosen : improve_choice t ≡ Free c.in-Free.variable = sym (ap choice_named (sym c.in-Free.is) ∙ c.in-Ok.ensures.choice.1) in
     record {
       last = d.basis;
       run = record {
@@ -104,7 +105,7 @@ returns-in-Free-clause-run g c = λ system of.
         budget_is = i.made.1.0;
         reaches = r.1;
         turns_are = next_turn c.loop-choice.turn c.args.turn.now i.made.0 i.made.1.1.0;
-        ends = record { here = record { tableau = t; is_of = r.0; at = refl }; chosen = chosen; narrow = c.in-Ok.ensures.0 };
+        ends = record { here = record { tableau = t; is_of = r.0; at = refl }; chosen = chosen; narrow = c.in-Ok.ensures.choice.0 };
       };
       stands = λ u. (refl, r.0);
       lost = λ u. absurd (true≢false (sym i.usable ∙ u));
@@ -112,18 +113,18 @@ returns-in-Free-clause-run g c = λ system of.
 
 pub returns-in-Free-clause-keeps : goal.returns-in-Free-clause-keeps
 returns-in-Free-clause-keeps g c = λ system of start usable v l.
-    (let i = c.loop-choice.invariant in
-    let d = c.loop-choice.dictionary in
+    (let i = still_reached c.choose.ensures.same c.loop-choice.invariant in
+    let d = c.choose.new.dictionary in
     let r = i.made.1.1.1 system of in
     stays_within g.N.Exact.most system c.args.dictionary.now.basis d.basis i.made.0 start.formed start.objective start.settled r.1 (tableau_of d) r.0 refl v l)
 
 pub returns-then-pivots-eq0-clause-run : goal.returns-then-pivots-eq0-clause-run
 returns-then-pivots-eq0-clause-run g c = λ system of.
-    (let i = c.loop-choice.invariant in
-    let d = c.loop-choice.dictionary in
+    (let i = still_reached c.choose.ensures.same c.loop-choice.invariant in
+    let d = c.choose.new.dictionary in
     let t = tableau_of d in
     let r = i.made.1.1.1 system of in
-    let chosen : improve_choice t ≡ Flip c.in-Flip.variable = sym (ap choice_named (sym c.in-Flip.is) ∙ c.in-Ok.ensures.1) in
+    let chosen : improve_choice t ≡ Flip c.in-Flip.variable = sym (ap choice_named (sym c.in-Flip.is) ∙ c.in-Ok.ensures.choice.1) in
     record {
       last = d.basis;
       run = record {
@@ -131,7 +132,7 @@ returns-then-pivots-eq0-clause-run g c = λ system of.
         budget_is = i.made.1.0;
         reaches = r.1;
         turns_are = next_turn c.loop-choice.turn c.args.turn.now i.made.0 i.made.1.1.0;
-        ends = (c.if-pivots-eq0.true, record { here = record { tableau = t; is_of = r.0; at = refl }; next = _; due = ap (improved t) chosen; narrow = c.in-Ok.ensures.0 });
+        ends = (c.if-pivots-eq0.true, record { here = record { tableau = t; is_of = r.0; at = refl }; next = _; due = ap (improved t) chosen; narrow = c.in-Ok.ensures.choice.0 });
       };
       stands = λ u. (refl, r.0);
       lost = λ u. absurd (true≢false (sym i.usable ∙ u));
@@ -139,15 +140,15 @@ returns-then-pivots-eq0-clause-run g c = λ system of.
 
 pub returns-then-pivots-eq0-clause-keeps : goal.returns-then-pivots-eq0-clause-keeps
 returns-then-pivots-eq0-clause-keeps g c = λ system of start usable v l.
-    (let i = c.loop-choice.invariant in
-    let d = c.loop-choice.dictionary in
+    (let i = still_reached c.choose.ensures.same c.loop-choice.invariant in
+    let d = c.choose.new.dictionary in
     let r = i.made.1.1.1 system of in
     stays_within g.N.Exact.most system c.args.dictionary.now.basis d.basis i.made.0 start.formed start.objective start.settled r.1 (tableau_of d) r.0 refl v l)
 
 pub returns-then-pivots-eq0-clause-never_spent : goal.returns-then-pivots-eq0-clause-never_spent
 returns-then-pivots-eq0-clause-never_spent g c = λ system of start enough spent.
-    (let i = c.loop-choice.invariant in
-    let d = c.loop-choice.dictionary in
+    (let i = still_reached c.choose.ensures.same c.loop-choice.invariant in
+    let d = c.choose.new.dictionary in
     let r = i.made.1.1.1 system of in
     let few : i.made.0 < 3 ^ limited_count system = few_turns system start.objective g.N.Exact.most start.formed c.args.dictionary.now.basis start.settled i.made.0 d.basis r.1 (record { tableau = tableau_of d; is_of = r.0; at = refl }) in
     let whole : i.made.0 + c.loop-choice.pivots ≡ c.args.pivots.now = i.made.1.0 in
@@ -159,23 +160,23 @@ flips : (t : Tableau) (j : ℕ) (c : Improvement) → c ≡ improve_choice t →
 flips t j c e f = has_limits t j (sym e ∙ f)
 
 pub flip-requires-clause-known : goal.flip-requires-clause-known
-flip-requires-clause-known g c = (flips (tableau_of c.loop-choice.dictionary) c.in-Flip.variable _ c.in-Ok.ensures.1 (ap choice_named c.in-Flip.is)).at.known
+flip-requires-clause-known g c = (flips (tableau_of c.choose.new.dictionary) c.in-Flip.variable _ c.in-Ok.ensures.choice.1 (ap choice_named c.in-Flip.is)).at.known
 
 pub flip-requires-clause-nonbasic : goal.flip-requires-clause-nonbasic
-flip-requires-clause-nonbasic g c = (flips (tableau_of c.loop-choice.dictionary) c.in-Flip.variable _ c.in-Ok.ensures.1 (ap choice_named c.in-Flip.is)).at.nonbasic
+flip-requires-clause-nonbasic g c = (flips (tableau_of c.choose.new.dictionary) c.in-Flip.variable _ c.in-Ok.ensures.choice.1 (ap choice_named c.in-Flip.is)).at.nonbasic
 
 pub flip-requires-clause-lower : goal.flip-requires-clause-lower
-flip-requires-clause-lower g c = (flips (tableau_of c.loop-choice.dictionary) c.in-Flip.variable _ c.in-Ok.ensures.1 (ap choice_named c.in-Flip.is)).lower
+flip-requires-clause-lower g c = (flips (tableau_of c.choose.new.dictionary) c.in-Flip.variable _ c.in-Ok.ensures.choice.1 (ap choice_named c.in-Flip.is)).lower
 
 pub flip-requires-clause-upper : goal.flip-requires-clause-upper
-flip-requires-clause-upper g c = (flips (tableau_of c.loop-choice.dictionary) c.in-Flip.variable _ c.in-Ok.ensures.1 (ap choice_named c.in-Flip.is)).upper
+flip-requires-clause-upper g c = (flips (tableau_of c.choose.new.dictionary) c.in-Flip.variable _ c.in-Ok.ensures.choice.1 (ap choice_named c.in-Flip.is)).upper
 
 pub loop-choice-preserved-in-Flip : goal.loop-choice-preserved-in-Flip
 loop-choice-preserved-in-Flip g c =
-    let i = c.loop-choice.invariant in
-    let d = c.loop-choice.dictionary in
+    let i = still_reached c.choose.ensures.same c.loop-choice.invariant in
+    let d = c.choose.new.dictionary in
     let t = tableau_of d in
-    let chosen : improve_choice t ≡ Flip c.in-Flip.variable = sym (ap choice_named (sym c.in-Flip.is) ∙ c.in-Ok.ensures.1) in
+    let chosen : improve_choice t ≡ Flip c.in-Flip.variable = sym (ap choice_named (sym c.in-Flip.is) ∙ c.in-Ok.ensures.choice.1) in
     record {
       usable = c.flip.ensures.usable;
       columns = c.flip.ensures.columns ∙ i.columns;
@@ -195,7 +196,7 @@ loop-choice-preserved-in-Flip g c =
                       record {
                         here = record { tableau = t; is_of = r.0; at = refl };
                         moves = ap (improved t) chosen ∙ ap (λ (b : List Place). Some b) (sym (ap (λ (u : Tableau). u.basis) c.flip.ensures.turned));
-                        narrow = work_leave g.N.Exact.most t 1 (Flip c.in-Flip.variable) None one_some chosen c.in-Ok.ensures.0 (first_wide-nil g.N.Exact.most);
+                        narrow = work_leave g.N.Exact.most t 1 (Flip c.in-Flip.variable) None one_some chosen c.in-Ok.ensures.choice.0 (first_wide-nil g.N.Exact.most);
                       },
                     ),
                   ),
@@ -207,11 +208,11 @@ loop-choice-preserved-in-Flip g c =
 
 pub returns-then-pivots-eq0-2-clause-run : goal.returns-then-pivots-eq0-2-clause-run
 returns-then-pivots-eq0-2-clause-run g c = λ system of.
-    (let i = c.loop-choice.invariant in
-    let d = c.loop-choice.dictionary in
+    (let i = still_reached c.choose.ensures.same c.loop-choice.invariant in
+    let d = c.choose.new.dictionary in
     let t = tableau_of d in
     let r = i.made.1.1.1 system of in
-    let chosen : improve_choice t ≡ Leaves c.in-Leaves.leaving (side_of c.in-Leaves.upper) c.in-Leaves.entering = sym (ap choice_named (sym c.in-Leaves.is) ∙ c.in-Ok.ensures.1) in
+    let chosen : improve_choice t ≡ Leaves c.in-Leaves.leaving (side_of c.in-Leaves.upper) c.in-Leaves.entering = sym (ap choice_named (sym c.in-Leaves.is) ∙ c.in-Ok.ensures.choice.1) in
     record {
       last = d.basis;
       run = record {
@@ -219,7 +220,7 @@ returns-then-pivots-eq0-2-clause-run g c = λ system of.
         budget_is = i.made.1.0;
         reaches = r.1;
         turns_are = next_turn c.loop-choice.turn c.args.turn.now i.made.0 i.made.1.1.0;
-        ends = (c.if-pivots-eq0-2.true, record { here = record { tableau = t; is_of = r.0; at = refl }; next = _; due = ap (improved t) chosen; narrow = c.in-Ok.ensures.0 });
+        ends = (c.if-pivots-eq0-2.true, record { here = record { tableau = t; is_of = r.0; at = refl }; next = _; due = ap (improved t) chosen; narrow = c.in-Ok.ensures.choice.0 });
       };
       stands = λ u. (refl, r.0);
       lost = λ u. absurd (true≢false (sym i.usable ∙ u));
@@ -227,15 +228,15 @@ returns-then-pivots-eq0-2-clause-run g c = λ system of.
 
 pub returns-then-pivots-eq0-2-clause-keeps : goal.returns-then-pivots-eq0-2-clause-keeps
 returns-then-pivots-eq0-2-clause-keeps g c = λ system of start usable v l.
-    (let i = c.loop-choice.invariant in
-    let d = c.loop-choice.dictionary in
+    (let i = still_reached c.choose.ensures.same c.loop-choice.invariant in
+    let d = c.choose.new.dictionary in
     let r = i.made.1.1.1 system of in
     stays_within g.N.Exact.most system c.args.dictionary.now.basis d.basis i.made.0 start.formed start.objective start.settled r.1 (tableau_of d) r.0 refl v l)
 
 pub returns-then-pivots-eq0-2-clause-never_spent : goal.returns-then-pivots-eq0-2-clause-never_spent
 returns-then-pivots-eq0-2-clause-never_spent g c = λ system of start enough spent.
-    (let i = c.loop-choice.invariant in
-    let d = c.loop-choice.dictionary in
+    (let i = still_reached c.choose.ensures.same c.loop-choice.invariant in
+    let d = c.choose.new.dictionary in
     let r = i.made.1.1.1 system of in
     let few : i.made.0 < 3 ^ limited_count system = few_turns system start.objective g.N.Exact.most start.formed c.args.dictionary.now.basis start.settled i.made.0 d.basis r.1 (record { tableau = tableau_of d; is_of = r.0; at = refl }) in
     let whole : i.made.0 + c.loop-choice.pivots ≡ c.args.pivots.now = i.made.1.0 in
@@ -244,18 +245,18 @@ returns-then-pivots-eq0-2-clause-never_spent g c = λ system of start enough spe
 
 pub pivot-requires-clause-can : goal.pivot-requires-clause-can
 pivot-requires-clause-can g c =
-    can_leave (tableau_of c.loop-choice.dictionary) c.in-Leaves.leaving (side_of c.in-Leaves.upper) c.in-Leaves.entering (sym (ap choice_named (sym c.in-Leaves.is) ∙ c.in-Ok.ensures.1))
+    can_leave (tableau_of c.choose.new.dictionary) c.in-Leaves.leaving (side_of c.in-Leaves.upper) c.in-Leaves.entering (sym (ap choice_named (sym c.in-Leaves.is) ∙ c.in-Ok.ensures.choice.1))
 
 pub returns-in-Err-pivot-clause-run : goal.returns-in-Err-pivot-clause-run
 returns-in-Err-pivot-clause-run g c = λ system of.
-    (let i = c.loop-choice.invariant in
-    let d = c.loop-choice.dictionary in
+    (let i = still_reached c.choose.ensures.same c.loop-choice.invariant in
+    let d = c.choose.new.dictionary in
     let new = c.pivot.new.self in
     let m = g.N.Exact.most in
     let t = tableau_of d in
     let r = i.made.1.1.1 system of in
     let n = next_turn c.loop-choice.turn c.args.turn.now i.made.0 i.made.1.1.0 in
-    let chosen : improve_choice t ≡ Leaves c.in-Leaves.leaving (side_of c.in-Leaves.upper) c.in-Leaves.entering = sym (ap choice_named (sym c.in-Leaves.is) ∙ c.in-Ok.ensures.1) in
+    let chosen : improve_choice t ≡ Leaves c.in-Leaves.leaving (side_of c.in-Leaves.upper) c.in-Leaves.entering = sym (ap choice_named (sym c.in-Leaves.is) ∙ c.in-Ok.ensures.choice.1) in
     let P : RunStop → Type 0 = λ z. ImprovedBy m system c.args.dictionary.now.basis c.args.pivots.now c.args.turn.now (Err z) new c.loop-choice.pivots (c.loop-choice.turn + 1) in
     subst P (sym c.told.ensures)
     (by_stop m d new c.in-Leaves.leaving c.in-Leaves.entering (c.loop-choice.turn + 1) P c.in-Err-pivot.stop c.in-Err-pivot.ensures.done
@@ -267,10 +268,10 @@ returns-in-Err-pivot-clause-run g c = λ system of.
         budget_is = i.made.1.0;
         reaches = r.1;
         turns_are = n;
-        ends = (refl, record { here = record { tableau = t; is_of = r.0; at = refl }; first = work_leave m t c.loop-choice.pivots (Leaves c.in-Leaves.leaving (side_of c.in-Leaves.upper) c.in-Leaves.entering) (Some o) c.if-pivots-eq0-2.false chosen c.in-Ok.ensures.0 h });
+        ends = (refl, record { here = record { tableau = t; is_of = r.0; at = refl }; first = work_leave m t c.loop-choice.pivots (Leaves c.in-Leaves.leaving (side_of c.in-Leaves.upper) c.in-Leaves.entering) (Some o) c.if-pivots-eq0-2.false chosen c.in-Ok.ensures.choice.0 h });
       };
       stands = λ u. absurd (true≢false (sym u ∙ lost));
-      lost = λ u. (record { tableau = t; is_of = r.0; at = refl }, c.in-Ok.ensures.0);
+      lost = λ u. (record { tableau = t; is_of = r.0; at = refl }, c.in-Ok.ensures.choice.0);
     })
     (λ same.
     subst (λ w. IsInterrupted m system c.args.dictionary.now.basis c.args.pivots.now c.args.turn.now w c.loop-choice.pivots (c.loop-choice.turn + 1)) (sym same)
@@ -281,8 +282,8 @@ returns-in-Err-pivot-clause-spent g c = λ s. absurd (improve_not_spent (c.loop-
 
 pub returns-in-Err-pivot-clause-keeps : goal.returns-in-Err-pivot-clause-keeps
 returns-in-Err-pivot-clause-keeps g c = λ system of start usable v l.
-    (let i = c.loop-choice.invariant in
-    let d = c.loop-choice.dictionary in
+    (let i = still_reached c.choose.ensures.same c.loop-choice.invariant in
+    let d = c.choose.new.dictionary in
     let new = c.pivot.new.self in
     let m = g.N.Exact.most in
     let t = tableau_of d in
@@ -297,8 +298,8 @@ returns-in-Err-pivot-clause-never_spent g c = λ system of start enough s. impro
 
 pub returns-in-Err-pivot-clause-objective : goal.returns-in-Err-pivot-clause-objective
 returns-in-Err-pivot-clause-objective g c = λ usable.
-    (let i = c.loop-choice.invariant in
-    let d = c.loop-choice.dictionary in
+    (let i = still_reached c.choose.ensures.same c.loop-choice.invariant in
+    let d = c.choose.new.dictionary in
     let new = c.pivot.new.self in
     let m = g.N.Exact.most in
     let t = tableau_of d in
@@ -308,10 +309,10 @@ returns-in-Err-pivot-clause-objective g c = λ usable.
 
 pub loop-choice-preserved : goal.loop-choice-preserved
 loop-choice-preserved g c =
-    let i = c.loop-choice.invariant in
-    let d = c.loop-choice.dictionary in
+    let i = still_reached c.choose.ensures.same c.loop-choice.invariant in
+    let d = c.choose.new.dictionary in
     let t = tableau_of d in
-    let chosen : improve_choice t ≡ Leaves c.in-Leaves.leaving (side_of c.in-Leaves.upper) c.in-Leaves.entering = sym (ap choice_named (sym c.in-Leaves.is) ∙ c.in-Ok.ensures.1) in
+    let chosen : improve_choice t ≡ Leaves c.in-Leaves.leaving (side_of c.in-Leaves.upper) c.in-Leaves.entering = sym (ap choice_named (sym c.in-Leaves.is) ∙ c.in-Ok.ensures.choice.1) in
     record {
       usable = c.in_default.ensures.done.1.1;
       columns = c.in_default.ensures.columns ∙ i.columns;
@@ -331,7 +332,7 @@ loop-choice-preserved g c =
                       record {
                         here = record { tableau = t; is_of = r.0; at = refl };
                         moves = ap (improved t) chosen ∙ ap (λ (b : List Place). Some b) (sym c.in_default.ensures.done.1.0.basis);
-                        narrow = work_leave g.N.Exact.most t 1 (Leaves c.in-Leaves.leaving (side_of c.in-Leaves.upper) c.in-Leaves.entering) None one_some chosen c.in-Ok.ensures.0 c.in_default.ensures.done.0;
+                        narrow = work_leave g.N.Exact.most t 1 (Leaves c.in-Leaves.leaving (side_of c.in-Leaves.upper) c.in-Leaves.entering) None one_some chosen c.in-Ok.ensures.choice.0 c.in_default.ensures.done.0;
                       },
                     ),
                   ),

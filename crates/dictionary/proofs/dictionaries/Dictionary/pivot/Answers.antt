@@ -1,4 +1,4 @@
-use Rattle.std.proofs.Common.{◌≡◌, ◌≢◌, ◌+◌, ◌<◌, ◌≤◌, List, [], ◌++◌, true, true≢false, length, set, take, drop, map, vec_capacity, refl, sym, ◌∙◌, ap, subst, Some, arith}
+use Rattle.std.proofs.Common.{◌≡◌, ◌≢◌, ◌+◌, ◌<◌, ◌≤◌, List, [], ◌++◌, true, true≢false, length, get_or, set, take, drop, map, vec_capacity, refl, sym, ◌∙◌, ap, subst, Some, arith}
 use Rattle.std.specs.Prelude.{All, slice_index_or}
 use Rattle.std.specs.Option.{option_map}
 use Rattle.std.proofs.lemmas.List.{map-set}
@@ -6,15 +6,16 @@ use Rattle.rational.specs.Rational.{zero_ℚ}
 use Rattle.rational.specs.Linear.{Term, factor_of}
 use Rattle.frac128.specs.Calculation.{first_wide}
 use Rattle.certs.specs.System.{is_basic}
-use Rattle.certs.specs.System.Place.{Basic}
+use Rattle.certs.specs.System.Place.{Basic, AtZero}
 use Rattle.certs.specs.Turns.{CanPivot, exchanged, pivot_operations}
-use Rattle.certs.proofs.Tableaus.{basic_below, pivot_law}
+use Rattle.certs.proofs.Tableaus.{basic_below, exchanged-length, pivot_law}
 use Rattle.dictionary.specs.declared.places.Place.TheVariants.{Basic as IsBasic}
 use Rattle.dictionary.specs.Layouts.{basis_of, place_of_code, side_of}
-use Rattle.dictionary.specs.Rows.{terms_of, rows_of, rows_work, IsRow, AreSparse, AreRowsExchanged}
-use Rattle.dictionary.specs.Sound.{IsSound}
-use Rattle.dictionary.specs.Value.{DictionaryValue, tableau_of}
+use Rattle.dictionary.specs.Rows.{bounds_of, terms_of, rows_of, rows_work, IsRow, AreSparse, AreRowsExchanged}
+use Rattle.dictionary.specs.Sound.{AreForgotten, AreValues, IsSound}
+use Rattle.dictionary.specs.Value.{DictionaryValue, table_of, tableau_of}
 use Rattle.dictionary.proofs.Changes.{quotient-nonzero}
+use Rattle.dictionary.proofs.Kept.{pivoted_places, pivoted_same, values_stay}
 use Rattle.dictionary.proofs.Pivots.{pivot_work, pivoted_factor, sparse_after}
 use Rattle.dictionary.proofs.Sounds.{sound_after, sound_lost}
 use Rattle.dictionary.proofs.Standing.{basis-length}
@@ -34,7 +35,7 @@ index-requires g c =
     let R = rows_of v d.rows.items in
     let can = subst (λ d. CanPivot (tableau_of d) I side J) (sym c.self.view_is) c.requires.can in
     let u : d.usable ≡ true = subst (λ d. d.usable ≡ true) (sym c.self.view_is) c.requires.usable in
-    let s : AreSparse basis R = c.self.invariant.sparse u in
+    let s : AreSparse basis R = c.self.invariant.0.sparse u in
     let many : length d.rows.items ≡ length basis = sym (rows-length v d.rows.items) ∙ s.long in
     let l = basic_below basis I can.basic in
     let n = d.rows.ok.0 in
@@ -52,7 +53,7 @@ make_room-room-requires g c =
     let R = rows_of v d.rows.items in
     let can = subst (λ d. CanPivot (tableau_of d) I side J) (sym c.self.view_is) c.requires.can in
     let u : d.usable ≡ true = subst (λ d. d.usable ≡ true) (sym c.self.view_is) c.requires.usable in
-    let s : AreSparse basis R = c.self.invariant.sparse u in
+    let s : AreSparse basis R = c.self.invariant.0.sparse u in
     let many : length d.rows.items ≡ length basis = sym (rows-length v d.rows.items) ∙ s.long in
     let all : All (λ r. IsRow (terms_of v r.items)) d.rows.items = λ k e l. subst IsRow (rows_at v d.rows.items k e l) (sparse_row basis R s k) in
     subst (All (λ r. IsRow (terms_of v r.items))) (sym c.deref_mut.ensures.value) all
@@ -69,7 +70,7 @@ returns-then-is_err-clause-done g c =
     let R = rows_of v d.rows.items in
     let can = subst (λ d. CanPivot (tableau_of d) I side J) (sym c.self.view_is) c.requires.can in
     let u : d.usable ≡ true = subst (λ d. d.usable ≡ true) (sym c.self.view_is) c.requires.usable in
-    let s : AreSparse basis R = c.self.invariant.sparse u in
+    let s : AreSparse basis R = c.self.invariant.0.sparse u in
     let many : length d.rows.items ≡ length basis = sym (rows-length v d.rows.items) ∙ s.long in
     let rows1 = c.make_room-room.new.rows in
     let taken : take d.rows.len (rows1 ++ drop (length rows1) d.rows.items) ≡ rows1 = refilled rows1 d.rows.items d.rows.len (c.make_room-room.auto.rows ∙ ap length c.deref_mut.ensures.value ∙ sym d.rows.ok.0) in
@@ -98,13 +99,30 @@ invariant_of-self g c =
     let R = rows_of v d.rows.items in
     let can = subst (λ d. CanPivot (tableau_of d) I side J) (sym c.self.view_is) c.requires.can in
     let u : d.usable ≡ true = subst (λ d. d.usable ≡ true) (sym c.self.view_is) c.requires.usable in
-    let s : AreSparse basis R = c.self.invariant.sparse u in
+    let s : AreSparse basis R = c.self.invariant.0.sparse u in
     let many : length d.rows.items ≡ length basis = sym (rows-length v d.rows.items) ∙ s.long in
     let rows1 = c.make_room-room.new.rows in
     let taken : take d.rows.len (rows1 ++ drop (length rows1) d.rows.items) ≡ rows1 = refilled rows1 d.rows.items d.rows.len (c.make_room-room.auto.rows ∙ ap length c.deref_mut.ensures.value ∙ sym d.rows.ok.0) in
     let same : rows_of v rows1 ≡ R = rows_same v rows1 d.rows.items (c.make_room-room.ensures.same ∙ ap (map (λ r. r.items)) c.deref_mut.ensures.value) in
     let kept : rows_of v (take d.rows.len (rows1 ++ drop (length rows1) d.rows.items)) ≡ R = ap (rows_of v) taken ∙ same in
-    subst (λ r. IsSound (length d.bounds.items) basis r d.objective d.usable) (sym kept) c.self.invariant
+    subst (λ r. IsSound (length d.bounds.items) basis r d.objective d.usable × (d.usable ≡ true → AreValues m v (table_of (bounds_of v d.bounds.items) d.objective basis r) d.values.items)) (sym kept) c.self.invariant
+
+pub forget-requires : goal.forget-requires
+forget-requires g c =
+    let v = g.N.Exact.value in
+    let d = c.self.inside in
+    let basis = basis_of d.places.items in
+    let R = rows_of v d.rows.items in
+    let u : d.usable ≡ true = subst (λ d. d.usable ≡ true) (sym c.self.view_is) c.requires.usable in
+    let s : AreSparse basis R = c.self.invariant.0.sparse u in
+    let rows1 = c.make_room-room.new.rows in
+    let taken : take d.rows.len (rows1 ++ drop (length rows1) d.rows.items) ≡ rows1 = refilled rows1 d.rows.items d.rows.len (c.make_room-room.auto.rows ∙ ap length c.deref_mut.ensures.value ∙ sym d.rows.ok.0) in
+    let same : rows_of v rows1 ≡ R = rows_same v rows1 d.rows.items (c.make_room-room.ensures.same ∙ ap (map (λ r. r.items)) c.deref_mut.ensures.value) in
+    let kept : rows_of v (take d.rows.len (rows1 ++ drop (length rows1) d.rows.items)) ≡ R = ap (rows_of v) taken ∙ same in
+    record {
+      rows = subst (All (λ r. IsRow (terms_of v r.items))) (sym (c.deref.ensures.value ∙ taken)) (λ k e l. subst IsRow (ap (λ r. slice_index_or r k []) (sym same) ∙ rows_at v rows1 k e l) (sparse_row basis R s k));
+      long = ap length c.deref_mut-2.ensures.value ∙ (c.self.invariant.1 u).long ∙ sym s.long ∙ ap length (sym kept) ∙ rows-length v (take d.rows.len (rows1 ++ drop (length rows1) d.rows.items)) ∙ ap length (sym c.deref.ensures.value);
+    }
 
 pub exchange_rows-changed-requires : goal.exchange_rows-changed-requires
 exchange_rows-changed-requires g c =
@@ -118,14 +136,14 @@ exchange_rows-changed-requires g c =
     let R = rows_of v d.rows.items in
     let can = subst (λ d. CanPivot (tableau_of d) I side J) (sym c.self.view_is) c.requires.can in
     let u : d.usable ≡ true = subst (λ d. d.usable ≡ true) (sym c.self.view_is) c.requires.usable in
-    let s : AreSparse basis R = c.self.invariant.sparse u in
+    let s : AreSparse basis R = c.self.invariant.0.sparse u in
     let many : length d.rows.items ≡ length basis = sym (rows-length v d.rows.items) ∙ s.long in
     let rows1 = c.make_room-room.new.rows in
     let taken : take d.rows.len (rows1 ++ drop (length rows1) d.rows.items) ≡ rows1 = refilled rows1 d.rows.items d.rows.len (c.make_room-room.auto.rows ∙ ap length c.deref_mut.ensures.value ∙ sym d.rows.ok.0) in
     let same : rows_of v rows1 ≡ R = rows_same v rows1 d.rows.items (c.make_room-room.ensures.same ∙ ap (map (λ r. r.items)) c.deref_mut.ensures.value) in
     let kept : rows_of v (take d.rows.len (rows1 ++ drop (length rows1) d.rows.items)) ≡ R = ap (rows_of v) taken ∙ same in
-    let rows' = c.deref_mut-2.result.now in
-    let is : rows' ≡ rows1 = c.deref_mut-2.ensures.value ∙ taken in
+    let rows' = c.deref_mut-3.result.now in
+    let is : rows' ≡ rows1 = c.deref_mut-3.ensures.value ∙ taken in
     let RR : rows_of v rows' ≡ R = ap (rows_of v) is ∙ same in
     let long : length rows' ≡ length basis = sym (rows-length v rows') ∙ ap length RR ∙ s.long in
     let ok = sym c.is_err.ensures.value ∙ c.if-is_err.false in
@@ -159,9 +177,9 @@ invariant_of-self-in-Err g c =
     let R = rows_of v d.rows.items in
     let can = subst (λ d. CanPivot (tableau_of d) I side J) (sym c.self.view_is) c.requires.can in
     let u : d.usable ≡ true = subst (λ d. d.usable ≡ true) (sym c.self.view_is) c.requires.usable in
-    let s : AreSparse basis R = c.self.invariant.sparse u in
+    let s : AreSparse basis R = c.self.invariant.0.sparse u in
     let many : length d.rows.items ≡ length basis = sym (rows-length v d.rows.items) ∙ s.long in
-    sound_lost (length d.bounds.items) basis R _ d.objective d.usable c.self.invariant
+    (sound_lost (length d.bounds.items) basis R _ d.objective d.usable c.self.invariant.0, λ e. absurd (true≢false (sym e)))
 
 pub returns-in-Err-clause-done : goal.returns-in-Err-clause-done
 returns-in-Err-clause-done g c =
@@ -175,14 +193,14 @@ returns-in-Err-clause-done g c =
     let R = rows_of v d.rows.items in
     let can = subst (λ d. CanPivot (tableau_of d) I side J) (sym c.self.view_is) c.requires.can in
     let u : d.usable ≡ true = subst (λ d. d.usable ≡ true) (sym c.self.view_is) c.requires.usable in
-    let s : AreSparse basis R = c.self.invariant.sparse u in
+    let s : AreSparse basis R = c.self.invariant.0.sparse u in
     let many : length d.rows.items ≡ length basis = sym (rows-length v d.rows.items) ∙ s.long in
     let rows1 = c.make_room-room.new.rows in
     let taken : take d.rows.len (rows1 ++ drop (length rows1) d.rows.items) ≡ rows1 = refilled rows1 d.rows.items d.rows.len (c.make_room-room.auto.rows ∙ ap length c.deref_mut.ensures.value ∙ sym d.rows.ok.0) in
     let same : rows_of v rows1 ≡ R = rows_same v rows1 d.rows.items (c.make_room-room.ensures.same ∙ ap (map (λ r. r.items)) c.deref_mut.ensures.value) in
     let kept : rows_of v (take d.rows.len (rows1 ++ drop (length rows1) d.rows.items)) ≡ R = ap (rows_of v) taken ∙ same in
-    let rows' = c.deref_mut-2.result.now in
-    let is : rows' ≡ rows1 = c.deref_mut-2.ensures.value ∙ taken in
+    let rows' = c.deref_mut-3.result.now in
+    let is : rows' ≡ rows1 = c.deref_mut-3.ensures.value ∙ taken in
     let RR : rows_of v rows' ≡ R = ap (rows_of v) is ∙ same in
     let long : length rows' ≡ length basis = sym (rows-length v rows') ∙ ap length RR ∙ s.long in
     let p = factor_of (slice_index_or R I []) J in
@@ -205,14 +223,14 @@ invariant_of-self-2 g c =
     let R = rows_of v d.rows.items in
     let can = subst (λ d. CanPivot (tableau_of d) I side J) (sym c.self.view_is) c.requires.can in
     let u : d.usable ≡ true = subst (λ d. d.usable ≡ true) (sym c.self.view_is) c.requires.usable in
-    let s : AreSparse basis R = c.self.invariant.sparse u in
+    let s : AreSparse basis R = c.self.invariant.0.sparse u in
     let many : length d.rows.items ≡ length basis = sym (rows-length v d.rows.items) ∙ s.long in
     let rows1 = c.make_room-room.new.rows in
     let taken : take d.rows.len (rows1 ++ drop (length rows1) d.rows.items) ≡ rows1 = refilled rows1 d.rows.items d.rows.len (c.make_room-room.auto.rows ∙ ap length c.deref_mut.ensures.value ∙ sym d.rows.ok.0) in
     let same : rows_of v rows1 ≡ R = rows_same v rows1 d.rows.items (c.make_room-room.ensures.same ∙ ap (map (λ r. r.items)) c.deref_mut.ensures.value) in
     let kept : rows_of v (take d.rows.len (rows1 ++ drop (length rows1) d.rows.items)) ≡ R = ap (rows_of v) taken ∙ same in
-    let rows' = c.deref_mut-2.result.now in
-    let is : rows' ≡ rows1 = c.deref_mut-2.ensures.value ∙ taken in
+    let rows' = c.deref_mut-3.result.now in
+    let is : rows' ≡ rows1 = c.deref_mut-3.ensures.value ∙ taken in
     let RR : rows_of v rows' ≡ R = ap (rows_of v) is ∙ same in
     let long : length rows' ≡ length basis = sym (rows-length v rows') ∙ ap length RR ∙ s.long in
     let p = factor_of (slice_index_or R I []) J in
@@ -223,9 +241,21 @@ invariant_of-self-2 g c =
     let changed : AreRowsExchanged I J R (rows_of v rows2) = subst (λ r. AreRowsExchanged I J r (rows_of v rows2)) RR c.in_default.ensures.1 in
     let next : basis_of (set (set d.places.items I c.limit_place.result) J IsBasic) ≡ exchanged basis I side J =
     map-set place_of_code (set d.places.items I c.limit_place.result) J IsBasic ∙ ap (λ z. set z J Basic) (map-set place_of_code d.places.items I c.limit_place.result ∙ ap (set basis I) c.limit_place.ensures) in
-    subst (λ r. IsSound (length d.bounds.items) (basis_of (set (set d.places.items I c.limit_place.result) J IsBasic)) r d.objective true) (ap (rows_of v) (sym filled))
-    (sound_after (length d.bounds.items) basis (basis_of (set (set d.places.items I c.limit_place.result) J IsBasic)) R (rows_of v rows2) d.objective d.usable true I J side c.self.invariant can.known can.limited next
-    (sparse_after basis R s I J side can.basic can.nonbasic can.known nonzero (rows_of v rows2) changed))
+    let values = c.forget.new.values in
+    let left : take d.values.len (values ++ drop (length values) d.values.items) ≡ values =
+    refilled values d.values.items d.values.len (c.forget.auto.values ∙ ap length c.deref_mut-2.ensures.value ∙ sym d.values.ok.0) in
+    let forgotten : AreForgotten R J d.values.items values =
+    subst (λ r. AreForgotten r J d.values.items values) (ap (rows_of v) c.deref.ensures.value ∙ kept) (subst (λ o. AreForgotten (rows_of v c.deref.result.now) J o values) c.deref_mut-2.ensures.value c.forget.ensures) in (
+      subst (λ r. IsSound (length d.bounds.items) (basis_of (set (set d.places.items I c.limit_place.result) J IsBasic)) r d.objective true) (ap (rows_of v) (sym filled))
+          (sound_after (length d.bounds.items) basis (basis_of (set (set d.places.items I c.limit_place.result) J IsBasic)) R (rows_of v rows2) d.objective d.usable true I J side c.self.invariant.0 can.known can.limited next
+          (sparse_after basis R s I J side can.basic can.nonbasic can.known nonzero (rows_of v rows2) changed)),
+      λ e. values_stay m (bounds_of v d.bounds.items) d.objective basis _ R _ J s (ap length next ∙ exchanged-length basis I J side)
+          (λ w n a. ap (λ b. get_or b w AtZero) next ∙ pivoted_places basis R s I J side can.basic can.nonbasic w n a)
+          (λ w b a.
+          (let z = pivoted_same basis R s I J side can.basic can.nonbasic (rows_of v rows2) can.nonzero changed w b a in
+          (ap (λ b. is_basic b w) next ∙ z.0, λ k. ap (λ r. factor_of (slice_index_or (rows_of v r) w []) k) filled ∙ z.1 k)))
+          v d.values.items _ (rw left forgotten) (c.self.invariant.1 u),
+    )
 
 pub returns-clause-done : goal.returns-clause-done
 returns-clause-done g c =
@@ -239,14 +269,14 @@ returns-clause-done g c =
     let R = rows_of v d.rows.items in
     let can = subst (λ d. CanPivot (tableau_of d) I side J) (sym c.self.view_is) c.requires.can in
     let u : d.usable ≡ true = subst (λ d. d.usable ≡ true) (sym c.self.view_is) c.requires.usable in
-    let s : AreSparse basis R = c.self.invariant.sparse u in
+    let s : AreSparse basis R = c.self.invariant.0.sparse u in
     let many : length d.rows.items ≡ length basis = sym (rows-length v d.rows.items) ∙ s.long in
     let rows1 = c.make_room-room.new.rows in
     let taken : take d.rows.len (rows1 ++ drop (length rows1) d.rows.items) ≡ rows1 = refilled rows1 d.rows.items d.rows.len (c.make_room-room.auto.rows ∙ ap length c.deref_mut.ensures.value ∙ sym d.rows.ok.0) in
     let same : rows_of v rows1 ≡ R = rows_same v rows1 d.rows.items (c.make_room-room.ensures.same ∙ ap (map (λ r. r.items)) c.deref_mut.ensures.value) in
     let kept : rows_of v (take d.rows.len (rows1 ++ drop (length rows1) d.rows.items)) ≡ R = ap (rows_of v) taken ∙ same in
-    let rows' = c.deref_mut-2.result.now in
-    let is : rows' ≡ rows1 = c.deref_mut-2.ensures.value ∙ taken in
+    let rows' = c.deref_mut-3.result.now in
+    let is : rows' ≡ rows1 = c.deref_mut-3.ensures.value ∙ taken in
     let RR : rows_of v rows' ≡ R = ap (rows_of v) is ∙ same in
     let long : length rows' ≡ length basis = sym (rows-length v rows') ∙ ap length RR ∙ s.long in
     let p = factor_of (slice_index_or R I []) J in
@@ -289,7 +319,7 @@ index_mut-requires g c =
     let R = rows_of v d.rows.items in
     let can = subst (λ d. CanPivot (tableau_of d) I side J) (sym c.self.view_is) c.requires.can in
     let u : d.usable ≡ true = subst (λ d. d.usable ≡ true) (sym c.self.view_is) c.requires.usable in
-    let s : AreSparse basis R = c.self.invariant.sparse u in
+    let s : AreSparse basis R = c.self.invariant.0.sparse u in
     let many : length d.rows.items ≡ length basis = sym (rows-length v d.rows.items) ∙ s.long in
     let l = basic_below basis I can.basic in
     let n = basis-length d.places.items in
@@ -308,7 +338,7 @@ index_mut-requires-2 g c =
     let R = rows_of v d.rows.items in
     let can = subst (λ d. CanPivot (tableau_of d) I side J) (sym c.self.view_is) c.requires.can in
     let u : d.usable ≡ true = subst (λ d. d.usable ≡ true) (sym c.self.view_is) c.requires.usable in
-    let s : AreSparse basis R = c.self.invariant.sparse u in
+    let s : AreSparse basis R = c.self.invariant.0.sparse u in
     let many : length d.rows.items ≡ length basis = sym (rows-length v d.rows.items) ∙ s.long in
     let l = can.known in
     let n = basis-length d.places.items in

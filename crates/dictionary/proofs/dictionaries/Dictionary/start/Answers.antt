@@ -15,6 +15,8 @@ use Rattle.dictionary.specs.Sound.{IsSound}
 use Rattle.dictionary.specs.Starts.{FitSystem, FitLimits, FitForm}
 use Rattle.dictionary.proofs.Begins.{rows, start_is_sound, start_is_of, limits_made, basis_made, bounds_many, rows_made}
 use Rattle.dictionary.proofs.Formed.{unmapped}
+use Rattle.dictionary.proofs.Kept.{none_kept}
+use Rattle.dictionary.proofs.Standing.{basis-length}
 use Rattle.dictionary.proofs.dictionaries.Dictionary.start.Goals as goal
 
 pub all_bounds-requires-clause-rows : goal.all_bounds-requires-clause-rows
@@ -56,9 +58,12 @@ invariant_of-result g c =
     let made : rows_of v c.in_ok-rows.rows.items ≡ rows S = rows_made S _ c.len-columns.result c.deref-4.result.now d.rows.items d.objective d.columns.items refl c.deref-4.ensures.value many c.in_ok-rows.ensures in
     let formed : IsWellFormedSystem S = subst IsWellFormedSystem (sym c.system.view_is) c.requires.formed in
     let fit : FitSystem g.N.Exact.most S = subst (FitSystem g.N.Exact.most) (sym c.system.view_is) c.requires.fits in
-    subst (λ b. IsSound (length c.in_ok-bounds.bounds.items) b (rows_of v c.in_ok-rows.rows.items) c.is_some-2.result true) (sym basis)
-    (subst (λ r. IsSound (length c.in_ok-bounds.bounds.items) (start_basis S) r c.is_some-2.result true) (sym made)
-    (start_is_sound S formed (length c.in_ok-bounds.bounds.items) c.is_some-2.result (bounded ∙ sym (length_limits S)) fit.few c.is_some-2.ensures))
+    let places = c.in_ok-places.places in (
+      subst (λ b. IsSound (length c.in_ok-bounds.bounds.items) b (rows_of v c.in_ok-rows.rows.items) c.is_some-2.result true) (sym basis)
+          (subst (λ r. IsSound (length c.in_ok-bounds.bounds.items) (start_basis S) r c.is_some-2.result true) (sym made)
+          (start_is_sound S formed (length c.in_ok-bounds.bounds.items) c.is_some-2.result (bounded ∙ sym (length_limits S)) fit.few c.is_some-2.ensures)),
+      λ u. none_kept g.N.Exact.most v _ c.in_ok-values.values.items c.len.result c.in_ok-values.ensures (c.len.ensures ∙ places.ok.0 ∙ sym (basis-length places.items)),
+    )
 
 pub returns : goal.returns
 returns g c =
