@@ -26,6 +26,8 @@ use Rattle.relaxation.specs.Stretching.{IsRound}
 use Rattle.presolve_oracle.specs.Value.{PresolveValue}
 use Rattle.branch_oracle.specs.Value.{BranchValue}
 use Rattle.quick_answers.specs.Value.{state_with}
+use Rattle.report_text.specs.declared.report.ToldStop.{ToldStop}
+use Rattle.report_text.specs.Told.{told_site}
 use Rattle.report_text.specs.declared.report.Answer.{Answer}
 use Rattle.analysis.specs.Answers.{IsAnswerOf, IsPossibleSite, IsToldStop, fresh_oracle, oracle_state}
 use Rattle.analysis.specs.Right.{IsEnforcedTold, IsIsolated, IsLateOfRounds, IsPrintedSite, IsRoundStop, IsRoundsTest, IsStoppedBy}
@@ -59,7 +61,7 @@ left_of model budgets (Err error) h = tt
 pub enforced_answer : (model : Program) (budgets : Budgets) (inner : BranchValue PresolveValue) (tale : TaleValue) (members : SetValue) (combo : Combo) (rounds : ℕ) (after : OracleState)
     (given : Result Irreducible Stop) {E : Type 0} (result : Result Answer E) → inner ≡ fresh_oracle model budgets → IsEnforcedBy model (active_members model) members combo rounds
     → IfOk given (IsIsolation Late QuickAnswers (state_with (oracle_state inner) tale) members.members) → IfErr given (IsStoppedAt IsLateTest QuickAnswers members.members (state_with (oracle_state inner) tale) after)
-    → IfOk result (IsAnswerOf (Some rounds) given) → IfOk result (IsEnforcedTold model budgets)
+    → IfOk result (IsAnswerOf model (Some rounds) given) → IfOk result (IsEnforcedTold model budgets)
 enforced_answer model budgets inner tale members combo rounds after given {E} result fresh e found stopped is =
     let all = active_members model in
     let set = members.members in
@@ -95,28 +97,32 @@ module _ (model : Program) (budgets : Budgets) where
   abbrev IsAnsweredHere : Stop → Type 0
   IsAnsweredHere stop = IsAnsweredRound IsRound model (record { pivots = budgets.pivots; nodes = 0 }) set stop
 
-  round_told : (stop : Stop) (answer : Answer) → IsAnsweredHere stop → IsToldStop stop answer → IsStoppedBy (IsRoundStop model budgets) answer
+  round_told : (stop : Stop) (answer : Answer) → IsAnsweredHere stop → IsToldStop model stop answer → IsStoppedBy (IsRoundStop model budgets) answer
   round_told (Wide site k o) answer h told = record {
-    stop = Wide site k o;
+    stop = ToldStop.Wide (told_site model site) k o;
     is = told.0;
-    so = (
-      round_site h.count h.enforced site h.chain h.answered.0 told.1,
-      (h.count, (h.enforced, (h.chain, (h.answered.0, (h.answered.1.0, first_by model budgets site (TreeEnd.TooWide site.path k o) h.answered.0.kind h.answered.1.1))))),
-    );
+    so = record {
+      site = site;
+      is = refl;
+      printed = round_site h.count h.enforced site h.chain h.answered.0 told.1;
+      so = (h.count, (h.enforced, (h.chain, (h.answered.0, (h.answered.1.0, first_by model budgets site (TreeEnd.TooWide site.path k o) h.answered.0.kind h.answered.1.1)))));
+    };
   }
   round_told (Spent site) answer h told = record {
-    stop = Spent site;
+    stop = ToldStop.Pivots (told_site model site);
     is = told.0;
-    so = (
-      round_site h.count h.enforced site h.chain h.answered.0 told.1,
-      (h.count, (h.enforced, (h.chain, (h.answered.0, (h.answered.1.0, first_by model budgets site (TreeEnd.OutOfPivots site.path) h.answered.0.kind h.answered.1.1))))),
-    );
+    so = record {
+      site = site;
+      is = refl;
+      printed = round_site h.count h.enforced site h.chain h.answered.0 told.1;
+      so = (h.count, (h.enforced, (h.chain, (h.answered.0, (h.answered.1.0, first_by model budgets site (TreeEnd.OutOfPivots site.path) h.answered.0.kind h.answered.1.1)))));
+    };
   }
   round_told (Nodes site) answer h told = absurd h.answered
   round_told (Large size) answer h told = absurd told
   round_told Memory answer h told = absurd told
 
-  pub rounds_told : (stop : Stop) {E : Type 0} (result : Result Answer E) → (stop ≡ Memory) ⊎ IsAnsweredHere stop → IfOk result (IsToldStop stop) → IfOk result (IsEnforcedTold model budgets)
-  rounds_told stop (Ok answer) (inl e) told = absurd (subst (λ (s : Stop). IsToldStop s answer) e told)
+  pub rounds_told : (stop : Stop) {E : Type 0} (result : Result Answer E) → (stop ≡ Memory) ⊎ IsAnsweredHere stop → IfOk result (IsToldStop model stop) → IfOk result (IsEnforcedTold model budgets)
+  rounds_told stop (Ok answer) (inl e) told = absurd (subst (λ (s : Stop). IsToldStop model s answer) e told)
   rounds_told stop (Ok answer) (inr h) told = inr (round_told stop answer h told)
   rounds_told stop (Err error) h told = tt

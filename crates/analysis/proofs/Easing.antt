@@ -119,13 +119,13 @@ module _ (model : Program) (budgets : Budgets) where
       whole_printed model site h.set_of h.set_is possible h.enforced_of
       (part_by (λ m. is_rigid (weight model m)) site.enforced.members site.set.members (h.enforced_is ∙ ap (rigid_members model) (sym h.set_is))) h.path_is
 
-  stop_eased : (stop : Stop) (answer : Answer) → IsRelaxStop model set budgets.pivots stop → IsToldStop stop answer → IsLeastTold model budgets answer
-  stop_eased (Wide site k o) answer h told = subst (IsLeastTold model budgets) (sym told.0) (relax_run_site site h.0 told.1, h)
-  stop_eased (Spent site) answer h told = subst (IsLeastTold model budgets) (sym told.0) (relax_run_site site h.0 told.1, h)
+  stop_eased : (stop : Stop) (answer : Answer) → IsRelaxStop model set budgets.pivots stop → IsToldStop model stop answer → IsLeastTold model budgets answer
+  stop_eased (Wide site k o) answer h told = subst (IsLeastTold model budgets) (sym told.0) (record { site = site; is = refl; printed = relax_run_site site h.0 told.1; so = h })
+  stop_eased (Spent site) answer h told = subst (IsLeastTold model budgets) (sym told.0) (record { site = site; is = refl; printed = relax_run_site site h.0 told.1; so = h })
   stop_eased (Nodes site) answer h told = absurd h
   stop_eased (Large size) answer h told = absurd h
   stop_eased Memory answer h told = absurd told
 
-  pub stops_eased : (stop : Stop) {E : Type 0} (result : Result Answer E) → IsRelaxStop model set budgets.pivots stop → IfOk result (IsToldStop stop) → IfOk result (IsLeastTold model budgets)
+  pub stops_eased : (stop : Stop) {E : Type 0} (result : Result Answer E) → IsRelaxStop model set budgets.pivots stop → IfOk result (IsToldStop model stop) → IfOk result (IsLeastTold model budgets)
   stops_eased stop (Ok answer) h told = stop_eased stop answer h told
   stops_eased stop (Err error) h told = tt

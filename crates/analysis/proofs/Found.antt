@@ -101,7 +101,7 @@ pub given_answer : (answers : Program → Budgets → List Member → Result Ver
     → ((core : Core) → core.rounds ≡ rounds → core.price ≡ None → IsLeft state.model set core.members.members → IsKept core) → ((k : List Member) → IsLeft state.model set k → IsPart k (active_members state.model))
     → ((p : Point) → IsPointOf state.model set p → IsPointOf state.model (active_members state.model) p)
     → IfOk given (IsIsolation IsLeft answers state set) → IfErr given (IsRunOf IsTest state.model budgets)
-    → IfOk result (IsAnswerOf rounds given) → IfOk result (IsIsolated IsKept IsTest state.model budgets)
+    → IfOk result (IsAnswerOf state.model rounds given) → IfOk result (IsIsolated IsKept IsTest state.model budgets)
 given_answer answers IsLeft IsKept IsTest state set rounds budgets (Ok found) (Ok answer) ordered fits kept part at h run is = found_answer answers IsLeft IsKept IsTest state set rounds budgets found answer ordered fits kept part at is h
 given_answer answers IsLeft IsKept IsTest state set rounds budgets (Err stop) {E} (Ok answer) ordered fits kept part at h run is =
     isolated_stop IsKept IsTest state.model budgets {E = E} (Ok answer) (run_answer IsTest state.model budgets stop {E = E} (Ok answer) run is)

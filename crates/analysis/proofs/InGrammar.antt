@@ -5,17 +5,16 @@ use Rattle.std.specs.List.{list_any}
 use Rattle.std.proofs.lemmas.Bool.{cases_lt}
 use Rattle.rational.specs.Rational.{ℚ}
 use Rattle.std.proofs.lemmas.List.{get_or_past, get_or_default}
-use Rattle.std.proofs.lemmas.List.Elements.{All-append, All-contains, All-cons, All-filter, All-head, All-nil, All-tail, All-weaker}
+use Rattle.std.proofs.lemmas.List.Elements.{All-append, All-contains, All-cons, All-filter, All-head, All-nil, All-tail, All-weaker, filter_passes}
 use Rattle.std.proofs.lemmas.List.Kept.{AllPairs-filter}
 use Rattle.rational.specs.Rational.{zero_ℚ, ◌<ℚ◌}
 use Rattle.lp_model.specs.declared.members.Member.{Member}
 use Rattle.lp_model.specs.declared.members.Member.TheVariants.{RowLo, RowUp, Lower, Upper, Whole}
 use Rattle.lp_model.specs.Program.{Program, NamedRow, NamedColumn, IsWellFormed, empty_column, empty_row, noted_column}
-use Rattle.lp_model.specs.Members.{active_members, comes_before, has}
+use Rattle.lp_model.specs.Members.{active_members, comes_before, has, is_active, possible_members}
 use Rattle.lp_model.specs.MemberSets.{SetValue, IsMemberFor, IsPossibleIn, active_set}
 use Rattle.lp_model.specs.Satisfaction.{IsPart, values_at}
 use Rattle.lp_model.proofs.Sets.{members_law}
-use Rattle.certs.specs.declared.evidence.Branch.{Branch}
 use Rattle.certs.specs.declared.evidence.Node.{Node}
 use Rattle.certs.specs.declared.evidence.Node.TheVariants.{Split, Leaf}
 use Rattle.certs.specs.declared.evidence.Point.{Point}
@@ -27,7 +26,6 @@ use Rattle.certs.specs.declared.evidence.Source.{Source}
 use Rattle.certs.specs.declared.evidence.Source.TheVariants.{Member as Of, Below, Above}
 use Rattle.certs.specs.declared.solving.Site.{Site}
 use Rattle.certs.specs.declared.solving.Stop.{Stop}
-use Rattle.certs.specs.declared.solving.Stop.TheVariants.{Wide as TooWide, Pivots as Spent, Nodes, Large, Memory}
 use Rattle.certs.specs.Named.{node_uses, used_set}
 use Rattle.certs.specs.Order.{AreLeavesInOrder, AreSharesInOrder, IsNodeInOrder}
 use Rattle.certs.specs.Proof.{IsFittingNode, IsProof}
@@ -43,6 +41,10 @@ use Rattle.report_text.specs.declared.report.Core.{Core}
 use Rattle.report_text.specs.declared.report.Bounded.{Bounded}
 use Rattle.report_text.specs.declared.report.Command.{Command}
 use Rattle.report_text.specs.declared.report.Command.TheVariants.{Check, Iis, Unbounded, Relax, Reduce, Edit, Undo, Pivots, Nodes as MostNodes}
+use Rattle.report_text.specs.declared.report.ToldSite.{ToldSite}
+use Rattle.report_text.specs.declared.report.ToldStop.{ToldStop}
+use Rattle.report_text.specs.declared.report.ToldStop.TheVariants.{Wide as TooWide, Pivots as Spent, Nodes, Large}
+use Rattle.report_text.specs.Told.{told_site}
 use Rattle.report_text.specs.declared.report.Answer.{Answer}
 use Rattle.report_text.specs.declared.report.Answer.TheVariants.{Feasible, Infeasible, Irreducible, Unbounded as RunsAway, Bounded as BoundedBy, Least as LeastBy, RigidInfeasible as RigidRefuted, Reduced, Done, Refused, NotLinear, Stopped}
 use Rattle.report_text.specs.declared.report.Entry.{Entry}
@@ -68,7 +70,7 @@ use Rattle.unbounded.specs.Diagnosed.{IsBoundedBy, IsOwnStop, IsUnboundedBy}
 use Rattle.analysis.specs.Objectives.{IsSized, IsTold, most_entries, system_size}
 use Rattle.analysis.specs.Least.{IsLeastTold}
 use Rattle.analysis.specs.Linear.{IsLinearly, IsLinearlyBy, alternative_size, elastic_size, first_mark}
-use Rattle.analysis.specs.Right.{AreRight, IsAtRun, IsBare, IsChainStop, IsCheapestCore, IsCoreFound, IsEarlyFound, IsEnforcedTold, IsIsolated, IsLateFound, IsLateOfRounds, IsPrintedSite, IsReduction, IsRefutation, IsRightAfter, IsRightCore, IsRoundsTest, IsSettleStop, IsSolved, IsStoppedBy, IsSupportTest, IsWeighedTold, IsWhole, Right, RightAfter, budgets_in_force}
+use Rattle.analysis.specs.Right.{AreRight, IsAtRun, IsBare, IsChainStop, IsCheapestCore, IsCoreFound, IsEarlyFound, IsEnforcedTold, IsIsolated, IsLateFound, IsLateOfRounds, IsPrintedSite, IsReduction, IsRefutation, IsRightAfter, IsRightCore, IsRoundsTest, IsRunAt, IsSettleStop, IsSolved, IsStoppedBy, IsSupportTest, IsWeighedTold, IsWhole, Right, RightAfter, budgets_in_force}
 use Rattle.analysis.specs.Pieces.{Answers}
 use Rattle.analysis.proofs.Leaving.{known_steps}
 use Rattle.analysis.specs.Written.{report_of}
@@ -76,6 +78,7 @@ use Rattle.analysis.proofs.Found.{part_possible, possible_members_are}
 use Rattle.analysis.proofs.Marks.{mark_known}
 use Rattle.analysis.proofs.Objectives.{dual_sources, least_sources}
 use Rattle.analysis.proofs.Refuting.{IsSoundNode, sound_nodes, used_part, used_within}
+use Rattle.analysis.proofs.Stopping.{part_all}
 
 -- ---- lists
 front_of : {A : Type 0} (P : A → Type 0) (xs ys : List A) → All P (xs ++ ys) → All P xs
@@ -181,23 +184,31 @@ module _ (model : Program) (words : HasWords model) where
   }
 
   -- ---- stops
-  site_form : (site : Site) → IsPrintedSite model site → IsSiteFor model site
-  site_form site h = record {
-    run = h.run;
-    named = All-filter (λ (m : Member). not (has site.set.members m)) (IsNamedMember model) (active_members model) active_named;
-    enforced =
-        subst (All (IsNamedMember model)) (sym h.enforced_part)
-        (All-filter (has site.enforced.members) (IsNamedMember model) site.set.members
-        (subst (All (IsNamedMember model)) (sym h.run.active) (All-filter (has site.set.members) (IsNamedMember model) (active_members model) active_named)));
-    path = All-weaker (λ (b : Branch). b.column < length model.columns) (λ (b : Branch). IsNamedColumn model b.column) (λ b l. named_column b.column l) site.path h.run.known;
-  }
+  site_form : (site : Site) → IsPrintedSite model site → IsSiteFor model (told_site model site)
+  site_form site h =
+      let out : Member → Bool = λ m. not (has site.set.members m) in record {
+        left = record {
+          members = record {
+            named = All-filter out (IsNamedMember model) (active_members model) active_named;
+            in_order = AllPairs-filter (λ m n. IsTrue (comes_before m n)) out (active_members model) (members_law model).0;
+          };
+          active = All-filter out (λ m. IsTrue (is_active model m)) (active_members model) (filter_passes (is_active model) (possible_members model));
+        };
+        enforced = record {
+          members = record { named = part_all (IsNamedMember model) site.enforced.members site.set.members (active_members model) h.enforced_part h.active active_named; in_order = h.enforced_in_order };
+          there = h.enforced_there;
+        };
+        path = λ k d l. record { named = named_column (get_or site.path k d).column (h.known k d l); fits = h.fits k d l };
+      }
 
-  stop_form : (IsSo : Site → Stop → Type 0) (stop : Stop) → IsAtRun model IsSo stop → IsStopWithin stop → IsStopFor model stop
-  stop_form IsSo (TooWide site k o) h within = (site_form site h.0, within)
-  stop_form IsSo (Spent site) h within = site_form site h.0
-  stop_form IsSo (Nodes site) h within = site_form site h.0
+  run_form : (IsSo : Site → Type 0) (told : ToldSite) → IsRunAt model IsSo told → IsSiteFor model told
+  run_form IsSo told h = subst (IsSiteFor model) (sym h.is) (site_form h.site h.printed)
+
+  stop_form : (IsSo : Site → Stop → Type 0) (stop : ToldStop) → IsAtRun model IsSo stop → IsStopWithin stop → IsStopFor model stop
+  stop_form IsSo (TooWide told k o) h within = (run_form _ told h, within)
+  stop_form IsSo (Spent told) h within = run_form _ told h
+  stop_form IsSo (Nodes told) h within = run_form _ told h
   stop_form IsSo (Large size) h within = absurd h
-  stop_form IsSo Memory h within = absurd h
 
   -- ---- answers
   -- of a kind that the command may have, and in its form
@@ -219,7 +230,7 @@ module _ (model : Program) (words : HasWords model) where
   solved_form budgets (Stopped stop) h within = (refl, stop_form (IsSettleStop (IsWhole model) model budgets) stop h within)
 
   -- a stop, to a command that may have one
-  stopped_form : (command : Command) (IsSo : Site → Stop → Type 0) (answer : Answer) → ((stop : Stop) → can_answer command (Stopped stop) ≡ true) → IsStoppedBy (IsAtRun model IsSo) answer → HasNumbersWithin answer → IsAnswerTo command answer
+  stopped_form : (command : Command) (IsSo : Site → Stop → Type 0) (answer : Answer) → ((stop : ToldStop) → can_answer command (Stopped stop) ≡ true) → IsStoppedBy (IsAtRun model IsSo) answer → HasNumbersWithin answer → IsAnswerTo command answer
   stopped_form command IsSo answer may h within = subst (IsAnswerTo command) (sym h.is) (may h.stop, stop_form IsSo h.stop h.so (subst HasNumbersWithin h.is within))
 
   -- rounds are told just where the method has them

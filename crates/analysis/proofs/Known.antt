@@ -1,18 +1,18 @@
 -- What is right can be printed.
-use Rattle.std.proofs.Common.{◌≡◌, refl, sym, subst, ℕ, List, [], length, Some, None, Option, Result, Ok, Err, inl, inr}
+use Rattle.std.proofs.Common.{◌≡◌, refl, sym, subst, ℕ, not, List, [], length, Some, None, Option, Result, Ok, Err, inl, inr}
 use Rattle.std.specs.Prelude.{All, IfOk, IfSome}
 use Rattle.std.proofs.lemmas.Bool.{cases_lt}
+use Rattle.std.proofs.lemmas.List.Elements.{All-filter}
 use Rattle.rational.specs.Rational.{ℚ}
 use Rattle.lp_model.specs.declared.members.Member.{Member}
 use Rattle.lp_model.specs.Program.{Program, IsWellFormed}
-use Rattle.lp_model.specs.Members.{active_members}
+use Rattle.lp_model.specs.Members.{active_members, has}
 use Rattle.lp_model.specs.MemberSets.{SetValue, active_set}
 use Rattle.lp_model.specs.Satisfaction.{IsPart}
 use Rattle.certs.specs.declared.evidence.Point.{Point}
 use Rattle.certs.specs.declared.evidence.Proof.{Proof}
 use Rattle.certs.specs.declared.solving.Site.{Site}
 use Rattle.certs.specs.declared.solving.Stop.{Stop}
-use Rattle.certs.specs.declared.solving.Stop.TheVariants.{Wide, Pivots as Spent, Nodes, Large, Memory}
 use Rattle.certs.specs.Checks.{IsSetOf}
 use Rattle.certs.specs.Proof.{IsProof}
 use Rattle.certs.specs.Sites.{Budgets}
@@ -20,22 +20,27 @@ use Rattle.certs.specs.Violation.{rigid_members}
 use Rattle.report_text.specs.declared.report.Method.{Method}
 use Rattle.report_text.specs.declared.report.Method.TheVariants.{Deletion, Additive, Sensitivity, Elastic, Alternative}
 use Rattle.report_text.specs.declared.report.Core.{Core}
+use Rattle.report_text.specs.declared.report.ToldSite.{ToldSite}
+use Rattle.report_text.specs.declared.report.ToldStop.{ToldStop}
+use Rattle.report_text.specs.declared.report.ToldStop.TheVariants.{Wide, Pivots as Spent, Nodes, Large}
+use Rattle.report_text.specs.Told.{told_site}
 use Rattle.report_text.specs.declared.report.Answer.{Answer}
 use Rattle.report_text.specs.declared.report.Answer.TheVariants.{Feasible, Infeasible, Irreducible, Unbounded as RunsAway, Bounded as BoundedBy, Least as LeastBy, RigidInfeasible as RigidRefuted, Reduced, Stopped}
 use Rattle.alt_polyhedron.specs.Pricing.{IsPricingStop}
 use Rattle.relaxation.specs.Relaxed.{IsRelaxStop}
 use Rattle.unbounded.specs.Diagnosed.{IsOwnStop}
-use Rattle.report_printer.specs.Printing.{IsKnownAnswer, IsKnownCore, IsKnownPrice, IsKnownProof, IsKnownSite, IsKnownStep, IsKnownStop}
+use Rattle.report_printer.specs.Printing.{IsKnownAnswer, IsKnownCore, IsKnownMember, IsKnownPrice, IsKnownProof, IsKnownSite, IsKnownStep, IsKnownStop}
 use Rattle.analysis.specs.Least.{IsLeastTold, IsRelaxation}
 use Rattle.analysis.specs.Linear.{IsLinearly, IsLinearlyBy, alternative_size, elastic_size, first_mark}
 use Rattle.analysis.specs.Objectives.{IsDiagnosed, IsSized, IsTold, most_entries, system_size}
-use Rattle.analysis.specs.Right.{IsAtRun, IsChainStop, IsChecked, IsCoreFound, IsEarlyFound, IsEnforcedTold, IsFound, IsIsolated, IsLateFound, IsPrintedSite, IsReduction, IsRefutation, IsRightCore, IsSettleStop, IsSolved, IsStoppedBy, IsWeighedTold, IsWhole}
+use Rattle.analysis.specs.Right.{IsAtRun, IsChainStop, IsChecked, IsCoreFound, IsEarlyFound, IsEnforcedTold, IsFound, IsIsolated, IsLateFound, IsPrintedSite, IsReduction, IsRefutation, IsRightCore, IsRunAt, IsSettleStop, IsSolved, IsStoppedBy, IsWeighedTold, IsWhole}
 use Rattle.analysis.proofs.Easing.{least_known}
-use Rattle.analysis.proofs.Found.{part_possible}
+use Rattle.analysis.proofs.Found.{part_possible, possible_members_are}
 use Rattle.analysis.proofs.Leaving.{known_steps}
 use Rattle.analysis.proofs.Marks.{mark_known}
 use Rattle.analysis.proofs.Objectives.{dual_sources}
 use Rattle.analysis.proofs.Refuting.{known_nodes, used_of_model, used_within}
+use Rattle.analysis.proofs.Stopping.{part_all}
 
 module _ (model : Program) where
   -- ---- parts of answers
@@ -60,15 +65,22 @@ module _ (model : Program) where
     price = known_price core.price h.price;
   }
 
-  known_site : (site : Site) → IsPrintedSite model site → IsKnownSite model site
-  known_site site h = record { set = h.run.of_model; enforced = h.run.enforced_of; path = h.run.known }
+  known_site : (site : Site) → IsPrintedSite model site → IsKnownSite model (told_site model site)
+  known_site site h =
+      let known : All (IsKnownMember model) (active_members model) = possible_members_are model in record {
+        left = All-filter (λ (m : Member). not (has site.set.members m)) (IsKnownMember model) (active_members model) known;
+        enforced = part_all (IsKnownMember model) site.enforced.members site.set.members (active_members model) h.enforced_part h.active known;
+        path = h.known;
+      }
 
-  known_stop : (IsSo : Site → Stop → Type 0) (stop : Stop) → IsAtRun model IsSo stop → IsKnownStop model stop
-  known_stop IsSo (Wide site k o) h = known_site site h.0
-  known_stop IsSo (Spent site) h = known_site site h.0
-  known_stop IsSo (Nodes site) h = known_site site h.0
+  known_run : (IsSo : Site → Type 0) (told : ToldSite) → IsRunAt model IsSo told → IsKnownSite model told
+  known_run IsSo told h = subst (IsKnownSite model) (sym h.is) (known_site h.site h.printed)
+
+  known_stop : (IsSo : Site → Stop → Type 0) (stop : ToldStop) → IsAtRun model IsSo stop → IsKnownStop model stop
+  known_stop IsSo (Wide told k o) h = known_run _ told h
+  known_stop IsSo (Spent told) h = known_run _ told h
+  known_stop IsSo (Nodes told) h = known_run _ told h
   known_stop IsSo (Large size) h = absurd h
-  known_stop IsSo Memory h = absurd h
 
   known_stopped : (IsSo : Site → Stop → Type 0) (answer : Answer) → IsStoppedBy (IsAtRun model IsSo) answer → IsKnownAnswer model answer
   known_stopped IsSo answer h = subst (IsKnownAnswer model) (sym h.is) (known_stop IsSo h.stop h.so)

@@ -32,13 +32,13 @@ use Rattle.report_printer.specs.Printing.{IsKnownSource}
 use Rattle.branch_oracle.specs.Value.{BranchValue}
 use Rattle.presolve_oracle.specs.Value.{PresolveValue}
 use Rattle.quick_answers.specs.Best.{IsBestOf}
-use Rattle.analysis.specs.Answers.{IsPossibleSite, IsRefutedBy, IsToldStop, fresh_oracle, oracle_state}
+use Rattle.analysis.specs.Answers.{IsPossibleSite, IsRefutedBy, IsRunStop, IsToldStop, fresh_oracle, oracle_state}
 use Rattle.analysis.specs.Objectives.{IsFoundBy, IsTold}
 use Rattle.analysis.specs.Right.{IsPrintedSite, IsWhole}
 use Rattle.analysis.proofs.Asked.{QuickAnswers, proof_fits, proof_ordered, stop_reference}
 use Rattle.analysis.proofs.Found.{part_possible}
 use Rattle.analysis.proofs.Refuting.{known_source}
-use Rattle.analysis.proofs.Stopping.{IsRunOf, none_part, run_answer, whole_printed}
+use Rattle.analysis.proofs.Stopping.{IsRunOf, answered_runs, none_part, run_answer, whole_printed}
 
 -- ---- the sources of a dual
 plain_part : (model : Program) → IsPart (without_marks (active_members model)) (active_members model)
@@ -68,14 +68,22 @@ module _ (model : Program) (budgets : Budgets) where
   improve_run_site site h possible = whole_printed model site h.set_of h.set_is possible h.enforced_of (none_part site h.none_enforced) h.path_is
 
   -- its own stop
-  own_told : (stop : Stop) (answer : Answer) → IsOwnStop model set budgets.pivots stop → IsToldStop stop answer → IsTold model budgets answer
-  own_told (Wide site k o) answer h told = subst (IsTold model budgets) (sym told.0) (inr (improve_run_site site h.0 told.1, h))
-  own_told (Spent site) answer h told = subst (IsTold model budgets) (sym told.0) (inr (improve_run_site site h.0 told.1, h))
+  own_told : (stop : Stop) (answer : Answer) → IsOwnStop model set budgets.pivots stop → IsToldStop model stop answer → IsTold model budgets answer
+  own_told (Wide site k o) answer h told = subst (IsTold model budgets) (sym told.0) (inr (record { site = site; is = refl; printed = improve_run_site site h.0 told.1; so = h }))
+  own_told (Spent site) answer h told = subst (IsTold model budgets) (sym told.0) (inr (record { site = site; is = refl; printed = improve_run_site site h.0 told.1; so = h }))
   own_told (Nodes site) answer h told = absurd h
   own_told (Large size) answer h told = absurd h
   own_told Memory answer h told = absurd told
 
-  pub stop_told : (stop : Stop) {E : Type 0} (result : Result Answer E) → IsFoundBy model budgets (Err stop) → IfOk result (IsToldStop stop) → IfOk result (IsTold model budgets)
+  -- a stop of a run or a tree of the program
+  pub found_runs : (stop : Stop) → IsFoundBy model budgets (Err stop) → IsRunStop model stop
+  found_runs stop (inl asked) = answered_runs model budgets set stop asked
+  found_runs (Wide site k o) (inr h) = h.0.set_of
+  found_runs (Spent site) (inr h) = h.0.set_of
+  found_runs Memory (inr h) = tt
+  found_runs stop (inr h) = absurd h
+
+  pub stop_told : (stop : Stop) {E : Type 0} (result : Result Answer E) → IsFoundBy model budgets (Err stop) → IfOk result (IsToldStop model stop) → IfOk result (IsTold model budgets)
   stop_told stop (Err e) h told = tt
   stop_told stop (Ok answer) (inr own) told = own_told stop answer own told
   stop_told stop {E = E} (Ok answer) (inl asked) told =

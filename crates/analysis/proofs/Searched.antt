@@ -13,7 +13,7 @@ use Rattle.certs.specs.declared.solving.Irreducible.{Irreducible}
 use Rattle.certs.specs.declared.solving.Stop.{Stop}
 use Rattle.certs.specs.declared.solving.Verdict.{Verdict}
 use Rattle.certs.specs.declared.solving.Verdict.TheVariants.{Infeasible}
-use Rattle.certs.specs.Answers.{AnswersAt, IsTreeAnswer}
+use Rattle.certs.specs.Answers.{AnswersAt, IsAnsweredStop, IsTreeAnswer}
 use Rattle.certs.specs.Order.{AreLeavesInOrder}
 use Rattle.certs.specs.Proof.{IsFittingNode}
 use Rattle.certs.specs.Sites.{Budgets}
@@ -29,11 +29,11 @@ use Rattle.sensitivity_filter.specs.Cores.{IsLateOfCore as IsLateOfTold}
 use Rattle.sensitivity_filter.specs.Pairs.{IsStoppedWith, at_core, at_whole, either}
 use Rattle.report_text.specs.declared.report.Answer.{Answer}
 use Rattle.report_text.specs.declared.report.Core.{Core}
-use Rattle.analysis.specs.Answers.{IsAnswerOf, fresh_oracle, oracle_state}
+use Rattle.analysis.specs.Answers.{IsAnswerOf, IsRunStop, fresh_oracle, oracle_state}
 use Rattle.analysis.specs.Right.{IsBare, IsCoreTest, IsIsolated, IsLateOfCore}
 use Rattle.analysis.proofs.Asked.{InnerAnswers, QuickAnswers, by_tree, inner_fits, inner_ordered, inner_stop, marked_alone, proof_fits, proof_ordered, reference_core, stop_reference}
 use Rattle.analysis.proofs.Found.{given_answer, late_is_part, late_test_is_part, within}
-use Rattle.analysis.proofs.Stopping.{IsRunOf}
+use Rattle.analysis.proofs.Stopping.{IsRunOf, answered_runs}
 
 -- the quick oracle over one that was asked nothing yet
 abbrev quick_state : Program → Budgets → TaleValue → OracleState
@@ -66,6 +66,14 @@ filter_stop IsTest IsRight model set budgets tale after part right (Err stop) h 
   test = right h.asked h.test;
 }
 
+-- which is that of a run or a tree of the program
+pub filter_runs : (IsTest : Program → List Member → List Member → Type 0) (model : Program) (set : List Member) (budgets : Budgets) (inner : BranchValue PresolveValue) (tale : TaleValue) (after : OracleState) (given : Result Irreducible Stop)
+    → inner ≡ fresh_oracle model budgets → IfErr given (IsStoppedAt IsTest QuickAnswers set (state_with (oracle_state inner) tale) after) → IfErr given (IsRunStop model)
+filter_runs IsTest model set budgets inner tale after (Ok found) fresh h = tt
+filter_runs IsTest model set budgets inner tale after (Err stop) fresh h =
+    answered_runs model budgets h.asked stop
+    (stop_reference model budgets h.asked stop (subst (λ (o : BranchValue PresolveValue). IsAnsweredStop (AnswersAt QuickAnswers (state_with (oracle_state o) tale)) h.asked stop) fresh h.answered))
+
 -- what a filter gives of a set of active members is right
 module _ (IsLeft IsTest : Program → List Member → List Member → Type 0) (IsKept : Core → Type 0) (IsRight : List Member → Type 0) (model : Program) (set : List Member) (rounds : Option ℕ) (budgets : Budgets) (tale : TaleValue) where
   pub filter_answer : (after : OracleState) (given : Result Irreducible Stop) {E : Type 0} (result : Result Answer E)
@@ -73,7 +81,7 @@ module _ (IsLeft IsTest : Program → List Member → List Member → Type 0) (I
       → ((p : Point) → IsPointOf model set p → IsPointOf model (active_members model) p)
       → ((t : List Member) → IsTest model set t → IsRight t) → ((t : List Member) → IsTest model set t → IsPart t (active_members model))
       → IfOk given (IsIsolation IsLeft QuickAnswers (quick_state model budgets tale) set) → IfErr given (IsStoppedAt IsTest QuickAnswers set (quick_state model budgets tale) after)
-      → IfOk result (IsAnswerOf rounds given) → IfOk result (IsIsolated IsKept IsRight model budgets)
+      → IfOk result (IsAnswerOf model rounds given) → IfOk result (IsIsolated IsKept IsRight model budgets)
   filter_answer after given result kept part at right tested found stopped is =
       given_answer QuickAnswers IsLeft IsKept IsRight (quick_state model budgets tale) set rounds budgets given result (λ asked proof k. proof_ordered model budgets asked proof k) (λ asked proof k. proof_fits model budgets asked proof k) kept part at
       found (filter_stop IsTest IsRight model set budgets tale after tested right given stopped) is
@@ -84,7 +92,7 @@ pub search_answer : (IsLeft IsTest : Program → List Member → List Member →
     → ((k : List Member) → IsLeft model (active_members model) k → IsKept k) → ((k : List Member) → IsLeft model (active_members model) k → IsPart k (active_members model))
     → ((t : List Member) → IsTest model (active_members model) t → IsRight t) → ((t : List Member) → IsTest model (active_members model) t → IsPart t (active_members model))
     → IfOk given (IsIsolation IsLeft QuickAnswers (state_with (oracle_state inner) tale) set.members) → IfErr given (IsStoppedAt IsTest QuickAnswers set.members (state_with (oracle_state inner) tale) after)
-    → IfOk result (IsAnswerOf None given) → IfOk result (IsIsolated (IsBare IsKept) IsRight model budgets)
+    → IfOk result (IsAnswerOf model None given) → IfOk result (IsIsolated (IsBare IsKept) IsRight model budgets)
 search_answer IsLeft IsTest IsKept IsRight model set budgets inner tale after given result fresh whole kept part right tested found stopped is =
     filter_answer IsLeft IsTest (IsBare IsKept) IsRight model (active_members model) None budgets tale after given result (λ core none unpriced k. (none, (unpriced, kept core.members.members k))) part (λ p h. h) right tested
     (subst (λ (s : SetValue). IfOk given (IsIsolation IsLeft QuickAnswers (quick_state model budgets tale) s.members)) whole
@@ -110,6 +118,17 @@ core_stop model budgets tale first_new later_new (Err stop) (at_core {core = cor
   test = inr (core, (reference_core model budgets core is.answered, h.test));
 }
 
+-- which is that of a run or a tree of the program
+pub core_runs : (model : Program) (set : List Member) (budgets : Budgets) (first inner : BranchValue PresolveValue) (tale : TaleValue) (first_new later_new : OracleState) (given : Result Irreducible Stop) → first ≡ fresh_oracle model budgets → inner ≡ fresh_oracle model budgets
+    → IfErr given (IsStoppedWith InnerAnswers QuickAnswers set (oracle_state first) first_new (state_with (oracle_state inner) tale) later_new) → IfErr given (IsRunStop model)
+core_runs model set budgets first inner tale first_new later_new (Ok found) first_fresh inner_fresh h = tt
+core_runs model set budgets first inner tale first_new later_new (Err stop) first_fresh inner_fresh (at_whole h same) =
+    answered_runs model budgets h.asked stop
+    (inner_stop model budgets h.asked stop (subst (λ (o : BranchValue PresolveValue). IsAnsweredStop (AnswersAt InnerAnswers (oracle_state o)) h.asked stop) first_fresh h.answered))
+core_runs model set budgets first inner tale first_new later_new (Err stop) first_fresh inner_fresh (at_core is h quiet) =
+    answered_runs model budgets h.asked stop
+    (stop_reference model budgets h.asked stop (subst (λ (o : BranchValue PresolveValue). IsAnsweredStop (AnswersAt QuickAnswers (state_with (oracle_state o) tale)) h.asked stop) inner_fresh h.answered))
+
 either_ordered : (model : Program) (budgets : Budgets) (asked : List Member) (proof : Proof) → either InnerAnswers QuickAnswers budgets model budgets asked (Ok (Infeasible proof)) → AreLeavesInOrder proof.nodes
 either_ordered model budgets asked proof (inl h) = inner_ordered model budgets asked proof h
 either_ordered model budgets asked proof (inr h) = proof_ordered model budgets asked proof h
@@ -123,7 +142,7 @@ pub core_answer : (model : Program) (set : SetValue) (budgets : Budgets) (first 
     → first ≡ fresh_oracle model budgets → inner ≡ fresh_oracle model budgets → set ≡ active_set model
     → IfOk given (IsIsolation (IsLateOfTold (AnswersAt InnerAnswers (oracle_state first)) first_new.tale.first_core) (either InnerAnswers QuickAnswers (state_with (oracle_state inner) tale).budgets) (oracle_state first) set.members)
     → IfErr given (IsStoppedWith InnerAnswers QuickAnswers set.members (oracle_state first) first_new (state_with (oracle_state inner) tale) later_new)
-    → IfOk result (IsAnswerOf None given) → IfOk result (IsIsolated (IsBare (IsLateOfCore model budgets)) (IsCoreTest model budgets) model budgets)
+    → IfOk result (IsAnswerOf model None given) → IfOk result (IsIsolated (IsBare (IsLateOfCore model budgets)) (IsCoreTest model budgets) model budgets)
 core_answer model set budgets first inner tale first_new later_new given result first_fresh inner_fresh whole found stopped is =
     let state : OracleState = oracle_state (fresh_oracle model budgets) in
     let told : Option FirstCore = first_new.tale.first_core in

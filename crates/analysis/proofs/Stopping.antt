@@ -26,10 +26,12 @@ use Rattle.certs.specs.Trees.{has_mark}
 use Rattle.branch_proof.proofs.TreeStops.{reference_stopped}
 use Rattle.presolve_laws.specs.Answers.{IsPresolvedReference, IsPresolvedVerdict, IsUneased, set_system}
 use Rattle.presolve_laws.specs.Eased.{IsEased}
+use Rattle.report_text.specs.declared.report.ToldStop.{ToldStop}
 use Rattle.report_text.specs.declared.report.Answer.{Answer}
 use Rattle.report_text.specs.declared.report.Core.{Core}
-use Rattle.analysis.specs.Answers.{IsPossibleSite, IsStopAnswer, IsToldStop}
-use Rattle.analysis.specs.Right.{IsSolved, IsIsolated, IsPrintedSite, IsRightStop, IsSiteOf, IsWhole}
+use Rattle.report_text.specs.Told.{told_site}
+use Rattle.analysis.specs.Answers.{IsPossibleSite, IsRunStop, IsStopAnswer, IsToldStop}
+use Rattle.analysis.specs.Right.{IsSolved, IsIsolated, IsPrintedSite, IsRunAt, IsSettleStop, IsWhole}
 
 -- ---- the site of a set of active members
 and_false : (a : Bool) → (a && false) ≡ false
@@ -55,24 +57,23 @@ active_site model set of possible part =
     by m true e = sym (ap (λ a. a && has set.members m) (active m e))
     by m false e = e ∙ sym (ap (λ b. is_active model m && b) e ∙ and_false (is_active model m))
 
+-- what holds of all members of a list holds of some of some of them
+pub part_all : (P : Member → Type 0) (part set all : List Member) → part ≡ filter (has part) set → set ≡ filter (has set) all → All P all → All P part
+part_all P part set all p s h = subst (All P) (sym p) (All-filter (has part) P set (subst (All P) (sym s) (All-filter (has set) P all h)))
+
 -- where its members are active and some of them are enforced, the site is as it is printed
 printed_site : (model : Program) (site : Site) → IsSetOf model site.set → IsPossibleSite site → IsPart site.set.members (active_members model) → IsSetOf model site.enforced
     → site.enforced.members ≡ filter (has site.enforced.members) site.set.members → All (λ b. b.column < length model.columns) site.path → All IsFitting site.path → IsPrintedSite model site
 printed_site model site of possible part enforced_of enforced_part known fits =
     let active = active_site model site.set of possible part in record {
-      run = record {
-        of_model = of;
-        active = active;
-        enforced_of = enforced_of;
-        enforced_in_order = subst IsInOrder (sym enforced_part) (ordered site.enforced.members site.set.members (subst IsInOrder (sym active) (ordered site.set.members (active_members model) (members_law model).0)));
-        enforced_there =
-            subst (All (λ m. IsTrue (exists model m))) (sym enforced_part)
-            (All-filter (has site.enforced.members) (λ m. IsTrue (exists model m)) site.set.members
-            (subst (All (λ m. IsTrue (exists model m))) (sym active) (All-filter (has site.set.members) (λ m. IsTrue (exists model m)) (active_members model) there)));
-        known = known;
-        fits = fits;
-      };
+      of_model = of;
+      active = active;
+      enforced_of = enforced_of;
+      enforced_in_order = subst IsInOrder (sym enforced_part) (ordered site.enforced.members site.set.members (subst IsInOrder (sym active) (ordered site.set.members (active_members model) (members_law model).0)));
+      enforced_there = part_all (λ m. IsTrue (exists model m)) site.enforced.members site.set.members (active_members model) enforced_part active there;
       enforced_part = enforced_part;
+      known = known;
+      fits = fits;
     }
   where
     ordered : (part set : List Member) → IsInOrder set → IsInOrder (filter (has part) set)
@@ -103,20 +104,22 @@ abbrev IsUneasedSet : Program → Budgets → List Member → Type 0
 IsUneasedSet model budgets set = has_mark set ≡ false → IsEased (set_system model set) budgets.pivots → ⊥
 
 -- the site of a node, whose path is known and fits, with a stop there
-at_node : (model : Program) (budgets : Budgets) (asked : List Member) (site : Site) (stop : Stop) → IsTreeSite model asked site → IsUneasedSet model budgets asked → IsPossibleSite site → IsPart asked (active_members model) → IsStopped model budgets stop
-    → IsPrintedSite model site × (IsSiteOf (λ s. s ≡ asked) model budgets site × IsStopped model budgets stop)
-at_node model budgets asked site stop h uneased possible part stopped = (
-  printed_site model site h.node.set_of possible (subst (λ l. IsPart l (active_members model)) (sym h.node.set_is) part) h.node.enforced_of (none_part site h.node.none_enforced) h.known h.fits,
-  (
+at_node : (IsTest : List Member → Type 0) (model : Program) (budgets : Budgets) (asked : List Member) (site : Site) (stop : Site → Stop) → IsTreeSite model asked site → IsUneasedSet model budgets asked → IsPossibleSite site → IsPart asked (active_members model) → IsTest asked
+    → IsStopped model budgets (stop site) → IsRunAt model (λ s. IsSettleStop IsTest model budgets s (stop s)) (told_site model site)
+at_node IsTest model budgets asked site stop h uneased possible part test stopped = record {
+  site = site;
+  is = refl;
+  printed = printed_site model site h.node.set_of possible (subst (λ l. IsPart l (active_members model)) (sym h.node.set_is) part) h.node.enforced_of (none_part site h.node.none_enforced) h.known h.fits;
+  so = (
     record {
       settles = h.node.kind;
       none_enforced = h.node.none_enforced;
-      test = h.node.set_is;
+      test = subst IsTest (sym h.node.set_is) test;
       uneased = subst (IsUneasedSet model budgets) (sym h.node.set_is) uneased;
     },
     stopped,
-  ),
-)
+  );
+}
 
 -- with no path there is nothing to be known
 root_site : (model : Program) (asked : List Member) (site : Site) → IsNodeSite model asked [] site → IsTreeSite model asked site
@@ -155,54 +158,56 @@ uneased_set : (model : Program) (budgets : Budgets) (asked : List Member) (stop 
 uneased_set model budgets asked stop other (inl h) = λ none. (own_run model budgets.pivots asked stop other h.ends).not_eased
 uneased_set model budgets asked stop other (inr h) = λ none. absurd (true≢false (sym h.asked.marked ∙ none))
 
--- as an answer it is right
-right_stop : (model : Program) (budgets : Budgets) (asked : List Member) (stop : Stop) (answer : Answer) → IsPresolvedReference model budgets asked (Err stop) → IsPart asked (active_members model) → IsToldStop stop answer
-    → IsStopAnswer (λ s. s ≡ asked) model budgets answer
-right_stop model budgets asked (Wide site turn wide) answer h part told =
+-- as an answer it is right, where the set passes the test
+right_stop : (IsTest : List Member → Type 0) (model : Program) (budgets : Budgets) (asked : List Member) (stop : Stop) (answer : Answer) → IsPresolvedReference model budgets asked (Err stop) → IsPart asked (active_members model)
+    → IsTest asked → IsToldStop model stop answer → IsStopAnswer IsTest model budgets answer
+right_stop IsTest model budgets asked (Wide site turn wide) answer h part test told =
     let other : Wide site turn wide ≡ Memory → ⊥ = λ e. cc in
     let run = by_own_run model budgets asked (Wide site turn wide) other h in
     record {
-      stop = Wide site turn wide;
+      stop = ToldStop.Wide (told_site model site) turn wide;
       is = told.0;
-      so = at_node model budgets asked site (Wide site turn wide) (wide_site model budgets asked site turn wide run) (uneased_set model budgets asked (Wide site turn wide) other h) told.1 part (reference_stopped model budgets asked (Wide site turn wide) other run);
+      so = at_node IsTest model budgets asked site (λ s. Wide s turn wide) (wide_site model budgets asked site turn wide run) (uneased_set model budgets asked (Wide site turn wide) other h) told.1 part test (reference_stopped model budgets asked (Wide site turn wide) other run);
     }
-right_stop model budgets asked (Spent site) answer h part told =
+right_stop IsTest model budgets asked (Spent site) answer h part test told =
     let other : Spent site ≡ Memory → ⊥ = λ e. cc in
     let run = by_own_run model budgets asked (Spent site) other h in
     record {
-      stop = Spent site;
+      stop = ToldStop.Pivots (told_site model site);
       is = told.0;
-      so = at_node model budgets asked site (Spent site) (spent_site model budgets asked site run) (uneased_set model budgets asked (Spent site) other h) told.1 part (reference_stopped model budgets asked (Spent site) other run);
+      so = at_node IsTest model budgets asked site Spent (spent_site model budgets asked site run) (uneased_set model budgets asked (Spent site) other h) told.1 part test (reference_stopped model budgets asked (Spent site) other run);
     }
-right_stop model budgets asked (Nodes site) answer h part told =
+right_stop IsTest model budgets asked (Nodes site) answer h part test told =
     let other : Nodes site ≡ Memory → ⊥ = λ e. cc in
     let run = by_own_run model budgets asked (Nodes site) other h in
     record {
-      stop = Nodes site;
+      stop = ToldStop.Nodes (told_site model site);
       is = told.0;
-      so = at_node model budgets asked site (Nodes site) (whole_site model budgets asked site run) (uneased_set model budgets asked (Nodes site) other h) told.1 part (reference_stopped model budgets asked (Nodes site) other run);
+      so = at_node IsTest model budgets asked site Nodes (whole_site model budgets asked site run) (uneased_set model budgets asked (Nodes site) other h) told.1 part test (reference_stopped model budgets asked (Nodes site) other run);
     }
-right_stop model budgets asked (Large size) answer h part told = absurd told
-right_stop model budgets asked Memory answer h part told = absurd told
+right_stop IsTest model budgets asked (Large size) answer h part test told = absurd told
+right_stop IsTest model budgets asked Memory answer h part test told = absurd told
 
--- ---- stops that pass a test
-site_passes : (IsTest : List Member → Type 0) (model : Program) (budgets : Budgets) (asked : List Member) (site : Site) → IsTest asked → IsSiteOf (λ s. s ≡ asked) model budgets site → IsSiteOf IsTest model budgets site
-site_passes IsTest model budgets asked site test h = record { settles = h.settles; none_enforced = h.none_enforced; test = subst IsTest (sym h.test) test; uneased = h.uneased }
+-- it is that of a run or a tree of the program
+reference_runs : (model : Program) (budgets : Budgets) (asked : List Member) (stop : Stop) → IsPresolvedReference model budgets asked (Err stop) → IsRunStop model stop
+reference_runs model budgets asked (Wide site turn wide) h = (wide_site model budgets asked site turn wide (by_own_run model budgets asked (Wide site turn wide) (λ e. cc) h)).node.set_of
+reference_runs model budgets asked (Spent site) h = (spent_site model budgets asked site (by_own_run model budgets asked (Spent site) (λ e. cc) h)).node.set_of
+reference_runs model budgets asked (Nodes site) h = (whole_site model budgets asked site (by_own_run model budgets asked (Nodes site) (λ e. cc) h)).node.set_of
+reference_runs model budgets asked (Large size) h = elim (by_own_run model budgets asked (Large size) (λ e. cc) h) [
+  | inl run ↦ absurd run.ends
+  | inr tree ↦ absurd tree.ends
+]
+reference_runs model budgets asked Memory h = tt
 
-stop_passes : (IsTest : List Member → Type 0) (model : Program) (budgets : Budgets) (asked : List Member) → IsTest asked → (stop : Stop) → IsRightStop (λ s. s ≡ asked) model budgets stop → IsRightStop IsTest model budgets stop
-stop_passes IsTest model budgets asked test (Wide site turn wide) h = (h.0, (site_passes IsTest model budgets asked site test h.1.0, h.1.1))
-stop_passes IsTest model budgets asked test (Spent site) h = (h.0, (site_passes IsTest model budgets asked site test h.1.0, h.1.1))
-stop_passes IsTest model budgets asked test (Nodes site) h = (h.0, (site_passes IsTest model budgets asked site test h.1.0, h.1.1))
-stop_passes IsTest model budgets asked test (Large size) h = absurd h
-stop_passes IsTest model budgets asked test Memory h = absurd h
+pub answered_runs : (model : Program) (budgets : Budgets) (asked : List Member) (stop : Stop) → IsAnsweredStop (IsPresolvedReference model budgets) asked stop → IsRunStop model stop
+answered_runs model budgets asked stop (inl memory) = subst (IsRunStop model) (sym memory) tt
+answered_runs model budgets asked stop (inr h) = reference_runs model budgets asked stop h
 
 -- what is answered to an ask for a set of active members that passes the test
 stop_answer : (IsTest : List Member → Type 0) (model : Program) (budgets : Budgets) (asked : List Member) (stop : Stop) (answer : Answer) → IsAnsweredStop (IsPresolvedReference model budgets) asked stop
-    → IsPart asked (active_members model) → IsTest asked → IsToldStop stop answer → IsStopAnswer IsTest model budgets answer
-stop_answer IsTest model budgets asked stop answer (inl memory) part test told = absurd (subst (λ (s : Stop). IsToldStop s answer) memory told)
-stop_answer IsTest model budgets asked stop answer (inr h) part test told =
-    let right = right_stop model budgets asked stop answer h part told in
-    record { stop = right.stop; is = right.is; so = stop_passes IsTest model budgets asked test right.stop right.so }
+    → IsPart asked (active_members model) → IsTest asked → IsToldStop model stop answer → IsStopAnswer IsTest model budgets answer
+stop_answer IsTest model budgets asked stop answer (inl memory) part test told = absurd (subst (λ (s : Stop). IsToldStop model s answer) memory told)
+stop_answer IsTest model budgets asked stop answer (inr h) part test told = right_stop IsTest model budgets asked stop answer h part test told
 
 -- is right to a search and to a check
 pub isolated_stop : (IsKept : Core → Type 0) (IsTest : List Member → Type 0) (model : Program) (budgets : Budgets) {E : Type 0} (result : Result Answer E) → IfOk result (IsStopAnswer IsTest model budgets) → IfOk result (IsIsolated IsKept IsTest model budgets)
@@ -222,6 +227,6 @@ pub record IsRunOf (IsTest : List Member → Type 0) (model : Program) (budgets 
   pub test : IsTest asked
 
 -- as an answer it is a stop of such a set
-pub run_answer : (IsTest : List Member → Type 0) (model : Program) (budgets : Budgets) (stop : Stop) {E : Type 0} (result : Result Answer E) → IsRunOf IsTest model budgets stop → IfOk result (IsToldStop stop) → IfOk result (IsStopAnswer IsTest model budgets)
+pub run_answer : (IsTest : List Member → Type 0) (model : Program) (budgets : Budgets) (stop : Stop) {E : Type 0} (result : Result Answer E) → IsRunOf IsTest model budgets stop → IfOk result (IsToldStop model stop) → IfOk result (IsStopAnswer IsTest model budgets)
 run_answer IsTest model budgets stop (Ok answer) h told = stop_answer IsTest model budgets h.asked stop answer h.answered h.part h.test told
 run_answer IsTest model budgets stop (Err error) h told = tt

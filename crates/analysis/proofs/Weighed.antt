@@ -31,12 +31,14 @@ use Rattle.alt_polyhedron.specs.declared.pricing.Priced.{Priced}
 use Rattle.alt_polyhedron.specs.Pricing.{IsAlternativeSite, IsCheapestSet, IsPricing, IsPricingStop}
 use Rattle.presolve_oracle.specs.Value.{PresolveValue}
 use Rattle.branch_oracle.specs.Value.{BranchValue}
+use Rattle.report_text.specs.declared.report.ToldStop.{ToldStop}
+use Rattle.report_text.specs.Told.{told_site}
 use Rattle.report_text.specs.declared.report.Answer.{Answer}
 use Rattle.report_text.specs.declared.report.Core.{Core}
-use Rattle.analysis.specs.Answers.{IsOracleOf, IsPossibleSite, IsToldStop, IsWitnessStop, fresh_oracle, oracle_state, weighed_answer}
+use Rattle.analysis.specs.Answers.{IsOracleOf, IsPossibleSite, IsRunStop, IsToldStop, IsWitnessStop, fresh_oracle, oracle_state, weighed_answer}
 use Rattle.analysis.specs.Right.{IsCheapestCore, IsIsolated, IsPrintedSite, IsRightCore, IsStoppedBy, IsSupportTest, IsWeighedTold, IsWeighingStop, IsWhole, IsWithoutOne}
 use Rattle.analysis.proofs.Found.{within}
-use Rattle.analysis.proofs.Stopping.{IsRunOf, isolated_stop, none_part, run_answer, whole_printed}
+use Rattle.analysis.proofs.Stopping.{answered_runs, IsRunOf, isolated_stop, none_part, run_answer, whole_printed}
 
 -- ---- the members of shares
 -- are some of those that the shares are from
@@ -55,13 +57,18 @@ told_by : (model : Program) (budgets : Budgets) {E : Type 0} (result : Result An
 told_by model budgets (Ok answer) h = inl h
 told_by model budgets (Err error) h = tt
 
-stopped_told : (model : Program) (budgets : Budgets) (stop : Stop) {E : Type 0} (result : Result Answer E) → IsRunOf (IsSupportTest model) model budgets stop → IfOk result (IsToldStop stop)
+stopped_told : (model : Program) (budgets : Budgets) (stop : Stop) {E : Type 0} (result : Result Answer E) → IsRunOf (IsSupportTest model) model budgets stop → IfOk result (IsToldStop model stop)
     → IfOk result (IsWeighedTold model budgets)
 stopped_told model budgets stop {E} result run told =
     told_by model budgets {E = E} result (isolated_stop (IsCheapestCore model) (IsSupportTest model) model budgets {E = E} result (run_answer (IsSupportTest model) model budgets stop {E = E} result run told))
 
+-- a stop of an ask for a witness is that of a run or a tree of the program
+pub witness_runs : (model : Program) (budgets : Budgets) (set : List Member) (stop : Stop) → IsWitnessStop model budgets set stop → IsRunStop model stop
+witness_runs model budgets set stop (inl memory) = subst (IsRunStop model) (sym memory) tt
+witness_runs model budgets set stop (inr (asked, (w, answered))) = answered_runs model budgets asked stop (inr answered)
+
 -- of all active members
-pub whole_stopped : (model : Program) (budgets : Budgets) (stop : Stop) {E : Type 0} (result : Result Answer E) → IsRunOf (IsWhole model) model budgets stop → IfOk result (IsToldStop stop)
+pub whole_stopped : (model : Program) (budgets : Budgets) (stop : Stop) {E : Type 0} (result : Result Answer E) → IsRunOf (IsWhole model) model budgets stop → IfOk result (IsToldStop model stop)
     → IfOk result (IsWeighedTold model budgets)
 whole_stopped model budgets stop {E} result run told = stopped_told model budgets stop {E = E} result (record { asked = run.asked; answered = run.answered; part = run.part; test = inl run.test }) told
 
@@ -137,9 +144,9 @@ module _ (model : Program) (members : SetValue) (combo : Combo) (total : ℚ) (p
 
   -- and a stop of the asks for its witnesses
   pub witness_stopped : (budgets : Budgets) (stop : Stop) {E : Type 0} (result : Result Answer E) → IsWitnessStop model budgets members.members stop
-      → IfOk result (IsToldStop stop) → IfOk result (IsWeighedTold model budgets)
+      → IfOk result (IsToldStop model stop) → IfOk result (IsWeighedTold model budgets)
   witness_stopped budgets stop (Err error) at told = tt
-  witness_stopped budgets stop (Ok answer) (inl memory) told = absurd (subst (λ (s : Stop). IsToldStop s answer) memory told)
+  witness_stopped budgets stop (Ok answer) (inl memory) told = absurd (subst (λ (s : Stop). IsToldStop model s answer) memory told)
   witness_stopped budgets stop {E} (Ok answer) (inr (others, (w, answered))) told =
       let own : Proof = record { nodes = Leaf combo ∷ [] } in
       let run : IsRunOf (IsSupportTest model) model budgets stop = record { asked = others; answered = inr answered; part = others_within others w; test = inr (core_of [] own, (cheapest_core [] own refl, w)) } in
@@ -150,13 +157,13 @@ module _ (model : Program) (budgets : Budgets) where
   weighing_site : (site : Site) → IsAlternativeSite model (active_members model) site → IsPossibleSite site → IsPrintedSite model site
   weighing_site site h possible = whole_printed model site h.set_of h.set_is possible h.enforced_of (none_part site h.none_enforced) h.path_is
 
-  weighing_stop : (stop : Stop) (answer : Answer) → IsPricingStop model (active_members model) budgets.pivots stop → IsToldStop stop answer → IsStoppedBy (IsWeighingStop model budgets) answer
-  weighing_stop (Wide site k o) answer h told = record { stop = Wide site k o; is = told.0; so = (weighing_site site h.0 told.1, h) }
-  weighing_stop (Spent site) answer h told = record { stop = Spent site; is = told.0; so = (weighing_site site h.0 told.1, h) }
+  weighing_stop : (stop : Stop) (answer : Answer) → IsPricingStop model (active_members model) budgets.pivots stop → IsToldStop model stop answer → IsStoppedBy (IsWeighingStop model budgets) answer
+  weighing_stop (Wide site k o) answer h told = record { stop = ToldStop.Wide (told_site model site) k o; is = told.0; so = record { site = site; is = refl; printed = weighing_site site h.0 told.1; so = h } }
+  weighing_stop (Spent site) answer h told = record { stop = ToldStop.Pivots (told_site model site); is = told.0; so = record { site = site; is = refl; printed = weighing_site site h.0 told.1; so = h } }
   weighing_stop (Nodes site) answer h told = absurd h
   weighing_stop (Large size) answer h told = absurd h
   weighing_stop Memory answer h told = absurd told
 
-  pub weighing_stopped : (stop : Stop) {E : Type 0} (result : Result Answer E) → IsPricingStop model (active_members model) budgets.pivots stop → IfOk result (IsToldStop stop) → IfOk result (IsWeighedTold model budgets)
+  pub weighing_stopped : (stop : Stop) {E : Type 0} (result : Result Answer E) → IsPricingStop model (active_members model) budgets.pivots stop → IfOk result (IsToldStop model stop) → IfOk result (IsWeighedTold model budgets)
   weighing_stopped stop (Ok answer) h told = inr (weighing_stop stop answer h told)
   weighing_stopped stop (Err error) h told = tt

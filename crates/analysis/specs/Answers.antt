@@ -12,17 +12,20 @@ use Rattle.certs.specs.declared.solving.Irreducible.TheVariants.{Set, Feasible a
 use Rattle.certs.specs.declared.solving.Site.{Site}
 use Rattle.certs.specs.declared.solving.Stop.{Stop}
 use Rattle.certs.specs.declared.solving.Stop.TheVariants.{Wide, Pivots as Spent, Nodes, Large, Memory}
+use Rattle.certs.specs.Checks.{IsSetOf}
 use Rattle.certs.specs.Sites.{Budgets}
 use Rattle.certs.specs.Tales.{no_tale, OracleState}
 use Rattle.presolve_laws.specs.Answers.{IsPresolvedReference}
 use Rattle.presolve_oracle.specs.Value.{PresolveValue, fresh_value, presolve_state}
 use Rattle.branch_oracle.specs.Value.{BranchValue, state_with as with_trees}
+use Rattle.report_text.specs.declared.report.ToldStop.{ToldStop}
 use Rattle.report_text.specs.declared.report.Answer.{Answer}
 use Rattle.report_text.specs.declared.report.Answer.TheVariants.{Feasible, Infeasible, Irreducible as Isolated, Stopped}
 use Rattle.analysis.specs.declared.answering.Budgets.{Budgets as Code}
 use Rattle.report_text.specs.History.{HistoryValue}
 use Rattle.report_text.specs.declared.report.Command.{Command}
 use Rattle.report_text.specs.Session.{session_at}
+use Rattle.report_text.specs.Told.{told_site}
 use Rattle.analysis.specs.Right.{IsRefutation, IsRightStop, IsStoppedBy, IsWithoutOne, RightAfter, budgets_in_force}
 
 -- as contracts have them
@@ -55,13 +58,13 @@ answer_of rounds (AtPoint point) = Feasible point
 abbrev pub weighed_answer : SetValue → List Point → Proof → ℚ × Point → Answer
 weighed_answer members witnesses proof priced = Isolated (record { members = members; witnesses = witnesses; proof = proof; rounds = None; price = Some priced })
 
--- a stop that a run or a tree may have: there is no size
-abbrev pub IsRunStop : Stop → Type 0
-IsRunStop (Wide site k o) = ⊤
-IsRunStop (Spent site) = ⊤
-IsRunStop (Nodes site) = ⊤
-IsRunStop (Large size) = ⊥
-IsRunStop Memory = ⊤
+-- a stop that a run or a tree of the program may have: there is no size
+abbrev pub IsRunStop : Program → Stop → Type 0
+IsRunStop model (Wide site k o) = IsSetOf model site.set
+IsRunStop model (Spent site) = IsSetOf model site.set
+IsRunStop model (Nodes site) = IsSetOf model site.set
+IsRunStop model (Large size) = ⊥
+IsRunStop model Memory = ⊤
 
 -- the members of the site's set are possible ones
 abbrev pub IsPossibleSite : Site → Type 0
@@ -76,13 +79,13 @@ pub record IsOracleOf (program : Program) (allowed : Budgets) (oracle : BranchVa
 abbrev pub IsWitnessStop : Program → Budgets → List Member → Stop → Type 0
 IsWitnessStop model budgets set stop = (stop ≡ Memory) ⊎ ((asked : List Member) × (IsWithoutOne set asked × IsPresolvedReference model budgets asked (Err stop)))
 
--- the answer is just that stop, at such a site
-abbrev pub IsToldStop : Stop → Answer → Type 0
-IsToldStop (Wide site k o) answer = (answer ≡ Stopped (Wide site k o)) × IsPossibleSite site
-IsToldStop (Spent site) answer = (answer ≡ Stopped (Spent site)) × IsPossibleSite site
-IsToldStop (Nodes site) answer = (answer ≡ Stopped (Nodes site)) × IsPossibleSite site
-IsToldStop (Large size) answer = ⊥
-IsToldStop Memory answer = ⊥
+-- the answer tells just that stop, at such a site
+abbrev pub IsToldStop : Program → Stop → Answer → Type 0
+IsToldStop model (Wide site k o) answer = (answer ≡ Stopped (ToldStop.Wide (told_site model site) k o)) × IsPossibleSite site
+IsToldStop model (Spent site) answer = (answer ≡ Stopped (ToldStop.Pivots (told_site model site))) × IsPossibleSite site
+IsToldStop model (Nodes site) answer = (answer ≡ Stopped (ToldStop.Nodes (told_site model site))) × IsPossibleSite site
+IsToldStop model (Large size) answer = ⊥
+IsToldStop model Memory answer = ⊥
 
 -- the members of a set that a filter gives stand in order
 abbrev pub IsFoundInOrder : Irreducible → Type 0
@@ -90,9 +93,9 @@ IsFoundInOrder (Set members witnesses proof) = IsInOrder members.members
 IsFoundInOrder (AtPoint point) = ⊤
 
 -- the answer is what a filter gives, with its members in order
-abbrev pub IsAnswerOf : Option ℕ → Result Irreducible Stop → Answer → Type 0
-IsAnswerOf rounds (Ok found) answer = (answer ≡ answer_of rounds found) × IsFoundInOrder found
-IsAnswerOf rounds (Err stop) answer = IsToldStop stop answer
+abbrev pub IsAnswerOf : Program → Option ℕ → Result Irreducible Stop → Answer → Type 0
+IsAnswerOf model rounds (Ok found) answer = (answer ≡ answer_of rounds found) × IsFoundInOrder found
+IsAnswerOf model rounds (Err stop) answer = IsToldStop model stop answer
 
 -- the answer is a stop of a set that passes the test
 abbrev pub IsStopAnswer : (List Member → Type 0) → Program → Budgets → Answer → Type 0

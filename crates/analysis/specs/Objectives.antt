@@ -3,7 +3,6 @@ use Rattle.std.specs.Prelude.{◌≡◌, ◌⊎◌, ℕ, ◌+◌, ◌*◌, ◌<�
 use Rattle.lp_model.specs.Program.{Program}
 use Rattle.lp_model.specs.Members.{active_members}
 use Rattle.certs.specs.declared.solving.Stop.{Stop}
-use Rattle.certs.specs.declared.solving.Stop.TheVariants.{Large}
 use Rattle.certs.specs.Answers.{IsAnsweredStop}
 use Rattle.certs.specs.Order.{AreLeavesInOrder}
 use Rattle.certs.specs.Plain.{rows_in}
@@ -12,6 +11,8 @@ use Rattle.certs.specs.Sites.{Budgets}
 use Rattle.presolve_laws.specs.Answers.{IsPresolvedReference}
 use Rattle.unbounded.specs.declared.diagnosing.Diagnosis.{Diagnosis}
 use Rattle.unbounded.specs.Diagnosed.{IsUnboundedBy, IsBoundedBy, IsOwnStop}
+use Rattle.report_text.specs.declared.report.ToldStop.{ToldStop}
+use Rattle.report_text.specs.declared.report.ToldStop.TheVariants.{Large}
 use Rattle.report_text.specs.declared.report.Answer.{Answer}
 use Rattle.report_text.specs.declared.report.Answer.TheVariants.{Infeasible, Unbounded, Bounded, Stopped}
 use Rattle.analysis.specs.declared.sizing.TheConstants.{MOST_ENTRIES}
@@ -37,7 +38,7 @@ IsSizedFirst size None = size ≤ most_entries
 
 -- ---- answers
 -- the improve run of the active members stops so within the pivots
-abbrev pub IsImproveStop : Program → Budgets → Stop → Type 0
+abbrev pub IsImproveStop : Program → Budgets → ToldStop → Type 0
 IsImproveStop model budgets stop = IsAtRun model (λ site s. IsOwnStop model (active_members model) budgets.pivots s) stop
 
 -- A point of the active members, with a ray along which the objective runs away, or with a bound on it; a proof that there is no point; or a stop of the settle run or the tree of the active members, or of their improve run.

@@ -15,9 +15,7 @@ use Rattle.certs.specs.Checks.{IsSetOf}
 use Rattle.certs.specs.Order.{AreLeavesInOrder}
 use Rattle.certs.specs.Tales.{IsPointOf, IsStretchStop}
 use Rattle.certs.specs.Filter.{Enforces, Late, Early, IsLateTest, IsEarlyTest, Rounds}
-use Rattle.certs.specs.declared.solving.Site.{Site}
 use Rattle.certs.specs.declared.solving.Stop.{Stop}
-use Rattle.certs.specs.declared.solving.Stop.TheVariants.{Nodes}
 use Rattle.certs.specs.Proof.{IsProof, IsFittingNode}
 use Rattle.certs.specs.Sites.{Budgets}
 use Rattle.certs.specs.System.{VariableShare}
@@ -31,6 +29,9 @@ use Rattle.report_text.specs.declared.report.Method.TheVariants.{Deletion, Addit
 use Rattle.report_text.specs.declared.report.Core.{Core}
 use Rattle.report_text.specs.declared.report.Command.{Command}
 use Rattle.report_text.specs.declared.report.Command.TheVariants.{Check, Iis, Unbounded, Relax, Reduce, Edit, Undo, Pivots, Nodes as MostNodes}
+use Rattle.report_text.specs.declared.report.ToldSite.{ToldSite}
+use Rattle.report_text.specs.declared.report.ToldStop.{ToldStop}
+use Rattle.report_text.specs.declared.report.ToldStop.TheVariants.{Nodes}
 use Rattle.report_text.specs.declared.report.Answer.{Answer}
 use Rattle.report_text.specs.declared.report.Answer.TheVariants.{Feasible, Infeasible, Irreducible, Reduced, Done, Stopped}
 use Rattle.report_text.specs.declared.report.Entry.{Entry}
@@ -41,7 +42,7 @@ use Rattle.analysis.specs.Least.{IsRelaxation}
 use Rattle.analysis.specs.Linear.{IsLinearly, alternative_size, elastic_size}
 use Rattle.alt_polyhedron.specs.Pricing.{IsCheapestSet, IsPricingStop}
 use Rattle.analysis.specs.Objectives.{IsDiagnosed, IsSized, system_size}
-pub use Rattle.analysis.specs.Stops.{IsAtRun, IsPrintedSite, IsRefutation, IsSettleStop, IsSiteOf, IsRightStop, IsStoppedBy, IsWhole}
+pub use Rattle.analysis.specs.Stops.{IsAtRun, IsPrintedSite, IsRefutation, IsRunAt, IsSettleStop, IsSiteOf, IsRightStop, IsStoppedBy, IsWhole}
 
 -- ---- answers
 -- where some active member is a mark, the tree of the active members ends so
@@ -66,7 +67,7 @@ IsChecked model budgets answer = IsSized (system_size model 0) (IsSolved model b
 -- Where the active columns with marks stand in a box, what is right to `check` is no stop for want of nodes with twice its points to take.
 abbrev pub BoxLaw : Type 0
 BoxLaw = (model : Program) (budgets : Budgets) (answer : Answer) (box : Box) → IsWellFormed model → IsChecked model budgets answer → IsBoxOf model (active_members model) box
-    → 2 * volume model (active_members model) box ≤ budgets.nodes → (site : Site) → answer ≢ Stopped (Nodes site)
+    → 2 * volume model (active_members model) box ≤ budgets.nodes → (site : ToldSite) → answer ≢ Stopped (Nodes site)
 
 -- ---- irreducible sets
 -- Active members in order that are irreducible: the proof is one of them, with the shares of each leaf in order and numbers of splits that fit, and for each of them its own witness satisfies all the others. A price that is told has a value for each column.
@@ -123,7 +124,7 @@ abbrev pub IsChainStop : Program → Budgets → Stop → Type 0
 IsChainStop model budgets stop = (count : ℕ) × ((enforced : List Member) × (Enforces model (active_members model) count enforced × IsStretchStop model budgets (active_members model) enforced stop))
 
 -- and its site can be told
-abbrev pub IsRoundStop : Program → Budgets → Stop → Type 0
+abbrev pub IsRoundStop : Program → Budgets → ToldStop → Type 0
 IsRoundStop model budgets stop = IsAtRun model (λ site s. IsChainStop model budgets s) stop
 
 -- what is right to a search that leaves such members, or a stop of a round before it
@@ -153,7 +154,7 @@ abbrev pub IsSupportTest : Program → List Member → Type 0
 IsSupportTest model set = IsWhole model set ⊎ ((core : Core) × (IsCheapestCore model core × IsWithoutOne core.members.members set))
 
 -- the run of the active members' system of the alternative stops so within the pivots
-abbrev pub IsWeighingStop : Program → Budgets → Stop → Type 0
+abbrev pub IsWeighingStop : Program → Budgets → ToldStop → Type 0
 IsWeighingStop model budgets stop = IsAtRun model (λ site s. IsPricingStop model (active_members model) budgets.pivots s) stop
 
 -- what is right to a search for a cheapest weighting, or a stop of its run before it

@@ -18,7 +18,7 @@ use crate::sizing::too_large;
 use certs::{MemberSet, Oracle, PackedPoint, Proof, Verdict, members_used};
 use lp_model::Model;
 use quick_answers::{Kept, QuickOracle};
-use report_text::{Answer, Command, CommandSession};
+use report_text::{Answer, Command, CommandSession, MemberList};
 use std::alloc::{AllocError, Global};
 
 /// What each solve may spend.
@@ -123,7 +123,7 @@ fn check_by(
     match oracle.ask(alloc, set) {
         Ok(Verdict::Feasible(point)) => Ok(Answer::Feasible(PackedPoint::of(alloc, &point)?)),
         Ok(Verdict::Infeasible(proof)) => refuted(alloc, model, set, proof),
-        Err(stop) => stopped(stop),
+        Err(stop) => stopped(alloc, model, stop),
     }
 }
 
@@ -142,5 +142,5 @@ pub(crate) fn refuted(
 {
     set.stands_in_order();
     let used = members_used(alloc, set, &proof)?;
-    Ok(Answer::Infeasible(used, proof))
+    Ok(Answer::Infeasible(MemberList::of(alloc, &used)?, proof))
 }

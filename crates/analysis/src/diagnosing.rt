@@ -8,7 +8,7 @@ use crate::answering::{Budgets, refuted};
 use crate::asking::{keep, quick_oracle};
 use crate::searching::{is_wide, stopped};
 use crate::sizing::too_large;
-use certs::{MemberSet, PackedPoint, Stop};
+use certs::{MemberSet, PackedPoint, PackedRay, Stop};
 use lp_model::Model;
 use quick_answers::{Kept, is_small, quick_best};
 use report_text::{Answer, Bounded};
@@ -110,7 +110,8 @@ fn told(
 {
     match found {
         Ok(Diagnosis::Unbounded(point, ray)) => {
-            Ok(Answer::Unbounded(PackedPoint::of(alloc, &point)?, ray))
+            let point = PackedPoint::of(alloc, &point)?;
+            Ok(Answer::Unbounded(point, PackedRay::of(alloc, &ray)?))
         }
         Ok(Diagnosis::Bounded(point, objective, dual)) => Ok(Answer::Bounded(Bounded {
             point: PackedPoint::of(alloc, &point)?,
@@ -118,6 +119,6 @@ fn told(
             dual,
         })),
         Ok(Diagnosis::Infeasible(proof)) => refuted(alloc, model, set, proof),
-        Err(stop) => stopped(stop),
+        Err(stop) => stopped(alloc, model, stop),
     }
 }

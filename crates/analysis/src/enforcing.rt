@@ -70,9 +70,9 @@ fn enforced(
             let mut oracle = quick_oracle(alloc, model, budgets, budgets.nodes, kept);
             let given = deletion_filter::isolate(alloc, &mut oracle, &members);
             keep(kept, oracle.into_kept());
-            concluded(alloc, Some(rounds), given)
+            concluded(alloc, model, Some(rounds), given)
         }
         Ok(Enforced::Feasible(point)) => Ok(Answer::Feasible(PackedPoint::of(alloc, &point)?)),
-        Err(stop) => stopped(stop),
+        Err(stop) => stopped(alloc, model, stop),
     }
 }

@@ -12,6 +12,7 @@ mod reducing;
 mod relaxing;
 mod searching;
 mod sizing;
+mod telling;
 mod weighing;
 mod witnesses;
 

@@ -19,7 +19,7 @@ use linear_oracle::leaf_proof;
 use lp_model::Model;
 use quick_answers::{Kept, is_small, quick_least};
 use relaxation::{Relaxed, relax};
-use report_text::Answer;
+use report_text::{Answer, MemberList};
 use std::alloc::{AllocError, Global};
 
 /// How little of the active members must give way: a point of least weighted violation among those that satisfy the rigid
@@ -103,7 +103,7 @@ fn relaxed_by_run(
     set.stands_in_order();
     match relax(alloc, model, set, budgets.pivots) {
         Ok(found) => told(alloc, model, set, found),
-        Err(stop) => stopped(stop),
+        Err(stop) => stopped(alloc, model, stop),
     }
 }
 
@@ -136,5 +136,5 @@ fn rigid_refuted(
     set.stands_in_order();
     let proof = leaf_proof(alloc, combo)?;
     let used = members_used(alloc, set, &proof)?;
-    Ok(Answer::RigidInfeasible(used, proof))
+    Ok(Answer::RigidInfeasible(MemberList::of(alloc, &used)?, proof))
 }

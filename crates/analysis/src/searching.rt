@@ -8,11 +8,12 @@ use crate::answering::Budgets;
 use crate::asking::{keep, quick_oracle, reference_oracle};
 use crate::enforcing::enforced_search;
 use crate::sizing::too_large;
+use crate::telling::told_site;
 use crate::weighing::weighed_search;
 use certs::{Irreducible, MemberSet, PackedPoint, Stop};
 use lp_model::Model;
 use quick_answers::{Kept, is_small};
-use report_text::{Answer, Core, Method, Witnesses};
+use report_text::{Answer, Core, MemberList, Method, ToldStop, Witnesses};
 use std::alloc::{AllocError, Global};
 
 /// What a method leaves of the active members, where no point satisfies them; or a point, or a stop; or the size of the
@@ -53,7 +54,7 @@ fn late_search(
     let mut oracle = quick_oracle(alloc, model, budgets, budgets.nodes, kept);
     let given = deletion_filter::isolate(alloc, &mut oracle, set);
     keep(kept, oracle.into_kept());
-    concluded(alloc, None, given)
+    concluded(alloc, model, None, given)
 }
 
 // What the additive filter leaves of the active members, by a quick oracle.
@@ -71,7 +72,7 @@ fn early_search(
     let mut oracle = quick_oracle(alloc, model, budgets, budgets.nodes, kept);
     let given = additive_filter::isolate(alloc, &mut oracle, set);
     keep(kept, oracle.into_kept());
-    concluded(alloc, None, given)
+    concluded(alloc, model, None, given)
 }
 
 // A point of the active members by quick runs, or else what the sensitivity filter leaves of them; of a small set that comes
@@ -119,21 +120,22 @@ fn core_search_by_run(
     let mut oracle = quick_oracle(alloc, model, budgets, budgets.nodes, kept);
     let given = sensitivity_filter::isolate_with(alloc, &mut first, &mut oracle, set);
     keep(kept, oracle.into_kept());
-    concluded(alloc, None, given)
+    concluded(alloc, model, None, given)
 }
 
 /// What a filter gives, with the rounds before it, as an answer.
 pub(crate) fn concluded(
     alloc: Global,
+    model: &Model,
     rounds: Option<u64>,
     given: Result<Irreducible, Stop>,
 ) -> Result<Answer, AllocError>
-    requires { IfErr given IsRunStop }
-    ensures { IfOk result (IsAnswerOf rounds given) }
+    requires { IfErr given (IsRunStop model.now) }
+    ensures { IfOk result (IsAnswerOf model.now rounds given) }
 {
     match given {
         Ok(found) => isolated(alloc, rounds, found),
-        Err(stop) => stopped(stop),
+        Err(stop) => stopped(alloc, model, stop),
     }
 }
 
@@ -150,7 +152,7 @@ fn isolated(alloc: Global, rounds: Option<u64>, found: Irreducible) -> Result<An
         } => {
             members.stands_in_order();
             Ok(Answer::Irreducible(Core {
-                members,
+                members: MemberList::of(alloc, &members)?,
                 witnesses: Witnesses::new(witnesses),
                 proof,
                 rounds,
@@ -162,29 +164,21 @@ fn isolated(alloc: Global, rounds: Option<u64>, found: Irreducible) -> Result<An
 }
 
 /// A stop of a run as an answer, but for want of memory.
-pub(crate) fn stopped(stop: Stop) -> Result<Answer, AllocError>
-    requires { IsRunStop stop }
-    ensures { IfOk result (IsToldStop stop) }
+pub(crate) fn stopped(alloc: Global, model: &Model, stop: Stop) -> Result<Answer, AllocError>
+    requires { IsRunStop model.now stop }
+    ensures { IfOk result (IsToldStop model.now stop) }
 {
-    match stop {
-        Stop::Wide(site, turn, wide) => {
-            site.set.stands_in_order();
-            Ok(Answer::Stopped(Stop::Wide(site, turn, wide)))
-        }
-        Stop::Pivots(site) => {
-            site.set.stands_in_order();
-            Ok(Answer::Stopped(Stop::Pivots(site)))
-        }
-        Stop::Nodes(site) => {
-            site.set.stands_in_order();
-            Ok(Answer::Stopped(Stop::Nodes(site)))
-        }
+    let told = match stop {
+        Stop::Wide(site, turn, wide) => ToldStop::Wide(told_site(alloc, model, site)?, turn, wide),
+        Stop::Pivots(site) => ToldStop::Pivots(told_site(alloc, model, site)?),
+        Stop::Nodes(site) => ToldStop::Nodes(told_site(alloc, model, site)?),
         Stop::Large(_) => unreachable!(),
-        Stop::Memory => Err(AllocError),
-    }
+        Stop::Memory => return Err(AllocError),
+    };
+    Ok(Answer::Stopped(told))
 }
 
 /// Whether an answer is that a number did not fit.
 pub(crate) fn is_wide(answer: &Answer) -> bool {
-    matches!(answer, Answer::Stopped(Stop::Wide(..)))
+    matches!(answer, Answer::Stopped(ToldStop::Wide(..)))
 }

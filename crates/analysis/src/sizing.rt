@@ -5,9 +5,9 @@ ghost use Rattle.certs.specs.Plain.{rows_in};
 ghost use Rattle.analysis.specs.Objectives.{IsSizedFirst, system_size};
 
 use crate::reducing::set_rows;
-use certs::{MemberSet, Stop};
+use certs::MemberSet;
 use lp_model::Model;
-use report_text::Answer;
+use report_text::{Answer, ToldStop};
 use std::alloc::{AllocError, Global};
 
 /// The most entries that the dictionary of a run may have.
@@ -32,7 +32,7 @@ pub(crate) fn large(size: u64) -> Option<Answer>
     ensures { IsSizedFirst size result }
 {
     if size > MOST_ENTRIES {
-        return Some(Answer::Stopped(Stop::Large(size)));
+        return Some(Answer::Stopped(ToldStop::Large(size)));
     }
     None
 }

@@ -21,7 +21,7 @@ use frac128::Frac;
 use linear_oracle::leaf_proof;
 use lp_model::Model;
 use quick_answers::{Kept, QuickCore, QuickOracle, Weighed, is_small, quick_cheapest};
-use report_text::{Answer, Core, Witnesses};
+use report_text::{Answer, Core, MemberList, Witnesses};
 use std::alloc::{AllocError, Global};
 
 /// The members that a cheapest weighting of the active members uses, which are irreducible, with the weighting as their
@@ -143,9 +143,9 @@ fn weighed_by_run(
                 let proof = leaf_proof(alloc, combo)?;
                 weighed_core(alloc, members, points, proof, total, &price)
             }
-            Err(stop) => stopped(stop),
+            Err(stop) => stopped(alloc, model, stop),
         },
-        Err(stop) => stopped(stop),
+        Err(stop) => stopped(alloc, model, stop),
     }
 }
 
@@ -164,7 +164,7 @@ fn satisfied(
 {
     match witness(alloc, model, budgets, oracle, set) {
         Ok(point) => Ok(Answer::Feasible(PackedPoint::of(alloc, &point)?)),
-        Err(stop) => stopped(stop),
+        Err(stop) => stopped(alloc, model, stop),
     }
 }
 
@@ -182,7 +182,7 @@ fn weighed_core(
 {
     let price = PackedPoint::of(alloc, price)?;
     Ok(Answer::Irreducible(Core {
-        members,
+        members: MemberList::of(alloc, &members)?,
         witnesses: Witnesses::new(witnesses),
         proof,
         rounds: None,

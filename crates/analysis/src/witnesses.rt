@@ -6,7 +6,7 @@ ghost use Rattle.certs.specs.Checks.{IsSetOf};
 ghost use Rattle.certs.specs.Tales.{IsPointOf};
 ghost use Rattle.filter_steps.specs.Isolated.{AreWitnesses};
 ghost use Rattle.presolve_laws.specs.Answers.{IsPresolvedReference};
-ghost use Rattle.analysis.specs.Answers.{IsOracleOf, IsRunStop, IsWitnessStop, budgets_of};
+ghost use Rattle.analysis.specs.Answers.{IsOracleOf, IsWitnessStop, budgets_of};
 
 use crate::answering::Budgets;
 use crate::asking::Reference;
@@ -33,7 +33,6 @@ pub(crate) fn witnesses(
     requires of { IsOracleOf model.now (budgets_of budgets) oracle.old.inner }
     ensures found { IfOk result (λ points. AreWitnesses model.now set.now.members points.items) }
     ensures stop { IfErr result (IsWitnessStop model.now (budgets_of budgets) set.now.members) }
-    ensures run { IfErr result IsRunStop }
 {
     set.stands_in_order();
     let mut points = Vec::new(alloc);
@@ -72,7 +71,6 @@ pub(crate) fn witness(
     ensures found { IfOk result (IsPointOf model.now set.now.members) }
     ensures stop { let Reference = IsPresolvedReference model.now (budgets_of budgets) in
         IfErr result (IsAnsweredStop Reference set.now.members) }
-    ensures run { IfErr result IsRunStop }
 {
     match oracle.ask(alloc, set) {
         Ok(Verdict::Feasible(point)) => Ok(point),

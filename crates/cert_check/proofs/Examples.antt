@@ -22,7 +22,7 @@ use Rattle.certs.specs.declared.evidence.Proof.{Proof}
 use Rattle.reductions.specs.declared.steps.ReduceStep.TheVariants.{Empty}
 use Rattle.report_text.specs.declared.report.Method.TheVariants.{Deletion, Elastic, Alternative}
 use Rattle.certs.specs.declared.solving.SiteKind.TheVariants.{Improve}
-use Rattle.certs.specs.declared.solving.Stop.TheVariants.{Pivots as Spent}
+use Rattle.report_text.specs.declared.report.ToldStop.TheVariants.{Pivots as Spent}
 use Rattle.report_text.specs.declared.report.Command.{Command}
 use Rattle.report_text.specs.declared.report.Command.TheVariants.{Check, Iis, Relax, Reduce, Edit, Undo, Pivots}
 use Rattle.report_text.specs.declared.report.EditKind.{EditKind}
@@ -85,11 +85,7 @@ refuted = refl
 
 -- a stop is not settled, whatever it says, and a command that is done is
 abbrev stopped : Entry
-stopped = record {
-  command = Check;
-  answer = Stopped (Spent (record { kind = Improve; set = record { rows = 0; columns = 0; members = [] }; enforced = record { rows = 0; columns = 0; members = [] }; path = [] }));
-  line = 12;
-}
+stopped = record { command = Check; answer = Stopped (Spent (record { kind = Improve; left = []; enforced = []; path = [] })); line = 12 }
 
 abbrev finished : Entry
 finished = record { command = Pivots 7; answer = Done; line = 16 }

@@ -18,6 +18,28 @@ pub(crate) struct Active {
 }
 
 impl Active {
+    /// Those that are kept, or else those of a program, for one point.
+    pub(crate) fn taken(
+        alloc: Global,
+        model: &Model,
+        kept: &mut Option<Active>,
+    ) -> Result<Active, AllocError>
+        requires { IsActiveFor model.now kept.old }
+        ensures { IfOk result (IsActive model.now) }
+    {
+        match kept.take() {
+            Some(active) => Ok(active),
+            None => Active::new(alloc, model),
+        }
+    }
+
+    /// The set of them.
+    pub(crate) fn set(&self) -> &MemberSet
+        ensures { result.now ≡ self.now.set }
+    {
+        &self.set
+    }
+
     // Those of a program, for one point.
     fn new(alloc: Global, model: &Model) -> Result<Active, AllocError>
         ensures { IfOk result (IsActive model.now) }

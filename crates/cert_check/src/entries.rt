@@ -28,7 +28,8 @@ use certs::{PackedPoint, Proof};
 use least_checks::rigid_set;
 use lp_model::{MemberSet, Model};
 use report_text::{
-    Answer, Command, CommandSession, Core, Entry, Method, OPENING_LINES, PROOF_LINES, Refusal,
+    Answer, Command, CommandSession, Core, Entry, MemberList, Method, OPENING_LINES, PROOF_LINES,
+    Refusal,
 };
 use std::alloc::Global;
 
@@ -181,7 +182,7 @@ fn check_answer(
     match answer {
         Answer::Feasible(point) => check_feasible(alloc, model, kept, point, line),
         Answer::Infeasible(members, proof) => {
-            check_infeasible(alloc, model, members, proof, line)
+            check_infeasible(alloc, model, kept, members, proof, line)
         }
         Answer::RigidInfeasible(members, proof) => {
             check_rigid(alloc, model, members, proof, line)
@@ -222,7 +223,8 @@ fn check_feasible(
 fn check_infeasible(
     alloc: Global,
     model: &Model,
-    members: &MemberSet,
+    kept: &mut Option<Active>,
+    members: &MemberList,
     proof: &Proof,
     line: u32,
 ) -> Result<(), Stop>
@@ -230,20 +232,24 @@ fn check_infeasible(
     requires proof { IsProofFor model.now proof.now }
     requires short { let nodes = flat_map node_phrases proof.now.nodes in
         line + (length members.now.members + length nodes) < 4294967290 }
-    ensures { let active = active_members model.now in
+    requires kept { IsActiveFor model.now kept.old }
+    ensures says { let active = active_members model.now in
         Says (first_stop (refuted_trials model.now active line members.now proof.now)) result }
+    ensures kept { OnOk result (IsActiveFor model.now kept.new) }
 {
-    let Ok(active) = model.members(alloc) else {
+    let Ok(active) = Active::taken(alloc, model, kept) else {
         return Err(Stop::Memory);
     };
-    check_refuted(alloc, model, &active, members, proof, line)
+    check_refuted(alloc, model, active.set(), members, proof, line)?;
+    *kept = Some(active);
+    Ok(())
 }
 
 // Checks rigid active members and a proof that no point satisfies them.
 fn check_rigid(
     alloc: Global,
     model: &Model,
-    members: &MemberSet,
+    members: &MemberList,
     proof: &Proof,
     line: u32,
 ) -> Result<(), Stop>
@@ -268,7 +274,7 @@ fn check_refuted(
     alloc: Global,
     model: &Model,
     among: &MemberSet,
-    members: &MemberSet,
+    members: &MemberList,
     proof: &Proof,
     line: u32,
 ) -> Result<(), Stop>
@@ -283,8 +289,11 @@ fn check_refuted(
     let Ok(used) = used_members(alloc, model, proof) else {
         return Err(Stop::Memory);
     };
-    let end = check_members(model, among, members, &used, line + OPENING_LINES)?;
-    check_tree(alloc, model, members, proof, end + PROOF_LINES)
+    let Ok(members) = members.unpacked(alloc, model) else {
+        return Err(Stop::Memory);
+    };
+    let end = check_members(model, among, &members, &used, line + OPENING_LINES)?;
+    check_tree(alloc, model, &members, proof, end + PROOF_LINES)
 }
 
 // Checks an irreducible set: its members with their witnesses, its proof, and what stands behind that.
@@ -295,13 +304,16 @@ fn check_core(alloc: Global, model: &Model, core: &Core, line: u32) -> Result<()
         line + (length witnesses + length nodes) < 4294967290 }
     ensures { Says (first_stop (irreducible_trials model.now line core.now)) result }
 {
-    let Ok(mut others) = core.members.copy(alloc) else {
+    let Ok(members) = core.members.unpacked(alloc, model) else {
+        return Err(Stop::Memory);
+    };
+    let Ok(mut others) = members.copy(alloc) else {
         return Err(Stop::Memory);
     };
     let witnesses = core.witnesses.as_slice();
     let start = line + OPENING_LINES;
-    let end = check_witnesses(alloc, model, &core.members, &mut others, witnesses, start)?;
-    check_tree(alloc, model, &core.members, &core.proof, end + PROOF_LINES)?;
+    let end = check_witnesses(alloc, model, &members, &mut others, witnesses, start)?;
+    check_tree(alloc, model, &members, &core.proof, end + PROOF_LINES)?;
     let behind = line_behind(&core.proof, end + PROOF_LINES);
     check_tail(alloc, model, core, behind)
 }

@@ -12,7 +12,7 @@ use crate::outcome::{Stop, settle};
 use bound_checks::{
     check_columns, check_ray, check_right_side, check_value, has_mark, objective_value,
 };
-use certs::{Dual, PackedPoint, Point, Ray, check_point};
+use certs::{Dual, PackedPoint, PackedRay, Point, check_point};
 use frac128::Frac;
 use lp_model::{MemberSet, Model};
 use report_text::{BOUND_LINES, Bounded, OPENING_LINES, point_length};
@@ -23,7 +23,7 @@ pub(crate) fn check_unbounded(
     alloc: Global,
     model: &Model,
     point: &PackedPoint,
-    ray: &Ray,
+    ray: &PackedRay,
     line: u32,
 ) -> Result<(), Stop>
     requires point { IsPointFor model.now point.now }
@@ -40,7 +40,10 @@ pub(crate) fn check_unbounded(
     let start = line + OPENING_LINES;
     settle(start, check_point(model, &active, &point))?;
     let next = start + point_length(&point) as u32;
-    settle(next, check_ray(model, &active, ray))
+    let Ok(ray) = ray.unpacked(alloc) else {
+        return Err(Stop::Memory);
+    };
+    settle(next, check_ray(model, &active, &ray))
 }
 
 /// Checks a point of the active members, the objective's value there, and a dual, of an answer of which the command stands

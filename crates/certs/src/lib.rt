@@ -26,7 +26,7 @@ pub use naming::{members_used, named_combo, node_combo};
 pub use numbers::{is_less, is_member_there, member_number};
 pub use oracles::{BranchAsk, CostAsk, Oracle, Stretcher};
 pub use ordering::{are_in_order, stands_before};
-pub use packed::{PackedPoint, PackedValues};
+pub use packed::{PackedPoint, PackedRay, PackedValues};
 pub use paths::BranchPath;
 pub use plain_systems::{node_system, plain_system};
 pub use points::{check_point, checked, is_present};

@@ -1,9 +1,9 @@
-//! Points that take little memory where most of their values are 0.
+//! Points and rays that take little memory where most of their values are 0.
 ghost use Rattle.std.specs.Prelude.{◌≡◌, ◌<◌, ◌≤◌, ◌^◌, ◌-◌, ◌++◌, ◌∷◌, [], IfOk, OnOk, All, length, replicate};
 ghost use Rattle.rational.specs.Rational.{zero_ℚ};
 ghost use Rattle.certs.specs.Packed.{HasNonzeros};
 
-use crate::evidence::{Point, Values};
+use crate::evidence::{Point, Ray, Values};
 use frac128::Frac;
 use std::alloc::{AllocError, Global};
 use std::marker::Model;
@@ -154,6 +154,40 @@ impl PackedPoint {
         ensures { IfOk result (λ point. point ≡ self.now) }
     {
         Ok(Point {
+            values: self.values.unpacked(alloc)?,
+        })
+    }
+}
+
+/// A ray, kept by its changes that are not 0. Contracts see the ray.
+#[derive(Drop)]
+pub struct PackedRay {
+    pub values: PackedValues,
+}
+
+impl Model for PackedRay {
+    ghost use Rattle.certs.specs.declared.evidence.Ray.{Ray};
+
+    ghost Value = { Ray };
+
+    ghost view = { λ r. record { values = r.values } };
+}
+
+impl PackedRay {
+    /// What is kept of a ray.
+    pub fn of(alloc: Global, ray: &Ray) -> Result<PackedRay, AllocError>
+        ensures { IfOk result (λ packed. packed ≡ ray.now) }
+    {
+        Ok(PackedRay {
+            values: PackedValues::of(alloc, ray.values.as_slice())?,
+        })
+    }
+
+    /// The whole ray.
+    pub fn unpacked(&self, alloc: Global) -> Result<Ray, AllocError>
+        ensures { IfOk result (λ ray. ray ≡ self.now) }
+    {
+        Ok(Ray {
             values: self.values.unpacked(alloc)?,
         })
     }

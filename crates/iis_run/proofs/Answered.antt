@@ -7,8 +7,8 @@ use Rattle.lp_model.specs.Program.{Program}
 use Rattle.lp_model.specs.Members.{active_members, is_mark}
 use Rattle.lp_model.specs.MemberSets.{SetValue}
 use Rattle.certs.specs.declared.evidence.Proof.{Proof}
-use Rattle.certs.specs.declared.solving.Stop.{Stop}
-use Rattle.certs.specs.declared.solving.Stop.TheVariants.{Large}
+use Rattle.report_text.specs.declared.report.ToldStop.{ToldStop}
+use Rattle.report_text.specs.declared.report.ToldStop.TheVariants.{Large}
 use Rattle.certs.specs.Filter.{Early, IsEarlyTest, IsLateTest, Late}
 use Rattle.certs.specs.Sites.{Budgets}
 use Rattle.certs.specs.Trees.{has_mark}
@@ -99,7 +99,7 @@ module _ (model : Program) (n : ℕ) where
   bare_passes IsKept IsTest budgets answer h = isolated_passes (IsBare IsKept) IsTest (bare_tail IsKept) budgets answer h
 
   -- a stop
-  stopped_passes : (IsSo : Stop → Type 0) (answer : Answer) → IsStoppedBy IsSo answer → Passes answer
+  stopped_passes : (IsSo : ToldStop → Type 0) (answer : Answer) → IsStoppedBy IsSo answer → Passes answer
   stopped_passes IsSo answer h = subst Passes (sym h.is) nothing
 
   enforced_passes : (budgets : Budgets) (answer : Answer) → IsEnforcedTold model budgets answer → Passes answer

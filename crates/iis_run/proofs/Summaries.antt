@@ -3,8 +3,8 @@ use Rattle.std.proofs.Common.{◌≡◌, ◌≢◌, ◌≤◌, ◌⊎◌, refl, 
 use Rattle.std.proofs.lemmas.Bool.{cases_lt}
 use Rattle.iis_edge.specs.Causes.{Rose}
 use Rattle.lp_model.specs.Satisfaction.{values_at}
-use Rattle.certs.specs.declared.solving.Stop.{Stop}
-use Rattle.certs.specs.declared.solving.Stop.TheVariants.{Large}
+use Rattle.report_text.specs.declared.report.ToldStop.{ToldStop}
+use Rattle.report_text.specs.declared.report.ToldStop.TheVariants.{Large}
 use Rattle.report_text.specs.declared.report.Core.{Core}
 use Rattle.report_text.specs.declared.report.Answer.{Answer}
 use Rattle.report_text.specs.declared.report.Answer.TheVariants.{Feasible, Irreducible, Stopped}
@@ -39,7 +39,7 @@ module _ {K : Type 0} (faults : K → ℕ) (taken : K → Option (List ℕ)) (ol
       by (Stopped stop) found put same = inr (inr (inl (same, record { stop = stop; right = found.right; put = put })))
       by answer found put same = absurd (neither found.is)
         where
-          neither : ((core : Core) × (answer ≡ Irreducible core)) ⊎ ((stop : Stop) × (answer ≡ Stopped stop)) → ⊥
+          neither : ((core : Core) × (answer ≡ Irreducible core)) ⊎ ((stop : ToldStop) × (answer ≡ Stopped stop)) → ⊥
           neither (inl set) = let same = set.1 in cc
           neither (inr stop) = let same = stop.1 in cc
 

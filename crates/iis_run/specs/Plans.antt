@@ -6,7 +6,7 @@ use Rattle.report_text.specs.declared.report.Method.TheVariants.{Sensitivity}
 use Rattle.report_text.specs.declared.report.Answer.{Answer}
 use Rattle.report_text.specs.declared.report.Answer.TheVariants.{Irreducible, Stopped}
 use Rattle.report_text.specs.Grammar.{answer_phrases, phrases_text, text_of}
-use Rattle.certs.specs.declared.solving.Stop.{Stop}
+use Rattle.report_text.specs.declared.report.ToldStop.{ToldStop}
 use Rattle.analysis.specs.Puts.{PutWhole, PutFailed}
 use Rattle.analysis.specs.Right.{Right, first_budgets}
 use Rattle.model_maker.specs.PlanProgram.{plan_program}
@@ -50,14 +50,14 @@ pub record IsSummarised {K : Type 0} (put_faults : K → ℕ) (taken : K → Opt
 
 -- a stop is right, and its lines are written
 pub record IsPlanStopped {K : Type 0} (put_faults : K → ℕ) (taken : K → Option (List ℕ)) (out_old out_new : K) (n : ℕ) : Type 0 where
-  pub stop : Stop
+  pub stop : ToldStop
   pub right : IsPlanAnswer n (Stopped stop)
   pub put : PutWhole put_faults taken out_old out_new (answer_text n (Stopped stop))
 
 -- what is right is an irreducible set or a stop
 pub record IsPlanFound (n : ℕ) (answer : Answer) : Type 0 where
   pub right : IsPlanAnswer n answer
-  pub is : ((core : Core) × (answer ≡ Irreducible core)) ⊎ ((stop : Stop) × (answer ≡ Stopped stop))
+  pub is : ((core : Core) × (answer ≡ Irreducible core)) ⊎ ((stop : ToldStop) × (answer ≡ Stopped stop))
 
 -- such an answer is found, and a front of what is to be written of it is
 pub record IsPlanCut {K : Type 0} (put_faults : K → ℕ) (taken : K → Option (List ℕ)) (out_old out_new : K) (n : ℕ) : Type 0 where

@@ -67,6 +67,20 @@ impl MemberSet {
         })
     }
 
+    /// How many rows the program has.
+    pub fn rows(&self) -> u32
+        ensures { result ≡ self.now.rows }
+    {
+        self.rows
+    }
+
+    /// How many columns the program has.
+    pub fn columns(&self) -> u32
+        ensures { result ≡ self.now.columns }
+    {
+        self.columns
+    }
+
     /// Whether the member is in the set. It need not exist in the program, but its number must be below that of the
     /// rows, or of the columns.
     pub fn contains(&self, member: Member) -> bool

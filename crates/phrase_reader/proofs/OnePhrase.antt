@@ -41,10 +41,10 @@ use Rattle.report_text.specs.declared.report.Refusal.{Refusal}
 use Rattle.report_text.specs.declared.phrases.Keyword.{Keyword}
 use Rattle.report_text.specs.declared.phrases.Phrase.{Phrase}
 use Rattle.report_text.specs.declared.phrases.StopPhrase.{StopPhrase}
-use Rattle.report_text.specs.Form.{IsNamedColumn, IsNamedMember, IsNamedSource, IsWithinLimit, IsUse, IsCommand, IsOperation}
+use Rattle.report_text.specs.Form.{IsNamedBranch, IsNamedColumn, IsNamedMember, IsNamedSource, IsWithinLimit, IsUse, IsCommand, IsOperation}
 use Rattle.report_text.specs.Grammar.{Line, column_name, name_of, kind_word, source_word, source_name, site_word, op_word, met_word, keyword_text, keyword_of, branch_keyword, stop_details, details, phrase_line}
 use Rattle.phrase_reader.specs.Commands.{command_said}
-use Rattle.phrase_reader.specs.Phrases.{IsNamedBranch, IsPhraseFor, Says}
+use Rattle.phrase_reader.specs.Phrases.{IsPhraseFor, Says}
 use Rattle.phrase_reader.specs.Words.{leading_said, lone_said}
 use Rattle.phrase_reader.proofs.Spelling.{split_fits, words_of_line}
 use Rattle.phrase_reader.proofs.Named.{one_place}

@@ -2,18 +2,11 @@
 use Rattle.std.specs.Prelude.{◌≡◌, ◌≢◌}
 use Rattle.rational.specs.Rational.{zero_ℚ}
 use Rattle.lp_model.specs.Program.{Program, noted_column}
-use Rattle.certs.specs.declared.evidence.Branch.{Branch}
 use Rattle.certs.specs.declared.evidence.Node.TheVariants.{Split}
-use Rattle.certs.specs.Combination.{IsFitting}
 use Rattle.report_text.specs.declared.phrases.Phrase.{Phrase}
 use Rattle.report_text.specs.declared.phrases.StopPhrase.{StopPhrase}
 use Rattle.report_text.specs.Grammar.{Line, phrase_line}
-use Rattle.report_text.specs.Form.{IsNamedColumn, IsNamedMember, IsWithinLimit, IsUse, IsNodeFor, IsCommand, IsCount, IsOperation, IsStepFor}
-
--- a branch on a column whose name is a word, at a number that fits
-pub record IsNamedBranch (model : Program) (b : Branch) : Type 0 where
-  pub named : IsNamedColumn model b.column
-  pub fits : IsFitting b
+use Rattle.report_text.specs.Form.{IsNamedBranch, IsNamedColumn, IsNamedMember, IsWithinLimit, IsUse, IsNodeFor, IsCommand, IsCount, IsOperation, IsStepFor}
 
 -- the numbers of what is said of a stop fit, and names are words
 abbrev pub IsStopPhrase : Program → StopPhrase → Type 0

@@ -123,7 +123,6 @@ account_text Account.StoppedWide = codes "This calculation stopped before there 
 account_text Account.StoppedPivots = codes "This calculation stopped before there was an answer: the pivots that it may take were used up."
 account_text Account.StoppedNodes = codes "This calculation stopped before there was an answer: the cases that it may tell apart were used up."
 account_text Account.StoppedLarge = codes "This calculation stopped before there was an answer: it is too large, of size "
-account_text Account.StoppedMemory = codes "This calculation stopped before there was an answer: there was no memory."
 account_text Account.Asking = codes " It was asking whether "
 account_text Account.AskingReach = codes " It was asking how far the objective can go while "
 account_text Account.AskingStretch = codes " It was asking for the least violation, with all weights 1, of "

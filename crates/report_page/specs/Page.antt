@@ -6,13 +6,13 @@ use Rattle.lp_model.specs.declared.members.Member.{Member}
 use Rattle.lp_model.specs.Program.{Program}
 use Rattle.certs.specs.declared.evidence.Point.{Point}
 use Rattle.certs.specs.declared.evidence.Node.{Node}
-use Rattle.certs.specs.declared.solving.Stop.{Stop}
 use Rattle.report_text.specs.History.{HistoryValue}
 use Rattle.report_text.specs.declared.report.Method.{Method}
 use Rattle.report_text.specs.declared.report.Method.TheVariants.{Deletion, Additive, Sensitivity, Elastic, Alternative}
 use Rattle.report_text.specs.declared.report.Command.{Command}
 use Rattle.report_text.specs.declared.report.Command.TheVariants.{Check, Iis, Unbounded, Relax, Reduce, Edit, Undo, Pivots, Nodes}
 use Rattle.report_text.specs.declared.report.Core.{Core}
+use Rattle.report_text.specs.declared.report.ToldStop.{ToldStop}
 use Rattle.report_text.specs.declared.report.Answer.{Answer}
 use Rattle.report_text.specs.declared.report.Answer.TheVariants.{Feasible, Infeasible, Irreducible, Unbounded as RunsAway, Bounded as BoundedBy, Least, RigidInfeasible, Reduced, Done, Refused, NotLinear, Stopped}
 use Rattle.report_text.specs.declared.report.Entry.{Entry}
@@ -77,7 +77,7 @@ abbrev pub irreducible_pieces : Program → Core → List Piece
 irreducible_pieces model core = conflict_pieces model Among.Any core.members.members core.witnesses core.proof.nodes ++ (rounds_pieces core.rounds ++ price_pieces model core.price)
 
 -- a calculation that stopped, and what was enforced
-abbrev pub stopped_pieces : Program → Stop → List Piece
+abbrev pub stopped_pieces : Program → ToldStop → List Piece
 stopped_pieces model stop = Piece.Tag Tag.Paragraph ∷ (stop_pieces model stop ++ Piece.Tag Tag.ParagraphEnd ∷ enforced_at model stop)
 
 -- an answer; that a command is done needs no words

@@ -1,16 +1,17 @@
 -- Calculations that stopped, each in a sentence with its site.
-use Rattle.std.specs.Prelude.{◌==◌, cond, List, [], ◌∷◌, ◌++◌, flat_map, length}
+use Rattle.std.specs.Prelude.{◌-◌, ◌==◌, cond, List, [], ◌∷◌, ◌++◌, flat_map, length}
 use Rattle.frac128.specs.declared.Op.{Op}
 use Rattle.frac128.specs.declared.Op.TheVariants.{Plus, Minus, Times, Over}
 use Rattle.frac128.specs.declared.Wide.{Wide as Operation}
 use Rattle.lp_model.specs.Program.{Program}
 use Rattle.lp_model.specs.declared.members.Member.{Member}
+use Rattle.lp_model.specs.Members.{active_members}
 use Rattle.certs.specs.declared.evidence.Branch.{Branch}
 use Rattle.certs.specs.declared.solving.SiteKind.{SiteKind}
 use Rattle.certs.specs.declared.solving.SiteKind.TheVariants.{Improve, Stretch, Relax, Alternative}
-use Rattle.certs.specs.declared.solving.Site.{Site}
-use Rattle.certs.specs.declared.solving.Stop.{Stop}
-use Rattle.certs.specs.declared.solving.Stop.TheVariants.{Wide as TooWide, Pivots as Spent, Nodes as NodesSpent, Large, Memory}
+use Rattle.report_text.specs.declared.report.ToldSite.{ToldSite}
+use Rattle.report_text.specs.declared.report.ToldStop.{ToldStop}
+use Rattle.report_text.specs.declared.report.ToldStop.TheVariants.{Wide as TooWide, Pivots as Spent, Nodes as NodesSpent, Large}
 use Rattle.report_text.specs.Grammar.{column_name}
 use Rattle.report_page.specs.declared.markup.Tag.{Tag}
 use Rattle.report_page.specs.declared.markup.Sign.{Sign}
@@ -55,21 +56,20 @@ members_words Relax = Account.OfThese
 members_words Alternative = Account.OfThese
 members_words _ = Account.CanBeMet
 
--- the site: what was asked, of how many members, and on which path
-abbrev pub site_pieces : Program → Site → List Piece
-site_pieces model site = Piece.Account (asking_words site.kind) ∷ Piece.Count (length site.set.members) ∷ Piece.Account (members_words site.kind) ∷ (path_pieces model site.path ++ Piece.Sign Sign.FullStop ∷ [])
+-- the site: what was asked, of how many members, which are the active ones without those left out, and on which path
+abbrev pub site_pieces : Program → ToldSite → List Piece
+site_pieces model site = Piece.Account (asking_words site.kind) ∷ Piece.Count (length (active_members model) - length site.left) ∷ Piece.Account (members_words site.kind) ∷ (path_pieces model site.path ++ Piece.Sign Sign.FullStop ∷ [])
 
 -- an operation, in the turn with this number
 abbrev pub operation_pieces : Operation → List Piece
 operation_pieces o = Piece.Account Account.At ∷ Piece.Number o.left ∷ Piece.Sign (op_sign o.op) ∷ Piece.Number o.right ∷ Piece.Sign Sign.FullStop ∷ []
 
 -- why it stopped, and where
-abbrev pub stop_pieces : Program → Stop → List Piece
+abbrev pub stop_pieces : Program → ToldStop → List Piece
 stop_pieces model (TooWide site k o) = Piece.Account Account.StoppedWide ∷ (site_pieces model site ++ Piece.Account Account.Step ∷ Piece.Count k ∷ operation_pieces o)
 stop_pieces model (Spent site) = Piece.Account Account.StoppedPivots ∷ site_pieces model site
 stop_pieces model (NodesSpent site) = Piece.Account Account.StoppedNodes ∷ site_pieces model site
 stop_pieces model (Large size) = Piece.Account Account.StoppedLarge ∷ Piece.Count size ∷ Piece.Sign Sign.FullStop ∷ []
-stop_pieces model Memory = Piece.Account Account.StoppedMemory ∷ []
 
 -- ---- what was enforced
 -- an item with a member and what it asks for
@@ -87,9 +87,8 @@ abbrev pub enforced_pieces : Program → List Member → List Piece
 enforced_pieces model members = cond (length members == 0) [] (enforced_fold model members)
 
 -- those of the site of a stop
-abbrev pub enforced_at : Program → Stop → List Piece
-enforced_at model (TooWide site k o) = enforced_pieces model site.enforced.members
-enforced_at model (Spent site) = enforced_pieces model site.enforced.members
-enforced_at model (NodesSpent site) = enforced_pieces model site.enforced.members
+abbrev pub enforced_at : Program → ToldStop → List Piece
+enforced_at model (TooWide site k o) = enforced_pieces model site.enforced
+enforced_at model (Spent site) = enforced_pieces model site.enforced
+enforced_at model (NodesSpent site) = enforced_pieces model site.enforced
 enforced_at model (Large size) = []
-enforced_at model Memory = []

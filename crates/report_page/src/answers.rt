@@ -17,9 +17,9 @@ use crate::prices::write_price;
 use crate::reasons::{leaf_shares, write_reason};
 use crate::steps::write_reduced;
 use crate::stops::{write_enforced_at, write_stop};
-use certs::{Node, PackedPoint, Stop};
-use lp_model::{MemberSet, Model};
-use report_text::{Answer, Command, Core, Method};
+use certs::{Node, PackedPoint};
+use lp_model::Model;
+use report_text::{Answer, Command, Core, MemberList, Method, ToldStop};
 use std::alloc::AllocError;
 
 // What a method is asked.
@@ -63,7 +63,7 @@ pub(crate) fn write_command(command: &Command, into: &mut Vec<u8>) -> Result<(),
 fn write_conflict(
     model: &Model,
     among: Among,
-    set: &MemberSet,
+    set: &MemberList,
     witnesses: &[PackedPoint],
     nodes: &[Node],
     into: &mut Vec<u8>,
@@ -114,7 +114,7 @@ fn write_irreducible(model: &Model, core: &Core, into: &mut Vec<u8>) -> Result<(
 }
 
 // Writes that a calculation stopped.
-fn write_stopped(model: &Model, stop: &Stop, into: &mut Vec<u8>) -> Result<(), AllocError>
+fn write_stopped(model: &Model, stop: &ToldStop, into: &mut Vec<u8>) -> Result<(), AllocError>
     ensures { OnOk result (Writes into.old.items into.new.items (stopped_pieces model.now stop.now)) }
 {
     write(&[Piece::Tag(Tag::Paragraph)], into)?;

@@ -11,7 +11,8 @@ use crate::markup::{Sign, Tag, Words};
 use crate::members::fold_tag;
 use crate::parts::{column_name, member_name, row_terms};
 use crate::pieces::{Piece, write};
-use lp_model::{Member, MemberSet, Model, Term};
+use lp_model::{Member, Model, Term};
+use report_text::MemberList;
 use std::alloc::AllocError;
 
 /// The most members of a drawing, and the most columns.
@@ -38,7 +39,7 @@ fn stands_in(model: &Model, column: u32, member: Member) -> bool
 }
 
 // Whether a column stands in the forms of at least two members.
-fn is_shared(model: &Model, column: u32, set: &MemberSet) -> bool
+fn is_shared(model: &Model, column: u32, set: &MemberList) -> bool
     requires { length set.now.members ≤ 60 }
     ensures { result ≡ is_shared_by model.now set.now.members column }
 {
@@ -52,7 +53,7 @@ fn is_shared(model: &Model, column: u32, set: &MemberSet) -> bool
 }
 
 // How many columns are shared.
-fn count_shared(model: &Model, set: &MemberSet) -> u64
+fn count_shared(model: &Model, set: &MemberList) -> u64
     requires { length set.now.members ≤ 60 }
     ensures { result ≡ shared_count model.now set.now.members (length model.now.columns) }
 {
@@ -90,7 +91,7 @@ fn write_member(
 }
 
 // Writes the members on the left.
-fn write_members(model: &Model, set: &MemberSet, into: &mut Vec<u8>) -> Result<(), AllocError>
+fn write_members(model: &Model, set: &MemberList, into: &mut Vec<u8>) -> Result<(), AllocError>
     requires { length set.now.members ≤ 60 }
     ensures { OnOk result (Writes into.old.items into.new.items (numbered (member_pieces model.now) 1 set.now.members)) }
 {
@@ -157,7 +158,7 @@ fn write_ties(
     model: &Model,
     place: u64,
     column: u32,
-    set: &MemberSet,
+    set: &MemberList,
     into: &mut Vec<u8>,
 ) -> Result<(), AllocError>
     requires column { place ≤ most_columns }
@@ -177,7 +178,7 @@ fn write_shared(
     model: &Model,
     above: u64,
     column: u32,
-    set: &MemberSet,
+    set: &MemberList,
     into: &mut Vec<u8>,
 ) -> Result<u64, AllocError>
     requires column { above < most_columns }
@@ -194,7 +195,7 @@ fn write_shared(
 }
 
 // Writes the shared columns, one below the other, and their lines.
-fn write_columns(model: &Model, set: &MemberSet, into: &mut Vec<u8>) -> Result<(), AllocError>
+fn write_columns(model: &Model, set: &MemberList, into: &mut Vec<u8>) -> Result<(), AllocError>
     requires { length set.now.members ≤ 60 }
     ensures { OnOk result (Writes into.old.items into.new.items (shared_pieces model.now set.now.members (length model.now.columns))) }
 {
@@ -208,7 +209,7 @@ fn write_columns(model: &Model, set: &MemberSet, into: &mut Vec<u8>) -> Result<(
 // Writes the drawing of members with so many shared columns.
 fn write_figure(
     model: &Model,
-    set: &MemberSet,
+    set: &MemberList,
     shared: u64,
     into: &mut Vec<u8>,
 ) -> Result<(), AllocError>
@@ -239,7 +240,7 @@ fn write_figure(
 /// Writes which columns tie members together, where there are from 1 to 60 such columns and at most 60 members.
 pub(crate) fn write_drawing(
     model: &Model,
-    set: &MemberSet,
+    set: &MemberList,
     into: &mut Vec<u8>,
 ) -> Result<(), AllocError>
     ensures { OnOk result (Writes into.old.items into.new.items (drawing_pieces model.now set.now.members)) }

@@ -269,7 +269,6 @@ pub enum Account {
     StoppedPivots,
     StoppedNodes,
     StoppedLarge,
-    StoppedMemory,
     Asking,
     AskingReach,
     AskingStretch,
@@ -308,8 +307,6 @@ impl Account {
                 "This calculation stopped before there was an answer: the cases that it may tell apart were used up.",
             Account::StoppedLarge =>
                 "This calculation stopped before there was an answer: it is too large, of size ",
-            Account::StoppedMemory =>
-                "This calculation stopped before there was an answer: there was no memory.",
             Account::Asking => " It was asking whether ",
             Account::AskingReach => " It was asking how far the objective can go while ",
             Account::AskingStretch =>

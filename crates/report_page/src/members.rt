@@ -11,7 +11,8 @@ use crate::markup::{Giving, Sign, Tag, Words};
 use crate::pieces::{Piece, write};
 use certs::{PackedPoint, Share, Source};
 use frac128::Frac;
-use lp_model::{Member, MemberSet, Model};
+use lp_model::{Member, Model};
+use report_text::MemberList;
 use std::alloc::AllocError;
 
 /// The most items of a fold that is open.
@@ -144,7 +145,7 @@ fn others(witnesses: &[PackedPoint]) -> &[PackedPoint]
 fn write_members(
     model: &Model,
     shares: &[Share],
-    set: &MemberSet,
+    set: &MemberList,
     witnesses: &[PackedPoint],
     into: &mut Vec<u8>,
 ) -> Result<(), AllocError>
@@ -230,7 +231,7 @@ pub(crate) fn write_list(
     model: &Model,
     among: Among,
     shares: &[Share],
-    set: &MemberSet,
+    set: &MemberList,
     witnesses: &[PackedPoint],
     into: &mut Vec<u8>,
 ) -> Result<(), AllocError>

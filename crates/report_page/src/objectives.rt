@@ -10,7 +10,7 @@ use crate::markup::{Giving, Reach, Sign, Tag};
 use crate::members::{fold_tag, write_asking, write_taken};
 use crate::pieces::{Piece, write};
 use crate::points::{Told, write_fold};
-use certs::{PackedPoint, Ray, Share, Source};
+use certs::{PackedPoint, PackedRay, Share, Source};
 use frac128::Frac;
 use lp_model::Model;
 use report_text::Bounded;
@@ -27,7 +27,7 @@ pub enum Support {
 pub(crate) fn write_unbounded(
     model: &Model,
     point: &PackedPoint,
-    ray: &Ray,
+    ray: &PackedRay,
     into: &mut Vec<u8>,
 ) -> Result<(), AllocError>
     ensures { OnOk result (Writes into.old.items into.new.items (unbounded_pieces model.now point.now.values ray.now.values)) }
@@ -50,6 +50,7 @@ pub(crate) fn write_unbounded(
         ],
         into,
     )?;
+    let ray = ray.unpacked(*into.allocator())?;
     write_fold(model, Told::Change, ray.values.as_slice(), into)
 }
 

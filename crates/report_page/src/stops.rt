@@ -1,8 +1,9 @@
 //! Calculations that stopped.
 #![tactic(auto, using(crate::proofs::Pieced::more))]
 
-ghost use Rattle.std.specs.Prelude.{◌≡◌, ◌∷◌, [], OnOk, flat_map, cond};
-ghost use Rattle.certs.specs.declared.solving.Stop.TheVariants.{Wide as TooWide};
+ghost use Rattle.std.specs.Prelude.{◌≡◌, ◌-◌, ◌∷◌, [], IfOk, OnOk, cond, flat_map, length};
+ghost use Rattle.lp_model.specs.Members.{active_members};
+ghost use Rattle.report_text.specs.declared.report.ToldStop.TheVariants.{Wide as TooWide};
 ghost use Rattle.report_page.specs.Pieces.{Piece as Shown, Writes};
 ghost use Rattle.report_page.specs.Stops.{op_sign, branch_pieces, first_branch, next_branch, path_pieces, asking_words, members_words, site_pieces, operation_pieces, stop_pieces, enforced_item, enforced_fold, enforced_pieces, enforced_at};
 
@@ -10,10 +11,11 @@ use crate::markup::{Account, Sign, Tag};
 use crate::members::{fold_tag, write_asking};
 use crate::parts::column_name;
 use crate::pieces::{Piece, write};
-use certs::{Branch, Site, SiteKind, Stop};
+use certs::{Branch, SiteKind};
 use frac128::{Op, Wide};
-use lp_model::{Member, MemberSet, Model};
-use std::alloc::AllocError;
+use lp_model::{Member, Model};
+use report_text::{ToldSite, ToldStop};
+use std::alloc::{AllocError, Global};
 
 // The sign of an operation.
 fn sign_of(op: Op) -> Sign
@@ -113,14 +115,23 @@ fn asking_members(kind: SiteKind) -> Account
     }
 }
 
+// How many members a run was of: the active ones without those left out.
+fn member_count(alloc: Global, model: &Model, left: &[Member]) -> Result<u64, AllocError>
+    ensures { IfOk result (λ count. count ≡ length (active_members model.now) - length left.now) }
+{
+    let active = model.members(alloc)?;
+    Ok(active.count().saturating_sub(left.len() as u64))
+}
+
 // Writes the site of a stop.
-fn write_site(model: &Model, site: &Site, into: &mut Vec<u8>) -> Result<(), AllocError>
+fn write_site(model: &Model, site: &ToldSite, into: &mut Vec<u8>) -> Result<(), AllocError>
     ensures { OnOk result (Writes into.old.items into.new.items (site_pieces model.now site.now)) }
 {
+    let count = member_count(*into.allocator(), model, site.left.as_slice())?;
     write(
         &[
             Piece::Account(asking(site.kind)),
-            Piece::Count(site.set.count()),
+            Piece::Count(count),
             Piece::Account(asking_members(site.kind)),
         ],
         into,
@@ -148,7 +159,7 @@ fn write_operation(operation: &Wide, into: &mut Vec<u8>) -> Result<(), AllocErro
 // Writes that an operation is too wide.
 fn write_wide(
     model: &Model,
-    site: &Site,
+    site: &ToldSite,
     step: u64,
     operation: &Wide,
     into: &mut Vec<u8>,
@@ -165,7 +176,7 @@ fn write_wide(
 fn write_spent(
     model: &Model,
     what: Account,
-    site: &Site,
+    site: &ToldSite,
     into: &mut Vec<u8>,
 ) -> Result<(), AllocError>
     ensures { OnOk result (Writes into.old.items into.new.items (Shown.Account what ∷ site_pieces model.now site.now)) }
@@ -189,15 +200,18 @@ fn write_large(size: u64, into: &mut Vec<u8>) -> Result<(), AllocError>
 }
 
 /// Writes why a calculation stopped, and where.
-pub(crate) fn write_stop(model: &Model, stop: &Stop, into: &mut Vec<u8>) -> Result<(), AllocError>
+pub(crate) fn write_stop(
+    model: &Model,
+    stop: &ToldStop,
+    into: &mut Vec<u8>,
+) -> Result<(), AllocError>
     ensures { OnOk result (Writes into.old.items into.new.items (stop_pieces model.now stop.now)) }
 {
     match stop {
-        Stop::Wide(site, step, operation) => write_wide(model, site, *step, operation, into),
-        Stop::Pivots(site) => write_spent(model, Account::StoppedPivots, site, into),
-        Stop::Nodes(site) => write_spent(model, Account::StoppedNodes, site, into),
-        Stop::Large(size) => write_large(*size, into),
-        Stop::Memory => write(&[Piece::Account(Account::StoppedMemory)], into),
+        ToldStop::Wide(site, step, operation) => write_wide(model, site, *step, operation, into),
+        ToldStop::Pivots(site) => write_spent(model, Account::StoppedPivots, site, into),
+        ToldStop::Nodes(site) => write_spent(model, Account::StoppedNodes, site, into),
+        ToldStop::Large(size) => write_large(*size, into),
     }
 }
 
@@ -210,22 +224,30 @@ fn write_enforced_item(model: &Model, member: Member, into: &mut Vec<u8>) -> Res
 }
 
 // Writes an item for each enforced member.
-fn write_each_enforced(model: &Model, set: &MemberSet, into: &mut Vec<u8>) -> Result<(), AllocError>
-    ensures { let pieces = flat_map (enforced_item model.now) set.now.members in
+fn write_each_enforced(
+    model: &Model,
+    enforced: &[Member],
+    into: &mut Vec<u8>,
+) -> Result<(), AllocError>
+    ensures { let pieces = flat_map (enforced_item model.now) enforced.now in
         OnOk result (Writes into.old.items into.new.items pieces) }
 {
-    for member in set.iter() {
-        write_enforced_item(model, member, into)?;
+    for member in enforced {
+        write_enforced_item(model, *member, into)?;
     }
     Ok(())
 }
 
 // Writes enforced members in a fold.
-fn write_enforced_fold(model: &Model, set: &MemberSet, into: &mut Vec<u8>) -> Result<(), AllocError>
-    ensures { let pieces = enforced_fold model.now set.now.members in
+fn write_enforced_fold(
+    model: &Model,
+    enforced: &[Member],
+    into: &mut Vec<u8>,
+) -> Result<(), AllocError>
+    ensures { let pieces = enforced_fold model.now enforced.now in
         OnOk result (Writes into.old.items into.new.items pieces) }
 {
-    let count = set.count();
+    let count = enforced.len() as u64;
     write(
         &[
             Piece::Tag(fold_tag(count)),
@@ -236,7 +258,7 @@ fn write_enforced_fold(model: &Model, set: &MemberSet, into: &mut Vec<u8>) -> Re
         ],
         into,
     )?;
-    write_each_enforced(model, set, into)?;
+    write_each_enforced(model, enforced, into)?;
     write(
         &[Piece::Tag(Tag::OrderedEnd), Piece::Tag(Tag::FoldEnd)],
         into,
@@ -244,28 +266,28 @@ fn write_enforced_fold(model: &Model, set: &MemberSet, into: &mut Vec<u8>) -> Re
 }
 
 // Writes enforced members, where there are any.
-fn write_enforced(model: &Model, set: &MemberSet, into: &mut Vec<u8>) -> Result<(), AllocError>
-    ensures { let pieces = enforced_pieces model.now set.now.members in
+fn write_enforced(model: &Model, enforced: &[Member], into: &mut Vec<u8>) -> Result<(), AllocError>
+    ensures { let pieces = enforced_pieces model.now enforced.now in
         OnOk result (Writes into.old.items into.new.items pieces) }
 {
-    if set.count() == 0 {
+    if enforced.is_empty() {
         return Ok(());
     }
-    write_enforced_fold(model, set, into)
+    write_enforced_fold(model, enforced, into)
 }
 
 /// Writes the members that were enforced at the site of a stop.
 pub(crate) fn write_enforced_at(
     model: &Model,
-    stop: &Stop,
+    stop: &ToldStop,
     into: &mut Vec<u8>,
 ) -> Result<(), AllocError>
     ensures { OnOk result (Writes into.old.items into.new.items (enforced_at model.now stop.now)) }
 {
     match stop {
-        Stop::Wide(site, _, _) => write_enforced(model, &site.enforced, into),
-        Stop::Pivots(site) => write_enforced(model, &site.enforced, into),
-        Stop::Nodes(site) => write_enforced(model, &site.enforced, into),
-        Stop::Large(_) | Stop::Memory => Ok(()),
+        ToldStop::Wide(site, _, _) => write_enforced(model, site.enforced.as_slice(), into),
+        ToldStop::Pivots(site) => write_enforced(model, site.enforced.as_slice(), into),
+        ToldStop::Nodes(site) => write_enforced(model, site.enforced.as_slice(), into),
+        ToldStop::Large(_) => Ok(()),
     }
 }

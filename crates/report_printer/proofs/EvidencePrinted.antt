@@ -1,21 +1,14 @@
 -- What is left to be printed after a step.
-use Rattle.std.proofs.Common.{◌≡◌, ◌<◌, ◌≤◌, ◌+◌, refl, sym, ◌∙◌, ap, ℕ, not, ◌&&◌, List, [], ◌∷◌, ◌++◌, append_assoc, append-nil, drop, get_or, length, filter, zip, map, flat_map}
+use Rattle.std.proofs.Common.{◌≡◌, ◌<◌, ◌≤◌, ◌+◌, refl, sym, ◌∙◌, ap, ℕ, List, [], ◌∷◌, ◌++◌, append_assoc, append-nil, drop, get_or, length, zip, map, flat_map}
 use Rattle.std.proofs.lemmas.List.{at_drop_more, map-append}
 use Rattle.std.proofs.Math.ListN.{drop_of_length-le}
 use Rattle.std.proofs.lemmas.Grind.{flat_map-append}
-use Rattle.std.specs.Prelude.{All, Contains}
-use Rattle.std.proofs.lemmas.List.Elements.{filter-append, All-contains_itself, All-weaker}
 use Rattle.lp_model.specs.declared.members.Member.{Member}
 use Rattle.lp_model.specs.Program.{Program}
-use Rattle.lp_model.specs.Members.{has, is_active, possible_members}
-use Rattle.lp_model.proofs.Marked.{possible_is}
-use Rattle.lp_model.specs.MemberSets.{SetValue, IsPossibleIn}
-use Rattle.certs.specs.Checks.{IsSetOf}
 use Rattle.certs.specs.declared.evidence.Point.{Point}
 use Rattle.report_text.specs.declared.phrases.Phrase.{Phrase}
-use Rattle.report_text.specs.Grammar.{phrase_line, without_phrase, left_out, witness_phrases, phrases_text, text_of}
-use Rattle.report_printer.specs.Evidence.{ended, missing_text, IsKnownMember}
-use Rattle.report_text.proofs.Filters.{filter_twice}
+use Rattle.report_text.specs.Grammar.{phrase_line, witness_phrases, phrases_text, text_of}
+use Rattle.report_printer.specs.Evidence.{ended}
 
 -- the text of phrases is that of the first ones and of the others
 pub text_both : (model : Program) (first others : List Phrase) → phrases_text model (first ++ others) ≡ phrases_text model first ++ phrases_text model others
@@ -52,11 +45,6 @@ zip_none (m ∷ ms) (w ∷ ws) e = absurd (cc)
 pub no_witness : (model : Program) (ms : List Member) (witnesses : List Point) (i : ℕ) → length witnesses ≤ i → phrases_text model (flat_map witness_phrases (zip ms (drop i witnesses))) ≡ []
 no_witness model ms witnesses i e = ap (λ l. phrases_text model (flat_map witness_phrases l)) (zip_none ms (drop i witnesses) (drop_of_length-le witnesses e))
 
--- each member that a program may have is one of the program
-pub possible_known : (model : Program) → All (IsKnownMember model) (possible_members model)
-possible_known model =
-    All-weaker (Contains (possible_members model)) (IsKnownMember model) (λ m c. possible_is (length model.rows) (length model.columns) m c) (possible_members model) (All-contains_itself (possible_members model))
-
 -- more lines
 pub lines_more : (model : Program) (start done next : List ℕ) (phrases more : List Phrase) → done ≡ start ++ phrases_text model phrases → next ≡ done ++ phrases_text model more → next ≡ start ++ phrases_text model (phrases ++ more)
 lines_more model start done next phrases more d e = e ∙ (ap (λ t. t ++ phrases_text model more) d ∙ (append_assoc start (phrases_text model phrases) (phrases_text model more) ∙ ap (λ t. start ++ t) (sym (text_both model phrases more))))
@@ -73,24 +61,3 @@ line_first model start next p e = e ∙ ap (λ t. start ++ t) (sym (append-nil (
 pub in_parts : (model : Program) (first : Phrase) (a b : List Phrase) (start s1 s2 s3 : List ℕ) → s1 ≡ start ++ ended (phrase_line model first) → s2 ≡ s1 ++ phrases_text model a → s3 ≡ s2 ++ phrases_text model b → s3 ≡ start ++ phrases_text model (first ∷ (a ++ b))
 in_parts model first a b start s1 s2 s3 e1 e2 e3 =
     lines_more model start s1 s3 (first ∷ []) (a ++ b) (line_first model start s1 first e1) (lines_more model s1 s2 s3 a b e2 e3)
-
--- ---- the members that are left out
--- the text of the missing ones among members is that of the first of them and of the others
-missing_both : (model : Program) (set first others : List Member) → missing_text model set (first ++ others) ≡ missing_text model set first ++ missing_text model set others
-missing_both model set first others =
-    let left : List Member → List Member = filter (λ m. is_active model m && not (has set m)) in
-    ap (λ (l : List Member). phrases_text model (map without_phrase l)) (filter-append (λ m. is_active model m && not (has set m)) first others)
-    ∙ (ap (phrases_text model) (map-append without_phrase (left first) (left others))
-    ∙ text_both model (map without_phrase (left first)) (map without_phrase (left others)))
-
--- the first of them, and the others
-pub missing_step : (model : Program) (set : List Member) (m : Member) (others : List Member) → missing_text model set (m ∷ others) ≡ missing_text model set (m ∷ []) ++ missing_text model set others
-missing_step model set m others = missing_both model set (m ∷ []) others
-
--- all of them
-pub missing_all : (model : Program) (set : List Member) → missing_text model set (possible_members model) ≡ phrases_text model (map without_phrase (left_out model set))
-missing_all model set = ap (λ (l : List Member). phrases_text model (map without_phrase l)) (sym (filter_twice (is_active model) (λ n. not (has set n)) (possible_members model)))
-
--- a member that can be printed is possible in a set of the program
-pub possible_member : (model : Program) (set : SetValue) (m : Member) → IsSetOf model set → IsKnownMember model m → IsPossibleIn set m
-possible_member model set m is h = rw (is.rows, is.columns) h

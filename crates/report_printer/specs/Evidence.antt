@@ -1,9 +1,8 @@
 -- What evidence can be printed: what names rows and columns that there are.
-use Rattle.std.specs.Prelude.{◌≡◌, ℕ, ◌<◌, ◌&&◌, not, List, [], ◌∷◌, ◌++◌, length, map, filter, Option, Some, None, All}
+use Rattle.std.specs.Prelude.{◌≡◌, ℕ, ◌<◌, List, [], ◌∷◌, ◌++◌, length, Option, Some, None, All}
 use Rattle.rational.specs.Rational.{ℚ}
 use Rattle.lp_model.specs.Program.{Program}
 use Rattle.lp_model.specs.declared.members.Member.{Member}
-use Rattle.lp_model.specs.Members.{is_active, has}
 use Rattle.lp_model.specs.MemberSets.{IsMemberFor}
 use Rattle.certs.specs.declared.evidence.Source.{Source}
 use Rattle.certs.specs.declared.evidence.Source.TheVariants.{Member as Of, Below, Above}
@@ -12,23 +11,18 @@ use Rattle.certs.specs.declared.evidence.Node.{Node}
 use Rattle.certs.specs.declared.evidence.Node.TheVariants.{Split, Leaf}
 use Rattle.certs.specs.declared.evidence.Proof.{Proof}
 use Rattle.certs.specs.declared.evidence.Ray.{Ray}
-use Rattle.certs.specs.Checks.{IsSetOf}
-use Rattle.certs.specs.declared.solving.Site.{Site}
-use Rattle.certs.specs.declared.solving.Stop.{Stop}
-use Rattle.certs.specs.declared.solving.Stop.TheVariants.{Wide as TooWide, Pivots as Spent, Nodes, Large, Memory}
 use Rattle.reductions.specs.declared.steps.ReduceStep.{ReduceStep}
 use Rattle.reductions.specs.declared.steps.ReduceStep.TheVariants.{Empty, Singleton, Fixed, Redundant, Forcing, Doubleton}
 use Rattle.certs.specs.declared.evidence.Dual.{Dual}
 use Rattle.report_text.specs.declared.report.Bounded.{Bounded}
-use Rattle.report_text.specs.Grammar.{Line, without_phrase, phrases_text}
+use Rattle.report_text.specs.declared.report.ToldSite.{ToldSite}
+use Rattle.report_text.specs.declared.report.ToldStop.{ToldStop}
+use Rattle.report_text.specs.declared.report.ToldStop.TheVariants.{Wide as TooWide, Pivots as Spent, Nodes, Large}
+use Rattle.report_text.specs.Grammar.{Line}
 
 -- a line with the byte that ends it
 abbrev pub ended : Line → List ℕ
 ended line = line ++ 10 ∷ []
-
--- the text of the lines of those of some members that are active and not in a set
-abbrev pub missing_text : Program → List Member → List Member → List ℕ
-missing_text model set members = phrases_text model (map without_phrase (filter (λ m. is_active model m && not (has set m)) members))
 
 -- ---- what can be printed
 -- a member whose row or column there is
@@ -73,19 +67,18 @@ abbrev pub IsKnownPrice : Program → Option (ℚ × Point) → Type 0
 IsKnownPrice model None = Unit {0}
 IsKnownPrice model (Some p) = IsKnownPoint model p.1
 
--- sets of members of the program, and branches on columns that there are
-pub record IsKnownSite (model : Program) (site : Site) : Type 0 where
-  pub set : IsSetOf model site.set
-  pub enforced : IsSetOf model site.enforced
+-- members of the program, and branches on columns that there are
+pub record IsKnownSite (model : Program) (site : ToldSite) : Type 0 where
+  pub left : All (IsKnownMember model) site.left
+  pub enforced : All (IsKnownMember model) site.enforced
   pub path : All (λ b. b.column < length model.columns) site.path
 
 -- such a site, where it has one
-abbrev pub IsKnownStop : Program → Stop → Type 0
+abbrev pub IsKnownStop : Program → ToldStop → Type 0
 IsKnownStop model (TooWide site k o) = IsKnownSite model site
 IsKnownStop model (Spent site) = IsKnownSite model site
 IsKnownStop model (Nodes site) = IsKnownSite model site
 IsKnownStop model (Large size) = Unit {0}
-IsKnownStop model Memory = Unit {0}
 
 -- a step whose row and column there are
 abbrev pub IsKnownStep : Program → ReduceStep → Type 0

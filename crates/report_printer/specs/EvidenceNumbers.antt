@@ -8,11 +8,11 @@ use Rattle.certs.specs.declared.evidence.Node.TheVariants.{Split, Leaf}
 use Rattle.certs.specs.declared.evidence.Proof.{Proof}
 use Rattle.certs.specs.declared.evidence.Ray.{Ray}
 use Rattle.certs.specs.declared.evidence.Dual.{Dual}
-use Rattle.certs.specs.declared.solving.Stop.{Stop}
-use Rattle.certs.specs.declared.solving.Stop.TheVariants.{Wide as TooWide, Pivots as Spent, Nodes, Large, Memory}
 use Rattle.reductions.specs.declared.steps.ReduceStep.{ReduceStep}
 use Rattle.reductions.specs.declared.steps.ReduceStep.TheVariants.{Fixed}
 use Rattle.report_text.specs.declared.report.Bounded.{Bounded}
+use Rattle.report_text.specs.declared.report.ToldStop.{ToldStop}
+use Rattle.report_text.specs.declared.report.ToldStop.TheVariants.{Wide as TooWide, Pivots as Spent, Nodes, Large}
 use Rattle.report_text.specs.declared.report.Reduced.{Reduced}
 use Rattle.report_text.specs.Form.{IsWithinLimit, IsValueWithin, IsCount, IsOperation}
 
@@ -34,12 +34,11 @@ abbrev pub IsProofWithin : Proof → Type 0
 IsProofWithin proof = All HasWeightsWithin proof.nodes
 
 -- a turn's number with the operands of an operation, or a size
-abbrev pub IsStopWithin : Stop → Type 0
+abbrev pub IsStopWithin : ToldStop → Type 0
 IsStopWithin (TooWide site k o) = IsCount k × IsOperation o
 IsStopWithin (Spent site) = Unit {0}
 IsStopWithin (Nodes site) = Unit {0}
 IsStopWithin (Large size) = IsCount size
-IsStopWithin Memory = Unit {0}
 
 -- the changes of a ray
 abbrev pub IsRayWithin : Ray → Type 0

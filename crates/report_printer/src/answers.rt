@@ -19,8 +19,8 @@ use crate::steps::print_reduced;
 use crate::stops::print_stop;
 use crate::words::{append, push_line};
 use certs::{PackedPoint, Proof};
-use lp_model::{MemberSet, Model};
-use report_text::{Answer, Command, Core, Phrase, Refusal};
+use lp_model::Model;
+use report_text::{Answer, Command, Core, MemberList, Phrase, Refusal};
 use std::alloc::AllocError;
 
 // Appends the lines of a point that is an answer, but for its end.
@@ -36,7 +36,7 @@ fn print_feasible(model: &Model, point: &PackedPoint, into: &mut Vec<u8>) -> Res
 // Appends the lines of members and a proof that are an answer, but for its end.
 fn print_infeasible(
     model: &Model,
-    set: &MemberSet,
+    set: &MemberList,
     proof: &Proof,
     into: &mut Vec<u8>,
 ) -> Result<(), AllocError>
@@ -68,7 +68,7 @@ fn print_irreducible(model: &Model, core: &Core, into: &mut Vec<u8>) -> Result<(
 // Appends the lines of rigid members and a proof that are an answer, but for its end.
 fn print_rigid(
     model: &Model,
-    set: &MemberSet,
+    set: &MemberList,
     proof: &Proof,
     into: &mut Vec<u8>,
 ) -> Result<(), AllocError>

@@ -6,8 +6,8 @@ ghost use Rattle.report_text.specs.Grammar.{column_name, spelled, name_of, kind_
 ghost use Rattle.report_printer.specs.Evidence.{ended, IsKnownMember};
 
 use crate::words::{push_line, push_word};
-use lp_model::{Member, MemberSet, Model};
-use report_text::Phrase;
+use lp_model::{Member, Model};
+use report_text::{MemberList, Phrase};
 use std::alloc::AllocError;
 
 /// The word for the kind of a member.
@@ -69,7 +69,7 @@ pub(crate) fn print_column(
 /// Appends the lines of members.
 pub(crate) fn print_members(
     model: &Model,
-    set: &MemberSet,
+    set: &MemberList,
     into: &mut Vec<u8>,
 ) -> Result<(), AllocError>
     requires { IsSetOf model.now set.now }

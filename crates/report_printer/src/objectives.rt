@@ -10,19 +10,20 @@ ghost use Rattle.report_printer.specs.Evidence.{ended, IsKnownSource, IsKnownPoi
 use crate::nodes::print_uses;
 use crate::points::{print_point, print_values};
 use crate::words::{push_fraction, push_line, push_word};
-use certs::{Dual, PackedPoint, Ray};
+use certs::{Dual, PackedPoint, PackedRay};
 use frac128::{Exact, Frac};
 use lp_model::Model;
 use report_text::{Bounded, Phrase};
 use std::alloc::AllocError;
 
 // Appends the lines of a ray: each change that is not 0 has one.
-fn print_ray(model: &Model, ray: &Ray, into: &mut Vec<u8>) -> Result<(), AllocError>
+fn print_ray(model: &Model, ray: &PackedRay, into: &mut Vec<u8>) -> Result<(), AllocError>
     requires { IsKnownRay model.now ray.now }
     ensures text { OnOk result (into.new.items ≡ into.old.items ++ phrases_text model.now (Phrase.Ray ∷ value_phrases 0 ray.now.values)) }
     ensures within { OnOk result (IsRayWithin ray.now) }
 {
     push_line(b"ray", into)?;
+    let ray = ray.unpacked(*into.allocator())?;
     print_values(model, ray.values.as_slice(), into)
 }
 
@@ -30,7 +31,7 @@ fn print_ray(model: &Model, ray: &Ray, into: &mut Vec<u8>) -> Result<(), AllocEr
 pub(crate) fn print_unbounded(
     model: &Model,
     point: &PackedPoint,
-    ray: &Ray,
+    ray: &PackedRay,
     into: &mut Vec<u8>,
 ) -> Result<(), AllocError>
     requires point { IsKnownPoint model.now point.now }

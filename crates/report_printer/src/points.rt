@@ -11,8 +11,8 @@ use crate::members::print_member;
 use crate::words::{push_fraction, push_line, push_word};
 use certs::PackedPoint;
 use frac128::{Exact, Frac};
-use lp_model::{Member, MemberSet, Model};
-use report_text::Phrase;
+use lp_model::{Member, Model};
+use report_text::{MemberList, Phrase};
 use std::alloc::AllocError;
 
 // Appends the line of a column's value.
@@ -99,7 +99,7 @@ fn print_witness(
 /// Appends the lines of members with their witnesses, as far as there are both.
 pub(crate) fn print_witnesses(
     model: &Model,
-    set: &MemberSet,
+    set: &MemberList,
     witnesses: &[PackedPoint],
     into: &mut Vec<u8>,
 ) -> Result<(), AllocError>

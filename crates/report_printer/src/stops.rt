@@ -9,10 +9,9 @@ ghost use Rattle.report_printer.specs.Evidence.{ended, IsKnownSite, IsKnownStop}
 
 use crate::sites::print_site;
 use crate::words::{push_count, push_fraction, push_line, push_word};
-use certs::{Site, Stop};
 use frac128::{Exact, Op, Wide};
 use lp_model::Model;
-use report_text::{Phrase, StopPhrase};
+use report_text::{Phrase, StopPhrase, ToldSite, ToldStop};
 use std::alloc::AllocError;
 
 fn op_name(op: Op) -> &'static str
@@ -52,14 +51,14 @@ fn print_operation(operation: &Wide, into: &mut Vec<u8>) -> Result<(), AllocErro
 // Appends the lines of a stop at an operation, but for its end.
 fn print_wide(
     model: &Model,
-    site: &Site,
+    site: &ToldSite,
     step: u64,
     operation: &Wide,
     into: &mut Vec<u8>,
 ) -> Result<(), AllocError>
     requires { IsKnownSite model.now site.now }
-    ensures text { OnOk result (into.new.items ≡ into.old.items ++ phrases_text model.now (stop_phrases model.now (Stop.Wide site.now step operation.now))) }
-    ensures within { OnOk result (IsStopWithin (Stop.Wide site.now step operation.now)) }
+    ensures text { OnOk result (into.new.items ≡ into.old.items ++ phrases_text model.now (stop_phrases (ToldStop.Wide site.now step operation.now))) }
+    ensures within { OnOk result (IsStopWithin (ToldStop.Wide site.now step operation.now)) }
 {
     push_line(b"too wide", into)?;
     print_site(model, site, into)?;
@@ -72,11 +71,11 @@ fn print_wide(
 fn print_spent(
     model: &Model,
     what: &[u8],
-    site: &Site,
+    site: &ToldSite,
     into: &mut Vec<u8>,
 ) -> Result<(), AllocError>
     requires { IsKnownSite model.now site.now }
-    ensures { OnOk result (into.new.items ≡ into.old.items ++ (ended what.now ++ phrases_text model.now (site_phrases model.now site.now))) }
+    ensures { OnOk result (into.new.items ≡ into.old.items ++ (ended what.now ++ phrases_text model.now (site_phrases site.now))) }
 {
     push_line(what, into)?;
     print_site(model, site, into)
@@ -91,20 +90,23 @@ fn print_large(size: u64, into: &mut Vec<u8>) -> Result<(), AllocError>
     push_count(size, into)
 }
 
-/// Appends the lines of a stop, but for its end; want of memory has none.
-pub(crate) fn print_stop(model: &Model, stop: &Stop, into: &mut Vec<u8>) -> Result<(), AllocError>
+/// Appends the lines of a stop, but for its end.
+pub(crate) fn print_stop(
+    model: &Model,
+    stop: &ToldStop,
+    into: &mut Vec<u8>,
+) -> Result<(), AllocError>
     requires { IsKnownStop model.now stop.now }
-    ensures text { OnOk result (into.new.items ≡ into.old.items ++ phrases_text model.now (stop_phrases model.now stop.now)) }
+    ensures text { OnOk result (into.new.items ≡ into.old.items ++ phrases_text model.now (stop_phrases stop.now)) }
     ensures within { OnOk result (IsStopWithin stop.now) }
 {
     match stop {
-        Stop::Wide(site, step, operation) => print_wide(model, site, *step, operation, into),
-        Stop::Pivots(site) => print_spent(model, b"pivots spent", site, into),
-        Stop::Nodes(site) => print_spent(model, b"nodes spent", site, into),
-        Stop::Large(size) => {
+        ToldStop::Wide(site, step, operation) => print_wide(model, site, *step, operation, into),
+        ToldStop::Pivots(site) => print_spent(model, b"pivots spent", site, into),
+        ToldStop::Nodes(site) => print_spent(model, b"nodes spent", site, into),
+        ToldStop::Large(size) => {
             print_large(*size, into)?;
             Ok(())
         }
-        Stop::Memory => Ok(()),
     }
 }

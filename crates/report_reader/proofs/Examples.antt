@@ -13,11 +13,11 @@ use Rattle.rational.proofs.Order.{lt_q-true}
 use Rattle.rational.specs.Linear.{Term}
 use Rattle.lp_model.specs.declared.parts.Note.TheVariants.{LowerRemoved, LowerKept}
 use Rattle.lp_model.specs.declared.members.Member.{Member}
-use Rattle.lp_model.specs.declared.members.Member.TheVariants.{RowLo, RowUp, Whole}
+use Rattle.lp_model.specs.declared.members.Member.TheVariants.{RowLo, RowUp, Lower, Whole}
 use Rattle.lp_model.specs.Shown.{new_row, named_row, new_column, named_column}
 use Rattle.lp_model.specs.Program.{Program, NamedRow, NamedColumn, noted_column}
 use Rattle.lp_model.specs.Members.{comes_before}
-use Rattle.lp_model.specs.MemberSets.{SetValue, empty_set}
+use Rattle.lp_model.specs.MemberSets.{SetValue}
 use Rattle.certs.specs.declared.evidence.Source.TheVariants.{Member as Of, Below, Above}
 use Rattle.certs.specs.declared.evidence.Share.{Share}
 use Rattle.certs.specs.declared.evidence.Point.{Point}
@@ -41,8 +41,8 @@ use Rattle.report_reader.proofs.Endings.{pair_in_order, nothing_is_front, foot, 
 use Rattle.certs.specs.Order.{source_before}
 use Rattle.certs.specs.Proof.{Tip, at_most, at_least}
 use Rattle.certs.specs.declared.solving.SiteKind.TheVariants.{Settle, Stretch, Alternative}
-use Rattle.certs.specs.declared.solving.Site.{Site}
-use Rattle.certs.specs.declared.solving.Stop.TheVariants.{Pivots as Spent, Nodes as NodesSpent, Large}
+use Rattle.report_text.specs.declared.report.ToldSite.{ToldSite}
+use Rattle.report_text.specs.declared.report.ToldStop.TheVariants.{Pivots as Spent, Nodes as NodesSpent, Large}
 use Rattle.report_text.specs.Form.{IsNamedColumn, IsNamedMember, IsListed, IsUse, AreUses, IsNodeFor, IsReportFor, can_answer}
 use Rattle.report_reader.specs.Reading.{Reads, IsFront, IsWhole, IsBadLine, IsTruncated}
 
@@ -118,8 +118,8 @@ no_entries_have_lines = refl
 abbrev tree : Proof
 tree = record { nodes = Split 0 (negsuc 1) ∷ Leaf (record { shares = both }) ∷ Split 1 (pos 4) ∷ Leaf (record { shares = both }) ∷ Leaf (record { shares = [] }) ∷ [] }
 
-abbrev node_site : Site
-node_site = record { kind = Settle; set = rows_set; enforced = empty_set two_rows; path = at_most 0 (pos 3) ∷ at_least 1 (negsuc 1) ∷ [] }
+abbrev node_site : ToldSite
+node_site = record { kind = Settle; left = Lower 0 ∷ Lower 1 ∷ []; enforced = []; path = at_most 0 (pos 3) ∷ at_least 1 (negsuc 1) ∷ [] }
 
 abbrev tree_report : Report
 tree_report = record {
@@ -211,8 +211,8 @@ no_tree_of_rigid = refl
 abbrev elastic : Answer
 elastic = Irreducible (record { members = rows_set; witnesses = point (zero_ℚ ∷ frac (pos 1) 2 ∷ []) ∷ point (zero_ℚ ∷ zero_ℚ ∷ []) ∷ []; proof = proof; rounds = Some 2; price = None })
 
-abbrev stretch_site : Site
-stretch_site = record { kind = Stretch; set = rows_set; enforced = record { rows = 2; columns = 2; members = RowLo 1 ∷ [] }; path = [] }
+abbrev stretch_site : ToldSite
+stretch_site = record { kind = Stretch; left = Lower 0 ∷ Lower 1 ∷ []; enforced = RowLo 1 ∷ []; path = [] }
 
 abbrev elastic_report : Report
 elastic_report = record {
@@ -248,8 +248,8 @@ priced rounds price = Irreducible (record { members = rows_set; witnesses = poin
 abbrev alternative : Answer
 alternative = priced None (Some (frac (pos 5) 2, point (zero_ℚ ∷ frac (pos 1) 2 ∷ [])))
 
-abbrev alternative_site : Site
-alternative_site = record { kind = Alternative; set = rows_set; enforced = record { rows = 2; columns = 2; members = [] }; path = [] }
+abbrev alternative_site : ToldSite
+alternative_site = record { kind = Alternative; left = Lower 0 ∷ Lower 1 ∷ []; enforced = []; path = [] }
 
 abbrev alternative_report : Report
 alternative_report = record {

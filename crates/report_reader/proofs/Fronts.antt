@@ -23,8 +23,9 @@ use Rattle.certs.specs.declared.evidence.Node.TheVariants.{Split}
 use Rattle.certs.specs.declared.evidence.Point.{Point}
 use Rattle.certs.specs.declared.solving.SiteKind.{SiteKind}
 use Rattle.frac128.specs.declared.Wide.{Wide as Operation}
-use Rattle.certs.specs.declared.solving.Stop.{Stop}
-use Rattle.certs.specs.declared.solving.Stop.TheVariants.{Wide as TooWide, Pivots as Spent, Nodes as NodesSpent, Large}
+use Rattle.report_text.specs.declared.report.ToldSite.{ToldSite}
+use Rattle.report_text.specs.declared.report.ToldStop.{ToldStop}
+use Rattle.report_text.specs.declared.report.ToldStop.TheVariants.{Wide as TooWide, Pivots as Spent, Nodes as NodesSpent, Large}
 use Rattle.report_text.specs.declared.report.Command.{Command}
 use Rattle.report_text.specs.declared.report.Command.TheVariants.{Check, Iis, Unbounded, Relax, Reduce, Edit, Undo, Pivots, Nodes}
 use Rattle.certs.specs.declared.evidence.Dual.{Dual}
@@ -38,7 +39,6 @@ use Rattle.report_text.specs.declared.phrases.StopPhrase.{StopPhrase}
 use Rattle.report_reader.specs.declared.drafts.Found.{Found}
 use Rattle.report_reader.specs.declared.drafts.Question.{Question}
 use Rattle.report_reader.specs.declared.drafts.StopCause.{StopCause}
-use Rattle.report_reader.specs.declared.drafts.SitePart.{SitePart}
 use Rattle.report_reader.specs.declared.drafts.StopPart.{StopPart}
 use Rattle.report_reader.specs.declared.drafts.Claim.{Claim}
 use Rattle.report_reader.specs.declared.drafts.BoundPart.{BoundPart}
@@ -49,16 +49,15 @@ use Rattle.report_reader.specs.declared.drafts.Next.{Next}
 use Rattle.report_reader.specs.declared.drafts.Stage.{Stage}
 use Rattle.report_reader.specs.declared.drafts.Draft.{Draft}
 use Rattle.report_text.specs.Turns.{after, entry_commands}
-use Rattle.report_text.specs.Grammar.{column_name, entries_phrases, value_phrases, point_phrases, objective_phrases, node_phrases, proof_phrases, witness_phrases, without_phrase, enforced_phrase, branch_phrase, site_phrases, answer_front, answer_end, entry_phrases, body_phrases}
+use Rattle.report_text.specs.Grammar.{column_name, entries_phrases, value_phrases, point_phrases, objective_phrases, node_phrases, proof_phrases, witness_phrases, without_phrase, enforced_phrase, branch_phrase, answer_front, answer_end, entry_phrases, body_phrases}
 use Rattle.report_text.proofs.InTurn.{gathered-push, AllEntries-push, numbered-push}
 use Rattle.certs.specs.Order.{source_before}
-use Rattle.report_text.specs.Form.{is_word, IsNamedColumn, IsNamedMember, IsWithinLimit, IsUse, AreUses, IsListed, IsPointFor, IsRayFor, IsStepFor, IsAnswerFor, IsEntryFor, can_answer}
-use Rattle.phrase_reader.specs.Phrases.{IsNamedBranch, IsStopPhrase, IsPhraseFor}
-use Rattle.report_reader.specs.Drafts.{filled, point_of, ray_of, leaf_of, set_of, answer_of, only_if, may_split, counts_rounds, gives_price, has_tail, proof_with, price_with, witnessed_with, site_of, run_of, stop_begun, stop_with, claim_with, bound_with, least_with, not_linear_said, reply_said, extended, placed, between, advanced, AreValues, AreMembers, AreWitnesses, IsFound, IsOneMore, AreLeftOut, AreEnforced, IsTold, IsStopPart, AreNodes, Asks, Seeks, Bounds, IsBoundPart, Relaxes, IsLeastPart, Reduces, IsPartFor, IsDraftFor}
+use Rattle.report_text.specs.Form.{is_word, AreEnforced, AreLeftOut, AreMembers, IsNamedBranch, IsNamedColumn, IsNamedMember, IsSiteFor, IsWithinLimit, IsUse, AreUses, IsListed, IsPointFor, IsRayFor, IsStepFor, IsAnswerFor, IsEntryFor, can_answer}
+use Rattle.phrase_reader.specs.Phrases.{IsStopPhrase, IsPhraseFor}
+use Rattle.report_reader.specs.Drafts.{filled, point_of, ray_of, leaf_of, set_of, answer_of, only_if, may_split, counts_rounds, gives_price, has_tail, proof_with, price_with, witnessed_with, run_of, stop_begun, stop_with, claim_with, bound_with, least_with, not_linear_said, reply_said, extended, placed, between, advanced, AreValues, AreWitnesses, IsFound, IsOneMore, IsStopPart, AreNodes, Asks, Seeks, Bounds, IsBoundPart, Relaxes, IsLeastPart, Reduces, IsPartFor, IsDraftFor}
 use Rattle.phrase_reader.proofs.Named.{told}
 use Rattle.report_reader.proofs.DueTrees.{whole_due, split_due, leaf_due, none_due, one_leaf_due}
 use Rattle.report_reader.proofs.Rounds.{rounds_told, price_told, nothing_told}
-use Rattle.report_reader.proofs.LeftOut.{no_members, none_told, left_twice, site_in_form}
 
 -- ---- what is read, as phrases
 abbrev pub found_phrases : Found → List Phrase
@@ -73,7 +72,7 @@ opening StopCause.Spent = StopPhrase.Spent
 opening StopCause.Nodes = StopPhrase.Nodes
 
 -- the same, the site of its run, the members left out, those enforced, and the branches
-abbrev pub begun_phrases : StopCause → SitePart → List Phrase
+abbrev pub begun_phrases : StopCause → ToldSite → List Phrase
 begun_phrases cause site = Phrase.Stop (opening cause) ∷ Phrase.Stop (StopPhrase.Site site.kind) ∷ (map without_phrase site.left ++ (map enforced_phrase site.enforced ++ map branch_phrase site.path))
 
 abbrev pub stop_part_phrases : StopPart → List Phrase
@@ -249,6 +248,9 @@ module _ (model : Program) where
   ray_taken values h = record { len = filled_length (length model.columns) values h.few; fits = filled_fits (length model.columns) values h.fits; named = filled_named (length model.columns) values h.named }
 
   -- ---- members, witnesses and shares
+  no_members : AreMembers model []
+  no_members = record { named = All-nil (IsNamedMember model); in_order = λ i j d l m. absurd (omega arith) }
+
   member_taken : (members : List Member) (m : Member) → AreMembers model members → IsNamedMember model m → list_all (λ n. comes_before n m) members ≡ true → AreMembers model (members ++ m ∷ [])
   member_taken members m h named after = record {
     named = All-push (IsNamedMember model) members m h.named named;
@@ -362,6 +364,14 @@ module _ (model : Program) where
       let both = and_parts (exists model m) (list_all (λ n. comes_before n m) enforced) may in
       record { members = member_taken enforced m h.members named both.1; there = All-push (λ n. IsTrue (exists model n)) enforced m h.there both.0 }
 
+  -- none is left out yet, and none is enforced
+  none_told : (kind : SiteKind) → IsSiteFor model (run_of kind)
+  none_told kind = record {
+    left = record { members = no_members; active = All-nil (λ m. IsTrue (is_active model m)) };
+    enforced = record { members = no_members; there = All-nil (λ m. IsTrue (exists model m)) };
+    path = All-nil (IsNamedBranch model);
+  }
+
   -- a stop, and a phrase
   begun_taken : (c : Command) (s : StopPhrase) (next : Part) → Asks c → IsStopPhrase model s → stop_begun s ≡ Some (Next.More next) → Took c Part.Nothing (Phrase.Stop s) next
   unfolding Took
@@ -378,18 +388,18 @@ module _ (model : Program) where
   without_told cause kind left enforced path m next e =
       let none : Bool = length enforced == 0 in
       let first : Bool = length path == 0 in
-      let with_left : List Member → SitePart = λ ms. record { kind = kind; left = ms; enforced = enforced; path = path } in
+      let with_left : List Member → ToldSite = λ ms. record { kind = kind; left = ms; enforced = enforced; path = path } in
       let t = mapped_told (λ members. Next.More (Part.Stop (StopPart.Site cause (with_left members)))) (((none && first) && is_active model m) && list_all (λ n. comes_before n m) left) (left ++ m ∷ []) (Next.More next) e in
       and_parts none first (and_parts (none && first) (is_active model m) (and_parts ((none && first) && is_active model m) (list_all (λ n. comes_before n m) left) t.0).0).0
 
   -- a member more that is left out, where none is enforced and no branch stands yet
   without_taken : (c : Command) (cause : StopCause) (kind : SiteKind) (left enforced : List Member) (path : List Branch) (m : Member) (next : Part) → Asks c
-      → IsTold model (record { kind = kind; left = left; enforced = enforced; path = path }) → IsNamedMember model m
+      → IsSiteFor model (record { kind = kind; left = left; enforced = enforced; path = path }) → IsNamedMember model m
       → stop_with model (StopPart.Site cause (record { kind = kind; left = left; enforced = enforced; path = path })) (without_phrase m) ≡ Some (Next.More next)
       → Took c (Part.Stop (StopPart.Site cause (record { kind = kind; left = left; enforced = enforced; path = path }))) (without_phrase m) next
   unfolding Took
   without_taken c cause kind left [] [] m next asks h k e =
-      let with_left : List Member → SitePart = λ ms. record { kind = kind; left = ms; enforced = []; path = [] } in
+      let with_left : List Member → ToldSite = λ ms. record { kind = kind; left = ms; enforced = []; path = [] } in
       list_taken c (Part.Stop (StopPart.Site cause (with_left left))) (without_phrase m) (λ members. Part.Stop (StopPart.Site cause (with_left members))) (is_active model m && list_all (λ n. comes_before n m) left) (left ++ m ∷ []) next
       (λ t. (
         (asks, record { left = left_taken left m h.left k t; enforced = h.enforced; path = h.path }),
@@ -405,12 +415,12 @@ module _ (model : Program) where
 
   -- a member more that is enforced, where no branch stands yet
   enforced_taken : (c : Command) (cause : StopCause) (kind : SiteKind) (left enforced : List Member) (path : List Branch) (m : Member) (next : Part) → Asks c
-      → IsTold model (record { kind = kind; left = left; enforced = enforced; path = path }) → IsNamedMember model m
+      → IsSiteFor model (record { kind = kind; left = left; enforced = enforced; path = path }) → IsNamedMember model m
       → stop_with model (StopPart.Site cause (record { kind = kind; left = left; enforced = enforced; path = path })) (enforced_phrase m) ≡ Some (Next.More next)
       → Took c (Part.Stop (StopPart.Site cause (record { kind = kind; left = left; enforced = enforced; path = path }))) (enforced_phrase m) next
   unfolding Took
   enforced_taken c cause kind left enforced [] m next asks h k e =
-      let with_enforced : List Member → SitePart = λ ms. record { kind = kind; left = left; enforced = ms; path = [] } in
+      let with_enforced : List Member → ToldSite = λ ms. record { kind = kind; left = left; enforced = ms; path = [] } in
       let front : List Phrase → List Phrase = λ l. Phrase.Stop (opening cause) ∷ Phrase.Stop (StopPhrase.Site kind) ∷ l in
       list_taken c (Part.Stop (StopPart.Site cause (with_enforced enforced))) (enforced_phrase m) (λ members. Part.Stop (StopPart.Site cause (with_enforced members)))
       (exists model m && list_all (λ n. comes_before n m) enforced) (enforced ++ m ∷ []) next
@@ -422,7 +432,7 @@ module _ (model : Program) where
       )) e
   enforced_taken c cause kind left enforced (b ∷ path) m next asks h k e =
       let first : Bool = length (b ∷ path) == 0 in
-      let with_enforced : List Member → SitePart = λ ms. record { kind = kind; left = left; enforced = ms; path = b ∷ path } in
+      let with_enforced : List Member → ToldSite = λ ms. record { kind = kind; left = left; enforced = ms; path = b ∷ path } in
       let t = mapped_told (λ members. Next.More (Part.Stop (StopPart.Site cause (with_enforced members)))) ((first && exists model m) && list_all (λ n. comes_before n m) enforced) (enforced ++ m ∷ []) (Next.More next) e in
       let none : length (b ∷ path) ≡ 0 = eqb-true (length (b ∷ path)) 0 (and_parts first (exists model m) (and_parts (first && exists model m) (list_all (λ n. comes_before n m) enforced) t.0).0).0 in
       absurd (omega arith)
@@ -434,7 +444,7 @@ module _ (model : Program) where
   stop_taken : (c : Command) (part : StopPart) (p : Phrase) (next : Part) → Asks c × IsStopPart model part → IsPhraseFor model p → stop_with model part p ≡ Some (Next.More next) → Took c (Part.Stop part) p next
   unfolding Took
   stop_taken c (StopPart.Begun cause) (Phrase.Stop (StopPhrase.Site kind)) next h k e =
-      subst (Took c (Part.Stop (StopPart.Begun cause)) (Phrase.Stop (StopPhrase.Site kind))) (more_is (Part.Stop (StopPart.Site cause (run_of kind))) next e) ((h.0, none_told model kind), refl)
+      subst (Took c (Part.Stop (StopPart.Begun cause)) (Phrase.Stop (StopPhrase.Site kind))) (more_is (Part.Stop (StopPart.Site cause (run_of kind))) next e) ((h.0, none_told kind), refl)
   stop_taken c (StopPart.Large size) Phrase.End next h k e = absurd (cc)
   stop_taken c (StopPart.Site cause site) (Phrase.Stop (StopPhrase.Without m)) next h k e = without_taken c cause site.kind site.left site.enforced site.path m next h.0 h.1 k e
   stop_taken c (StopPart.Site cause site) (Phrase.Stop (StopPhrase.Enforced m)) next h k e = enforced_taken c cause site.kind site.left site.enforced site.path m next h.0 h.1 k e
@@ -590,7 +600,7 @@ module _ (model : Program) where
   more_taken Unbounded Part.Nothing (Phrase.Stop s) next h k e = begun_taken Unbounded s next tt k e
   more_taken Relax Part.Nothing (Phrase.Stop s) next h k e = begun_taken Relax s next tt k e
   more_taken Relax Part.Nothing Phrase.Least next h k e = subst (Took Relax Part.Nothing Phrase.Least) (more_is (Part.Least LeastPart.Begun) next e) ((tt, tt), refl)
-  more_taken Relax Part.Nothing Phrase.RigidInfeasible next h k e = subst (Took Relax Part.Nothing Phrase.RigidInfeasible) (more_is (Part.Listed (Found.Rigid [])) next e) (no_members model, refl)
+  more_taken Relax Part.Nothing Phrase.RigidInfeasible next h k e = subst (Took Relax Part.Nothing Phrase.RigidInfeasible) (more_is (Part.Listed (Found.Rigid [])) next e) (no_members, refl)
   more_taken Relax Part.Nothing (Phrase.NotLinear j) next h k e = absurd (no_more_column Relax j next e)
   more_taken (Iis method) Part.Nothing (Phrase.NotLinear j) next h k e = absurd (no_more_column (Iis method) j next e)
   more_taken (Edit edit) Part.Nothing p next h k e = absurd (no_more_reply (Edit edit) p next e)
@@ -598,16 +608,16 @@ module _ (model : Program) where
   more_taken (Pivots n) Part.Nothing p next h k e = absurd (no_more_reply (Pivots n) p next e)
   more_taken (Nodes n) Part.Nothing p next h k e = absurd (no_more_reply (Nodes n) p next e)
   more_taken c (Part.Stop part) p next h k e = stop_taken c part p next h k e
-  more_taken Check Part.Nothing Phrase.Infeasible next h k e = subst (Took Check Part.Nothing Phrase.Infeasible) (more_is (Part.Listed (Found.Members [])) next e) (no_members model, refl)
-  more_taken Unbounded Part.Nothing Phrase.Infeasible next h k e = subst (Took Unbounded Part.Nothing Phrase.Infeasible) (more_is (Part.Listed (Found.Members [])) next e) (no_members model, refl)
-  more_taken Reduce Part.Nothing Phrase.Infeasible next h k e = subst (Took Reduce Part.Nothing Phrase.Infeasible) (more_is (Part.Listed (Found.Members [])) next e) (no_members model, refl)
+  more_taken Check Part.Nothing Phrase.Infeasible next h k e = subst (Took Check Part.Nothing Phrase.Infeasible) (more_is (Part.Listed (Found.Members [])) next e) (no_members, refl)
+  more_taken Unbounded Part.Nothing Phrase.Infeasible next h k e = subst (Took Unbounded Part.Nothing Phrase.Infeasible) (more_is (Part.Listed (Found.Members [])) next e) (no_members, refl)
+  more_taken Reduce Part.Nothing Phrase.Infeasible next h k e = subst (Took Reduce Part.Nothing Phrase.Infeasible) (more_is (Part.Listed (Found.Members [])) next e) (no_members, refl)
   more_taken Reduce Part.Nothing Phrase.Reduced next h k e = subst (Took Reduce Part.Nothing Phrase.Reduced) (more_is (Part.Reduced []) next e) ((tt, All-nil (IsStepFor model)), refl)
   more_taken c (Part.Reduced steps) (Phrase.Reduction s) next h k e =
       subst (Took c (Part.Reduced steps) (Phrase.Reduction s)) (more_is (Part.Reduced (steps ++ s ∷ [])) next e) ((h.0, All-push (IsStepFor model) steps s h.1 k), ap (λ l. Phrase.Reduced ∷ l) (map_push Phrase.Reduction steps s))
   more_taken c (Part.Reduced steps) (Phrase.Left rows columns) next h k e =
       subst (Took c (Part.Reduced steps) (Phrase.Left rows columns)) (more_is (Part.Left steps rows columns) next e) ((h.0, (h.1, k)), refl)
   more_taken c (Part.Left steps rows columns) Phrase.End next h k e = absurd (cc)
-  more_taken (Iis method) Part.Nothing Phrase.Irreducible next h k e = subst (Took (Iis method) Part.Nothing Phrase.Irreducible) (more_is (Part.Listed (Found.Witnessed [] [])) next e) ((no_members model, no_witnesses), refl)
+  more_taken (Iis method) Part.Nothing Phrase.Irreducible next h k e = subst (Took (Iis method) Part.Nothing Phrase.Irreducible) (more_is (Part.Listed (Found.Witnessed [] [])) next e) ((no_members, no_witnesses), refl)
   more_taken c (Part.Claimed claim) Phrase.Point next h k e = subst (Took c (Part.Claimed claim) Phrase.Point) (more_is (Part.Point claim []) next e) ((h, no_values), refl)
   more_taken c (Part.Point claim values) (Phrase.Value j v) next h k e =
       list_taken c (Part.Point claim values) (Phrase.Value j v) (λ vs. Part.Point claim vs) (nat_le (length values) j) (filled j values ++ v ∷ []) next
@@ -816,7 +826,7 @@ module _ (model : Program) where
   price_ends c found nodes part p a h e = absurd (cc)
 
   -- a stop answers what asks for more than one line
-  can_stop : (c : Command) (stop : Stop) → Asks c → can_answer c (Answer.Stopped stop) ≡ true
+  can_stop : (c : Command) (stop : ToldStop) → Asks c → can_answer c (Answer.Stopped stop) ≡ true
   can_stop Check stop h = refl
   can_stop (Iis method) stop h = refl
   can_stop Unbounded stop h = refl
@@ -841,33 +851,19 @@ module _ (model : Program) where
     said = refl;
   }
 
-  -- the site of a stop is no more than what is read of it
-  site_said : (cause : StopCause) (site : SitePart) → IsTold model site → Phrase.Stop (opening cause) ∷ site_phrases model (site_of model site) ≡ begun_phrases cause site
-  site_said cause site h = ap (λ (l : List Member). begun_phrases cause (record site { left = l })) (left_twice model site.left h.left)
-
-  wide_ends : (c : Command) (site : SitePart) (k : ℕ) (o : Operation) → Asks c × IsStopPart model (StopPart.Operation site k o)
-      → Ends c (Part.Stop (StopPart.Operation site k o)) Phrase.End (Answer.Stopped (TooWide (site_of model site) k o))
-  wide_ends c site k o h = record {
-    ended = refl;
-    kind = can_stop c (TooWide (site_of model site) k o) h.0;
-    form = (site_in_form model site h.1.0, h.1.1);
-    said = ap (λ l. l ++ Phrase.Stop (StopPhrase.Step k) ∷ Phrase.Stop (StopPhrase.Operation o) ∷ []) (site_said StopCause.Wide site h.1.0);
-  }
-
   stop_ends : (c : Command) (part : StopPart) (p : Phrase) (a : Answer) → Asks c × IsStopPart model part → stop_with model part p ≡ Some (Next.Whole a) → Ends c (Part.Stop part) p a
   stop_ends c (StopPart.Operation site k o) Phrase.End a h e =
-      subst (Ends c (Part.Stop (StopPart.Operation site k o)) Phrase.End) (whole_is (Answer.Stopped (TooWide (site_of model site) k o)) a e) (wide_ends c site k o h)
+      subst (Ends c (Part.Stop (StopPart.Operation site k o)) Phrase.End) (whole_is (Answer.Stopped (TooWide site k o)) a e)
+      (record { ended = refl; kind = can_stop c (TooWide site k o) h.0; form = h.1; said = refl })
   stop_ends c (StopPart.Large size) Phrase.End a h e =
       subst (Ends c (Part.Stop (StopPart.Large size)) Phrase.End) (whole_is (Answer.Stopped (Large size)) a e)
       (record { ended = refl; kind = can_stop c (Large size) h.0; form = h.1; said = refl })
   stop_ends c (StopPart.Site StopCause.Spent site) Phrase.End a h e =
-      let stop = Spent (site_of model site) in
-      subst (Ends c (Part.Stop (StopPart.Site StopCause.Spent site)) Phrase.End) (whole_is (Answer.Stopped stop) a e)
-      (record { ended = refl; kind = can_stop c stop h.0; form = site_in_form model site h.1; said = site_said StopCause.Spent site h.1 })
+      subst (Ends c (Part.Stop (StopPart.Site StopCause.Spent site)) Phrase.End) (whole_is (Answer.Stopped (Spent site)) a e)
+      (record { ended = refl; kind = can_stop c (Spent site) h.0; form = h.1; said = refl })
   stop_ends c (StopPart.Site StopCause.Nodes site) Phrase.End a h e =
-      let stop = NodesSpent (site_of model site) in
-      subst (Ends c (Part.Stop (StopPart.Site StopCause.Nodes site)) Phrase.End) (whole_is (Answer.Stopped stop) a e)
-      (record { ended = refl; kind = can_stop c stop h.0; form = site_in_form model site h.1; said = site_said StopCause.Nodes site h.1 })
+      subst (Ends c (Part.Stop (StopPart.Site StopCause.Nodes site)) Phrase.End) (whole_is (Answer.Stopped (NodesSpent site)) a e)
+      (record { ended = refl; kind = can_stop c (NodesSpent site) h.0; form = h.1; said = refl })
   stop_ends c (StopPart.Site cause site) (Phrase.Stop (StopPhrase.Without m)) a h e =
       absurd (not_whole (λ members. Next.More (Part.Stop (StopPart.Site cause (record site { left = members })))) ((((length site.enforced == 0) && (length site.path == 0)) && is_active model m) && list_all (λ n. comes_before n m) site.left) (site.left ++ m ∷ []) a (λ y s. cc) e)
   stop_ends c (StopPart.Site cause site) (Phrase.Stop (StopPhrase.Enforced m)) a h e =

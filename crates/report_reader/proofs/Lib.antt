@@ -8,8 +8,6 @@ pub mod Runs
 pub mod Fronts
 pub mod Progress
 pub mod Lasts
-pub mod Listed
-pub mod LeftOut
 pub mod OneReport
 pub mod WholeLines
 pub mod Alike

@@ -12,7 +12,8 @@ use Rattle.certs.specs.declared.evidence.Share.{Share}
 use Rattle.certs.specs.declared.evidence.Node.{Node}
 use Rattle.certs.specs.declared.evidence.Point.{Point}
 use Rattle.certs.specs.declared.solving.SiteKind.TheVariants.{Settle}
-use Rattle.certs.specs.declared.solving.Stop.TheVariants.{Wide as TooWide, Pivots as Spent, Nodes as NodesSpent, Large}
+use Rattle.report_text.specs.declared.report.ToldSite.{ToldSite}
+use Rattle.report_text.specs.declared.report.ToldStop.TheVariants.{Wide as TooWide, Pivots as Spent, Nodes as NodesSpent, Large}
 use Rattle.frac128.specs.declared.Op.TheVariants.{Plus}
 use Rattle.frac128.specs.declared.Wide.{Wide as Operation}
 use Rattle.algebra.specs.Gcd.{gcd, gcd_within}
@@ -28,7 +29,6 @@ use Rattle.report_text.specs.declared.phrases.StopPhrase.{StopPhrase}
 use Rattle.report_reader.specs.declared.drafts.Found.{Found}
 use Rattle.report_reader.specs.declared.drafts.Question.{Question}
 use Rattle.report_reader.specs.declared.drafts.StopCause.{StopCause}
-use Rattle.report_reader.specs.declared.drafts.SitePart.{SitePart}
 use Rattle.report_reader.specs.declared.drafts.StopPart.{StopPart}
 use Rattle.report_reader.specs.declared.drafts.Claim.{Claim}
 use Rattle.report_reader.specs.declared.drafts.BoundPart.{BoundPart}
@@ -43,7 +43,7 @@ use Rattle.report_text.specs.Grammar.{Line, text_of, report_lines, phrase_line, 
 use Rattle.report_text.specs.Form.{IsReportFor, IsOperation}
 use Rattle.report_reader.specs.Reading.{Reads, IsFront, IsWhole, IsBadLine, IsTruncated, IsReportStop}
 use Rattle.phrase_reader.specs.Phrases.{IsPhraseFor, Says}
-use Rattle.report_reader.specs.Drafts.{point_of, ray_of, leaf_of, answer_of, site_of, run_of, counts_rounds, gives_price, has_tail, proof_with, extended, placed, program_now, advanced, nothing_read, Takes, IsLineStop, ended, IsDraftFor}
+use Rattle.report_reader.specs.Drafts.{point_of, ray_of, leaf_of, answer_of, run_of, counts_rounds, gives_price, has_tail, proof_with, extended, placed, program_now, advanced, nothing_read, Takes, IsLineStop, ended, IsDraftFor}
 use Rattle.report_reader.proofs.Said.{report_for, parts_of_read}
 use Rattle.report_reader.proofs.Alike.{same_line, says_after}
 use Rattle.phrase_reader.proofs.Spelling.{some_parts, text_of_parts}
@@ -229,16 +229,16 @@ module _ (model : Program) where
     front_nothing (Pivots n) e = last_back Part.Nothing Phrase.Done Answer.Done tt (ap (λ d. extended now d Part.Nothing Phrase.Done) e)
     front_nothing (Nodes n) e = last_back Part.Nothing Phrase.Done Answer.Done tt (ap (λ d. extended now d Part.Nothing Phrase.Done) e)
 
-    front_operation : (site : SitePart) (k : ℕ) (o : Operation) → Within (Part.Stop (StopPart.Operation site k o))
-    front_operation site k o = end_back (Part.Stop (StopPart.Operation site k o)) (Answer.Stopped (TooWide (site_of now site) k o)) refl
+    front_operation : (site : ToldSite) (k : ℕ) (o : Operation) → Within (Part.Stop (StopPart.Operation site k o))
+    front_operation site k o = end_back (Part.Stop (StopPart.Operation site k o)) (Answer.Stopped (TooWide site k o)) refl
 
-    front_step : (site : SitePart) (k : ℕ) → Within (Part.Stop (StopPart.Step site k))
+    front_step : (site : ToldSite) (k : ℕ) → Within (Part.Stop (StopPart.Step site k))
     front_step site k = more_back (Part.Stop (StopPart.Step site k)) (Part.Stop (StopPart.Operation site k zeros)) (Phrase.Stop (StopPhrase.Operation zeros)) zeros_fit refl (front_operation site k zeros)
 
-    front_site : (cause : StopCause) (site : SitePart) → Within (Part.Stop (StopPart.Site cause site))
+    front_site : (cause : StopCause) (site : ToldSite) → Within (Part.Stop (StopPart.Site cause site))
     front_site StopCause.Wide site = more_back (Part.Stop (StopPart.Site StopCause.Wide site)) (Part.Stop (StopPart.Step site 0)) (Phrase.Stop (StopPhrase.Step 0)) (omega arith) refl (front_step site 0)
-    front_site StopCause.Spent site = end_back (Part.Stop (StopPart.Site StopCause.Spent site)) (Answer.Stopped (Spent (site_of now site))) refl
-    front_site StopCause.Nodes site = end_back (Part.Stop (StopPart.Site StopCause.Nodes site)) (Answer.Stopped (NodesSpent (site_of now site))) refl
+    front_site StopCause.Spent site = end_back (Part.Stop (StopPart.Site StopCause.Spent site)) (Answer.Stopped (Spent site)) refl
+    front_site StopCause.Nodes site = end_back (Part.Stop (StopPart.Site StopCause.Nodes site)) (Answer.Stopped (NodesSpent site)) refl
 
     front_stop : (part : StopPart) → Within (Part.Stop part)
     front_stop (StopPart.Begun cause) = more_back (Part.Stop (StopPart.Begun cause)) (Part.Stop (StopPart.Site cause (run_of Settle))) (Phrase.Stop (StopPhrase.Site Settle)) tt refl (front_site cause (run_of Settle))

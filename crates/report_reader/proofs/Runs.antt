@@ -22,9 +22,9 @@ use Rattle.certs.specs.declared.evidence.Ray.{Ray}
 use Rattle.certs.specs.Proof.{Tree, Tip, Fork, preorder}
 use Rattle.certs.proofs.Lists.{all_front, all_back}
 use Rattle.certs.specs.declared.evidence.Branch.{Branch}
-use Rattle.certs.specs.declared.solving.Site.{Site}
-use Rattle.certs.specs.declared.solving.Stop.{Stop}
-use Rattle.certs.specs.declared.solving.Stop.TheVariants.{Wide as TooWide, Pivots as Spent, Nodes as NodesSpent, Large}
+use Rattle.report_text.specs.declared.report.ToldSite.{ToldSite}
+use Rattle.report_text.specs.declared.report.ToldStop.{ToldStop}
+use Rattle.report_text.specs.declared.report.ToldStop.TheVariants.{Wide as TooWide, Pivots as Spent, Nodes as NodesSpent, Large}
 use Rattle.reductions.specs.declared.steps.ReduceStep.{ReduceStep}
 use Rattle.report_text.specs.declared.report.Bounded.{Bounded}
 use Rattle.report_text.specs.declared.report.Reduced.{Reduced}
@@ -42,7 +42,6 @@ use Rattle.report_text.specs.declared.phrases.StopPhrase.{StopPhrase}
 use Rattle.report_reader.specs.declared.drafts.Found.{Found}
 use Rattle.report_reader.specs.declared.drafts.Question.{Question}
 use Rattle.report_reader.specs.declared.drafts.StopCause.{StopCause}
-use Rattle.report_reader.specs.declared.drafts.SitePart.{SitePart}
 use Rattle.report_reader.specs.declared.drafts.StopPart.{StopPart}
 use Rattle.report_reader.specs.declared.drafts.Claim.{Claim}
 use Rattle.report_reader.specs.declared.drafts.BoundPart.{BoundPart}
@@ -53,14 +52,13 @@ use Rattle.report_reader.specs.declared.drafts.Next.{Next}
 use Rattle.report_reader.specs.declared.drafts.Stage.{Stage}
 use Rattle.report_reader.specs.declared.drafts.Draft.{Draft}
 use Rattle.lp_model.specs.MemberSets.{SetValue}
-use Rattle.report_text.specs.Grammar.{left_out, value_phrases, point_phrases, objective_phrases, dual_phrases, node_phrases, proof_phrases, price_phrases, rounds_phrases, witness_phrases, without_phrase, enforced_phrase, branch_phrase, site_phrases, answer_front, answer_end, entry_phrases, entries_phrases, report_phrases}
+use Rattle.report_text.specs.Grammar.{value_phrases, point_phrases, objective_phrases, dual_phrases, node_phrases, proof_phrases, price_phrases, rounds_phrases, witness_phrases, without_phrase, enforced_phrase, branch_phrase, site_phrases, answer_front, answer_end, entry_phrases, entries_phrases, report_phrases}
 use Rattle.report_text.specs.Turns.{after, entry_commands}
 use Rattle.report_text.proofs.InTurn.{commands_push}
 use Rattle.certs.specs.Order.{source_before}
-use Rattle.report_text.specs.Form.{AreUses, IsListed, IsNodeFor, IsProofFor, IsPointFor, IsRayFor, IsBoundedFor, IsLeastFor, IsCoreFor, IsPricedFor, IsRunSite, IsStopFor, IsAnswerFor, IsEntryFor, AreEntriesFor, AreNumbered, IsReportFor, is_one_leaf, can_answer}
-use Rattle.report_reader.specs.Drafts.{filled, point_of, ray_of, leaf_of, set_of, answer_of, only_if, with_value, with_member, with_next, may_split, counts_rounds, gives_price, has_tail, may_stand, proof_begun, proof_with, witnessed_with, site_of, run_of, stop_begun, extended, placed, program_now, advanced, nothing_read}
+use Rattle.report_text.specs.Form.{AreUses, IsListed, IsNodeFor, IsProofFor, IsPointFor, IsRayFor, IsBoundedFor, IsLeastFor, IsCoreFor, IsPricedFor, IsSiteFor, IsStopFor, IsAnswerFor, IsEntryFor, AreEntriesFor, AreNumbered, IsReportFor, is_one_leaf, can_answer}
+use Rattle.report_reader.specs.Drafts.{filled, point_of, ray_of, leaf_of, set_of, answer_of, only_if, with_value, with_member, with_next, may_split, counts_rounds, gives_price, has_tail, may_stand, proof_begun, proof_with, witnessed_with, run_of, stop_begun, extended, placed, program_now, advanced, nothing_read}
 use Rattle.report_reader.proofs.Rounds.{tells, rounds_told, price_told, nothing_told, never_both}
-use Rattle.report_reader.proofs.LeftOut.{left_in_order, left_active, set_twice}
 
 -- ---- runs
 -- the draft that phrases lead to, where the first is that of line number n
@@ -358,99 +356,61 @@ leaf_stands c nodes e = absurd (true≢false (sym e))
 same_set : (model : Program) (set : SetValue) → IsListed model set → set_of model set.members ≡ set
 same_set model set h = ap (λ r. record { rows = r; columns = length model.columns; members = set.members }) (sym h.of_model.rows) ∙ ap (λ c. record { rows = set.rows; columns = c; members = set.members }) (sym h.of_model.columns)
 
--- what the lines of a site tell
-abbrev told_of : Program → Site → SitePart
-told_of model site = record { kind = site.kind; left = left_out model site.set.members; enforced = site.enforced.members; path = site.path }
-
--- the site of a stop
-same_site : (model : Program) (site : Site) → IsRunSite model site → site_of model (told_of model site) ≡ site
-same_site model site h = by site.set site.enforced set_is enforced_is
-  where
-    members_of : left_out model (left_out model site.set.members) ≡ site.set.members
-    members_of = set_twice model site.set.members h.active
-
-    set_is : site.set ≡ set_of model (left_out model (left_out model site.set.members))
-    set_is =
-        ap (λ r. record { rows = r; columns = site.set.columns; members = site.set.members }) h.of_model.rows
-        ∙ ap (λ c. record { rows = length model.rows; columns = c; members = site.set.members }) h.of_model.columns
-        ∙ ap (set_of model) (sym members_of)
-
-    enforced_is : site.enforced ≡ set_of model site.enforced.members
-    enforced_is =
-        ap (λ r. record { rows = r; columns = site.enforced.columns; members = site.enforced.members }) h.enforced_of.rows
-        ∙ ap (λ c. record { rows = length model.rows; columns = c; members = site.enforced.members }) h.enforced_of.columns
-
-    by : (set enforced : SetValue) → set ≡ set_of model (left_out model (left_out model site.set.members)) → enforced ≡ set_of model site.enforced.members
-        → site_of model (told_of model site) ≡ record { kind = site.kind; set = set; enforced = enforced; path = site.path }
-    by set enforced s e =
-        ap (λ x. record { kind = site.kind; set = x; enforced = set_of model site.enforced.members; path = site.path }) (sym s)
-        ∙ ap (λ x. record { kind = site.kind; set = set; enforced = x; path = site.path }) (sym e)
-
 -- an answer's front leads to a part that its last line makes the answer
 AnswerRead : Program → Command → Answer → Type 0
 AnswerRead model c a = (end : Part) × ((grown model c Part.Nothing (answer_front model a) ≡ Some end) × (extended model c end (answer_end a) ≡ Some (Next.Whole a)))
 
 -- the branches of a site
-path_read : (model : Program) (c : Command) (cause : StopCause) (site : SitePart) (rest : List Branch)
+path_read : (model : Program) (c : Command) (cause : StopCause) (site : ToldSite) (rest : List Branch)
     → grown model c (Part.Stop (StopPart.Site cause site)) (map branch_phrase rest) ≡ Some (Part.Stop (StopPart.Site cause (record site { path = site.path ++ rest })))
 path_read model c cause site [] = ap (λ p. Some (Part.Stop (StopPart.Site cause (record site { path = p })))) (sym (append-nil site.path))
 path_read model c cause site (b ∷ rest) =
-    let more : SitePart = record site { path = site.path ++ b ∷ [] } in
+    let more : ToldSite = record site { path = site.path ++ b ∷ [] } in
     grown_step model c (Part.Stop (StopPart.Site cause site)) (Part.Stop (StopPart.Site cause more)) (branch_phrase b) (map branch_phrase rest) refl
     ∙ path_read model c cause more rest
     ∙ ap (λ p. Some (Part.Stop (StopPart.Site cause (record site { path = p })))) (append_assoc site.path (b ∷ []) rest)
 
 -- the lines of a site
-site_read : (model : Program) (c : Command) (cause : StopCause) (site : Site) → IsRunSite model site
-    → grown model c (Part.Stop (StopPart.Begun cause)) (site_phrases model site) ≡ Some (Part.Stop (StopPart.Site cause (told_of model site)))
+site_read : (model : Program) (c : Command) (cause : StopCause) (site : ToldSite) → IsSiteFor model site
+    → grown model c (Part.Stop (StopPart.Begun cause)) (site_phrases site) ≡ Some (Part.Stop (StopPart.Site cause site))
 site_read model c cause site h =
-    let left = left_out model site.set.members in
-    let enforced = site.enforced.members in
     let begun = Part.Stop (StopPart.Site cause (run_of site.kind)) in
-    let behind = map enforced_phrase enforced ++ map branch_phrase site.path in
-    let with_left : List Member → SitePart = λ ms. record { kind = site.kind; left = ms; enforced = []; path = [] } in
-    let with_enforced : List Member → SitePart = λ ms. record { kind = site.kind; left = left; enforced = ms; path = [] } in
-    grown_step model c (Part.Stop (StopPart.Begun cause)) begun (Phrase.Stop (StopPhrase.Site site.kind)) (map without_phrase left ++ behind) refl
-    ∙ grown_append model c begun (Part.Stop (StopPart.Site cause (with_left left))) (map without_phrase left) behind
-    (list_read model c (is_active model) comes_before (λ ms. Part.Stop (StopPart.Site cause (with_left ms))) without_phrase (λ ms m. refl) [] left (left_in_order model site.set.members) (left_active model site.set.members))
-    ∙ grown_append model c (Part.Stop (StopPart.Site cause (with_left left))) (Part.Stop (StopPart.Site cause (with_enforced enforced))) (map enforced_phrase enforced) (map branch_phrase site.path)
-    (list_read model c (exists model) comes_before (λ ms. Part.Stop (StopPart.Site cause (with_enforced ms))) enforced_phrase (λ ms m. refl) [] enforced h.enforced_in_order h.enforced_there)
-    ∙ path_read model c cause (with_enforced enforced) site.path
+    let behind = map enforced_phrase site.enforced ++ map branch_phrase site.path in
+    let with_left : List Member → ToldSite = λ ms. record { kind = site.kind; left = ms; enforced = []; path = [] } in
+    let with_enforced : List Member → ToldSite = λ ms. record { kind = site.kind; left = site.left; enforced = ms; path = [] } in
+    grown_step model c (Part.Stop (StopPart.Begun cause)) begun (Phrase.Stop (StopPhrase.Site site.kind)) (map without_phrase site.left ++ behind) refl
+    ∙ grown_append model c begun (Part.Stop (StopPart.Site cause (with_left site.left))) (map without_phrase site.left) behind
+    (list_read model c (is_active model) comes_before (λ ms. Part.Stop (StopPart.Site cause (with_left ms))) without_phrase (λ ms m. refl) [] site.left h.left.members.in_order h.left.active)
+    ∙ grown_append model c (Part.Stop (StopPart.Site cause (with_left site.left))) (Part.Stop (StopPart.Site cause (with_enforced site.enforced))) (map enforced_phrase site.enforced) (map branch_phrase site.path)
+    (list_read model c (exists model) comes_before (λ ms. Part.Stop (StopPart.Site cause (with_enforced ms))) enforced_phrase (λ ms m. refl) [] site.enforced h.enforced.members.in_order h.enforced.there)
+    ∙ path_read model c cause (with_enforced site.enforced) site.path
 
 -- a stop
-stop_read : (model : Program) (c : Command) (stop : Stop) → IsStopFor model stop → ((s : StopPhrase) → extended model c Part.Nothing (Phrase.Stop s) ≡ stop_begun s) → AnswerRead model c (Stopped stop)
+stop_read : (model : Program) (c : Command) (stop : ToldStop) → IsStopFor model stop → ((s : StopPhrase) → extended model c Part.Nothing (Phrase.Stop s) ≡ stop_begun s) → AnswerRead model c (Stopped stop)
 unfolding AnswerRead
 stop_read model c (TooWide site k o) h begins =
-    let told = told_of model site in
     let start = Part.Stop (StopPart.Begun StopCause.Wide) in
-    let read = Part.Stop (StopPart.Site StopCause.Wide told) in
+    let read = Part.Stop (StopPart.Site StopCause.Wide site) in
     let rest = Phrase.Stop (StopPhrase.Step k) ∷ Phrase.Stop (StopPhrase.Operation o) ∷ [] in (
-      Part.Stop (StopPart.Operation told k o),
+      Part.Stop (StopPart.Operation site k o),
       (
-        grown_step model c Part.Nothing start (Phrase.Stop StopPhrase.Wide) (site_phrases model site ++ rest) (begins StopPhrase.Wide)
-            ∙ grown_append model c start read (site_phrases model site) rest (site_read model c StopCause.Wide site h.0.run)
-            ∙ grown_step model c read (Part.Stop (StopPart.Step told k)) (Phrase.Stop (StopPhrase.Step k)) (Phrase.Stop (StopPhrase.Operation o) ∷ []) refl
-            ∙ grown_step model c (Part.Stop (StopPart.Step told k)) (Part.Stop (StopPart.Operation told k o)) (Phrase.Stop (StopPhrase.Operation o)) [] refl,
-        ap (λ s. Some (Next.Whole (Stopped (TooWide s k o)))) (same_site model site h.0.run),
+        grown_step model c Part.Nothing start (Phrase.Stop StopPhrase.Wide) (site_phrases site ++ rest) (begins StopPhrase.Wide)
+            ∙ grown_append model c start read (site_phrases site) rest (site_read model c StopCause.Wide site h.0)
+            ∙ grown_step model c read (Part.Stop (StopPart.Step site k)) (Phrase.Stop (StopPhrase.Step k)) (Phrase.Stop (StopPhrase.Operation o) ∷ []) refl
+            ∙ grown_step model c (Part.Stop (StopPart.Step site k)) (Part.Stop (StopPart.Operation site k o)) (Phrase.Stop (StopPhrase.Operation o)) [] refl,
+        refl,
       ),
     )
 stop_read model c (Spent site) h begins = (
-  Part.Stop (StopPart.Site StopCause.Spent (told_of model site)),
-  (
-    grown_step model c Part.Nothing (Part.Stop (StopPart.Begun StopCause.Spent)) (Phrase.Stop StopPhrase.Spent) (site_phrases model site) (begins StopPhrase.Spent) ∙ site_read model c StopCause.Spent site h.run,
-    ap (λ s. Some (Next.Whole (Stopped (Spent s)))) (same_site model site h.run),
-  ),
+  Part.Stop (StopPart.Site StopCause.Spent site),
+  (grown_step model c Part.Nothing (Part.Stop (StopPart.Begun StopCause.Spent)) (Phrase.Stop StopPhrase.Spent) (site_phrases site) (begins StopPhrase.Spent) ∙ site_read model c StopCause.Spent site h, refl),
 )
 stop_read model c (NodesSpent site) h begins = (
-  Part.Stop (StopPart.Site StopCause.Nodes (told_of model site)),
-  (
-    grown_step model c Part.Nothing (Part.Stop (StopPart.Begun StopCause.Nodes)) (Phrase.Stop StopPhrase.Nodes) (site_phrases model site) (begins StopPhrase.Nodes) ∙ site_read model c StopCause.Nodes site h.run,
-    ap (λ s. Some (Next.Whole (Stopped (NodesSpent s)))) (same_site model site h.run),
-  ),
+  Part.Stop (StopPart.Site StopCause.Nodes site),
+  (grown_step model c Part.Nothing (Part.Stop (StopPart.Begun StopCause.Nodes)) (Phrase.Stop StopPhrase.Nodes) (site_phrases site) (begins StopPhrase.Nodes) ∙ site_read model c StopCause.Nodes site h, refl),
 )
 stop_read model c (Large size) h begins =
     (Part.Stop (StopPart.Large size), (grown_step model c Part.Nothing (Part.Stop (StopPart.Large size)) (Phrase.Stop (StopPhrase.Large size)) [] (begins (StopPhrase.Large size)), refl))
-stop_read model c stop h begins = absurd h
 
 -- a point, and what it is to show
 claimed_read : (model : Program) (c : Command) (claim : Claim) (say : Phrase) (p : Point) → IsPointFor model p → extended model c Part.Nothing say ≡ Some (Next.More (Part.Claimed claim))

@@ -7,16 +7,14 @@ use Rattle.rational.specs.Rational.{ℚ, zero_ℚ, eq_ℚ}
 use Rattle.rational.proofs.Compare.{eq-Decides}
 use Rattle.lp_model.specs.Program.{Program, noted_column}
 use Rattle.lp_model.specs.declared.members.Member.{Member}
-use Rattle.certs.specs.declared.evidence.Branch.{Branch}
 use Rattle.certs.specs.declared.evidence.Point.{Point}
 use Rattle.certs.specs.declared.evidence.Node.{Node}
 use Rattle.certs.specs.declared.evidence.Node.TheVariants.{Split, Leaf}
-use Rattle.certs.specs.Combination.{IsFitting}
 use Rattle.certs.specs.declared.evidence.Proof.{Proof}
 use Rattle.certs.specs.declared.evidence.Ray.{Ray}
-use Rattle.certs.specs.declared.solving.Site.{Site}
-use Rattle.certs.specs.declared.solving.Stop.{Stop}
-use Rattle.certs.specs.declared.solving.Stop.TheVariants.{Wide as TooWide, Pivots as Spent, Nodes as NodesSpent, Large}
+use Rattle.report_text.specs.declared.report.ToldSite.{ToldSite}
+use Rattle.report_text.specs.declared.report.ToldStop.{ToldStop}
+use Rattle.report_text.specs.declared.report.ToldStop.TheVariants.{Wide as TooWide, Pivots as Spent, Nodes as NodesSpent, Large}
 use Rattle.report_text.specs.declared.report.Command.{Command}
 use Rattle.report_text.specs.declared.report.Bounded.{Bounded}
 use Rattle.report_text.specs.declared.report.Core.{Core}
@@ -28,10 +26,10 @@ use Rattle.report_text.specs.declared.report.Report.{Report}
 use Rattle.report_text.specs.declared.phrases.Phrase.{Phrase}
 use Rattle.report_text.specs.declared.phrases.StopPhrase.{StopPhrase}
 use Rattle.lp_model.specs.Satisfaction.{values_at}
-use Rattle.report_text.specs.Form.{is_word, IsWithinLimit, IsNamedColumn, IsNamedMember, IsUse, IsNodeFor, IsProofFor, IsPointFor, IsRayFor, IsBoundedFor, IsLeastFor, IsCoreFor, IsCountWithin, IsPricedFor, IsValueWithin, IsSiteFor, IsStopFor, IsStepFor, IsAnswerFor, IsEntryFor, AreEntriesFor, IsReportFor}
-use Rattle.report_text.specs.Grammar.{column_name, left_out, value_phrases, point_phrases, unbounded_phrases, objective_phrases, dual_phrases, bounded_phrases, least_phrases, node_phrases, proof_phrases, price_phrases, rounds_phrases, irreducible_phrases, witness_phrases, without_phrase, enforced_phrase, branch_phrase, site_phrases, stop_phrases, answer_front, answer_end, entry_phrases, entries_phrases, body_phrases, report_phrases, report_lines}
+use Rattle.report_text.specs.Form.{is_word, IsNamedBranch, IsWithinLimit, IsNamedColumn, IsNamedMember, IsUse, IsNodeFor, IsProofFor, IsPointFor, IsRayFor, IsBoundedFor, IsLeastFor, IsCoreFor, IsCountWithin, IsPricedFor, IsValueWithin, IsSiteFor, IsStopFor, IsStepFor, IsAnswerFor, IsEntryFor, AreEntriesFor, IsReportFor}
+use Rattle.report_text.specs.Grammar.{column_name, value_phrases, point_phrases, unbounded_phrases, objective_phrases, dual_phrases, bounded_phrases, least_phrases, node_phrases, proof_phrases, price_phrases, rounds_phrases, irreducible_phrases, witness_phrases, without_phrase, enforced_phrase, branch_phrase, site_phrases, stop_phrases, answer_front, answer_end, entry_phrases, entries_phrases, body_phrases, report_phrases, report_lines}
 use Rattle.report_text.specs.Turns.{after}
-use Rattle.phrase_reader.specs.Phrases.{IsNamedBranch, IsPhraseFor}
+use Rattle.phrase_reader.specs.Phrases.{IsPhraseFor}
 use Rattle.phrase_reader.specs.Parts.{parts}
 use Rattle.phrase_reader.proofs.Spelling.{lines_no_mark, parts_of_text}
 use Rattle.report_reader.specs.Reading.{Reads}
@@ -171,31 +169,27 @@ module _ (model : Program) where
       (All-append For (proof_phrases core.proof) tail (proof_for core.proof h.proof)
       (All-append For (rounds_phrases core.rounds) (price_phrases core.price) (rounds_for core.rounds h.rounds) (price_for core.price h.price))))
 
-  path_named : (path : List Branch) → All (λ b. IsNamedColumn model b.column) path → All IsFitting path → All (IsNamedBranch model) path
-  path_named path h k i d l = record { named = h i d l; fits = k i d l }
-
-  site_for : (site : Site) → IsSiteFor model site → All For (site_phrases model site)
+  site_for : (site : ToldSite) → IsSiteFor model site → All For (site_phrases site)
   unfolding For
   site_for site h =
-      let left = map without_phrase (left_out model site.set.members) in
-      let enforced = map enforced_phrase site.enforced.members in
+      let left = map without_phrase site.left in
+      let enforced = map enforced_phrase site.enforced in
       let path = map branch_phrase site.path in
       All-cons For (Phrase.Stop (StopPhrase.Site site.kind)) (left ++ (enforced ++ path)) (own (Phrase.Stop (StopPhrase.Site site.kind)) tt refl)
-      (All-append For left (enforced ++ path) (each_for (IsNamedMember model) without_phrase (λ m k. own (without_phrase m) k refl) (left_out model site.set.members) h.named)
-      (All-append For enforced path (each_for (IsNamedMember model) enforced_phrase (λ m k. own (enforced_phrase m) k refl) site.enforced.members h.enforced)
-      (each_for (IsNamedBranch model) branch_phrase (λ b k. own (branch_phrase b) k refl) site.path (path_named site.path h.path h.run.fits))))
+      (All-append For left (enforced ++ path) (each_for (IsNamedMember model) without_phrase (λ m k. own (without_phrase m) k refl) site.left h.left.members.named)
+      (All-append For enforced path (each_for (IsNamedMember model) enforced_phrase (λ m k. own (enforced_phrase m) k refl) site.enforced h.enforced.members.named)
+      (each_for (IsNamedBranch model) branch_phrase (λ b k. own (branch_phrase b) k refl) site.path h.path)))
 
-  stop_for : (stop : Stop) → IsStopFor model stop → All For (stop_phrases model stop)
+  stop_for : (stop : ToldStop) → IsStopFor model stop → All For (stop_phrases stop)
   unfolding For
   stop_for (TooWide site k o) h =
       let step = Phrase.Stop (StopPhrase.Step k) in
       let operation = Phrase.Stop (StopPhrase.Operation o) in
-      All-cons For (Phrase.Stop StopPhrase.Wide) (site_phrases model site ++ step ∷ operation ∷ []) (own (Phrase.Stop StopPhrase.Wide) tt refl)
-      (All-append For (site_phrases model site) (step ∷ operation ∷ []) (site_for site h.0) (All-cons For step (operation ∷ []) (own step h.1.0 refl) (All-cons For operation [] (own operation h.1.1 refl) (All-nil For))))
-  stop_for (Spent site) h = All-cons For (Phrase.Stop StopPhrase.Spent) (site_phrases model site) (own (Phrase.Stop StopPhrase.Spent) tt refl) (site_for site h)
-  stop_for (NodesSpent site) h = All-cons For (Phrase.Stop StopPhrase.Nodes) (site_phrases model site) (own (Phrase.Stop StopPhrase.Nodes) tt refl) (site_for site h)
+      All-cons For (Phrase.Stop StopPhrase.Wide) (site_phrases site ++ step ∷ operation ∷ []) (own (Phrase.Stop StopPhrase.Wide) tt refl)
+      (All-append For (site_phrases site) (step ∷ operation ∷ []) (site_for site h.0) (All-cons For step (operation ∷ []) (own step h.1.0 refl) (All-cons For operation [] (own operation h.1.1 refl) (All-nil For))))
+  stop_for (Spent site) h = All-cons For (Phrase.Stop StopPhrase.Spent) (site_phrases site) (own (Phrase.Stop StopPhrase.Spent) tt refl) (site_for site h)
+  stop_for (NodesSpent site) h = All-cons For (Phrase.Stop StopPhrase.Nodes) (site_phrases site) (own (Phrase.Stop StopPhrase.Nodes) tt refl) (site_for site h)
   stop_for (Large size) h = All-cons For (Phrase.Stop (StopPhrase.Large size)) [] (own (Phrase.Stop (StopPhrase.Large size)) h refl) (All-nil For)
-  stop_for stop h = absurd h
 
   end_for : (a : Answer) → IsAnswerFor model a → For (answer_end a)
   unfolding For

@@ -1,10 +1,10 @@
 -- What may follow in a report, line by line: the draft that a phrase makes of a draft.
-use Rattle.std.specs.Prelude.{◌≡◌, ◌≢◌, ⊤, ℕ, ◌+◌, ◌-◌, ◌≤◌, ◌==◌, nat_lt, nat_le, Bool, true, false, not, ◌&&◌, ◌||◌, IsTrue, List, [], ◌∷◌, ◌++◌, length, replicate, Option, Some, None, option_map, Result, Ok, Err, flat_map, All}
+use Rattle.std.specs.Prelude.{◌≡◌, ◌≢◌, ⊤, ℕ, ◌+◌, ◌-◌, ◌≤◌, ◌==◌, nat_lt, nat_le, Bool, true, false, not, ◌&&◌, ◌||◌, List, [], ◌∷◌, ◌++◌, length, replicate, Option, Some, None, option_map, Result, Ok, Err, flat_map, All}
 use Rattle.std.specs.List.{list_all}
 use Rattle.rational.specs.Rational.{ℚ, zero_ℚ}
 use Rattle.lp_model.specs.Program.{Program, noted_column}
 use Rattle.lp_model.specs.declared.members.Member.{Member}
-use Rattle.lp_model.specs.Members.{comes_before, exists, is_active, IsInOrder}
+use Rattle.lp_model.specs.Members.{comes_before, exists, is_active}
 use Rattle.lp_model.specs.MemberSets.{SetValue}
 use Rattle.lp_model.specs.Satisfaction.{values_at}
 use Rattle.lp_model.specs.declared.parts.Note.{Note}
@@ -18,11 +18,11 @@ use Rattle.certs.specs.declared.evidence.Node.{Node}
 use Rattle.certs.specs.declared.evidence.Node.TheVariants.{Split, Leaf}
 use Rattle.certs.specs.Proof.{Tree, preorder}
 use Rattle.certs.specs.declared.solving.SiteKind.{SiteKind}
-use Rattle.certs.specs.declared.solving.Site.{Site}
-use Rattle.certs.specs.declared.solving.Stop.{Stop}
 use Rattle.report_text.specs.declared.report.Command.{Command}
 use Rattle.report_text.specs.declared.report.Command.TheVariants.{Check, Iis, Unbounded, Relax, Reduce, Edit, Undo, Pivots, Nodes}
 use Rattle.report_text.specs.declared.report.Method.TheVariants.{Elastic, Alternative}
+use Rattle.report_text.specs.declared.report.ToldSite.{ToldSite}
+use Rattle.report_text.specs.declared.report.ToldStop.{ToldStop}
 use Rattle.report_text.specs.declared.report.Answer.{Answer}
 use Rattle.report_text.specs.declared.report.Entry.{Entry}
 use Rattle.report_text.specs.declared.phrases.Phrase.{Phrase}
@@ -30,7 +30,6 @@ use Rattle.report_text.specs.declared.phrases.StopPhrase.{StopPhrase}
 use Rattle.report_reader.specs.declared.drafts.Found.{Found}
 use Rattle.report_reader.specs.declared.drafts.Question.{Question}
 use Rattle.report_reader.specs.declared.drafts.StopCause.{StopCause}
-use Rattle.report_reader.specs.declared.drafts.SitePart.{SitePart}
 use Rattle.report_reader.specs.declared.drafts.StopPart.{StopPart}
 use Rattle.report_reader.specs.declared.drafts.Claim.{Claim}
 use Rattle.report_reader.specs.declared.drafts.BoundPart.{BoundPart}
@@ -43,11 +42,11 @@ use Rattle.report_reader.specs.declared.drafts.Draft.{Draft}
 use Rattle.report_text.specs.declared.report.Report.{Report}
 use Rattle.report_reader.specs.declared.reader.ReportStop.{ReportStop}
 use Rattle.report_reader.specs.declared.reader.ReportStop.TheVariants.{BadLine, Truncated, Memory}
-use Rattle.phrase_reader.specs.Phrases.{IsNamedBranch, Says}
+use Rattle.phrase_reader.specs.Phrases.{Says}
 use Rattle.report_text.specs.Turns.{after, entry_commands}
-use Rattle.report_text.specs.Grammar.{Line, column_name, left_out, entries_phrases}
+use Rattle.report_text.specs.Grammar.{Line, column_name, entries_phrases}
 use Rattle.certs.specs.Order.{source_before, AreSharesInOrder}
-use Rattle.report_text.specs.Form.{is_word, IsNamedColumn, IsNamedMember, IsWithinLimit, IsPointFor, AreEntriesFor, IsCommand, IsCount, IsOperation, AreUses, IsValueWithin, IsStepFor, IsNodeFor, IsOneTree, AreNumbered, can_answer}
+use Rattle.report_text.specs.Form.{is_word, AreMembers, IsSiteFor, IsNamedColumn, IsWithinLimit, IsPointFor, AreEntriesFor, IsCommand, IsCount, IsOperation, AreUses, IsValueWithin, IsStepFor, IsNodeFor, IsOneTree, AreNumbered, can_answer}
 
 -- values with zeros behind them, up to so many
 abbrev pub filled : ℕ → List ℚ → List ℚ
@@ -164,12 +163,8 @@ witnessed_with members witnesses (Phrase.Member m) = only_if (list_all (λ n. co
 witnessed_with members witnesses Phrase.Proof = Some (proof_begun (Found.Witnessed members witnesses))
 witnessed_with members witnesses _ = None
 
--- the site that is told: a run of the active members but those that are left out, with those that are enforced, on a path
-abbrev pub site_of : Program → SitePart → Site
-site_of model site = record { kind = site.kind; set = set_of model (left_out model site.left); enforced = set_of model site.enforced; path = site.path }
-
 -- a run of which no more is told than its kind
-abbrev pub run_of : SiteKind → SitePart
+abbrev pub run_of : SiteKind → ToldSite
 run_of kind = record { kind = kind; left = []; enforced = []; path = [] }
 
 -- how a stop begins
@@ -183,15 +178,15 @@ stop_begun _ = None
 -- what a part of a stop is with one phrase more
 abbrev pub stop_with : Program → StopPart → Phrase → Option Next
 stop_with model (StopPart.Begun cause) (Phrase.Stop (StopPhrase.Site kind)) = Some (Next.More (Part.Stop (StopPart.Site cause (run_of kind))))
-stop_with model (StopPart.Large size) Phrase.End = Some (Next.Whole (Answer.Stopped (Stop.Large size)))
+stop_with model (StopPart.Large size) Phrase.End = Some (Next.Whole (Answer.Stopped (ToldStop.Large size)))
 stop_with model (StopPart.Site cause site) (Phrase.Stop (StopPhrase.Without m)) = option_map (λ members. Next.More (Part.Stop (StopPart.Site cause (record site { left = members })))) (with_left_out model site.enforced site.path site.left m)
 stop_with model (StopPart.Site cause site) (Phrase.Stop (StopPhrase.Enforced m)) = option_map (λ members. Next.More (Part.Stop (StopPart.Site cause (record site { enforced = members })))) (with_enforced model site.path site.enforced m)
 stop_with model (StopPart.Site cause site) (Phrase.Stop (StopPhrase.Branch b)) = Some (Next.More (Part.Stop (StopPart.Site cause (record site { path = site.path ++ b ∷ [] }))))
 stop_with model (StopPart.Site StopCause.Wide site) (Phrase.Stop (StopPhrase.Step k)) = Some (Next.More (Part.Stop (StopPart.Step site k)))
-stop_with model (StopPart.Site StopCause.Spent site) Phrase.End = Some (Next.Whole (Answer.Stopped (Stop.Pivots (site_of model site))))
-stop_with model (StopPart.Site StopCause.Nodes site) Phrase.End = Some (Next.Whole (Answer.Stopped (Stop.Nodes (site_of model site))))
+stop_with model (StopPart.Site StopCause.Spent site) Phrase.End = Some (Next.Whole (Answer.Stopped (ToldStop.Pivots site)))
+stop_with model (StopPart.Site StopCause.Nodes site) Phrase.End = Some (Next.Whole (Answer.Stopped (ToldStop.Nodes site)))
 stop_with model (StopPart.Step site k) (Phrase.Stop (StopPhrase.Operation o)) = Some (Next.More (Part.Stop (StopPart.Operation site k o)))
-stop_with model (StopPart.Operation site k o) Phrase.End = Some (Next.Whole (Answer.Stopped (Stop.Wide (site_of model site) k o)))
+stop_with model (StopPart.Operation site k o) Phrase.End = Some (Next.Whole (Answer.Stopped (ToldStop.Wide site k o)))
 stop_with model _ _ = None
 
 -- what a point is with one phrase more, by what it is to show: an answer alone, or one with a ray, or one with a bound, before which the objective's value may stand
@@ -362,11 +357,6 @@ pub record AreValues (model : Program) (values : List ℚ) : Type 0 where
   pub fits : All IsWithinLimit values
   pub named : (j : ℕ) → values_at values j ≢ zero_ℚ → is_word (column_name model j) ≡ true
 
--- members in order, with words for names
-pub record AreMembers (model : Program) (members : List Member) : Type 0 where
-  pub named : All (IsNamedMember model) members
-  pub in_order : IsInOrder members
-
 -- so many witnesses as members
 pub record AreWitnesses (model : Program) (members : List Member) (witnesses : List Point) : Type 0 where
   pub each : length witnesses ≡ length members
@@ -393,29 +383,13 @@ IsOneMore model (Pivots n) members witnesses m = ⊥
 IsOneMore model (Nodes n) members witnesses m = ⊥
 IsOneMore model (Iis method) members witnesses m = AreMembers model (members ++ m ∷ []) × AreWitnesses model members witnesses
 
--- active members in order, with words for names
-pub record AreLeftOut (model : Program) (left : List Member) : Type 0 where
-  pub members : AreMembers model left
-  pub active : All (λ m. IsTrue (is_active model m)) left
-
--- members that there are in order, with words for names
-pub record AreEnforced (model : Program) (enforced : List Member) : Type 0 where
-  pub members : AreMembers model enforced
-  pub there : All (λ m. IsTrue (exists model m)) enforced
-
--- a part of a site: members left out and members enforced, and branches
-pub record IsTold (model : Program) (site : SitePart) : Type 0 where
-  pub left : AreLeftOut model site.left
-  pub enforced : AreEnforced model site.enforced
-  pub path : All (IsNamedBranch model) site.path
-
 -- a part of a stop
 abbrev pub IsStopPart : Program → StopPart → Type 0
 IsStopPart model (StopPart.Begun cause) = ⊤
 IsStopPart model (StopPart.Large size) = IsCount size
-IsStopPart model (StopPart.Site cause site) = IsTold model site
-IsStopPart model (StopPart.Step site k) = IsTold model site × IsCount k
-IsStopPart model (StopPart.Operation site k o) = IsTold model site × (IsCount k × IsOperation o)
+IsStopPart model (StopPart.Site cause site) = IsSiteFor model site
+IsStopPart model (StopPart.Step site k) = IsSiteFor model site × IsCount k
+IsStopPart model (StopPart.Operation site k o) = IsSiteFor model site × (IsCount k × IsOperation o)
 
 -- The nodes are the front of a proof of an answer to the command, and so many subtrees are due: with any such trees behind them they are one tree.
 pub record AreNodes (model : Program) (command : Command) (nodes : List Node) (due : ℕ) : Type 0 where

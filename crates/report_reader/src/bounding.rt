@@ -8,12 +8,12 @@ ghost use Rattle.report_reader.specs.declared.drafts.BoundPart.{BoundPart as One
 ghost use Rattle.report_reader.specs.declared.drafts.Claim.{Claim as OneClaim};
 
 use crate::building::{add_share, add_value, make_ray};
-use crate::drafts::{BoundPart, Claim, Found, Members, Next, Part};
+use crate::drafts::{BoundPart, Claim, Found, Next, Part};
 use crate::stopping::begin_stop;
 use certs::{Combo, Dual, PackedPoint, PackedValues, Shares};
 use frac128::Frac;
 use lp_model::Model;
-use report_text::{Answer, Bounded, Command, Phrase};
+use report_text::{Answer, Bounded, Command, Members, Phrase};
 use std::alloc::{AllocError, Global};
 
 /// What may follow `command unbounded`.
@@ -87,7 +87,6 @@ pub(crate) fn follow_claim(
 
 /// What may follow a part of a ray.
 pub(crate) fn follow_ray(
-    alloc: Global,
     model: &Model,
     point: PackedPoint,
     values: PackedValues,
@@ -103,7 +102,7 @@ pub(crate) fn follow_ray(
             Ok(values.map(|values| Next::More(Part::Ray(point, values))))
         }
         Phrase::End => {
-            let ray = make_ray(alloc, model, values)?;
+            let ray = make_ray(model, values);
             Ok(Some(Next::Whole(Answer::Unbounded(point, ray))))
         }
         _ => Ok(None),

@@ -1,21 +1,19 @@
 //! Lists with one element more, and the points, sets, proofs and answers that they are.
 ghost use Rattle.std.specs.Prelude.{◌≡◌, ◌≤◌, ◌++◌, ◌∷◌, [], IfOk, All, length};
 ghost use Rattle.lp_model.specs.Members.{IsInOrder};
-ghost use Rattle.lp_model.specs.MemberSets.{IsMemberFor};
-ghost use Rattle.report_text.specs.Grammar.{left_out};
 ghost use Rattle.certs.specs.Order.{AreSharesInOrder};
 ghost use Rattle.report_text.specs.Form.{IsNamedMember};
-ghost use Rattle.report_reader.specs.Drafts.{point_of, ray_of, leaf_of, set_of, answer_of, with_value, with_member, with_share, with_left_out, with_enforced, site_of, IsFound, AreEnforced, AreLeftOut};
+ghost use Rattle.report_reader.specs.Drafts.{point_of, ray_of, leaf_of, set_of, answer_of, with_value, with_member, with_share, with_left_out, with_enforced, IsFound};
 
-use crate::drafts::{Found, Members, SitePart};
+use crate::drafts::Found;
 use crate::ordering::{member_follows, source_follows};
 use certs::{
-    Branch, Combo, Node, Nodes, PackedPoint, PackedValues, Path, Proof, Ray, Share, Shares, Site,
+    Branch, Combo, Node, Nodes, PackedPoint, PackedRay, PackedValues, Path, Proof, Share, Shares,
 };
 use frac128::Frac;
-use lp_model::{Member, MemberSet, Model};
+use lp_model::{Member, Model};
 use reductions::ReduceStep;
-use report_text::{Answer, Command, Core, ReduceSteps};
+use report_text::{Answer, Command, Core, MemberList, Members, ReduceSteps};
 use std::alloc::{AllocError, Global};
 
 /// The values with one more, where its column comes after theirs.
@@ -44,18 +42,12 @@ pub(crate) fn make_point(model: &Model, mut values: PackedValues) -> PackedPoint
 }
 
 /// The ray of the changes, with 0 for each further column.
-pub(crate) fn make_ray(
-    alloc: Global,
-    model: &Model,
-    mut values: PackedValues,
-) -> Result<Ray, AllocError>
+pub(crate) fn make_ray(model: &Model, mut values: PackedValues) -> PackedRay
     requires { length values ≤ length model.now.columns }
-    ensures { IfOk result (λ r. r ≡ ray_of model.now values) }
+    ensures { result ≡ ray_of model.now values }
 {
     values.fill(model.column_count() as usize);
-    Ok(Ray {
-        values: values.unpacked(alloc)?,
-    })
+    PackedRay { values }
 }
 
 /// The members with one more, where it comes after all of them.
@@ -147,19 +139,6 @@ pub(crate) fn add_step(steps: ReduceSteps, step: ReduceStep) -> Result<ReduceSte
     Ok(ReduceSteps::new(items))
 }
 
-// The set of the members.
-fn make_set(alloc: Global, model: &Model, members: &[Member]) -> Result<MemberSet, AllocError>
-    requires possible { All (IsMemberFor (length model.now.rows) (length model.now.columns)) members.now }
-    requires in_order { IsInOrder members.now }
-    ensures { IfOk result (λ s. s ≡ set_of model.now members.now) }
-{
-    let mut set = MemberSet::empty(alloc, model)?;
-    for member in members {
-        set.insert(*member);
-    }
-    Ok(set)
-}
-
 /// The nodes with a split more.
 pub(crate) fn add_split(nodes: Nodes, column: u32, at: i128) -> Result<Nodes, AllocError>
     ensures { IfOk result (λ n. n ≡ nodes ++ Node.Split column at ∷ []) }
@@ -181,70 +160,30 @@ pub(crate) fn add_leaf(nodes: Nodes, shares: Shares) -> Result<Nodes, AllocError
 /// The answer that a set with the nodes of its proof is, and with how many rounds were made, or a total and a price, where
 /// that is told.
 pub(crate) fn make_answer(
-    alloc: Global,
     model: &Model,
     command: &Command,
     found: Found,
     nodes: Nodes,
     rounds: Option<u64>,
     price: Option<(Frac, PackedPoint)>,
-) -> Result<Answer, AllocError>
+) -> Answer
     requires { IsFound model.now command.now found }
-    ensures { IfOk result (λ a. a ≡ answer_of model.now found nodes rounds price) }
+    ensures { result ≡ answer_of model.now found nodes rounds price }
 {
     let proof = Proof { nodes };
     match found {
         Found::Members(members) => {
-            let set = make_set(alloc, model, members.as_slice())?;
-            Ok(Answer::Infeasible(set, proof))
+            Answer::Infeasible(MemberList::new(model, members.into_vec()), proof)
         }
-        Found::Witnessed(members, witnesses) => {
-            let members = make_set(alloc, model, members.as_slice())?;
-            Ok(Answer::Irreducible(Core {
-                members,
-                witnesses,
-                proof,
-                rounds,
-                price,
-            }))
-        }
+        Found::Witnessed(members, witnesses) => Answer::Irreducible(Core {
+            members: MemberList::new(model, members.into_vec()),
+            witnesses,
+            proof,
+            rounds,
+            price,
+        }),
         Found::Rigid(members) => {
-            let set = make_set(alloc, model, members.as_slice())?;
-            Ok(Answer::RigidInfeasible(set, proof))
+            Answer::RigidInfeasible(MemberList::new(model, members.into_vec()), proof)
         }
     }
-}
-
-// The set of the active members but these.
-fn make_others(alloc: Global, model: &Model, left: &[Member]) -> Result<MemberSet, AllocError>
-    requires { All (IsMemberFor (length model.now.rows) (length model.now.columns)) left.now }
-    ensures { IfOk result (λ s. s ≡ set_of model.now (left_out model.now left.now)) }
-{
-    let mut set = model.members(alloc)?;
-    for member in left {
-        set.remove(*member);
-    }
-    Ok(set)
-}
-
-/// The site that is told: a run of the active members but those that are left out, with those that are enforced, on a path.
-pub(crate) fn make_site(alloc: Global, model: &Model, site: SitePart) -> Result<Site, AllocError>
-    requires left { AreLeftOut model.now site.left }
-    requires enforced { AreEnforced model.now site.enforced }
-    ensures { IfOk result (λ s. s ≡ site_of model.now site) }
-{
-    let SitePart {
-        kind,
-        left,
-        enforced,
-        path,
-    } = site;
-    let set = make_others(alloc, model, left.as_slice())?;
-    let enforced = make_set(alloc, model, enforced.as_slice())?;
-    Ok(Site {
-        kind,
-        set,
-        enforced,
-        path,
-    })
 }

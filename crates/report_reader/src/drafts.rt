@@ -1,49 +1,9 @@
 //! How far a report is read.
-ghost use Rattle.std.specs.Prelude.{◌≡◌};
 
-use certs::{Nodes, PackedPoint, PackedValues, Path, Shares, SiteKind};
+use certs::{Nodes, PackedPoint, PackedValues, Shares};
 use frac128::{Frac, Wide};
 use lp_model::Member;
-use report_text::{Answer, Command, Entries, Notes, ReduceSteps, Witnesses};
-use std::marker::Model;
-
-/// Members, as a list.
-#[derive(Drop)]
-pub(crate) struct Members {
-    items: Vec<Member>,
-}
-
-impl Model for Members {
-    ghost use Rattle.std.specs.Prelude.{List};
-    ghost use Rattle.lp_model.specs.declared.members.Member.{Member};
-
-    ghost Value = { List Member };
-
-    ghost view = { λ m. m.items.items };
-}
-
-impl Members {
-    /// These members.
-    pub(crate) fn new(items: Vec<Member>) -> Members
-        ensures { result ≡ items.items }
-    {
-        Members { items }
-    }
-
-    /// The members.
-    pub(crate) fn as_slice(&self) -> &[Member]
-        ensures { result.now ≡ self.now }
-    {
-        self.items.as_slice()
-    }
-
-    /// The members, given back.
-    pub(crate) fn into_vec(self) -> Vec<Member>
-        ensures { result.items ≡ self }
-    {
-        self.items
-    }
-}
+use report_text::{Answer, Command, Entries, Members, Notes, ReduceSteps, ToldSite, Witnesses};
 
 /// What stands before a proof: members, members with a witness for each, or rigid members.
 #[derive(Drop)]
@@ -68,16 +28,6 @@ pub(crate) enum StopCause {
     Nodes,
 }
 
-/// How far a site is read: its kind, the active members so far that are not in its set, the members of its set so far that
-/// are enforced, and the branches so far of its path.
-#[derive(Drop)]
-pub(crate) struct SitePart {
-    pub(crate) kind: SiteKind,
-    pub(crate) left: Members,
-    pub(crate) enforced: Members,
-    pub(crate) path: Path,
-}
-
 /// How far a stop is read.
 #[derive(Drop)]
 pub(crate) enum StopPart {
@@ -85,12 +35,12 @@ pub(crate) enum StopPart {
     Begun(StopCause),
     /// `too large`, and the size.
     Large(u64),
-    /// The first line of another stop, and a part of the site.
-    Site(StopCause, SitePart),
+    /// The first line of another stop, and the site as far as it is told.
+    Site(StopCause, ToldSite),
     /// `too wide`, the site, and the number of the turn.
-    Step(SitePart, u64),
+    Step(ToldSite, u64),
     /// The same, and the operation.
-    Operation(SitePart, u64, Wide),
+    Operation(ToldSite, u64, Wide),
 }
 
 /// What a point is to show, by the line before it: `feasible`, `unbounded` or `bounded`.

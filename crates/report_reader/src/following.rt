@@ -12,7 +12,7 @@ use crate::bounding::{begin_bounding, follow_bounding, follow_claim, follow_ray}
 use crate::building::{
     add_leaf, add_member, add_share, add_split, add_value, make_answer, make_point,
 };
-use crate::drafts::{Claim, Found, Members, Next, Part};
+use crate::drafts::{Claim, Found, Next, Part};
 use crate::least::{begin_relaxing, follow_least};
 use crate::ordering::member_follows;
 use crate::pricing::{follow_price, open_price, tells_price};
@@ -20,7 +20,7 @@ use crate::reducing::{begin_reduction, follow_left, follow_steps};
 use crate::stopping::{begin_stop, follow_stop};
 use certs::{Nodes, PackedValues, Shares};
 use lp_model::{Member, Model};
-use report_text::{Answer, Command, Method, Phrase, Refusal, Witnesses};
+use report_text::{Answer, Command, Members, Method, Phrase, Refusal, Witnesses};
 use std::alloc::{AllocError, Global};
 
 // What may follow `command check`.
@@ -376,24 +376,23 @@ fn count_rounds(
 
 // The answer of a proof in which no subtree is due, where nothing is told behind it.
 fn close_proof(
-    alloc: Global,
     model: &Model,
     command: &Command,
     found: Found,
     nodes: Nodes,
     due: u64,
-) -> Result<Option<Next>, AllocError>
+) -> Option<Next>
     requires { IsFound model.now command.now found }
-    ensures { IfOk result (λ n. n ≡ proof_with model.now command.now found nodes due Phrase.End) }
+    ensures { result ≡ proof_with model.now command.now found nodes due Phrase.End }
 {
     if tells_more(command) {
-        return Ok(None);
+        return None;
     }
     if due != 0 {
-        return Ok(None);
+        return None;
     }
-    let answer = make_answer(alloc, model, command, found, nodes, None, None)?;
-    Ok(Some(Next::Whole(answer)))
+    let answer = make_answer(model, command, found, nodes, None, None);
+    Some(Next::Whole(answer))
 }
 
 // What may follow the nodes of a proof.
@@ -416,7 +415,7 @@ fn follow_nodes(
         Phrase::Leaf => Ok(open_leaf(alloc, found, nodes, due)),
         Phrase::Rounds(rounds) => Ok(count_rounds(command, found, nodes, due, rounds)),
         Phrase::Total(total) => Ok(open_price(command, found, nodes, due, total)),
-        Phrase::End => close_proof(alloc, model, command, found, nodes, due),
+        Phrase::End => Ok(close_proof(model, command, found, nodes, due)),
         _ => Ok(None),
     }
 }
@@ -448,24 +447,22 @@ fn follow_leaf(
 
 // What may follow how many rounds were made: the end.
 fn close_rounds(
-    alloc: Global,
     model: &Model,
     command: &Command,
     found: Found,
     nodes: Nodes,
     rounds: u64,
     phrase: Phrase,
-) -> Result<Option<Next>, AllocError>
+) -> Option<Next>
     requires { IsFound model.now command.now found }
-    ensures { IfOk result (λ n.
-        n ≡ extended model.now command.now (Part.Counted found nodes rounds) phrase) }
+    ensures { result ≡ extended model.now command.now (Part.Counted found nodes rounds) phrase }
 {
     match phrase {
         Phrase::End => {
-            let answer = make_answer(alloc, model, command, found, nodes, Some(rounds), None)?;
-            Ok(Some(Next::Whole(answer)))
+            let answer = make_answer(model, command, found, nodes, Some(rounds), None);
+            Some(Next::Whole(answer))
         }
-        _ => Ok(None),
+        _ => None,
     }
 }
 
@@ -485,7 +482,7 @@ pub(crate) fn follow(
         Part::Nothing => Ok(follow_command(alloc, command, phrase)),
         Part::Claimed(claim) => Ok(follow_claimed(alloc, claim, phrase)),
         Part::Point(claim, values) => follow_point(alloc, model, claim, values, phrase),
-        Part::Ray(point, values) => follow_ray(alloc, model, point, values, phrase),
+        Part::Ray(point, values) => follow_ray(model, point, values, phrase),
         Part::Bounded(part) => follow_bounding(alloc, part, phrase),
         Part::Least(part) => follow_least(alloc, model, part, phrase),
         Part::Listed(found) => follow_list(alloc, found, phrase),
@@ -502,7 +499,7 @@ pub(crate) fn follow(
             follow_leaf(alloc, model, command, found, nodes, due, shares, phrase)
         }
         Part::Counted(found, nodes, rounds) => {
-            close_rounds(alloc, model, command, found, nodes, rounds, phrase)
+            Ok(close_rounds(model, command, found, nodes, rounds, phrase))
         }
         Part::Priced(found, nodes, part) => {
             follow_price(alloc, model, command, found, nodes, part, phrase)

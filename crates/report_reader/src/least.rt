@@ -7,12 +7,12 @@ ghost use Rattle.report_reader.specs.Drafts.{extended, least_with, IsLeastInForm
 ghost use Rattle.report_reader.specs.declared.drafts.LeastPart.{LeastPart as OneLeastPart};
 
 use crate::building::{add_share, add_value, make_point};
-use crate::drafts::{Found, LeastPart, Members, Next, Part};
+use crate::drafts::{Found, LeastPart, Next, Part};
 use crate::stopping::begin_stop;
 use certs::{Combo, Dual, PackedPoint, PackedValues, Shares};
 use frac128::Frac;
 use lp_model::Model;
-use report_text::{Answer, Phrase};
+use report_text::{Answer, Members, Phrase};
 use std::alloc::{AllocError, Global};
 
 /// What may follow `command relax`.

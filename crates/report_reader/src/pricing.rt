@@ -64,7 +64,6 @@ fn follow_total(
 
 // What may follow a part of the price: a value more, or the end.
 fn follow_values(
-    alloc: Global,
     model: &Model,
     command: &Command,
     found: Found,
@@ -89,7 +88,7 @@ fn follow_values(
         }
         Phrase::End => {
             let price = Some((total, make_point(model, values)));
-            let answer = make_answer(alloc, model, command, found, nodes, None, price)?;
+            let answer = make_answer(model, command, found, nodes, None, price);
             Ok(Some(Next::Whole(answer)))
         }
         _ => Ok(None),
@@ -113,7 +112,7 @@ pub(crate) fn follow_price(
     match part {
         PricePart::Total(total) => Ok(follow_total(alloc, found, nodes, total, phrase)),
         PricePart::Price(total, values) => {
-            follow_values(alloc, model, command, found, nodes, total, values, phrase)
+            follow_values(model, command, found, nodes, total, values, phrase)
         }
     }
 }

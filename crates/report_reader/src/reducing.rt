@@ -5,8 +5,8 @@ ghost use Rattle.report_text.specs.declared.report.Command.TheVariants.{Reduce};
 ghost use Rattle.report_reader.specs.Drafts.{extended};
 
 use crate::building::add_step;
-use crate::drafts::{Found, Members, Next, Part};
-use report_text::{Answer, Command, Phrase, ReduceSteps, Reduced};
+use crate::drafts::{Found, Next, Part};
+use report_text::{Answer, Command, Members, Phrase, ReduceSteps, Reduced};
 use std::alloc::{AllocError, Global};
 
 /// What may follow `command reduce`.

@@ -1,16 +1,16 @@
 //! What a phrase makes of a part of a stop.
 ghost use Rattle.std.specs.Prelude.{◌≡◌, IfOk};
 ghost use Rattle.lp_model.specs.Program.{Program};
-ghost use Rattle.report_text.specs.Form.{IsNamedMember};
+ghost use Rattle.report_text.specs.Form.{IsNamedMember, IsSiteFor};
 ghost use Rattle.phrase_reader.specs.Phrases.{IsStopPhrase, IsPhraseFor};
-ghost use Rattle.report_reader.specs.Drafts.{stop_begun, stop_with, IsStopPart, IsTold};
+ghost use Rattle.report_reader.specs.Drafts.{stop_begun, stop_with, IsStopPart};
 
-use crate::building::{add_branch, add_enforced, add_left_out, make_site};
-use crate::drafts::{Members, Next, Part, SitePart, StopCause, StopPart};
-use certs::{Branch, Path, SiteKind, Stop};
+use crate::building::{add_branch, add_enforced, add_left_out};
+use crate::drafts::{Next, Part, StopCause, StopPart};
+use certs::{Branch, Path, SiteKind};
 use frac128::Wide;
 use lp_model::{Member, Model};
-use report_text::{Answer, Phrase, StopPhrase};
+use report_text::{Answer, Members, Phrase, StopPhrase, ToldSite, ToldStop};
 use std::alloc::{AllocError, Global};
 
 /// The part that the first line of a stop is.
@@ -34,7 +34,7 @@ fn begin_site(alloc: Global, cause: StopCause, kind: SiteKind) -> Option<Next>
     let left = Members::new(Vec::new(alloc));
     let enforced = Members::new(Vec::new(alloc));
     let path = Path::new(Vec::new(alloc));
-    let site = SitePart {
+    let site = ToldSite {
         kind,
         left,
         enforced,
@@ -69,13 +69,13 @@ fn follow_large(size: u64, phrase: Phrase) -> Option<Next>
     ensures { (model : Program) → result ≡ stop_with model (StopPart.Large size) phrase }
 {
     match phrase {
-        Phrase::End => Some(Next::Whole(Answer::Stopped(Stop::Large(size)))),
+        Phrase::End => Some(Next::Whole(Answer::Stopped(ToldStop::Large(size)))),
         _ => None,
     }
 }
 
 // The turn at the site of an operation that is too wide.
-fn open_step(cause: StopCause, site: SitePart, step: u64) -> Option<Next>
+fn open_step(cause: StopCause, site: ToldSite, step: u64) -> Option<Next>
     ensures { (model : Program) → result ≡ stop_with model (StopPart.Site cause site) (Phrase.Stop (StopPhrase.Step step)) }
 {
     match cause {
@@ -89,14 +89,14 @@ fn open_step(cause: StopCause, site: SitePart, step: u64) -> Option<Next>
 fn leave_out(
     model: &Model,
     cause: StopCause,
-    site: SitePart,
+    site: ToldSite,
     member: Member,
 ) -> Result<Option<Next>, AllocError>
-    requires told { IsTold model.now site }
+    requires told { IsSiteFor model.now site }
     requires member { IsNamedMember model.now member }
     ensures { IfOk result (λ n. n ≡ stop_with model.now (StopPart.Site cause site) (Phrase.Stop (StopPhrase.Without member))) }
 {
-    let SitePart {
+    let ToldSite {
         kind,
         left,
         enforced,
@@ -104,7 +104,7 @@ fn leave_out(
     } = site;
     let left = add_left_out(model, enforced.as_slice(), path.as_slice(), left, member)?;
     Ok(left.map(|left| {
-        let site = SitePart {
+        let site = ToldSite {
             kind,
             left,
             enforced,
@@ -118,15 +118,15 @@ fn leave_out(
 fn enforce(
     model: &Model,
     cause: StopCause,
-    site: SitePart,
+    site: ToldSite,
     member: Member,
 ) -> Result<Option<Next>, AllocError>
-    requires told { IsTold model.now site }
+    requires told { IsSiteFor model.now site }
     requires member { IsNamedMember model.now member }
     ensures { IfOk result (λ n. n ≡ stop_with model.now (StopPart.Site cause site)
         (Phrase.Stop (StopPhrase.Enforced member))) }
 {
-    let SitePart {
+    let ToldSite {
         kind,
         left,
         enforced,
@@ -134,7 +134,7 @@ fn enforce(
     } = site;
     let enforced = add_enforced(model, path.as_slice(), enforced, member)?;
     Ok(enforced.map(|enforced| {
-        let site = SitePart {
+        let site = ToldSite {
             kind,
             left,
             enforced,
@@ -145,17 +145,17 @@ fn enforce(
 }
 
 // A branch more of the path.
-fn go_on(cause: StopCause, site: SitePart, branch: Branch) -> Result<Option<Next>, AllocError>
+fn go_on(cause: StopCause, site: ToldSite, branch: Branch) -> Result<Option<Next>, AllocError>
     ensures { (model : Program) → IfOk result (λ n. n ≡ stop_with model (StopPart.Site cause site) (Phrase.Stop (StopPhrase.Branch branch))) }
 {
-    let SitePart {
+    let ToldSite {
         kind,
         left,
         enforced,
         path,
     } = site;
     let path = add_branch(path, branch)?;
-    let site = SitePart {
+    let site = ToldSite {
         kind,
         left,
         enforced,
@@ -168,10 +168,10 @@ fn go_on(cause: StopCause, site: SitePart, branch: Branch) -> Result<Option<Next
 fn extend_site(
     model: &Model,
     cause: StopCause,
-    site: SitePart,
+    site: ToldSite,
     phrase: StopPhrase,
 ) -> Result<Option<Next>, AllocError>
-    requires told { IsTold model.now site }
+    requires told { IsSiteFor model.now site }
     requires phrase { IsStopPhrase model.now phrase }
     ensures { IfOk result (λ n. n ≡ stop_with model.now (StopPart.Site cause site) (Phrase.Stop phrase)) }
 {
@@ -185,49 +185,36 @@ fn extend_site(
 }
 
 // The answer of a stop that ends with its site.
-fn close_site(
-    alloc: Global,
-    model: &Model,
-    cause: StopCause,
-    site: SitePart,
-) -> Result<Option<Next>, AllocError>
-    requires { IsTold model.now site }
-    ensures { IfOk result (λ n. n ≡ stop_with model.now (StopPart.Site cause site) Phrase.End) }
+fn close_site(cause: StopCause, site: ToldSite) -> Option<Next>
+    ensures { (model : Program) → result ≡ stop_with model (StopPart.Site cause site) Phrase.End }
 {
     match cause {
-        StopCause::Wide => Ok(None),
-        StopCause::Spent => {
-            let site = make_site(alloc, model, site)?;
-            Ok(Some(Next::Whole(Answer::Stopped(Stop::Pivots(site)))))
-        }
-        StopCause::Nodes => {
-            let site = make_site(alloc, model, site)?;
-            Ok(Some(Next::Whole(Answer::Stopped(Stop::Nodes(site)))))
-        }
+        StopCause::Wide => None,
+        StopCause::Spent => Some(Next::Whole(Answer::Stopped(ToldStop::Pivots(site)))),
+        StopCause::Nodes => Some(Next::Whole(Answer::Stopped(ToldStop::Nodes(site)))),
     }
 }
 
 // What may follow the site.
 fn follow_site(
-    alloc: Global,
     model: &Model,
     cause: StopCause,
-    site: SitePart,
+    site: ToldSite,
     phrase: Phrase,
 ) -> Result<Option<Next>, AllocError>
-    requires told { IsTold model.now site }
+    requires told { IsSiteFor model.now site }
     requires phrase { IsPhraseFor model.now phrase }
     ensures { IfOk result (λ n. n ≡ stop_with model.now (StopPart.Site cause site) phrase) }
 {
     match phrase {
         Phrase::Stop(phrase) => extend_site(model, cause, site, phrase),
-        Phrase::End => close_site(alloc, model, cause, site),
+        Phrase::End => Ok(close_site(cause, site)),
         _ => Ok(None),
     }
 }
 
 // What may follow the number of the turn.
-fn follow_step(site: SitePart, step: u64, phrase: Phrase) -> Option<Next>
+fn follow_step(site: ToldSite, step: u64, phrase: Phrase) -> Option<Next>
     ensures { (model : Program) → result ≡ stop_with model (StopPart.Step site step) phrase }
 {
     match phrase {
@@ -239,23 +226,12 @@ fn follow_step(site: SitePart, step: u64, phrase: Phrase) -> Option<Next>
 }
 
 // What may follow the operation.
-fn close_wide(
-    alloc: Global,
-    model: &Model,
-    site: SitePart,
-    step: u64,
-    wide: Wide,
-    phrase: Phrase,
-) -> Result<Option<Next>, AllocError>
-    requires { IsTold model.now site }
-    ensures { IfOk result (λ n. n ≡ stop_with model.now (StopPart.Operation site step wide) phrase) }
+fn close_wide(site: ToldSite, step: u64, wide: Wide, phrase: Phrase) -> Option<Next>
+    ensures { (model : Program) → result ≡ stop_with model (StopPart.Operation site step wide) phrase }
 {
     match phrase {
-        Phrase::End => {
-            let site = make_site(alloc, model, site)?;
-            Ok(Some(Next::Whole(Answer::Stopped(Stop::Wide(site, step, wide)))))
-        }
-        _ => Ok(None),
+        Phrase::End => Some(Next::Whole(Answer::Stopped(ToldStop::Wide(site, step, wide)))),
+        _ => None,
     }
 }
 
@@ -273,10 +249,8 @@ pub(crate) fn follow_stop(
     match part {
         StopPart::Begun(cause) => Ok(follow_begun(alloc, cause, phrase)),
         StopPart::Large(size) => Ok(follow_large(size, phrase)),
-        StopPart::Site(cause, site) => follow_site(alloc, model, cause, site, phrase),
+        StopPart::Site(cause, site) => follow_site(model, cause, site, phrase),
         StopPart::Step(site, step) => Ok(follow_step(site, step, phrase)),
-        StopPart::Operation(site, step, wide) => {
-            close_wide(alloc, model, site, step, wide, phrase)
-        }
+        StopPart::Operation(site, step, wide) => Ok(close_wide(site, step, wide, phrase)),
     }
 }

@@ -1,5 +1,4 @@
 pub mod Lengths
-pub mod Filters
 pub mod InTurn
 pub mod Passed
 pub mod Changing
@@ -7,3 +6,4 @@ pub mod Histories
 pub mod Unchanged
 pub mod Standing
 pub mod Taken
+pub mod Ordered

@@ -1,5 +1,5 @@
 -- Which reports stand in the grammar: what is asked of their names, numbers and order.
-use Rattle.std.specs.Prelude.{◌≡◌, ◌≢◌, ℕ, ◌+◌, ◌^◌, ◌<◌, ◌≤◌, nat_lt, Bool, true, false, ◌&&◌, List, [], ◌∷◌, ◌++◌, length, filter, Option, None, Some, All, IsTrue}
+use Rattle.std.specs.Prelude.{◌≡◌, ◌≢◌, ℕ, ◌+◌, ◌^◌, ◌<◌, ◌≤◌, nat_lt, Bool, true, false, ◌&&◌, List, [], ◌∷◌, ◌++◌, length, Option, None, Some, All, IsTrue}
 use Rattle.std.specs.List.{list_all}
 use Rattle.report_text.specs.Names.{is_shown}
 use Rattle.rational.specs.Rational.{ℚ, zero_ℚ, ◌<ℚ◌}
@@ -10,9 +10,10 @@ use Rattle.lp_model.specs.declared.parts.Weight.TheVariants.{Soft, Rigid}
 use Rattle.lp_model.specs.Program.{Program, row_at, noted_column}
 use Rattle.text_fields.specs.Numbers.{is_far}
 use Rattle.lp_model.specs.declared.members.Member.{Member}
-use Rattle.lp_model.specs.Members.{exists, has, active_members, IsInOrder}
+use Rattle.lp_model.specs.Members.{exists, is_active, IsInOrder}
 use Rattle.lp_model.specs.MemberSets.{SetValue, IsMemberFor}
 use Rattle.lp_model.specs.Satisfaction.{values_at}
+use Rattle.certs.specs.declared.evidence.Branch.{Branch}
 use Rattle.certs.specs.declared.evidence.Source.{Source}
 use Rattle.certs.specs.declared.evidence.Source.TheVariants.{Member as Of, Below, Above}
 use Rattle.certs.specs.declared.evidence.Share.{Share}
@@ -26,9 +27,6 @@ use Rattle.certs.specs.Checks.{IsSetOf}
 use Rattle.certs.specs.Combination.{IsFitting}
 use Rattle.certs.specs.Proof.{Tree, preorder, IsFittingNode}
 use Rattle.certs.specs.Order.{AreSharesInOrder}
-use Rattle.certs.specs.declared.solving.Site.{Site}
-use Rattle.certs.specs.declared.solving.Stop.{Stop}
-use Rattle.certs.specs.declared.solving.Stop.TheVariants.{Wide as TooWide, Pivots as Spent, Nodes as NodesSpent, Large, Memory}
 use Rattle.frac128.specs.declared.Wide.{Wide as Operation}
 use Rattle.reductions.specs.declared.steps.ReduceStep.{ReduceStep}
 use Rattle.reductions.specs.declared.steps.ReduceStep.TheVariants.{Empty, Singleton, Fixed, Redundant, Forcing, Doubleton}
@@ -43,12 +41,15 @@ use Rattle.report_text.specs.declared.report.Refusal.{Refusal}
 use Rattle.report_text.specs.declared.report.Core.{Core}
 use Rattle.report_text.specs.declared.report.Bounded.{Bounded}
 use Rattle.report_text.specs.declared.report.Reduced.{Reduced}
+use Rattle.report_text.specs.declared.report.ToldSite.{ToldSite}
+use Rattle.report_text.specs.declared.report.ToldStop.{ToldStop}
+use Rattle.report_text.specs.declared.report.ToldStop.TheVariants.{Wide as TooWide, Pivots as Spent, Nodes as NodesSpent, Large}
 use Rattle.report_text.specs.declared.report.Answer.{Answer}
 use Rattle.report_text.specs.declared.report.Answer.TheVariants.{Feasible, Infeasible, Irreducible, Unbounded as RunsAway, Bounded as BoundedBy, Least as LeastBy, RigidInfeasible as RigidRefuted, Reduced as ReducedTo, Done, Refused, NotLinear, Stopped}
 use Rattle.report_text.specs.declared.report.Entry.{Entry}
 use Rattle.report_text.specs.declared.report.Report.{Report}
 use Rattle.report_text.specs.Turns.{after, AllEntries}
-use Rattle.report_text.specs.Grammar.{column_name, name_of, left_out, entry_phrases}
+use Rattle.report_text.specs.Grammar.{column_name, name_of, entry_phrases}
 
 -- ---- names
 -- a word: at least one byte, and each one that may stand in a name
@@ -127,22 +128,31 @@ pub record IsProofFor (model : Program) (proof : Proof) : Type 0 where
   pub each : All (IsNodeFor model) proof.nodes
 
 -- ---- stops
--- a run of active members in member order, with enforced members that there are in that order, none twice, on a path of columns that there are
-pub record IsRunSite (model : Program) (site : Site) : Type 0 where
-  pub of_model : IsSetOf model site.set
-  pub active : site.set.members ≡ filter (has site.set.members) (active_members model)
-  pub enforced_of : IsSetOf model site.enforced
-  pub enforced_in_order : IsInOrder site.enforced.members
-  pub enforced_there : All (λ m. IsTrue (exists model m)) site.enforced.members
-  pub known : All (λ b. b.column < length model.columns) site.path
-  pub fits : All IsFitting site.path
+-- members in order, with words for names
+pub record AreMembers (model : Program) (members : List Member) : Type 0 where
+  pub named : All (IsNamedMember model) members
+  pub in_order : IsInOrder members
 
--- such a site, where each active member that is not in its set has a word for a name, and so has each enforced one, and each column of its path
-pub record IsSiteFor (model : Program) (site : Site) : Type 0 where
-  pub run : IsRunSite model site
-  pub named : All (IsNamedMember model) (left_out model site.set.members)
-  pub enforced : All (IsNamedMember model) site.enforced.members
-  pub path : All (λ b. IsNamedColumn model b.column) site.path
+-- active members in order, with words for names
+pub record AreLeftOut (model : Program) (left : List Member) : Type 0 where
+  pub members : AreMembers model left
+  pub active : All (λ m. IsTrue (is_active model m)) left
+
+-- members that there are in order, with words for names
+pub record AreEnforced (model : Program) (enforced : List Member) : Type 0 where
+  pub members : AreMembers model enforced
+  pub there : All (λ m. IsTrue (exists model m)) enforced
+
+-- a branch on a column whose name is a word, at a number that fits
+pub record IsNamedBranch (model : Program) (b : Branch) : Type 0 where
+  pub named : IsNamedColumn model b.column
+  pub fits : IsFitting b
+
+-- such members that are left out and that are enforced, and such branches
+pub record IsSiteFor (model : Program) (site : ToldSite) : Type 0 where
+  pub left : AreLeftOut model site.left
+  pub enforced : AreEnforced model site.enforced
+  pub path : All (IsNamedBranch model) site.path
 
 -- an operation on numbers within the limit
 pub record IsOperation (o : Operation) : Type 0 where
@@ -153,13 +163,12 @@ pub record IsOperation (o : Operation) : Type 0 where
 abbrev pub IsCount : ℕ → Type 0
 IsCount n = n < 2 ^ 64
 
--- An operation too wide, no pivot left, no node left, or a size of 64 bits; want of memory is never printed.
-abbrev pub IsStopFor : Program → Stop → Type 0
+-- an operation too wide, no pivot left, no node left, or a size of 64 bits
+abbrev pub IsStopFor : Program → ToldStop → Type 0
 IsStopFor model (TooWide site k o) = IsSiteFor model site × (IsCount k × IsOperation o)
 IsStopFor model (Spent site) = IsSiteFor model site
 IsStopFor model (NodesSpent site) = IsSiteFor model site
 IsStopFor model (Large size) = IsCount size
-IsStopFor model Memory = ⊥
 
 -- ---- answers
 -- a count of 64 bits, where there is one

@@ -1,14 +1,10 @@
 -- What a report says, phrase by phrase. A phrase is one line, which stands here without the byte 10 that ends it.
-use Rattle.std.specs.Prelude.{ℕ, suc, ◌++◌, Bool, true, false, cond, not, List, [], ◌∷◌, map, flat_map, filter, zip, codes, decimal, Option, Some, None}
+use Rattle.std.specs.Prelude.{ℕ, suc, ◌++◌, Bool, true, false, cond, List, [], ◌∷◌, map, flat_map, zip, codes, decimal, Option, Some, None}
 use Rattle.std.specs.Fmt.{signed_decimal}
 use Rattle.frac128.specs.declared.Op.{Op}
 use Rattle.frac128.specs.declared.Op.TheVariants.{Plus, Minus, Times, Over}
-use Rattle.frac128.specs.declared.Wide.{Wide as Operation}
 use Rattle.certs.specs.declared.solving.SiteKind.{SiteKind}
 use Rattle.certs.specs.declared.solving.SiteKind.TheVariants.{Settle, Improve, Stretch, Relax, Alternative}
-use Rattle.certs.specs.declared.solving.Site.{Site}
-use Rattle.certs.specs.declared.solving.Stop.{Stop}
-use Rattle.certs.specs.declared.solving.Stop.TheVariants.{Wide as TooWide, Pivots as Spent, Nodes as NodesSpent, Large, Memory}
 use Rattle.rational.specs.Rational.{ℚ, zero_ℚ, eq_ℚ}
 use Rattle.frac128.specs.Printed.{printed}
 use Rattle.lp_model.specs.declared.parts.Note.{Note}
@@ -20,7 +16,6 @@ use Rattle.lp_model.specs.declared.members.Member.{Member}
 use Rattle.lp_model.specs.declared.members.Member.TheVariants.{RowLo, RowUp, Lower, Upper, Whole}
 use Rattle.lp_model.specs.declared.members.Side.{Side}
 use Rattle.lp_model.specs.declared.members.Side.TheVariants.{Lo, Up}
-use Rattle.lp_model.specs.Members.{has, active_members}
 use Rattle.lp_model.specs.MemberSets.{SetValue}
 use Rattle.certs.specs.declared.evidence.Branch.{Branch}
 use Rattle.certs.specs.declared.evidence.Source.{Source}
@@ -43,6 +38,9 @@ use Rattle.report_text.specs.declared.report.Refusal.{Refusal}
 use Rattle.report_text.specs.declared.report.Core.{Core}
 use Rattle.report_text.specs.declared.report.Bounded.{Bounded}
 use Rattle.report_text.specs.declared.report.Reduced.{Reduced}
+use Rattle.report_text.specs.declared.report.ToldSite.{ToldSite}
+use Rattle.report_text.specs.declared.report.ToldStop.{ToldStop}
+use Rattle.report_text.specs.declared.report.ToldStop.TheVariants.{Wide as TooWide, Pivots as Spent, Nodes as NodesSpent, Large}
 use Rattle.report_text.specs.declared.report.Answer.{Answer}
 use Rattle.report_text.specs.declared.report.Answer.TheVariants.{Feasible, Infeasible, Irreducible, Unbounded as RunsAway, Bounded as BoundedBy, Least as LeastBy, RigidInfeasible as RigidRefuted, Reduced as ReducedTo, Done, Refused, NotLinear, Stopped}
 use Rattle.report_text.specs.declared.report.Entry.{Entry}
@@ -441,11 +439,7 @@ irreducible_phrases core = Phrase.Irreducible ∷ (flat_map witness_phrases (zip
 abbrev pub reduced_phrases : Reduced → List Phrase
 reduced_phrases r = Phrase.Reduced ∷ (map Phrase.Reduction r.steps ++ Phrase.Left r.rows r.columns ∷ [])
 
--- the active members that are not in a set
-abbrev pub left_out : Program → List Member → List Member
-left_out model set = filter (λ m. not (has set m)) (active_members model)
-
--- an active member that is not in the set of a site
+-- an active member that is left out at a site
 abbrev pub without_phrase : Member → Phrase
 without_phrase m = Phrase.Stop (StopPhrase.Without m)
 
@@ -457,17 +451,16 @@ enforced_phrase m = Phrase.Stop (StopPhrase.Enforced m)
 abbrev pub branch_phrase : Branch → Phrase
 branch_phrase b = Phrase.Stop (StopPhrase.Branch b)
 
--- a site: its kind, the active members that are not in its set, those that are enforced, and the branches on the way to its node
-abbrev pub site_phrases : Program → Site → List Phrase
-site_phrases model site = Phrase.Stop (StopPhrase.Site site.kind) ∷ (map without_phrase (left_out model site.set.members) ++ (map enforced_phrase site.enforced.members ++ map branch_phrase site.path))
+-- a site: its kind, the active members that are left out, those that are enforced, and the branches on the way to its node
+abbrev pub site_phrases : ToldSite → List Phrase
+site_phrases site = Phrase.Stop (StopPhrase.Site site.kind) ∷ (map without_phrase site.left ++ (map enforced_phrase site.enforced ++ map branch_phrase site.path))
 
--- a stop without its end; want of memory is never printed
-abbrev pub stop_phrases : Program → Stop → List Phrase
-stop_phrases model (TooWide site k o) = Phrase.Stop StopPhrase.Wide ∷ (site_phrases model site ++ Phrase.Stop (StopPhrase.Step k) ∷ Phrase.Stop (StopPhrase.Operation o) ∷ [])
-stop_phrases model (Spent site) = Phrase.Stop StopPhrase.Spent ∷ site_phrases model site
-stop_phrases model (NodesSpent site) = Phrase.Stop StopPhrase.Nodes ∷ site_phrases model site
-stop_phrases model (Large size) = Phrase.Stop (StopPhrase.Large size) ∷ []
-stop_phrases model Memory = []
+-- a stop without its end
+abbrev pub stop_phrases : ToldStop → List Phrase
+stop_phrases (TooWide site k o) = Phrase.Stop StopPhrase.Wide ∷ (site_phrases site ++ Phrase.Stop (StopPhrase.Step k) ∷ Phrase.Stop (StopPhrase.Operation o) ∷ [])
+stop_phrases (Spent site) = Phrase.Stop StopPhrase.Spent ∷ site_phrases site
+stop_phrases (NodesSpent site) = Phrase.Stop StopPhrase.Nodes ∷ site_phrases site
+stop_phrases (Large size) = Phrase.Stop (StopPhrase.Large size) ∷ []
 
 -- an answer without its last line: what it is, and what belongs to it
 abbrev pub answer_front : Program → Answer → List Phrase
@@ -482,7 +475,7 @@ answer_front model (ReducedTo r) = reduced_phrases r
 answer_front model Done = []
 answer_front model (Refused r) = []
 answer_front model (NotLinear j) = []
-answer_front model (Stopped stop) = stop_phrases model stop
+answer_front model (Stopped stop) = stop_phrases stop
 
 -- the last line of an answer
 abbrev pub answer_end : Answer → Phrase

@@ -3,6 +3,7 @@ pub mod Edits
 pub mod Turns
 pub mod Grammar
 pub mod Form
+pub mod Told
 pub mod Places
 pub mod History
 pub mod Session

@@ -4,6 +4,7 @@
 mod command_session;
 mod history;
 mod layout;
+mod listed;
 mod phrases;
 mod report;
 mod session;
@@ -14,9 +15,10 @@ pub use layout::{
     BOUND_LINES, HEAD_LINES, LEAST_LINES, MEMBER_LINES, OPENING_LINES, PROOF_LINES, TOTAL_LINES,
     places_law, point_length, witness_length,
 };
+pub use listed::{ListedMembers, MemberList};
 pub use phrases::{Keyword, Phrase, StopPhrase};
 pub use report::{
-    Answer, Bounded, Command, Core, EditKind, Entries, Entry, Method, NamedEdit, Notes,
-    ReduceSteps, Reduced, Refusal, Report, Script, TargetKind, Witnesses,
+    Answer, Bounded, Command, Core, EditKind, Entries, Entry, Members, Method, NamedEdit, Notes,
+    ReduceSteps, Reduced, Refusal, Report, Script, TargetKind, ToldSite, ToldStop, Witnesses,
 };
 pub use session::{EditStop, Session, UndoStop, names_stand};

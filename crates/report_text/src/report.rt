@@ -1,8 +1,9 @@
 //! What a script asks, and what a report says: notes, and for each command its answer.
 
-use certs::{Dual, PackedPoint, Proof, Ray, Stop};
-use frac128::Frac;
-use lp_model::{Items, MemberSet, Name, Note, Side, Weight};
+use crate::listed::MemberList;
+use certs::{Dual, PackedPoint, PackedRay, Path, Proof, SiteKind};
+use frac128::{Frac, Wide};
+use lp_model::{Items, Member, Name, Note, Side, Weight};
 use reductions::ReduceStep;
 use std::marker::Model;
 
@@ -86,7 +87,7 @@ pub type Witnesses = Items<PackedPoint>;
 /// the alternative the weighted sum of the proof's weights with a price that shows that no weighting costs less.
 #[derive(Drop)]
 pub struct Core {
-    pub members: MemberSet,
+    pub members: MemberList,
     pub witnesses: Witnesses,
     pub proof: Proof,
     pub rounds: Option<u64>,
@@ -123,25 +124,49 @@ pub enum Refusal {
     NothingToUndo,
 }
 
+/// Members, as a list.
+pub type Members = Items<Member>;
+
+/// What a run was of: its kind, the active members that are left out, those that are enforced, each in member order, and the
+/// branches on the way to its node.
+#[derive(Drop)]
+pub struct ToldSite {
+    pub kind: SiteKind,
+    pub left: Members,
+    pub enforced: Members,
+    pub path: Path,
+}
+
+/// Why a solve stopped, as a report tells it: in the turn with this number the operation is the first that is too wide; the
+/// budget of pivots, or that of nodes, is spent; or the system has this size, which passes the limit. Want of memory is never
+/// told.
+#[derive(Drop)]
+pub enum ToldStop {
+    Wide(ToldSite, u64, Wide),
+    Pivots(ToldSite),
+    Nodes(ToldSite),
+    Large(u64),
+}
+
 /// What a report answers to a command: a point, members with a proof that no point satisfies them, or an irreducible
 /// set; a point with a ray along which the objective runs away, or how far it can go; a point of least weighted violation
 /// with a dual whose bound is the total, or rigid members with a proof of one leaf that no point satisfies them; how far the
 /// program is reduced; that a command is done, or refused, or that a column is to be whole where it may not be; or why a solve
-/// stopped, which is never for want of memory. Members are the printed ones.
+/// stopped. Members are the printed ones.
 #[derive(Drop)]
 pub enum Answer {
     Feasible(PackedPoint),
-    Infeasible(MemberSet, Proof),
+    Infeasible(MemberList, Proof),
     Irreducible(Core),
-    Unbounded(PackedPoint, Ray),
+    Unbounded(PackedPoint, PackedRay),
     Bounded(Bounded),
     Least(PackedPoint, Dual),
-    RigidInfeasible(MemberSet, Proof),
+    RigidInfeasible(MemberList, Proof),
     Reduced(Reduced),
     Done,
     Refused(Refusal),
     NotLinear(u32),
-    Stopped(Stop),
+    Stopped(ToldStop),
 }
 
 /// A command with its answer, and the number of the line on which the command stands. The first line has number 1.

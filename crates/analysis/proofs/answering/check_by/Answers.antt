@@ -11,7 +11,7 @@ use Rattle.analysis.specs.Right.{IsWhole, TreeFinds}
 use Rattle.analysis.proofs.Asked.{InnerAnswers, QuickAnswers, all_served, asked_holds, asked_run, proof_fits, proof_ordered}
 use Rattle.analysis.proofs.Refuting.{solved_refuted}
 use Rattle.analysis.proofs.Searched.{fresh_answer, fresh_tree}
-use Rattle.analysis.proofs.Stopping.{solved_stop, run_answer}
+use Rattle.analysis.proofs.Stopping.{answered_runs, solved_stop, run_answer}
 use Rattle.analysis.proofs.answering.check_by.Goals as goal
 
 pub ask-requires-clause-served : goal.ask-requires-clause-served
@@ -65,6 +65,13 @@ returns-in-Ok-Infeasible c =
     let verdict = Infeasible c.in-Ok-Infeasible.proof in
     let alone = subst (λ (v : Verdict). stands_alone (oracle_state inner).model set.members c.args.oracle.now.nodes ≡ true → IsAsked InnerAnswers (oracle_state inner) after set.members (Ok v)) c.in-Ok-Infeasible.field-0-is c.in-Ok-Infeasible.ensures.alone in
     solved_refuted model budgets c.in-Ok-Infeasible.proof c.refuted.result c.refuted.ensures (λ marked. (fresh_tree model budgets inner c.requires.fresh set c.args.oracle.now.nodes verdict after c.requires.no_trees c.requires.whole marked alone).ends.0)
+
+pub stopped-requires : goal.stopped-requires
+stopped-requires c =
+    let model = c.args.model.now in
+    let budgets = budgets_of c.args.budgets in
+    let run = asked_run model budgets c.args.set.now c.in-Err.stop c.requires.whole (fresh_answer model budgets c.args.oracle.now.inner c.requires.fresh c.args.set.now (Err c.in-Err.stop) c.in-Err.ensures.answered) in
+    answered_runs model budgets run.asked c.in-Err.stop run.answered
 
 pub returns-in-Err : goal.returns-in-Err
 returns-in-Err c =

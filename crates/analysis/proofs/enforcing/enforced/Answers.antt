@@ -2,6 +2,7 @@ use Rattle.std.proofs.Common.{◌≡◌, false, sym, subst}
 use Rattle.std.specs.Prelude.{All}
 use Rattle.lp_model.specs.Members.{active_members, is_mark}
 use Rattle.lp_model.specs.MemberSets.{SetValue}
+use Rattle.certs.specs.Filter.{IsLateTest}
 use Rattle.elastic_filter.specs.declared.enforcing.Enforced.{Enforced}
 use Rattle.elastic_filter.specs.Enforced.{IsEnforced, IsRoundStop}
 use Rattle.relaxation.specs.Stretching.{IsRound}
@@ -11,6 +12,7 @@ use Rattle.analysis.specs.Answers.{budgets_of, oracle_state}
 use Rattle.analysis.proofs.Asked.{all_served}
 use Rattle.analysis.proofs.Chained.{enforced_answer, rounds_told}
 use Rattle.analysis.proofs.Marks.{no_mark}
+use Rattle.analysis.proofs.Searched.{filter_runs}
 use Rattle.analysis.proofs.enforcing.enforced.Goals as goal
 
 pub enforce-ended-requires-clause-linear : goal.enforce-ended-requires-clause-linear
@@ -18,6 +20,12 @@ enforce-ended-requires-clause-linear c = subst (λ (s : SetValue). All (λ m. is
 
 pub isolate-given-requires-clause-served : goal.isolate-given-requires-clause-served
 isolate-given-requires-clause-served c = all_served c.in-Ok-Set.members.members
+
+pub concluded-requires : goal.concluded-requires
+concluded-requires c =
+    let old = c.quick_oracle-oracle.result in
+    let new = c.isolate-given.new.oracle in
+    filter_runs IsLateTest c.args.model.now c.in-Ok-Set.members.members (budgets_of c.args.budgets) old.inner old.tale (state_with (oracle_state new.inner) new.tale) c.isolate-given.result c.quick_oracle-oracle.ensures.inner c.isolate-given.ensures.stop
 
 pub returns-in-Ok-Set : goal.returns-in-Ok-Set
 returns-in-Ok-Set c =

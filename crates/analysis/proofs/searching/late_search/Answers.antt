@@ -4,11 +4,17 @@ use Rattle.quick_answers.specs.Value.{state_with}
 use Rattle.analysis.specs.Answers.{budgets_of, oracle_state}
 use Rattle.analysis.proofs.Found.{late_is_part, late_test_is_part}
 use Rattle.analysis.proofs.Asked.{all_served}
-use Rattle.analysis.proofs.Searched.{search_answer}
+use Rattle.analysis.proofs.Searched.{filter_runs, search_answer}
 use Rattle.analysis.proofs.searching.late_search.Goals as goal
 
 pub isolate-given-requires-clause-served : goal.isolate-given-requires-clause-served
 isolate-given-requires-clause-served c = all_served c.args.set.now.members
+
+pub concluded-requires : goal.concluded-requires
+concluded-requires c =
+    let old = c.quick_oracle-oracle.result in
+    let new = c.isolate-given.new.oracle in
+    filter_runs IsLateTest c.args.model.now c.args.set.now.members (budgets_of c.args.budgets) old.inner old.tale (state_with (oracle_state new.inner) new.tale) c.isolate-given.result c.quick_oracle-oracle.ensures.inner c.isolate-given.ensures.stop
 
 pub returns : goal.returns
 returns c =

@@ -7,6 +7,7 @@ use Rattle.certs.specs.Answers.{IsAnsweredStop}
 use Rattle.certs.specs.Tales.{IsPointOf}
 use Rattle.presolve_laws.specs.Answers.{IsPresolvedReference}
 use Rattle.analysis.specs.Answers.{budgets_of}
+use Rattle.analysis.proofs.Stopping.{answered_runs}
 use Rattle.analysis.proofs.Weighed.{fresh_is_of, whole_stopped}
 use Rattle.analysis.proofs.weighing.satisfied.Goals as goal
 
@@ -20,6 +21,9 @@ pub returns-in_ok-of-in-Ok : goal.returns-in_ok-of-in-Ok
 returns-in_ok-of-in-Ok c =
     inl (subst (IsPointOf c.args.model.now (active_members c.args.model.now)) (sym c.in_ok-of-in-Ok.ensures)
     (subst (λ (s : SetValue). IsPointOf c.args.model.now s.members c.in-Ok.point) c.requires.whole c.in-Ok.ensures.found))
+
+pub stopped-requires : goal.stopped-requires
+stopped-requires c = answered_runs c.args.model.now (budgets_of c.args.budgets) c.args.set.now.members c.in-Err.stop c.in-Err.ensures.stop
 
 pub returns-in-Err : goal.returns-in-Err
 returns-in-Err c =

@@ -8,7 +8,7 @@ use Rattle.alt_polyhedron.specs.Pricing.{IsPricing, IsPricingStop}
 use Rattle.analysis.specs.Answers.{budgets_of, weighed_answer}
 use Rattle.analysis.specs.Right.{IsWeighedTold}
 use Rattle.analysis.proofs.Marks.{no_mark}
-use Rattle.analysis.proofs.Weighed.{fresh_is_of, if_told, priced_set, weighed_right, weighing_stopped, witness_stopped}
+use Rattle.analysis.proofs.Weighed.{fresh_is_of, if_told, priced_set, weighed_right, weighing_stopped, witness_runs, witness_stopped}
 use Rattle.analysis.proofs.weighing.weighed_by_run.Goals as goal
 
 pub cheapest-requires-clause-linear : goal.cheapest-requires-clause-linear
@@ -31,6 +31,9 @@ witnesses-requires-clause-same c =
 
 pub witnesses-requires-clause-of : goal.witnesses-requires-clause-of
 witnesses-requires-clause-of c = fresh_is_of c.args.model.now (budgets_of c.args.budgets) c.args.oracle.now.inner c.requires.inner
+
+pub stopped-requires : goal.stopped-requires
+stopped-requires c = witness_runs c.args.model.now (budgets_of c.args.budgets) c.in-Ok-Set.members.members c.in-Err-witnesses.stop c.in-Err-witnesses.ensures.stop
 
 pub returns-in_ok-proof-in-Ok : goal.returns-in_ok-proof-in-Ok
 returns-in_ok-proof-in-Ok c =

@@ -26,7 +26,7 @@ check_core-requires-clause-short c =
 
 pub returns-in-Infeasible-clause-says : goal.returns-in-Infeasible-clause-says
 returns-in-Infeasible-clause-says c =
-    subst (λ (a : Answer). Says (first_stop (answer_trials c.args.model.now c.args.line a)) c.check_infeasible.result) (sym c.in-Infeasible.is) c.check_infeasible.ensures
+    subst (λ (a : Answer). Says (first_stop (answer_trials c.args.model.now c.args.line a)) c.check_infeasible.result) (sym c.in-Infeasible.is) c.check_infeasible.ensures.says
 
 pub returns-in-RigidInfeasible-clause-says : goal.returns-in-RigidInfeasible-clause-says
 returns-in-RigidInfeasible-clause-says c =

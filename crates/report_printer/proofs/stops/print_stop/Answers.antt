@@ -1,5 +1,5 @@
 use Rattle.std.proofs.Common.{◌≡◌, ◌++◌, sym, subst}
-use Rattle.certs.specs.declared.solving.Stop.{Stop}
+use Rattle.report_text.specs.declared.report.ToldStop.{ToldStop}
 use Rattle.report_text.specs.declared.phrases.Phrase.{Phrase}
 use Rattle.report_text.specs.declared.phrases.StopPhrase.{StopPhrase}
 use Rattle.report_text.specs.Grammar.{stop_phrases, phrases_text}
@@ -11,5 +11,5 @@ returns-in_ok-print_large-in-Large-clause-text c =
     let model = c.args.model.now in
     let start = c.args.into.now.items in
     let next = c.print_large.new.into.items in
-    subst (λ (s : Stop). next ≡ start ++ phrases_text model (stop_phrases model s)) (sym c.in-Large.is)
+    subst (λ (s : ToldStop). next ≡ start ++ phrases_text model (stop_phrases s)) (sym c.in-Large.is)
     (line_first model start next (Phrase.Stop (StopPhrase.Large c.in-Large.size)) (c.in_ok-print_large-in-Large.ensures.text model))

@@ -14,7 +14,7 @@ returns c =
     let operation = Phrase.Stop (StopPhrase.Operation c.args.operation.now) in
     let one = line_first model middle _ step (c.in_ok-print_step.ensures model) in
     let two = line_more model middle _ _ (step ∷ []) operation one (c.in_ok-print_operation.ensures.text model) in
-    let text = in_parts model (Phrase.Stop StopPhrase.Wide) (site_phrases model c.args.site.now) (step ∷ operation ∷ []) start _ middle _ c.in_ok-push_line.ensures c.in_ok-print_site.ensures two in
+    let text = in_parts model (Phrase.Stop StopPhrase.Wide) (site_phrases c.args.site.now) (step ∷ operation ∷ []) start _ middle _ c.in_ok-push_line.ensures c.in_ok-print_site.ensures two in
     record {
       text = text;
       within = (omega (arith, c.ranges.step), c.in_ok-print_operation.ensures.within);

@@ -35,7 +35,7 @@ pub returns-in-Proof : goal.returns-in-Proof
 returns-in-Proof c = subst (λ (p : Part). IfOk c.follow_nodes.result (λ n. n ≡ extended c.args.model.now c.args.command.now p c.args.phrase)) (sym c.in-Proof.is) c.follow_nodes.ensures
 
 pub returns-in-Counted : goal.returns-in-Counted
-returns-in-Counted c = subst (λ (p : Part). IfOk c.close_rounds.result (λ n. n ≡ extended c.args.model.now c.args.command.now p c.args.phrase)) (sym c.in-Counted.is) c.close_rounds.ensures
+returns-in-Counted c = c.close_rounds.ensures ∙ ap (λ p. extended c.args.model.now c.args.command.now p c.args.phrase) (sym c.in-Counted.is)
 
 pub returns-in-Priced : goal.returns-in-Priced
 returns-in-Priced c = subst (λ (p : Part). IfOk c.follow_price.result (λ n. n ≡ extended c.args.model.now c.args.command.now p c.args.phrase)) (sym c.in-Priced.is) c.follow_price.ensures

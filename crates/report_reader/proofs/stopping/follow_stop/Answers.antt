@@ -11,3 +11,6 @@ returns-in-Large c = c.follow_large.ensures c.args.model.now ∙ ap (λ (part : 
 
 pub returns-in-Step : goal.returns-in-Step
 returns-in-Step c = c.follow_step.ensures c.args.model.now ∙ ap (λ (part : StopPart). stop_with c.args.model.now part c.args.phrase) (sym c.in-Step.is)
+
+pub returns-in-Operation : goal.returns-in-Operation
+returns-in-Operation c = c.close_wide.ensures c.args.model.now ∙ ap (λ (part : StopPart). stop_with c.args.model.now part c.args.phrase) (sym c.in-Operation.is)

@@ -1,18 +1,16 @@
--- Lists of members in order: two with the same members are one, and a set with one member more behind the others.
+-- Lists of members in order: two with the same members are one, and what the possible members are that a list has.
 use Rattle.std.proofs.Common.{◌≡◌, refl, sym, ap, subst, ◌∙◌, ℕ, suc, ◌+◌, ◌<◌, Bool, true, false, true≢false, ◌||◌, List, [], ◌∷◌, ◌++◌, length, take, get_or, filter, arith, ◌⊎◌, inl, inr}
 use Rattle.std.specs.Prelude.{All, IsTrue}
 use Rattle.std.proofs.lemmas.Bool.{or_cases, or_left, or_right}
-use Rattle.std.proofs.lemmas.List.{take_more, length-take, get_or-take}
-use Rattle.std.proofs.lemmas.List.Elements.{All-contains, All-take, filter_passes}
+use Rattle.std.proofs.lemmas.List.{take_more}
+use Rattle.std.proofs.lemmas.List.Elements.{All-contains, filter_passes}
 use Rattle.std.proofs.lemmas.List.Kept.{AllPairs-filter}
 use Rattle.lp_model.specs.declared.members.Member.{Member}
-use Rattle.lp_model.specs.Program.{Program}
 use Rattle.lp_model.specs.Members.{comes_before, is_same, has, IsInOrder}
-use Rattle.lp_model.specs.MemberSets.{IsMemberFor, members_for, set_with}
+use Rattle.lp_model.specs.MemberSets.{IsMemberFor, members_for}
 use Rattle.lp_model.proofs.Sets.{same_members, same_self, contains_of_has, has_of_contains, Contains-filter, possible_in_order}
-use Rattle.lp_model.proofs.Marked.{possible_of}
+use Rattle.lp_model.proofs.Marked.{possible_of, filter_agree_on, has_filter}
 use Rattle.lp_model.proofs.Orders.{back, not_itself}
-use Rattle.report_reader.specs.Drafts.{set_of}
 
 -- what stands behind the head comes after it
 behind : (x m : Member) (xs : List Member) → IsInOrder (x ∷ xs) → has xs m ≡ true → comes_before x m ≡ true
@@ -65,46 +63,39 @@ has_push (x ∷ xs) m n = ap (λ b. is_same x n || b) (has_push xs m n) ∙ exch
 pub same_flip : (m n : Member) → is_same m n ≡ true → is_same n m ≡ true
 same_flip m n h = subst (λ (k : Member). is_same k m ≡ true) (same_members m n h) (same_self m)
 
-module _ (rows columns : ℕ) (xs : List Member) (m : Member) (possible : All (IsMemberFor rows columns) (xs ++ m ∷ [])) (order : IsInOrder (xs ++ m ∷ [])) where
-  test : Member → Bool
-  test n = is_same n m || has xs n
-
-  passes : (n : Member) → has (xs ++ m ∷ []) n ≡ true → test n ≡ true
-  unfolding test
-  passes n h = by (or_cases (is_same m n) (has xs n) (sym (has_push xs m n) ∙ h))
-    where
-      by : (is_same m n ≡ true) ⊎ (has xs n ≡ true) → (is_same n m || has xs n) ≡ true
-      by (inl s) = or_left (is_same n m) (has xs n) (same_flip m n s)
-      by (inr s) = or_right (is_same n m) (has xs n) s
-
-  back_to : (n : Member) → test n ≡ true → has (xs ++ m ∷ []) n ≡ true
-  unfolding test
-  back_to n h = has_push xs m n ∙ by (or_cases (is_same n m) (has xs n) h)
-    where
-      by : (is_same n m ≡ true) ⊎ (has xs n ≡ true) → (is_same m n || has xs n) ≡ true
-      by (inl s) = or_left (is_same m n) (has xs n) (same_flip n m s)
-      by (inr s) = or_right (is_same m n) (has xs n) s
-
-  -- the possible members that are the member or listed, are those listed and the member behind them
-  pub listed_more : filter (λ n. is_same n m || has xs n) (members_for rows columns) ≡ xs ++ m ∷ []
-  unfolding test
-  listed_more =
-      one_list (filter test (members_for rows columns)) (xs ++ m ∷ []) (AllPairs-filter (λ a b. IsTrue (comes_before a b)) test (members_for rows columns) (possible_in_order rows columns)) order
-      (λ n h. back_to n (All-contains (λ k. test k ≡ true) (filter test (members_for rows columns)) n (filter_passes test (members_for rows columns)) (contains_of_has (filter test (members_for rows columns)) n h)))
-      (λ n h. has_of_contains (filter test (members_for rows columns)) n
-      (Contains-filter test (members_for rows columns) n (possible_of rows columns n (All-contains (IsMemberFor rows columns) (xs ++ m ∷ []) n possible (contains_of_has (xs ++ m ∷ []) n h))) (passes n h)))
-
--- a set of the first members, with one more
-pub set_more : (model : Program) (members : List Member) (i : ℕ) (d : Member) → i < length members → All (IsMemberFor (length model.rows) (length model.columns)) members → IsInOrder members
-    → set_with (set_of model (take i members)) (get_or members i d) ≡ set_of model (take (i + 1) members)
-set_more model members i d l possible order =
-    let next : take (i + 1) members ≡ take i members ++ get_or members i d ∷ [] = take_more members i d l in
-    ap (set_of model) (listed_more (length model.rows) (length model.columns) (take i members) (get_or members i d)
-    (subst (All (IsMemberFor (length model.rows) (length model.columns))) next (All-take (IsMemberFor (length model.rows) (length model.columns)) (i + 1) members possible))
-    (subst IsInOrder next (take_in_order members (i + 1) order)) ∙ sym next)
+-- two members are the same either way
+same_swap : (m n : Member) → is_same m n ≡ is_same n m
+same_swap m n = by (is_same m n) (is_same n m) (same_flip m n) (same_flip n m)
   where
-    take_in_order : (xs : List Member) (n : ℕ) → IsInOrder xs → IsInOrder (take n xs)
-    take_in_order xs n h a b d p q =
-        let short = length-take n xs in
-        subst (λ (x : Member). IsTrue (comes_before x (get_or (take n xs) b d))) (sym (get_or-take n xs a d (omega arith)))
-        (subst (λ (y : Member). IsTrue (comes_before (get_or xs a d) y)) (sym (get_or-take n xs b d (omega arith))) (h a b d p (omega arith)))
+    by : (a b : Bool) → (a ≡ true → b ≡ true) → (b ≡ true → a ≡ true) → a ≡ b
+    by true b f g = sym (f refl)
+    by false true f g = g refl
+    by false false f g = refl
+
+module _ (rows columns : ℕ) where
+  all : List Member
+  all = members_for rows columns
+
+  -- those of a list in order are the list
+  pub listed_all : (xs : List Member) → All (IsMemberFor rows columns) xs → IsInOrder xs → xs ≡ filter (has xs) (members_for rows columns)
+  unfolding all
+  listed_all xs possible order =
+      one_list xs (filter (has xs) all) order (AllPairs-filter (λ a b. IsTrue (comes_before a b)) (has xs) all (possible_in_order rows columns))
+      (λ n h. has_of_contains (filter (has xs) all) n (Contains-filter (has xs) all n (possible_of rows columns n (All-contains (IsMemberFor rows columns) xs n possible (contains_of_has xs n h))) h))
+      (λ n h. All-contains (λ k. has xs k ≡ true) (filter (has xs) all) n (filter_passes (has xs) all) (contains_of_has (filter (has xs) all) n h))
+
+  -- with one member more
+  pub listed_more : (xs : List Member) (i : ℕ) (d : Member) → i < length xs → filter (λ n. is_same n (get_or xs i d) || has (filter (has (take i xs)) (members_for rows columns)) n) (members_for rows columns) ≡ filter (has (take (i + 1) xs)) (members_for rows columns)
+  unfolding all
+  listed_more xs i d l =
+      let m = get_or xs i d in
+      filter_agree_on _ _ all
+      (λ n c. ap (λ b. is_same n m || b) (has_filter (has (take i xs)) all n c) ∙ ap (λ b. b || has (take i xs) n) (same_swap n m) ∙ sym (has_push (take i xs) m n) ∙ ap (λ ys. has ys n) (sym (take_more xs i d l)))
+
+  -- of no list there are none
+  pub listed_none : filter (has []) (members_for rows columns) ≡ []
+  listed_none = none (members_for rows columns)
+    where
+      none : (xs : List Member) → filter (has []) xs ≡ []
+      none [] = refl
+      none (x ∷ xs) = none xs

@@ -1,6 +1,0 @@
-use Rattle.std.proofs.Common.{◌≡◌, take}
-use Rattle.report_reader.specs.Drafts.{set_of}
-use Rattle.report_reader.proofs.building.make_set.Given as goal
-
-abbrev pub invariant-loop-member : goal.invariant-loop-member
-invariant-loop-member l = l.set ≡ set_of l.model (take l.member-index l.members)
