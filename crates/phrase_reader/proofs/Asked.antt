@@ -1,5 +1,5 @@
 -- What command words are.
-use Rattle.std.proofs.Common.{sym, subst, ◌≡◌, ◌≢◌, ℕ, ◌<◌, Bool, true, false, cond, List, [], ◌∷◌, length, Option, Some, None, refl, ap, ◌∙◌, arith}
+use Rattle.std.proofs.Common.{sym, subst, ◌≡◌, ◌≢◌, ℕ, Bool, true, false, cond, List, [], ◌∷◌, Option, Some, None, refl, ap, ◌∙◌}
 use Rattle.std.specs.Prelude.{codes, option_map}
 use Rattle.std.specs.Option.{option_and_then}
 use Rattle.std.specs.Str.{bytes_eq}
@@ -19,7 +19,7 @@ use Rattle.report_text.specs.Form.{is_word, IsCommand, IsEditKind}
 use Rattle.report_text.specs.Grammar.{method_word, target_word, side_word, limit_word, weight_word, mark_word, edit_words, command_words}
 use Rattle.phrase_reader.specs.Numerals.{budget_of, limit_in, weight_in}
 use Rattle.phrase_reader.specs.Commands.{lone_command, method_of, weighed_target, target_in, side_in, mark_in, moving, weighing, set_of, setting, edit_of, iis_command, budget_behind, three_command, command_said}
-use Rattle.phrase_reader.proofs.Named.{told, told_if, found_spelled}
+use Rattle.phrase_reader.proofs.Named.{told, told_if, split_if, found_spelled}
 use Rattle.phrase_reader.proofs.Budgets.{budget_within, own_number}
 use Rattle.phrase_reader.proofs.Values.{own_limit, limit_built, own_weight, weight_built}
 
@@ -44,14 +44,6 @@ AreSaid words (Edit e) = (is_word e.name ≡ true) × AreAsked words e.name e.ki
 AreSaid words Undo = words ≡ codes "undo" ∷ []
 AreSaid words (Pivots n) = (number : List ℕ) × ((words ≡ codes "budget" ∷ codes "pivots" ∷ number ∷ []) × (budget_of number ≡ Some n))
 AreSaid words (Nodes n) = (number : List ℕ) × ((words ≡ codes "budget" ∷ codes "nodes" ∷ number ∷ []) × (budget_of number ≡ Some n))
-
--- a test of the first word, and what is said where it holds
-split_if : {X : Type 0} (P : Type 0) (word text : List ℕ) (then other : Option X) (x : X) → cond (bytes_eq word text) then other ≡ Some x → (word ≡ text → then ≡ Some x → P) → (other ≡ Some x → P) → P
-split_if P word text then other x e held failed = by (bytes_eq word text) refl e
-  where
-    by : (b : Bool) → bytes_eq word text ≡ b → cond b then other ≡ Some x → P
-    by true t g = held ((bytes_eq-Decides word text).0 t) g
-    by false f g = failed g
 
 nothing : {X : Type 0} (P : Type 0) (x : X) → ◌≡◌ {A = Option X} None (Some x) → P
 nothing P x e = absurd (let s : None ≡ Some x = e in cc)
@@ -207,15 +199,6 @@ words_said (a ∷ b ∷ d ∷ []) c e = three_said a b d c e
 words_said (a ∷ b ∷ name ∷ d ∷ []) c e = edit_said (a ∷ b ∷ name ∷ d ∷ []) (weighing a b d) name c (weighing_asked a b name d) e
 words_said (a ∷ b ∷ name ∷ d ∷ last ∷ []) c e = edit_said (a ∷ b ∷ name ∷ d ∷ last ∷ []) (setting a b d last) name c (setting_asked a b name d last) e
 words_said (a ∷ b ∷ name ∷ d ∷ last ∷ sixth ∷ words) c e = nothing (AreSaid (a ∷ b ∷ name ∷ d ∷ last ∷ sixth ∷ words) c) c e
-
-pub many_none : (words : List (List ℕ)) → 5 < length words → command_said words ≡ None
-many_none [] h = absurd (omega arith)
-many_none (a ∷ []) h = absurd (omega arith)
-many_none (a ∷ b ∷ []) h = absurd (omega arith)
-many_none (a ∷ b ∷ c ∷ []) h = absurd (omega arith)
-many_none (a ∷ b ∷ c ∷ d ∷ []) h = absurd (omega arith)
-many_none (a ∷ b ∷ c ∷ d ∷ e ∷ []) h = absurd (omega arith)
-many_none (a ∷ b ∷ c ∷ d ∷ e ∷ f ∷ words) h = refl
 
 -- it is one of a script
 asked_built : (words : List (List ℕ)) (name : List ℕ) (k : EditKind) → AreAsked words name k → IsEditKind k

@@ -1,11 +1,14 @@
 pub mod Cuts
 pub mod Wholes
-pub mod Spelling
+pub mod Fitting
 pub mod Named
+pub mod Quotients
+pub mod Spelling
+pub mod Numbered
+pub mod Table
 pub mod Lexed
 pub mod OnePhrase
 pub mod Budgets
-pub mod Quotients
 pub mod Fits
 pub mod Values
 pub mod Asked

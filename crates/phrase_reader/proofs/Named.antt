@@ -1,21 +1,14 @@
--- Where a name stands among names that differ, and what single words say.
+-- Where a name stands among names that differ, and what was found.
 use Rattle.std.proofs.Common.{◌≡◌, ◌≢◌, refl, sym, ap, subst, ◌∙◌, ℕ, zero, suc, ◌<◌, ◌≤◌, Bool, true, false, true≢false, cond, ltb, List, [], ◌∷◌, length, get_or, Option, Some, None, arith, position, ◌⊎◌, inl, inr}
-use Rattle.std.specs.Prelude.{map, find, option_map, All, AllPairs, Result, Ok, Err}
-use Rattle.std.specs.Option.{ok_or}
+use Rattle.std.specs.Prelude.{map, find, option_map, AllPairs}
 use Rattle.std.specs.List.{position_or_len}
 use Rattle.std.specs.Str.{bytes_eq}
 use Rattle.std.proofs.lemmas.Bool.{ltb-true, ltb-false}
 use Rattle.std.proofs.lemmas.Option.{same_Some}
 use Rattle.std.proofs.lemmas.List.{get_or-map, length-map}
 use Rattle.std.proofs.lemmas.List.Sums.{fails_before_first, passes_at_first}
-use Rattle.std.proofs.lemmas.List.Elements.{All-head, All-tail}
 use Rattle.std.proofs.lemmas.Slice.Eq.{bytes_eq-Decides}
-use Rattle.lp_model.specs.declared.models.ModelStop.{ModelStop}
-use Rattle.lp_model.specs.declared.models.ModelStop.TheVariants.{UnknownName}
-use Rattle.lp_model.specs.Program.{Program, NamedRow, NamedColumn, empty_row, empty_column, IsWellFormed}
-use Rattle.lp_model.specs.Shown.{row_names, column_names}
-use Rattle.report_text.specs.Form.{is_word}
-use Rattle.phrase_reader.specs.Words.{IsColumnSaid, IsRowSaid}
+use Rattle.phrase_reader.specs.Words.{Finds}
 
 -- what a condition told
 pub told_if : {X : Type 0} (t : Bool) (o : Option X) (x : X) → cond t o None ≡ Some x → (t ≡ true) × (o ≡ Some x)
@@ -26,23 +19,32 @@ pub told : {X Y : Type 0} (f : X → Y) (o : Option X) (y : Y) → option_map f 
 told f None y e = absurd (let s : None ≡ Some y = e in cc)
 told f (Some x) y e = (x, (refl, (let s : Some (f x) ≡ Some y = e in cc)))
 
+-- what finds the elements of an option gives it
+pub found_is : {X : Type 0} (Is : X → Type 0) (r s : Option X) → Finds Is r → ((x : X) → s ≡ Some x → Is x) → ((x : X) → Is x → s ≡ Some x) → r ≡ s
+found_is Is None None h said own = refl
+found_is Is None (Some y) h said own = h.all y (said y refl)
+found_is Is (Some x) s h said own = sym (own x h.found)
+
+-- a test of a word, and what is said where it holds
+pub split_if : {X : Type 0} (P : Type 0) (word text : List ℕ) (then other : Option X) (x : X) → cond (bytes_eq word text) then other ≡ Some x → (word ≡ text → then ≡ Some x → P) → (other ≡ Some x → P) → P
+split_if P word text then other x e held failed = by (bytes_eq word text) refl e
+  where
+    by : (b : Bool) → bytes_eq word text ≡ b → cond b then other ≡ Some x → P
+    by true t g = held ((bytes_eq-Decides word text).0 t) g
+    by false f g = failed g
+
+-- what is found passes
+pub found_passes : {K : Type 0} (test : K → Bool) (ks : List K) (k : K) → find test ks ≡ Some k → test k ≡ true
+found_passes {K = K} test [] k e = absurd (let s : None ≡ Some k = e in cc)
+found_passes {K = K} test (l ∷ ks) k e = by (test l) refl (found_passes test ks k) e
+  where
+    by : (b : Bool) → test l ≡ b → (find test ks ≡ Some k → test k ≡ true) → cond b (Some l) (find test ks) ≡ Some k → test k ≡ true
+    by true t rest f = subst (λ (m : K). test m ≡ true) (same_Some l k f) t
+    by false t rest f = rest f
+
 -- what is found by its text is spelled so
 pub found_spelled : {K : Type 0} (text : K → List ℕ) (ks : List K) (word : List ℕ) (k : K) → find (λ l. bytes_eq word (text l)) ks ≡ Some k → word ≡ text k
-found_spelled text [] word k e = absurd (let s : None ≡ Some k = e in cc)
-found_spelled text (l ∷ ks) word k e = by (bytes_eq word (text l)) refl (found_spelled text ks word k) e
-  where
-    by : (b : Bool) → bytes_eq word (text l) ≡ b → (find (λ m. bytes_eq word (text m)) ks ≡ Some k → word ≡ text k) → cond b (Some l) (find (λ m. bytes_eq word (text m)) ks) ≡ Some k → word ≡ text k
-    by true t rest e = (bytes_eq-Decides word (text l)).0 t ∙ ap text (same_Some l k e)
-    by false t rest e = rest e
-
--- what holds of all holds of the one that is found
-pub found_has : {K : Type 0} (P : K → Type 0) (test : K → Bool) (ks : List K) (k : K) → All P ks → find test ks ≡ Some k → P k
-found_has P test [] k h e = absurd (let s : None ≡ Some k = e in cc)
-found_has P test (l ∷ ks) k h e = by (test l) (found_has P test ks k (All-tail P l ks h)) e
-  where
-    by : (b : Bool) → (find test ks ≡ Some k → P k) → cond b (Some l) (find test ks) ≡ Some k → P k
-    by true rest f = subst P (same_Some l k f) (All-head P l ks h)
-    by false rest f = rest f
+found_spelled text ks word k e = (bytes_eq-Decides word (text k)).0 (found_passes (λ l. bytes_eq word (text l)) ks k e)
 
 module _ {X : Type 0} (called : X → List ℕ) (items : List X) (past : X) where
   names : List (List ℕ)
@@ -103,28 +105,3 @@ module _ {X : Type 0} (called : X → List ℕ) (items : List X) (past : X) wher
           let fails : bytes_eq name (get_or (map called items) i []) ≡ false = fails_before_first (bytes_eq name) (map called items) i [] (omega arith) in
           let same : bytes_eq name (get_or (map called items) i []) ≡ true = (bytes_eq-Decides name (get_or (map called items) i [])).1 (e ∙ sym (get_or-map called items i past [] l)) in
           absurd (true≢false (sym same ∙ fails))
-
-ok_told : (o : Option ℕ) (j : ℕ) → ok_or o UnknownName ≡ Ok j → o ≡ Some j
-ok_told None j e = absurd (let s : Err UnknownName ≡ Ok j = e in cc)
-ok_told (Some i) j e = ap Some (same i j e)
-  where
-    same : (i j : ℕ) → (let l : Result ℕ ModelStop = Ok i in l) ≡ Ok j → i ≡ j
-    same i j e = cc
-
-module _ (model : Program) (name : List ℕ) where
-  -- the column that is found, and each that there is
-  pub column_found : (j : ℕ) → is_word name ≡ true → Ok j ≡ ok_or (position (bytes_eq name) (column_names model)) UnknownName → IsColumnSaid model name j
-  column_found j w e =
-      let t = place_told (λ (c : NamedColumn). c.name) model.columns empty_column name j (ok_told (position (bytes_eq name) (column_names model)) j (sym e)) in
-      (record { known = t.0; word = subst (λ n. is_word n ≡ true) t.1 w }, t.1)
-
-  pub column_all : IsWellFormed model → (r : Result ℕ ModelStop) → r ≡ ok_or (position (bytes_eq name) (column_names model)) UnknownName → (j : ℕ) → IsColumnSaid model name j → r ≡ Ok j
-  column_all f r e j h = e ∙ ap (λ o. ok_or o UnknownName) (place_is (λ (c : NamedColumn). c.name) model.columns empty_column f.column_names name j h.0.known h.1)
-
-  pub row_found : (i : ℕ) → is_word name ≡ true → Ok i ≡ ok_or (position (bytes_eq name) (row_names model)) UnknownName → IsRowSaid model name i
-  row_found i w e =
-      let t = place_told (λ (r : NamedRow). r.name) model.rows empty_row name i (ok_told (position (bytes_eq name) (row_names model)) i (sym e)) in
-      (record { known = t.0; word = subst (λ n. is_word n ≡ true) t.1 w }, t.1)
-
-  pub row_all : IsWellFormed model → (r : Result ℕ ModelStop) → r ≡ ok_or (position (bytes_eq name) (row_names model)) UnknownName → (i : ℕ) → IsRowSaid model name i → r ≡ Ok i
-  row_all f r e i h = e ∙ ap (λ o. ok_or o UnknownName) (place_is (λ (r : NamedRow). r.name) model.rows empty_row f.row_names name i h.0.known h.1)

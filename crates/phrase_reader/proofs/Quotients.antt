@@ -1,6 +1,7 @@
 -- What printed fractions are read as, by their digits, and as literals.
 use Rattle.std.proofs.Common.{◌≡◌, ◌≢◌, refl, sym, ap, subst, ◌∙◌, ℕ, suc, ◌+◌, ◌-◌, ◌*◌, ◌^◌, ◌<◌, ◌≤◌, ◌==◌, Bool, true, false, cond, List, [], ◌∷◌, ◌++◌, length, take, drop, get_or, decimal, ℤ, pos, negsuc, ◌+ℤ◌, ◌-ℤ◌, leb, unsigned_abs, Option, Some, None, option_map, arith, inl, inr, true≢false, append-nil}
-use Rattle.std.specs.Prelude.{nat_lt, not, ◌&&◌, IfSome}
+use Rattle.std.specs.Prelude.{nat_lt, not, ◌&&◌}
+use Rattle.phrase_reader.proofs.Named.{found_is}
 use Rattle.std.specs.Str.{bytes_eq}
 use Rattle.std.proofs.lemmas.Slice.Eq.{bytes_eq-Decides}
 use Rattle.std.specs.List.{list_all, prefix_len}
@@ -232,9 +233,4 @@ fraction_said word q e =
 
 -- what finds the printed fraction gives it
 pub fraction_found : (word : List ℕ) (r : Option ℚ) → Finds (IsFractionSaid word) r → r ≡ fraction_in word
-fraction_found word r h = by r h.found refl (fraction_in word) refl
-  where
-    by : (o : Option ℚ) → IfSome o (IsFractionSaid word) → r ≡ o → (p : Option ℚ) → fraction_in word ≡ p → o ≡ fraction_in word
-    by (Some q) i e p f = sym (own_fraction word q i)
-    by None i e None f = sym f
-    by None i e (Some q) f = absurd (let s : None ≡ Some q = sym e ∙ h.all q (fraction_said word q f) in cc)
+fraction_found word r h = found_is (IsFractionSaid word) r (fraction_in word) h (fraction_said word) (own_fraction word)

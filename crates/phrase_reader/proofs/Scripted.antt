@@ -1,6 +1,6 @@
 -- What words behind `command` say in a report, and what the lines of a script are.
 use Rattle.std.proofs.Math.Numerals.{one-add}
-use Rattle.std.proofs.Common.{sym, subst, take, eqb-true, ◌≡◌, ℕ, ◌+◌, ◌<◌, ◌≤◌, Bool, true, false, ◌||◌, cond, true≢false, List, [], ◌∷◌, ◌++◌, length, drop, Option, Some, None, refl, ap, ◌∙◌, arith, filter, append-nil}
+use Rattle.std.proofs.Common.{sym, subst, take, eqb-true, ◌≡◌, ℕ, ◌+◌, ◌<◌, ◌≤◌, Bool, true, false, ◌||◌, cond, true≢false, List, [], ◌∷◌, ◌++◌, length, drop, Option, Some, None, refl, ap, ◌∙◌, ◌≢◌, ◌⊎◌, inl, inr, arith, filter, append-nil}
 use Rattle.std.specs.Prelude.{codes}
 use Rattle.std.specs.List.{All, list_all, list_any, position_or_len, slice_split}
 use Rattle.std.proofs.lemmas.Bool.{le-ltb, and_parts}
@@ -18,7 +18,11 @@ use Rattle.report_text.specs.declared.report.Command.TheVariants.{Check, Iis, Un
 use Rattle.report_text.specs.declared.report.EditKind.{EditKind}
 use Rattle.report_text.specs.declared.report.EditKind.TheVariants.{Drop, Keep, Weigh, SetSide, SetBound, SetMark}
 use Rattle.report_text.specs.Form.{is_word, IsCommand}
-use Rattle.report_text.specs.Grammar.{target_word, side_word, edit_words, command_words, command_text, spelled, joined}
+use Rattle.std.specs.Str.{bytes_eq}
+use Rattle.std.proofs.lemmas.Slice.Eq.{bytes_eq-Decides}
+use Rattle.reductions.specs.declared.steps.ReduceStep.TheVariants.{Empty}
+use Rattle.report_text.specs.declared.report.Refusal.{Refusal}
+use Rattle.report_text.specs.Grammar.{keyword_text, keyword_of, branch_keyword, target_word, side_word, edit_words, command_words, command_text, spelled, joined}
 use Rattle.lp_model.specs.Program.{Program}
 use Rattle.report_text.specs.declared.phrases.Keyword.{Keyword}
 use Rattle.report_text.specs.declared.phrases.Phrase.{Phrase}
@@ -26,10 +30,8 @@ use Rattle.report_text.specs.declared.phrases.StopPhrase.{StopPhrase}
 use Rattle.phrase_reader.specs.Commands.{command_said, unless_fault, command_of}
 use Rattle.phrase_reader.specs.Parts.{last_word}
 use Rattle.phrase_reader.specs.Words.{Finds, IsSpelled, IsPlainEdit, IsPlain}
-use Rattle.phrase_reader.proofs.Spelling.{Shown, word_shown, no_side, no_refusal, no_step, command_words_are}
--- passed on: it is used beside what stands here
-pub use Rattle.phrase_reader.proofs.Asked.{own_words}
-use Rattle.phrase_reader.proofs.Asked.{AreAsked, AreSaid, words_said, said_built, no_edit_of}
+use Rattle.phrase_reader.proofs.Spelling.{Shown, word_shown, command_words_are}
+use Rattle.phrase_reader.proofs.Asked.{AreAsked, AreSaid, own_words, words_said, said_built, no_edit_of}
 
 pub line_built : (line : List ℕ) (c : Command) → command_of line ≡ Some c → IsCommand c
 line_built line c e = by (field_fault line) e
@@ -87,12 +89,34 @@ pub record CommandBehind (words : List (List ℕ)) (p : Phrase) : Type 0 where
   pub plain : IsPlain (last_word words) command
   pub said : command_said words ≡ Some command
 
+-- a command's keyword is spelled as no other, and is that of commands alone
+pub is_command : (k : Keyword) → (k ≡ Keyword.Command) ⊎ (k ≢ Keyword.Command)
+is_command Keyword.Command = inl refl
+is_command k = inr (λ e. cc)
+
+pub only_command : (k : Keyword) → keyword_text k ≡ codes "command" → k ≡ Keyword.Command
+only_command k e = by k ((bytes_eq-Decides (keyword_text k) (codes "command")).1 e)
+  where
+    by : (k : Keyword) → bytes_eq (keyword_text k) (codes "command") ≡ true → k ≡ Keyword.Command
+    by Keyword.Command t = refl
+    by k t = absurd (true≢false (sym t))
+
+command_phrase : (p : Phrase) → keyword_of p ≡ Keyword.Command → (c : Command) × (p ≡ Phrase.Command c)
+command_phrase (Phrase.Command c) e = (c, refl)
+command_phrase (Phrase.Refused Refusal.UnknownName) e = absurd (cc)
+command_phrase (Phrase.Reduction (Empty i)) e = absurd (cc)
+command_phrase (Phrase.Stop (StopPhrase.Branch b)) e = absurd (by b.upper e)
+  where
+    by : (upper : Bool) → branch_keyword upper ≡ Keyword.Command → ⊥
+    by true e = cc
+    by false e = cc
+command_phrase p e = absurd (cc)
+
 pub command_behind : (model : Program) (words : List (List ℕ)) (p : Phrase) → IsSpelled model Keyword.Command words p → CommandBehind words p
-command_behind model words (Phrase.Command c) h = record { command = c; is = refl; plain = subst (λ ws. IsPlain (last_word ws) c) (sym h.behind) (own_plain c); said = ap command_said h.behind ∙ own_words c h.form }
-command_behind model words (Phrase.Stop (StopPhrase.Branch b)) h = absurd (no_side b.upper Keyword.Command h.keyword refl)
-command_behind model words (Phrase.Refused r) h = absurd (no_refusal r Keyword.Command h.keyword refl)
-command_behind model words (Phrase.Reduction s) h = absurd (no_step s Keyword.Command h.keyword refl)
-command_behind model words _ h = absurd (let e = h.keyword in cc)
+command_behind model words p h = let c = command_phrase p h.keyword in by c.0 c.1 (subst (IsSpelled model Keyword.Command words) c.1 h)
+  where
+    by : (c : Command) → p ≡ Phrase.Command c → IsSpelled model Keyword.Command words (Phrase.Command c) → CommandBehind words p
+    by c is s = record { command = c; is = is; plain = subst (λ ws. IsPlain (last_word ws) c) (sym s.behind) (own_plain c); said = ap command_said s.behind ∙ own_words c s.form }
 
 pub command_found : (model : Program) (words : List (List ℕ)) (c : Command) → IsPlain (last_word words) c → command_said words ≡ Some c → Finds (IsSpelled model Keyword.Command words) (Some (Phrase.Command c))
 command_found model words c plain e = record {

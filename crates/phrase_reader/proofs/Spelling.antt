@@ -1,6 +1,6 @@
 -- The words of a line: each has shown bytes alone, so the parts of a line are its words, and those of a text its lines.
-use Rattle.std.proofs.Common.{◌≡◌, ◌≢◌, refl, sym, ap, ◌∙◌, ℕ, suc, ◌+◌, ◌^◌, ◌<◌, ◌≤◌, ◌==◌, Bool, true, false, true≢false, List, [], ◌∷◌, ◌++◌, append_assoc, append-nil, arith, eqb-true, ltb-false, length, Option, None, Some}
-use Rattle.std.specs.Prelude.{All, map, count_by, codes, decimal, nat_lt, unsigned_abs, neg_ℤ, ◌≤ℤ◌, ◌<ℤ◌}
+use Rattle.std.proofs.Common.{◌≡◌, ◌≢◌, refl, sym, ap, ◌∙◌, ℕ, suc, ◌+◌, ◌^◌, ◌<◌, ◌≤◌, ◌==◌, Bool, true, false, true≢false, List, [], ◌∷◌, ◌++◌, append_assoc, append-nil, arith, eqb-true, ltb-false, length, Option, None, Some, is_some}
+use Rattle.std.specs.Prelude.{All, map, flat_map, count_by, codes, decimal, nat_lt, unsigned_abs, neg_ℤ, ◌≤ℤ◌, ◌<ℤ◌}
 use Rattle.std.specs.List.{list_all, join_with_byte}
 use Rattle.std.proofs.lemmas.Bool.{and_parts, or_parts, cond_both, false_from_ne_true, le-ltb, lt-ltb}
 use Rattle.std.proofs.lemmas.Int.{ints}
@@ -17,9 +17,9 @@ use Rattle.frac128.specs.Limit.{limit}
 use Rattle.frac128.specs.Width.{is_too_wide}
 use Rattle.frac128.specs.Printed.{printed}
 use Rattle.report_text.specs.Names.{is_shown}
-use Rattle.phrase_reader.specs.Parts.{parts}
+use Rattle.std.specs.Borrow.{Bor}
+use Rattle.phrase_reader.specs.Parts.{parts, words_left}
 use Rattle.lp_model.specs.Program.{Program, row_at}
-use Rattle.lp_model.specs.declared.parts.Note.TheVariants.{LowerRemoved, LowerKept}
 use Rattle.lp_model.specs.declared.members.Member.{Member}
 use Rattle.lp_model.specs.declared.members.Member.TheVariants.{RowLo}
 use Rattle.certs.specs.declared.evidence.Source.{Source}
@@ -30,8 +30,6 @@ use Rattle.frac128.specs.declared.Op.{Op}
 use Rattle.frac128.specs.declared.Op.TheVariants.{Plus}
 use Rattle.lp_model.specs.declared.members.Side.{Side}
 use Rattle.lp_model.specs.declared.members.Side.TheVariants.{Lo, Up}
-use Rattle.reductions.specs.declared.steps.ReduceStep.{ReduceStep}
-use Rattle.reductions.specs.declared.steps.ReduceStep.TheVariants.{Empty, Singleton, Fixed, Redundant, Forcing, Doubleton}
 use Rattle.lp_model.specs.declared.parts.Weight.{Weight}
 use Rattle.lp_model.specs.declared.parts.Weight.TheVariants.{Soft, Rigid}
 use Rattle.report_text.specs.declared.report.Command.{Command}
@@ -40,18 +38,26 @@ use Rattle.report_text.specs.declared.report.Method.{Method}
 use Rattle.report_text.specs.declared.report.Method.TheVariants.{Deletion, Additive, Sensitivity, Elastic, Alternative}
 use Rattle.report_text.specs.declared.report.TargetKind.{TargetKind}
 use Rattle.report_text.specs.declared.report.EditKind.{EditKind}
-use Rattle.report_text.specs.declared.report.Refusal.{Refusal}
 use Rattle.report_text.specs.declared.phrases.Keyword.{Keyword}
 use Rattle.report_text.specs.declared.phrases.Phrase.{Phrase}
 use Rattle.report_text.specs.declared.phrases.StopPhrase.{StopPhrase}
-use Rattle.report_text.specs.Form.{is_word, IsNamedRow, IsNamedColumn, IsNamedSource, IsStepFor, most_budget, IsLimit, IsWeight, IsEditKind, IsCommand}
-use Rattle.report_text.specs.Grammar.{Line, ◌then◌, text_of, column_name, name_of, kind_word, source_word, source_name, method_word, target_word, side_word, limit_word, weight_word, mark_word, met_word, edit_words, command_words, refusal_keyword, step_keyword, site_word, op_word, keyword_text, keyword_of, branch_keyword, step_details, stop_details, details, spelled, phrase_line}
-use Rattle.phrase_reader.specs.Phrases.{IsStopPhrase, IsPhraseFor, Says}
+use Rattle.report_text.specs.declared.table.Word.{Word}
+use Rattle.report_text.specs.declared.table.Kind.{Kind}
+use Rattle.report_text.specs.declared.table.Given.{Given}
+use Rattle.report_text.specs.Form.{is_word, IsNamedSource, most_budget, IsLimit, IsWeight, IsEditKind, IsCommand}
+use Rattle.report_text.specs.Grammar.{Line, ◌then◌, text_of, column_name, name_of, kind_word, source_word, source_name, method_word, target_word, side_word, limit_word, weight_word, mark_word, met_word, edit_words, command_words, site_word, op_word, noted_word, word_text, words_at, keyword_text, kinds_of, keyword_of, stop_given, given_of, details, spelled, phrase_line}
+use Rattle.phrase_reader.specs.Phrases.{IsPhraseFor, Says}
+use Rattle.phrase_reader.proofs.Fitting.{IsFit, AreFit, so_fit, phrase_fits}
 use Rattle.phrase_reader.proofs.Quotients.{printed_some}
 
 -- a text has a part
 pub some_parts : (mark : ℕ) (text : List ℕ) → parts mark text ≢ []
 some_parts mark text e = let l : length (parts mark text) ≡ count_by (λ b. b == mark) text + 1 = length-slice_split (λ b. b == mark) text in let k : length (parts mark text) ≡ 0 = ap length e in absurd (omega arith)
+
+-- so where no words are left, nothing is
+pub words_or_none : (left : Option (Bor (List ℕ))) → words_left left ≡ [] → is_some left ≡ false
+words_or_none None e = refl
+words_or_none (Some text) e = absurd (some_parts 32 text.now e)
 
 -- each byte of the word may stand in a name
 abbrev pub Shown : List ℕ → Type 0
@@ -104,7 +110,7 @@ printed_shown q h =
     cond_both (q.den == 1) (signed_decimal q.num) (signed_decimal q.num ++ (47 ∷ decimal q.den)) Shown (λ _. signed_shown q.num both.0)
     (λ _. All-append (λ b. is_shown b ≡ true) (signed_decimal q.num) (47 ∷ decimal q.den) (signed_shown q.num both.0) (All-cons (λ b. is_shown b ≡ true) 47 (decimal q.den) refl (decimal_shown q.den both.1)))
 
--- ---- the words of a phrase
+-- ---- words
 pub word_shown : (name : List ℕ) → is_word name ≡ true → Shown name
 word_shown name h = plain name (and_parts (nat_lt 0 (length name)) (list_all is_shown name) h).1
 
@@ -195,64 +201,19 @@ command_words_are Undo h = one_word (codes "undo") [] refl no_words
 command_words_are (Pivots n) h = one_word (codes "budget") (codes "pivots" ∷ decimal n ∷ []) refl (one_word (codes "pivots") (decimal n ∷ []) refl (one_word (decimal n) [] (count_is n h) no_words))
 command_words_are (Nodes n) h = one_word (codes "budget") (codes "nodes" ∷ decimal n ∷ []) refl (one_word (codes "nodes") (decimal n ∷ []) refl (one_word (decimal n) [] (count_is n h) no_words))
 
--- ---- the keywords of branches, of refusals and of steps
-abbrev is_side : Keyword → Bool
-is_side Keyword.BranchBelow = true
-is_side Keyword.BranchAbove = true
-is_side k = false
-
--- a branch has no other keyword
-pub no_side : (upper : Bool) (k : Keyword) → branch_keyword upper ≡ k → is_side k ≡ false → ⊥
-no_side upper k e other = true≢false (sym (own upper) ∙ ap is_side e ∙ other)
-  where
-    own : (upper : Bool) → is_side (branch_keyword upper) ≡ true
-    own true = refl
-    own false = refl
-
-abbrev is_refusal : Keyword → Bool
-is_refusal Keyword.Unknown = true
-is_refusal Keyword.No = true
-is_refusal Keyword.Nothing = true
-is_refusal k = false
-
--- nor has a refusal
-pub no_refusal : (r : Refusal) (k : Keyword) → refusal_keyword r ≡ k → is_refusal k ≡ false → ⊥
-no_refusal r k e other = true≢false (sym (own r) ∙ ap is_refusal e ∙ other)
-  where
-    own : (r : Refusal) → is_refusal (refusal_keyword r) ≡ true
-    own Refusal.UnknownName = refl
-    own Refusal.NoChange = refl
-    own Refusal.NothingToUndo = refl
-
-abbrev is_step : Keyword → Bool
-is_step Keyword.Empty = true
-is_step Keyword.Singleton = true
-is_step Keyword.Fixed = true
-is_step Keyword.Redundant = true
-is_step Keyword.Forcing = true
-is_step Keyword.Doubleton = true
-is_step k = false
-
--- nor has a step
-pub no_step : (s : ReduceStep) (k : Keyword) → step_keyword s ≡ k → is_step k ≡ false → ⊥
-no_step s k e other = true≢false (sym (own s) ∙ ap is_step e ∙ other)
-  where
-    own : (s : ReduceStep) → is_step (step_keyword s) ≡ true
-    own (Empty i) = refl
-    own (Singleton i) = refl
-    own (Fixed j v) = refl
-    own (Redundant i) = refl
-    own (Forcing i side) = refl
-    own (Doubleton i j) = refl
-
--- lists of one, two and more words
+-- ---- the words of a phrase
+-- lists of words
 none_shown : All Shown []
 none_shown = All-nil Shown
 
 and_shown : (w : List ℕ) (ws : List (List ℕ)) → Shown w → All Shown ws → All Shown (w ∷ ws)
 and_shown w ws h rest = All-cons Shown w ws h rest
 
--- ---- the words of a stop
+-- words of kinds
+side_shown : (side : Side) → Shown (met_word side)
+side_shown Lo = plain (codes "lo") refl
+side_shown Up = plain (codes "up") refl
+
 site_shown : (kind : SiteKind) → Shown (site_word kind)
 site_shown Settle = plain (codes "settle") refl
 site_shown kind = plain (site_word kind) refl
@@ -261,83 +222,59 @@ op_shown : (op : Op) → Shown (op_word op)
 op_shown Plus = plain (codes "plus") refl
 op_shown op = plain (op_word op) refl
 
+noted_shown : (b : Bool) → Shown (noted_word b)
+noted_shown true = plain (codes "kept") refl
+noted_shown false = plain (codes "removed") refl
+
+fixed_shown : (w : Word) → Shown (word_text w)
+fixed_shown Word.Report = plain (codes "report") refl
+fixed_shown w = plain (word_text w) refl
+
+one_shown : (w : List ℕ) → Shown w → All Shown (w ∷ [])
+one_shown w h = and_shown w [] h none_shown
+
+two_shown : (a b : List ℕ) → Shown a → Shown b → All Shown (a ∷ b ∷ [])
+two_shown a b h k = and_shown a (b ∷ []) h (one_shown b k)
+
 module _ (model : Program) where
   kind_shown : (m : Member) → Shown (kind_word m)
   kind_shown (RowLo i) = plain (codes "rowlo") refl
   kind_shown m = plain (kind_word m) refl
 
-  stop_shown : (s : StopPhrase) → IsStopPhrase model s → All Shown (stop_details model s)
-  stop_shown StopPhrase.Wide h = and_shown (codes "wide") [] (plain (codes "wide") refl) none_shown
-  stop_shown StopPhrase.Spent h = and_shown (codes "spent") [] (plain (codes "spent") refl) none_shown
-  stop_shown StopPhrase.Nodes h = and_shown (codes "spent") [] (plain (codes "spent") refl) none_shown
-  stop_shown (StopPhrase.Large size) h = and_shown (codes "large") (decimal size ∷ []) (plain (codes "large") refl) (and_shown (decimal size) [] (count_shown size h) none_shown)
-  stop_shown (StopPhrase.Site kind) h = and_shown (site_word kind) [] (site_shown kind) none_shown
-  stop_shown (StopPhrase.Without m) h = and_shown (kind_word m) (name_of model m ∷ []) (kind_shown m) (and_shown (name_of model m) [] (word_shown (name_of model m) h.word) none_shown)
-  stop_shown (StopPhrase.Enforced m) h = and_shown (kind_word m) (name_of model m ∷ []) (kind_shown m) (and_shown (name_of model m) [] (word_shown (name_of model m) h.word) none_shown)
-  stop_shown (StopPhrase.Branch b) h = and_shown (column_name model b.column) (signed_decimal b.at ∷ []) (word_shown (column_name model b.column) h.named.word) (and_shown (signed_decimal b.at) [] (fitting_shown b.at h.fits) none_shown)
-  stop_shown (StopPhrase.Step k) h = and_shown (decimal k) [] (count_shown k h) none_shown
-  stop_shown (StopPhrase.Operation o) h =
-      and_shown (op_word o.op) (printed o.left ∷ printed o.right ∷ []) (op_shown o.op)
-      (and_shown (printed o.left) (printed o.right ∷ []) (printed_shown o.left h.left) (and_shown (printed o.right) [] (printed_shown o.right h.right) none_shown))
+  source_shown : (source : Source) → IsNamedSource model source → All Shown (source_word source ∷ source_name model source ∷ [])
+  source_shown (Of m) h = two_shown (kind_word m) (name_of model m) (kind_shown m) (word_shown (name_of model m) h.word)
+  source_shown (Below j) h = two_shown (codes "below") (column_name model j) (plain (codes "below") refl) (word_shown (column_name model j) h.word)
+  source_shown (Above j) h = two_shown (codes "above") (column_name model j) (plain (codes "above") refl) (word_shown (column_name model j) h.word)
 
-  source_shown : (source : Source) → IsNamedSource model source → Shown (source_word source) × Shown (source_name model source)
-  source_shown (Of m) h = (kind_shown m, word_shown (name_of model m) h.word)
-  source_shown (Below j) h = (plain (codes "below") refl, word_shown (column_name model j) h.word)
-  source_shown (Above j) h = (plain (codes "above") refl, word_shown (column_name model j) h.word)
+  -- what is given with names that are words and numbers that fit
+  words_shown : (g : Given) (k : Kind) → IsFit model g k → All Shown (words_at model g k)
+  words_shown g (Kind.Word w) h = one_shown (word_text w) (fixed_shown w)
+  words_shown g Kind.Row h = one_shown (row_at model g.row).name (word_shown (row_at model g.row).name h.word)
+  words_shown g Kind.Column h = one_shown (column_name model g.column) (word_shown (column_name model g.column) h.word)
+  words_shown g Kind.Member h = two_shown (kind_word g.member) (name_of model g.member) (kind_shown g.member) (word_shown (name_of model g.member) h.word)
+  words_shown g Kind.Source h = source_shown g.source h
+  words_shown g Kind.Side h = one_shown (met_word g.side) (side_shown g.side)
+  words_shown g Kind.Site h = one_shown (site_word g.site) (site_shown g.site)
+  words_shown g Kind.Op h = one_shown (op_word g.op) (op_shown g.op)
+  words_shown g Kind.Noted h = one_shown (noted_word g.kept) (noted_shown g.kept)
+  words_shown g Kind.Fraction h = one_shown (printed g.value) (printed_shown g.value h)
+  words_shown g Kind.Nonzero h = one_shown (printed g.value) (printed_shown g.value h.0)
+  words_shown g Kind.Positive h = one_shown (printed g.value) (printed_shown g.value h.1)
+  words_shown g Kind.Right h = one_shown (printed g.right) (printed_shown g.right h)
+  words_shown g Kind.Whole h = one_shown (signed_decimal g.at) (fitting_shown g.at h)
+  words_shown g Kind.Split h = one_shown (signed_decimal g.at) (fitting_shown g.at (split_fits g.at h.0 h.1))
+  words_shown g Kind.Count h = one_shown (decimal g.count) (count_shown g.count h)
+  words_shown g Kind.Second h = one_shown (decimal g.second) (count_shown g.second h)
 
-  two_shown : (a b : List ℕ) → Shown a → Shown b → All Shown (a ∷ b ∷ [])
-  two_shown a b h k = and_shown a (b ∷ []) h (and_shown b [] k none_shown)
-
-  row_shown : (i : ℕ) → IsNamedRow model i → Shown (row_at model i).name
-  row_shown i h = word_shown (row_at model i).name h.word
-
-  column_shown : (j : ℕ) → IsNamedColumn model j → Shown (column_name model j)
-  column_shown j h = word_shown (column_name model j) h.word
-
-  met_shown : (side : Side) → Shown (met_word side)
-  met_shown Lo = plain (codes "lo") refl
-  met_shown Up = plain (codes "up") refl
-
-  step_shown : (s : ReduceStep) → IsStepFor model s → All Shown (step_details model s)
-  step_shown (Empty i) h = and_shown (row_at model i).name [] (row_shown i h) none_shown
-  step_shown (Singleton i) h = and_shown (row_at model i).name [] (row_shown i h) none_shown
-  step_shown (Fixed j v) h = two_shown (column_name model j) (printed v) (column_shown j h.0) (printed_shown v h.1)
-  step_shown (Redundant i) h = and_shown (row_at model i).name [] (row_shown i h) none_shown
-  step_shown (Forcing i side) h = two_shown (row_at model i).name (met_word side) (row_shown i h) (met_shown side)
-  step_shown (Doubleton i j) h = two_shown (row_at model i).name (column_name model j) (row_shown i h.0) (column_shown j h.1)
-
-  left_shown : (rows columns : ℕ) → rows < 2 ^ 64 → columns < 2 ^ 64 → All Shown (codes "rows" ∷ decimal rows ∷ codes "columns" ∷ decimal columns ∷ [])
-  left_shown rows columns h k =
-      and_shown (codes "rows") (decimal rows ∷ codes "columns" ∷ decimal columns ∷ []) (plain (codes "rows") refl)
-      (and_shown (decimal rows) (codes "columns" ∷ decimal columns ∷ []) (count_shown rows h)
-      (two_shown (codes "columns") (decimal columns) (plain (codes "columns") refl) (count_shown columns k)))
+  all_shown : (g : Given) (ks : List Kind) → AreFit model g ks → All Shown (flat_map (words_at model g) ks)
+  all_shown g [] h = none_shown
+  all_shown g (k ∷ ks) h = All-append Shown (words_at model g k) (flat_map (words_at model g) ks) (words_shown g k h.0) (all_shown g ks h.1)
 
   -- the words of a phrase that names words of the program and numbers that fit
   details_shown : (p : Phrase) → IsPhraseFor model p → All Shown (details model p)
-  details_shown Phrase.Head h = two_shown (codes "report") (codes "2") (plain (codes "report") refl) (plain (codes "2") refl)
-  details_shown (Phrase.Note (LowerRemoved j)) h = and_shown (column_name model j) (codes "lower" ∷ codes "removed" ∷ []) (word_shown (column_name model j) h.word) (two_shown (codes "lower") (codes "removed") (plain (codes "lower") refl) (plain (codes "removed") refl))
-  details_shown (Phrase.Note (LowerKept j)) h = and_shown (column_name model j) (codes "lower" ∷ codes "kept" ∷ []) (word_shown (column_name model j) h.word) (two_shown (codes "lower") (codes "kept") (plain (codes "lower") refl) (plain (codes "kept") refl))
   details_shown (Phrase.Command c) h = All-weaker (λ w. is_word w ≡ true) Shown word_shown (command_words c) (command_words_are c h)
-  details_shown (Phrase.Refused Refusal.UnknownName) h = and_shown (codes "name") [] (plain (codes "name") refl) none_shown
-  details_shown (Phrase.Refused Refusal.NoChange) h = and_shown (codes "change") [] (plain (codes "change") refl) none_shown
-  details_shown (Phrase.Refused Refusal.NothingToUndo) h = two_shown (codes "to") (codes "undo") (plain (codes "to") refl) (plain (codes "undo") refl)
-  details_shown (Phrase.Stop s) h = stop_shown s h
-  details_shown (Phrase.Value j v) h = two_shown (column_name model j) (printed v) (word_shown (column_name model j) h.0.word) (printed_shown v h.1.0)
-  details_shown (Phrase.Objective v) h = and_shown (printed v) [] (printed_shown v h) none_shown
-  details_shown (Phrase.Bound v) h = and_shown (printed v) [] (printed_shown v h) none_shown
-  details_shown (Phrase.Total v) h = and_shown (printed v) [] (printed_shown v h) none_shown
-  details_shown (Phrase.Rounds n) h = and_shown (decimal n) [] (count_shown n h) none_shown
-  details_shown Phrase.RigidInfeasible h = and_shown (codes "infeasible") [] (plain (codes "infeasible") refl) none_shown
-  details_shown (Phrase.NotLinear j) h = two_shown (codes "linear") (column_name model j) (plain (codes "linear") refl) (column_shown j h)
-  details_shown (Phrase.Member m) h = two_shown (kind_word m) (name_of model m) (kind_shown m) (word_shown (name_of model m) h.word)
-  details_shown (Phrase.Use s) h =
-      let source = source_shown s.source h.named in
-      and_shown (source_word s.source) (source_name model s.source ∷ printed s.weight ∷ []) source.0 (two_shown (source_name model s.source) (printed s.weight) source.1 (printed_shown s.weight h.fits))
-  details_shown (Phrase.Split j k) h = two_shown (column_name model j) (signed_decimal k) (word_shown (column_name model j) h.0.word) (fitting_shown k (split_fits k h.1.0 h.1.1))
-  details_shown (Phrase.Reduction s) h = step_shown s h
-  details_shown (Phrase.Left rows columns) h = left_shown rows columns h.0 h.1
-  details_shown Phrase.Foot h = and_shown (codes "end") [] (plain (codes "end") refl) none_shown
-  details_shown p h = none_shown
+  details_shown (Phrase.Stop (StopPhrase.Branch b)) h = all_shown (stop_given (StopPhrase.Branch b)) (kinds_of Keyword.BranchBelow) (h.named, (h.fits, tt))
+  details_shown p h = all_shown (given_of p) (kinds_of (keyword_of p)) (so_fit model (given_of p) (kinds_of (keyword_of p)) (phrase_fits model p h))
 
 -- ---- words and lines
 -- the parts of words between blanks are the words

@@ -23,8 +23,6 @@ use Rattle.phrase_reader.specs.declared.commands.CommandStop.{CommandStop}
 use Rattle.phrase_reader.specs.declared.commands.CommandStop.TheVariants.{Bad, Memory}
 use Rattle.report_text.specs.Grammar.{method_word, target_word, side_word, mark_word, command_words, command_text}
 use Rattle.report_text.specs.Form.{is_word, IsCommand}
-use Rattle.phrase_reader.specs.declared.parts.Words.{Words}
-use Rattle.phrase_reader.specs.Parts.{AreWords}
 use Rattle.phrase_reader.specs.Numerals.{budget_of, limit_in, weight_in}
 
 -- ---- what single words name
@@ -108,10 +106,6 @@ command_said (a ∷ b ∷ c ∷ []) = three_command a b c
 command_said (a ∷ b ∷ c ∷ d ∷ []) = edit_of (weighing a b d) c
 command_said (a ∷ b ∷ c ∷ d ∷ e ∷ []) = edit_of (setting a b d e) c
 command_said (a ∷ b ∷ c ∷ d ∷ e ∷ f ∷ words) = None
-
--- the same of the words that code has
-abbrev pub IsSaidBy : Words → Option Command → Type 0
-IsSaidBy given found = (ws : List (List ℕ)) → AreWords given ws → found ≡ command_said ws
 
 -- ---- the lines of scripts
 -- what is said, where there is no fault

@@ -1,16 +1,14 @@
 //! The commands of scripts and of reports.
-ghost use Rattle.std.specs.Prelude.{◌≡◌, ℕ, List, All, [], ◌∷◌, ◌++◌, map, IfOk, IfErr, MatchOption, Some};
+ghost use Rattle.std.specs.Prelude.{◌≡◌, All, map, IfOk, IfErr, Some};
 ghost use Rattle.text_fields.specs.Lines.{text_of};
 ghost use Rattle.text_fields.specs.Fields.{IsInside};
-ghost use Rattle.phrase_reader.specs.Parts.{AreWords};
 ghost use Rattle.report_text.specs.Form.{IsCommand};
-ghost use Rattle.phrase_reader.specs.Commands.{lone_command, method_of, iis_command, budget_behind, edit_of, three_command, command_said, IsSaidBy, command_of, command_stop, IsCommandStop, CommandLaw};
+ghost use Rattle.phrase_reader.specs.Commands.{lone_command, method_of, iis_command, budget_behind, edit_of, three_command, command_said, command_of, command_stop, IsCommandStop, CommandLaw};
 ghost use Rattle.phrase_reader.specs.declared.commands.CommandStop.{CommandStop};
 
 use crate::edits::{read_marking, read_moving, read_setting, read_weighing};
 use crate::naming::is_plain;
 use crate::numerals::budget_in;
-use crate::parts::Words;
 use lp_model::Name;
 use report_text::{Command, EditKind, Method, NamedEdit};
 use std::alloc::{AllocError, Global};
@@ -126,50 +124,33 @@ fn read_three(
 
 /// The command that words are, as `read_command` says. `AllocError` where memory was refused for a
 /// name.
-pub(crate) fn command_in(alloc: Global, words: Words<'_>) -> Result<Option<Command>, AllocError>
-    ensures { IfOk result (IsSaidBy words.entry) }
+pub(crate) fn command_in(alloc: Global, words: &[&[u8]]) -> Result<Option<Command>, AllocError>
+    ensures { IfOk result (λ found. found ≡ command_said (map (λ w. w.now) words.now)) }
 {
     match words {
-        Words::One(word) => Ok(read_lone(word)),
-        Words::Two(first, second) => Ok(read_search(first, second)),
-        Words::Three(first, second, third) => read_three(alloc, first, second, third),
-        Words::Four(first, second, third, last) => {
+        [word] => Ok(read_lone(word)),
+        [first, second] => Ok(read_search(first, second)),
+        [first, second, third] => read_three(alloc, first, second, third),
+        [first, second, third, last] => {
             named_edit(alloc, read_weighing(first, second, last), third)
         }
-        Words::Five(first, second, third, side, last) => {
+        [first, second, third, side, last] => {
             named_edit(alloc, read_setting(first, second, side, last), third)
         }
-        Words::More => Ok(None),
+        _ => Ok(None),
     }
 }
 
-// These words, if there are some, and one behind them.
-fn followed<'a>(words: Option<Words<'a>>, last: &'a [u8]) -> Words<'a>
-    ensures { (ws : List (List ℕ)) → MatchOption words.entry (ws ≡ []) (λ given. AreWords given ws)
-        → AreWords result (ws ++ last.now ∷ []) }
-{
-    match words {
-        None => Words::One(last),
-        Some(Words::One(a)) => Words::Two(a, last),
-        Some(Words::Two(a, b)) => Words::Three(a, b, last),
-        Some(Words::Three(a, b, c)) => Words::Four(a, b, c, last),
-        Some(Words::Four(a, b, c, d)) => Words::Five(a, b, c, d, last),
-        Some(Words::Five(..) | Words::More) => Words::More,
-    }
-}
-
-// The fields of a line, as words, where there are some.
-fn words_in<'a>(text: &'a [u8], spans: &[Span]) -> Option<Words<'a>>
+// The fields of a line.
+fn words_in<'a>(alloc: Global, text: &'a [u8], spans: &[Span]) -> Result<Vec<&'a [u8]>, AllocError>
     requires { All (IsInside text.now) spans.now }
-    ensures { MatchOption result
-        (spans.now ≡ [])
-        (λ words. AreWords words (map (text_of text.now) spans.now)) }
+    ensures { IfOk result (λ words. map (λ w. w.now) words.items ≡ map (text_of text.now) spans.now) }
 {
-    let mut words = None;
+    let mut words = Vec::new(alloc);
     for span in spans {
-        words = Some(followed(words, span.text(text)));
+        words.push(span.text(text))?;
     }
-    words
+    Ok(words)
 }
 
 // What the fields say.
@@ -177,10 +158,8 @@ fn read_fields(alloc: Global, text: &[u8], spans: &[Span]) -> Result<Option<Comm
     requires { All (IsInside text.now) spans.now }
     ensures { IfOk result (λ found. found ≡ command_said (map (text_of text.now) spans.now)) }
 {
-    let Some(words) = words_in(text, spans) else {
-        return Ok(None);
-    };
-    command_in(alloc, words)
+    let words = words_in(alloc, text, spans)?;
+    command_in(alloc, words.as_slice())
 }
 
 /// The command that a line is, which stands without its end.

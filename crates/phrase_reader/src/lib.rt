@@ -3,15 +3,11 @@
 
 mod commands;
 mod edits;
-mod keywords;
 mod lexing;
 mod naming;
 mod numerals;
 mod parts;
 mod printing;
-mod refusal_words;
-mod step_words;
-mod stop_words;
 
 pub use commands::{CommandStop, command_law, read_command};
 pub use lexing::read_phrase;

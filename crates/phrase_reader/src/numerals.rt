@@ -2,9 +2,9 @@
 ghost use Rattle.std.specs.Prelude.{◌≡◌, None, Some};
 ghost use Rattle.std.specs.List.{list_all};
 ghost use Rattle.frac128.specs.Literal.{is_dec};
-ghost use Rattle.phrase_reader.specs.Numerals.{budget_of, fraction_in, limit_in, limit_of, number_limit, soft_weight, value_in, value_of, weight_in};
+ghost use Rattle.phrase_reader.specs.Numerals.{budget_of, limit_in, limit_of, number_limit, soft_weight, value_in, value_of, weight_in};
 
-use crate::naming::fraction_of;
+use crate::naming::printed_fraction;
 use frac128::{Frac, Literal, read_decimal};
 use lp_model::Weight;
 use text_fields::{bound, is_wide_limit, is_word};
@@ -36,13 +36,6 @@ pub(crate) fn budget_in(word: &[u8]) -> Option<u64>
         return None;
     }
     Some(most)
-}
-
-// The fraction that is printed so.
-fn printed_fraction(word: &[u8]) -> Option<Frac>
-    ensures { result ≡ fraction_in word.now }
-{
-    fraction_of(word)
 }
 
 // The value of a literal that fits.

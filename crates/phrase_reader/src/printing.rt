@@ -1,8 +1,9 @@
 //! Whether commands in reports are written as they are printed.
-ghost use Rattle.std.specs.Prelude.{◌≡◌, decimal};
+ghost use Rattle.std.specs.Prelude.{◌≡◌, decimal, map};
 ghost use Rattle.std.specs.Bool.{Decides};
 ghost use Rattle.frac128.specs.Printed.{printed};
 ghost use Rattle.report_text.specs.Grammar.{limit_word, weight_word};
+ghost use Rattle.phrase_reader.specs.Parts.{last_word};
 ghost use Rattle.phrase_reader.specs.Words.{IsPlain, IsPlainEdit};
 
 use crate::naming::fraction_of;
@@ -64,8 +65,8 @@ fn is_printed_edit(word: &[u8], kind: EditKind) -> bool
     }
 }
 
-/// Whether the number of a command, if it has one, is printed so.
-pub(crate) fn is_printed(word: &[u8], command: &Command) -> bool
+// Whether the number of a command, if it has one, is printed so.
+fn is_printed_number(word: &[u8], command: &Command) -> bool
     ensures { Decides result (IsPlain word.now command.now) }
 {
     match command {
@@ -73,5 +74,15 @@ pub(crate) fn is_printed(word: &[u8], command: &Command) -> bool
         Command::Nodes(most) => is_count(word, *most),
         Command::Edit(edit) => is_printed_edit(word, edit.kind),
         _ => true,
+    }
+}
+
+/// Whether the last of the words of a command is printed so.
+pub(crate) fn is_printed(words: &[&[u8]], command: &Command) -> bool
+    ensures { Decides result (IsPlain (last_word (map (λ w. w.now) words.now)) command.now) }
+{
+    match words {
+        [.., last] => is_printed_number(last, command),
+        [] => is_printed_number(b"", command),
     }
 }

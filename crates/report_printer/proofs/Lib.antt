@@ -1,3 +1,4 @@
 pub mod Printed
 pub mod EvidencePrinted
 pub mod Within
+pub mod Rows

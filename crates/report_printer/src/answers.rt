@@ -1,8 +1,7 @@
 //! The printed lines of answers.
 
-ghost use Rattle.std.specs.Prelude.{◌≡◌, ◌≢◌, ◌++◌, ℕ, OnErr, OnOk};
+ghost use Rattle.std.specs.Prelude.{◌≡◌, ◌++◌, OnErr, OnOk};
 ghost use Rattle.certs.specs.Checks.{IsSetOf};
-ghost use Rattle.lp_model.specs.Program.{Program};
 ghost use Rattle.report_text.specs.Grammar.{phrase_line, answer_front, answer_end, answer_phrases, phrases_text};
 ghost use Rattle.report_printer.specs.EvidenceNumbers.{HasValuesWithin, IsProofWithin};
 ghost use Rattle.report_printer.specs.Evidence.{ended, IsKnownProof, IsKnownPoint};
@@ -10,7 +9,8 @@ ghost use Rattle.report_printer.specs.Numbers.{HasNumbersWithin, IsCoreWithin};
 ghost use Rattle.report_printer.specs.Printing.{CanPrintLaw, IsKnownCore, IsKnownAnswer};
 
 use crate::least::{print_least, print_rounds};
-use crate::members::{print_column, print_members};
+use crate::lines::print_phrase;
+use crate::members::print_members;
 use crate::nodes::print_proof;
 use crate::objectives::{print_bounded, print_unbounded};
 use crate::points::{print_point, print_witnesses};
@@ -20,7 +20,7 @@ use crate::stops::print_stop;
 use crate::words::{append, push_line};
 use certs::{PackedPoint, Proof};
 use lp_model::Model;
-use report_text::{Answer, Command, Core, MemberList, Phrase, Refusal};
+use report_text::{Answer, Command, Core, MemberList, Phrase};
 use std::alloc::AllocError;
 
 // Appends the lines of a point that is an answer, but for its end.
@@ -103,26 +103,15 @@ fn print_front(model: &Model, answer: &Answer, into: &mut Vec<u8>) -> Result<(),
     }
 }
 
-// The line of a refusal.
-fn refusal_line(refusal: Refusal) -> &'static str
-    ensures { (model : Program) → result.now ≡ phrase_line model (Phrase.Refused refusal) }
-{
-    match refusal {
-        Refusal::UnknownName => "unknown name",
-        Refusal::NoChange => "no change",
-        Refusal::NothingToUndo => "nothing to undo",
-    }
-}
-
-// The last line of an answer, but for that which names a column.
-fn last_word(answer: &Answer) -> &'static str
-    requires { (j : ℕ) → answer.now ≢ Answer.NotLinear j }
-    ensures { (model : Program) → result.now ≡ phrase_line model (answer_end answer.now) }
+// The last line of an answer.
+fn last_phrase(answer: &Answer) -> Phrase
+    ensures { result ≡ answer_end answer.now }
 {
     match answer {
-        Answer::Done => "done",
-        Answer::Refused(refusal) => refusal_line(*refusal),
-        _ => "end",
+        Answer::Done => Phrase::Done,
+        Answer::Refused(refusal) => Phrase::Refused(*refusal),
+        Answer::NotLinear(column) => Phrase::NotLinear(*column),
+        _ => Phrase::End,
     }
 }
 
@@ -131,10 +120,8 @@ fn print_last(model: &Model, answer: &Answer, into: &mut Vec<u8>) -> Result<(), 
     requires { IsKnownAnswer model.now answer.now }
     ensures { OnOk result (into.new.items ≡ into.old.items ++ ended (phrase_line model.now (answer_end answer.now))) }
 {
-    if let Answer::NotLinear(column) = answer {
-        return print_column(b"not linear", model, *column, into);
-    }
-    push_line(last_word(answer).as_bytes(), into)
+    print_phrase(model, last_phrase(answer), into)?;
+    Ok(())
 }
 
 /// Appends the lines of an answer.

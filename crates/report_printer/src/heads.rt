@@ -1,40 +1,24 @@
 //! What stands before the entries of a report, and behind them.
 
-ghost use Rattle.std.specs.Prelude.{◌≡◌, ◌++◌, ◌∷◌, [], ◌<◌, OnErr, OnOk, codes, length};
+ghost use Rattle.std.specs.Prelude.{◌≡◌, ◌++◌, ◌∷◌, [], ◌<◌, OnErr, OnOk, length};
 ghost use Rattle.lp_model.specs.Program.{Program, noted_column};
-ghost use Rattle.report_text.specs.Grammar.{◌then◌, column_name, phrase_line, phrases_text};
+ghost use Rattle.report_text.specs.Grammar.{phrase_line, phrases_text};
 ghost use Rattle.report_printer.specs.Evidence.{ended};
 ghost use Rattle.report_printer.specs.Printing.{PartsLaw, head_phrases};
 
-use crate::words::{append, push_line, push_word};
+use crate::lines::print_phrase;
+use crate::words::{append, push_line};
 use lp_model::{Model, Note};
 use report_text::Phrase;
 use std::alloc::AllocError;
-
-// Appends a note on a column.
-fn print_noted(
-    model: &Model,
-    column: u32,
-    what: &[u8],
-    into: &mut Vec<u8>,
-) -> Result<(), AllocError>
-    requires { column < length model.now.columns }
-    ensures { OnOk result (into.new.items ≡ into.old.items ++ ended (codes "note" then column_name model.now column then what.now)) }
-{
-    push_word(b"note", into)?;
-    push_word(model.column_name(column), into)?;
-    push_line(what, into)
-}
 
 // Appends the line of a note.
 fn print_note(model: &Model, note: Note, into: &mut Vec<u8>) -> Result<(), AllocError>
     requires { noted_column note < length model.now.columns }
     ensures { OnOk result (into.new.items ≡ into.old.items ++ ended (phrase_line model.now (Phrase.Note note))) }
 {
-    match note {
-        Note::LowerRemoved(column) => print_noted(model, column, b"lower removed", into),
-        Note::LowerKept(column) => print_noted(model, column, b"lower kept", into),
-    }
+    print_phrase(model, Phrase::Note(note), into)?;
+    Ok(())
 }
 
 // Appends the lines of a report that stand before its entries.

@@ -1,31 +1,19 @@
 //! The lines of least weighted violations, and of rounds.
 
 ghost use Rattle.std.specs.Prelude.{◌≡◌, ◌++◌, ◌∷◌, OnOk, map, All};
-ghost use Rattle.lp_model.specs.Program.{Program};
-ghost use Rattle.report_text.specs.Grammar.{phrase_line, least_phrases, rounds_phrases, phrases_text};
-ghost use Rattle.report_text.specs.Form.{IsCount, IsCountWithin, IsWithinLimit};
+ghost use Rattle.report_text.specs.Grammar.{least_phrases, rounds_phrases, phrases_text};
+ghost use Rattle.report_text.specs.Form.{IsCountWithin, IsWithinLimit};
 ghost use Rattle.report_printer.specs.EvidenceNumbers.{IsLeastWithin};
-ghost use Rattle.report_printer.specs.Evidence.{ended, IsKnownLeast, IsKnownSource};
+ghost use Rattle.report_printer.specs.Evidence.{IsKnownLeast, IsKnownSource};
 
+use crate::lines::print_phrase;
 use crate::nodes::print_uses;
 use crate::points::print_point;
-use crate::words::{push_count, push_fraction, push_line, push_word};
+use crate::words::push_line;
 use certs::{Dual, PackedPoint, Share};
-use frac128::{Exact, Frac};
 use lp_model::Model;
 use report_text::Phrase;
 use std::alloc::AllocError;
-
-/// Appends the line of a total.
-pub(crate) fn print_total(total: Frac, into: &mut Vec<u8>) -> Result<(), AllocError>
-    ensures text { (model : Program) → OnOk result (into.new.items ≡ into.old.items ++ ended (phrase_line model (Phrase.Total total))) }
-    ensures within { IsWithinLimit total }
-{
-    // That the total is within the limit is told with its widening.
-    let _total = total.widen();
-    push_word(b"total", into)?;
-    push_fraction(total, into)
-}
 
 // Appends the lines of a dual's shares.
 fn print_shares(model: &Model, shares: &[Share], into: &mut Vec<u8>) -> Result<(), AllocError>
@@ -50,19 +38,10 @@ pub(crate) fn print_least(
     ensures within { OnOk result (IsLeastWithin point.now dual.now) }
 {
     push_line(b"least", into)?;
-    print_total(dual.bound, into)?;
+    print_phrase(model, Phrase::Total(dual.bound), into)?;
     print_point(model, point, into)?;
     print_shares(model, dual.combo.shares.as_slice(), into)?;
     Ok(())
-}
-
-// Appends the line of a count of rounds.
-fn print_count(rounds: u64, into: &mut Vec<u8>) -> Result<(), AllocError>
-    ensures text { (model : Program) → OnOk result (into.new.items ≡ into.old.items ++ ended (phrase_line model (Phrase.Rounds rounds))) }
-    ensures within { IsCount rounds }
-{
-    push_word(b"rounds", into)?;
-    push_count(rounds, into)
 }
 
 /// Appends the line of how many rounds were made, where it is told.
@@ -75,7 +54,7 @@ pub(crate) fn print_rounds(
     ensures within { IsCountWithin rounds }
 {
     if let Some(rounds) = rounds {
-        print_count(rounds, into)?;
+        print_phrase(model, Phrase::Rounds(rounds), into)?;
     }
     Ok(())
 }

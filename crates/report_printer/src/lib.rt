@@ -6,6 +6,7 @@ mod commands;
 mod entries;
 mod heads;
 mod least;
+mod lines;
 mod members;
 mod nodes;
 mod objectives;

@@ -1,17 +1,17 @@
 //! The lines of rays, of values of the objective, and of duals.
 
 ghost use Rattle.std.specs.Prelude.{◌≡◌, ◌++◌, ◌∷◌, OnOk, All};
-ghost use Rattle.lp_model.specs.Program.{Program};
-ghost use Rattle.report_text.specs.Grammar.{phrase_line, value_phrases, objective_phrases, dual_phrases, unbounded_phrases, bounded_phrases, phrases_text};
-ghost use Rattle.report_text.specs.Form.{IsWithinLimit, IsValueWithin};
+ghost use Rattle.report_text.specs.Grammar.{value_phrases, objective_phrases, dual_phrases, unbounded_phrases, bounded_phrases, phrases_text};
+ghost use Rattle.report_text.specs.Form.{IsValueWithin};
 ghost use Rattle.report_printer.specs.EvidenceNumbers.{IsBoundedWithin, IsDualWithin, IsRayWithin, HasValuesWithin};
-ghost use Rattle.report_printer.specs.Evidence.{ended, IsKnownSource, IsKnownPoint, IsKnownRay, IsKnownBounded};
+ghost use Rattle.report_printer.specs.Evidence.{IsKnownSource, IsKnownPoint, IsKnownRay, IsKnownBounded};
 
+use crate::lines::print_phrase;
 use crate::nodes::print_uses;
 use crate::points::{print_point, print_values};
-use crate::words::{push_fraction, push_line, push_word};
+use crate::words::push_line;
 use certs::{Dual, PackedPoint, PackedRay};
-use frac128::{Exact, Frac};
+use frac128::Frac;
 use lp_model::Model;
 use report_text::{Bounded, Phrase};
 use std::alloc::AllocError;
@@ -45,37 +45,15 @@ pub(crate) fn print_unbounded(
     Ok(())
 }
 
-// Appends the line of the objective's value.
-fn print_value(value: Frac, into: &mut Vec<u8>) -> Result<(), AllocError>
-    ensures text { (model : Program) → OnOk result (into.new.items ≡ into.old.items ++ ended (phrase_line model (Phrase.Objective value))) }
-    ensures within { IsWithinLimit value }
-{
-    // That the value is within the limit is told with its widening.
-    let _value = value.widen();
-    push_word(b"objective", into)?;
-    push_fraction(value, into)
-}
-
 // Appends the line of the objective's value, where it is told.
 fn print_objective(model: &Model, value: Option<Frac>, into: &mut Vec<u8>) -> Result<(), AllocError>
     ensures text { OnOk result (into.new.items ≡ into.old.items ++ phrases_text model.now (objective_phrases value)) }
     ensures within { IsValueWithin value }
 {
     if let Some(value) = value {
-        print_value(value, into)?;
+        print_phrase(model, Phrase::Objective(value), into)?;
     }
     Ok(())
-}
-
-// Appends the line of a bound.
-fn print_bound(bound: Frac, into: &mut Vec<u8>) -> Result<(), AllocError>
-    ensures text { (model : Program) → OnOk result (into.new.items ≡ into.old.items ++ ended (phrase_line model (Phrase.Bound bound))) }
-    ensures within { IsWithinLimit bound }
-{
-    // That the bound is within the limit is told with its widening.
-    let _bound = bound.widen();
-    push_word(b"bound", into)?;
-    push_fraction(bound, into)
 }
 
 // Appends the lines of a dual: its bound, and its shares.
@@ -84,7 +62,7 @@ fn print_dual(model: &Model, dual: &Dual, into: &mut Vec<u8>) -> Result<(), Allo
     ensures text { OnOk result (into.new.items ≡ into.old.items ++ phrases_text model.now (dual_phrases dual.now)) }
     ensures within { OnOk result (IsDualWithin dual.now) }
 {
-    print_bound(dual.bound, into)?;
+    print_phrase(model, Phrase::Bound(dual.bound), into)?;
     push_line(b"dual", into)?;
     print_uses(model, dual.combo.shares.as_slice(), into)?;
     Ok(())

@@ -2,33 +2,18 @@
 
 ghost use Rattle.std.specs.Prelude.{◌≡◌, ◌++◌, ◌∷◌, [], ◌<◌, OnOk, length, flat_map, zip, All};
 ghost use Rattle.certs.specs.Checks.{IsSetOf};
-ghost use Rattle.report_text.specs.Grammar.{phrase_line, value_phrases, point_phrases, witness_phrases, phrases_text};
+ghost use Rattle.report_text.specs.Grammar.{value_phrases, point_phrases, witness_phrases, phrases_text};
 ghost use Rattle.report_text.specs.Form.{IsWithinLimit};
 ghost use Rattle.report_printer.specs.EvidenceNumbers.{HasValuesWithin, HasWitnessesWithin};
-ghost use Rattle.report_printer.specs.Evidence.{ended, IsKnownMember, IsKnownPoint};
+ghost use Rattle.report_printer.specs.Evidence.{IsKnownMember, IsKnownPoint};
 
-use crate::members::print_member;
-use crate::words::{push_fraction, push_line, push_word};
+use crate::lines::print_phrase;
+use crate::words::push_line;
 use certs::PackedPoint;
 use frac128::{Exact, Frac};
 use lp_model::{Member, Model};
 use report_text::{MemberList, Phrase};
 use std::alloc::AllocError;
-
-// Appends the line of a column's value.
-fn print_value(
-    model: &Model,
-    column: u32,
-    value: Frac,
-    into: &mut Vec<u8>,
-) -> Result<(), AllocError>
-    requires { column < length model.now.columns }
-    ensures { OnOk result (into.new.items ≡ into.old.items ++ ended (phrase_line model.now (Phrase.Value column value))) }
-{
-    push_word(b"value", into)?;
-    push_word(model.column_name(column), into)?;
-    push_fraction(value, into)
-}
 
 // Appends the line of a column's value, where it is not 0.
 fn print_nonzero(
@@ -46,7 +31,8 @@ fn print_nonzero(
     if value == Frac::whole(0) {
         return Ok(());
     }
-    print_value(model, column, value, into)
+    print_phrase(model, Phrase::Value(column, value), into)?;
+    Ok(())
 }
 
 /// Appends the lines of values, one for each column: each that is not 0 has one.
@@ -92,7 +78,7 @@ fn print_witness(
     ensures text { OnOk result (into.new.items ≡ into.old.items ++ phrases_text model.now (witness_phrases (member, witness.now))) }
     ensures within { OnOk result (HasValuesWithin witness.now) }
 {
-    print_member(b"member", model, member, into)?;
+    print_phrase(model, Phrase::Member(member), into)?;
     print_point(model, witness, into)
 }
 

@@ -5,12 +5,13 @@ ghost use Rattle.report_text.specs.Grammar.{price_phrases, phrases_text};
 ghost use Rattle.report_printer.specs.EvidenceNumbers.{HasPriceWithin};
 ghost use Rattle.report_printer.specs.Evidence.{IsKnownPoint, IsKnownPrice};
 
-use crate::least::print_total;
+use crate::lines::print_phrase;
 use crate::points::print_values;
 use crate::words::push_line;
 use certs::PackedPoint;
 use frac128::Frac;
 use lp_model::Model;
+use report_text::Phrase;
 use std::alloc::AllocError;
 
 // Appends the lines of a total and its price: each value that is not 0 has one.
@@ -24,7 +25,7 @@ fn print_priced(
     ensures text { OnOk result (into.new.items ≡ into.old.items ++ phrases_text model.now (price_phrases (Some (total, price.now)))) }
     ensures within { OnOk result (HasPriceWithin (Some (total, price.now))) }
 {
-    print_total(total, into)?;
+    print_phrase(model, Phrase::Total(total), into)?;
     push_line(b"price", into)?;
     let price = price.unpacked(*into.allocator())?;
     print_values(model, price.values.as_slice(), into)?;

@@ -1,15 +1,13 @@
 -- No edit changes the names of rows and columns, the forms, the objective or the notes.
-use Rattle.std.proofs.Common.{◌≡◌, refl, sym, ◌∙◌, ap, ℕ, Bool, true, false, List, [], ◌∷◌, length, get_or, option_map}
-use Rattle.std.specs.Prelude.{position, bytes_eq}
+use Rattle.std.proofs.Common.{◌≡◌, refl, sym, ◌∙◌, ap, ℕ, Bool, true, false, List, [], ◌∷◌, ◌++◌, length, get_or, option_map}
+use Rattle.std.specs.Prelude.{position, bytes_eq, flat_map}
 use Rattle.std.proofs.Math.ListN.{get_or-map}
 use Rattle.std.proofs.Math.Seq.{map-set_same}
 use Rattle.std.proofs.lemmas.Bool.{cond_both}
 use Rattle.std.proofs.lemmas.List.{length-map}
 use Rattle.rational.specs.Linear.{Term}
 use Rattle.lp_model.specs.declared.parts.Weight.{Weight}
-use Rattle.lp_model.specs.declared.parts.Note.TheVariants.{LowerRemoved, LowerKept}
 use Rattle.lp_model.specs.Program.{Program, NamedRow, NamedColumn, empty_row, empty_column, row_at, column_at}
-use Rattle.lp_model.specs.declared.parts.Note.{Note}
 use Rattle.lp_model.specs.declared.members.Member.{Member}
 use Rattle.lp_model.specs.declared.members.Member.TheVariants.{RowLo, RowUp, Lower, Upper, Whole}
 use Rattle.lp_model.specs.declared.members.Side.TheVariants.{Lo, Up}
@@ -22,15 +20,16 @@ use Rattle.lp_model.specs.Edits.{with_row, with_column, with_flag, with_weight, 
 use Rattle.certs.specs.declared.evidence.Source.{Source}
 use Rattle.certs.specs.declared.evidence.Source.TheVariants.{Member as Of, Below, Above}
 use Rattle.report_text.specs.History.{after_edits}
-use Rattle.reductions.specs.declared.steps.ReduceStep.{ReduceStep}
-use Rattle.reductions.specs.declared.steps.ReduceStep.TheVariants.{Empty, Singleton, Fixed, Redundant, Forcing, Doubleton}
 use Rattle.report_text.specs.declared.report.Command.{Command}
 use Rattle.report_text.specs.declared.report.NamedEdit.{NamedEdit}
+use Rattle.report_text.specs.declared.phrases.Keyword.{Keyword}
 use Rattle.report_text.specs.declared.phrases.Phrase.{Phrase}
+use Rattle.report_text.specs.declared.table.Kind.{Kind}
+use Rattle.report_text.specs.declared.table.Given.{Given}
 use Rattle.report_text.specs.declared.phrases.StopPhrase.{StopPhrase}
 use Rattle.report_text.specs.Edits.{edit_at, names_row, place_of, named_edit}
 use Rattle.report_text.specs.Turns.{after, edits_after}
-use Rattle.report_text.specs.Grammar.{column_name, name_of, source_name, stop_details, step_details, details, keyword_text, keyword_of, spelled, phrase_line, lines_of, text_of, phrases_text}
+use Rattle.report_text.specs.Grammar.{column_name, name_of, source_name, kind_word, source_word, words_at, kinds_of, stop_given, given_of, details, keyword_text, keyword_of, spelled, phrase_line, lines_of, text_of, phrases_text}
 use Rattle.report_text.specs.Session.{SameNames, NamesStandLaw}
 
 -- ---- an edit
@@ -155,65 +154,23 @@ module _ (first model : Program) (same : SameNames first model) where
   pub named_edit_same : (e : NamedEdit) → named_edit model e ≡ named_edit first e
   named_edit_same e = ap (option_map (edit_at e.kind)) (place_same (names_row e.kind) e.name)
 
+  -- the words of what is given
+  words_same : (g : Given) (kind : Kind) → words_at model g kind ≡ words_at first g kind
+  words_same g Kind.Row = ap (λ w. w ∷ []) (row_name_same g.row)
+  words_same g Kind.Column = ap (λ w. w ∷ []) (column_name_same g.column)
+  words_same g Kind.Member = ap (λ w. kind_word g.member ∷ w ∷ []) (name_of_same g.member)
+  words_same g Kind.Source = ap (λ w. source_word g.source ∷ w ∷ []) (source_name_same g.source)
+  words_same g kind = refl
+
+  kinds_same : (g : Given) (kinds : List Kind) → flat_map (words_at model g) kinds ≡ flat_map (words_at first g) kinds
+  kinds_same g [] = refl
+  kinds_same g (kind ∷ kinds) = ap (λ ws. ws ++ flat_map (words_at model g) kinds) (words_same g kind) ∙ ap (λ ws. words_at first g kind ++ ws) (kinds_same g kinds)
+
   -- lines
-  stop_details_same : (s : StopPhrase) → stop_details model s ≡ stop_details first s
-  stop_details_same StopPhrase.Wide = refl
-  stop_details_same StopPhrase.Spent = refl
-  stop_details_same StopPhrase.Nodes = refl
-  stop_details_same (StopPhrase.Large size) = refl
-  stop_details_same (StopPhrase.Site kind) = refl
-  stop_details_same (StopPhrase.Without m) = simp (name_of_same m)
-  stop_details_same (StopPhrase.Enforced m) = simp (name_of_same m)
-  stop_details_same (StopPhrase.Branch b) = simp (column_name_same b.column)
-  stop_details_same (StopPhrase.Step k) = refl
-  stop_details_same (StopPhrase.Operation o) = refl
-
-  step_details_same : (s : ReduceStep) → step_details model s ≡ step_details first s
-  step_details_same (Empty i) = simp (row_name_same i)
-  step_details_same (Singleton i) = simp (row_name_same i)
-  step_details_same (Fixed j v) = simp (column_name_same j)
-  step_details_same (Redundant i) = simp (row_name_same i)
-  step_details_same (Forcing i side) = simp (row_name_same i)
-  step_details_same (Doubleton i j) = simp (name_of_same (RowLo i), column_name_same j)
-
-  note_details_same : (note : Note) → details model (Phrase.Note note) ≡ details first (Phrase.Note note)
-  note_details_same (LowerRemoved j) = simp (column_name_same j)
-  note_details_same (LowerKept j) = simp (column_name_same j)
-
   pub details_same : (p : Phrase) → details model p ≡ details first p
-  details_same Phrase.Head = refl
-  details_same (Phrase.Note note) = note_details_same note
   details_same (Phrase.Command command) = refl
-  details_same Phrase.Feasible = refl
-  details_same Phrase.Infeasible = refl
-  details_same Phrase.Irreducible = refl
-  details_same Phrase.Unbounded = refl
-  details_same Phrase.Bounded = refl
-  details_same Phrase.Least = refl
-  details_same Phrase.RigidInfeasible = refl
-  details_same Phrase.Reduced = refl
-  details_same Phrase.Done = refl
-  details_same (Phrase.Refused r) = refl
-  details_same (Phrase.NotLinear j) = simp (column_name_same j)
-  details_same (Phrase.Stop s) = stop_details_same s
-  details_same Phrase.Point = refl
-  details_same (Phrase.Value j v) = simp (column_name_same j)
-  details_same Phrase.Ray = refl
-  details_same (Phrase.Objective v) = refl
-  details_same (Phrase.Bound v) = refl
-  details_same Phrase.Dual = refl
-  details_same (Phrase.Total v) = refl
-  details_same (Phrase.Rounds n) = refl
-  details_same Phrase.Price = refl
-  details_same (Phrase.Member m) = simp (name_of_same m)
-  details_same Phrase.Proof = refl
-  details_same (Phrase.Split j k) = simp (column_name_same j)
-  details_same Phrase.Leaf = refl
-  details_same (Phrase.Use s) = simp (source_name_same s.source)
-  details_same (Phrase.Reduction s) = step_details_same s
-  details_same (Phrase.Left rows columns) = refl
-  details_same Phrase.End = refl
-  details_same Phrase.Foot = refl
+  details_same (Phrase.Stop (StopPhrase.Branch b)) = kinds_same (stop_given (StopPhrase.Branch b)) (kinds_of Keyword.BranchBelow)
+  details_same p = kinds_same (given_of p) (kinds_of (keyword_of p))
 
   pub phrase_line_same : (p : Phrase) → phrase_line model p ≡ phrase_line first p
   phrase_line_same p = ap (spelled (keyword_text (keyword_of p))) (details_same p)

@@ -1,5 +1,5 @@
 -- What a report says, phrase by phrase. A phrase is one line, which stands here without the byte 10 that ends it.
-use Rattle.std.specs.Prelude.{ℕ, suc, ◌++◌, Bool, true, false, cond, List, [], ◌∷◌, map, flat_map, zip, codes, decimal, Option, Some, None}
+use Rattle.std.specs.Prelude.{ℕ, suc, ◌++◌, Bool, true, false, cond, List, [], ◌∷◌, map, flat_map, zip, codes, decimal, Option, Some, None, pos}
 use Rattle.std.specs.Fmt.{signed_decimal}
 use Rattle.frac128.specs.declared.Op.{Op}
 use Rattle.frac128.specs.declared.Op.TheVariants.{Plus, Minus, Times, Over}
@@ -49,6 +49,9 @@ use Rattle.report_text.specs.Turns.{after, gathered}
 use Rattle.report_text.specs.declared.phrases.Keyword.{Keyword}
 use Rattle.report_text.specs.declared.phrases.Phrase.{Phrase}
 use Rattle.report_text.specs.declared.phrases.StopPhrase.{StopPhrase}
+use Rattle.report_text.specs.declared.table.Word.{Word}
+use Rattle.report_text.specs.declared.table.Kind.{Kind}
+use Rattle.report_text.specs.declared.table.Given.{Given}
 
 -- a line, as its bytes
 abbrev pub Line : Type 0
@@ -145,6 +148,11 @@ abbrev pub weight_word : Weight → List ℕ
 weight_word (Soft v) = printed v
 weight_word Rigid = codes "rigid"
 
+-- what became of a bound that a note is on
+abbrev pub noted_word : Bool → List ℕ
+noted_word true = codes "kept"
+noted_word false = codes "removed"
+
 -- whether a column is to be whole
 abbrev pub mark_word : Bool → List ℕ
 mark_word true = codes "whole"
@@ -210,7 +218,8 @@ keyword_text Keyword.Redundant = codes "redundant"
 keyword_text Keyword.Forcing = codes "forcing"
 keyword_text Keyword.Doubleton = codes "doubleton"
 keyword_text Keyword.Left = codes "left"
-keyword_text Keyword.Too = codes "too"
+keyword_text Keyword.Wide = codes "too"
+keyword_text Keyword.Large = codes "too"
 keyword_text Keyword.Pivots = codes "pivots"
 keyword_text Keyword.Nodes = codes "nodes"
 keyword_text Keyword.Site = codes "site"
@@ -223,16 +232,91 @@ keyword_text Keyword.Operation = codes "operation"
 keyword_text Keyword.End = codes "end"
 keyword_text Keyword.Report = codes "report"
 
--- the keyword of a refusal, and the words after it
+-- a word that stands in lines as it is
+abbrev pub word_text : Word → List ℕ
+word_text Word.Report = codes "report"
+word_text Word.Two = codes "2"
+word_text Word.Lower = codes "lower"
+word_text Word.Infeasible = codes "infeasible"
+word_text Word.Name = codes "name"
+word_text Word.Change = codes "change"
+word_text Word.To = codes "to"
+word_text Word.Undo = codes "undo"
+word_text Word.Linear = codes "linear"
+word_text Word.Wide = codes "wide"
+word_text Word.Large = codes "large"
+word_text Word.Spent = codes "spent"
+word_text Word.Rows = codes "rows"
+word_text Word.Columns = codes "columns"
+word_text Word.End = codes "end"
+
+-- what stands behind a keyword; behind that of a command its words do
+abbrev pub kinds_of : Keyword → List Kind
+kinds_of Keyword.Iisan = Kind.Word Word.Report ∷ Kind.Word Word.Two ∷ []
+kinds_of Keyword.Note = Kind.Column ∷ Kind.Word Word.Lower ∷ Kind.Noted ∷ []
+kinds_of Keyword.Rigid = Kind.Word Word.Infeasible ∷ []
+kinds_of Keyword.Unknown = Kind.Word Word.Name ∷ []
+kinds_of Keyword.No = Kind.Word Word.Change ∷ []
+kinds_of Keyword.Nothing = Kind.Word Word.To ∷ Kind.Word Word.Undo ∷ []
+kinds_of Keyword.Not = Kind.Word Word.Linear ∷ Kind.Column ∷ []
+kinds_of Keyword.Value = Kind.Column ∷ Kind.Nonzero ∷ []
+kinds_of Keyword.Objective = Kind.Fraction ∷ []
+kinds_of Keyword.Bound = Kind.Fraction ∷ []
+kinds_of Keyword.Total = Kind.Fraction ∷ []
+kinds_of Keyword.Rounds = Kind.Count ∷ []
+kinds_of Keyword.Member = Kind.Member ∷ []
+kinds_of Keyword.Split = Kind.Column ∷ Kind.Split ∷ []
+kinds_of Keyword.Use = Kind.Source ∷ Kind.Positive ∷ []
+kinds_of Keyword.Empty = Kind.Row ∷ []
+kinds_of Keyword.Singleton = Kind.Row ∷ []
+kinds_of Keyword.Fixed = Kind.Column ∷ Kind.Fraction ∷ []
+kinds_of Keyword.Redundant = Kind.Row ∷ []
+kinds_of Keyword.Forcing = Kind.Row ∷ Kind.Side ∷ []
+kinds_of Keyword.Doubleton = Kind.Row ∷ Kind.Column ∷ []
+kinds_of Keyword.Left = Kind.Word Word.Rows ∷ Kind.Count ∷ Kind.Word Word.Columns ∷ Kind.Second ∷ []
+kinds_of Keyword.Wide = Kind.Word Word.Wide ∷ []
+kinds_of Keyword.Large = Kind.Word Word.Large ∷ Kind.Count ∷ []
+kinds_of Keyword.Pivots = Kind.Word Word.Spent ∷ []
+kinds_of Keyword.Nodes = Kind.Word Word.Spent ∷ []
+kinds_of Keyword.Site = Kind.Site ∷ []
+kinds_of Keyword.Without = Kind.Member ∷ []
+kinds_of Keyword.Enforced = Kind.Member ∷ []
+kinds_of Keyword.BranchBelow = Kind.Column ∷ Kind.Whole ∷ []
+kinds_of Keyword.BranchAbove = Kind.Column ∷ Kind.Whole ∷ []
+kinds_of Keyword.Step = Kind.Count ∷ []
+kinds_of Keyword.Operation = Kind.Op ∷ Kind.Fraction ∷ Kind.Right ∷ []
+kinds_of Keyword.Report = Kind.Word Word.End ∷ []
+kinds_of k = []
+
+-- the words for what is given, by its kind
+abbrev pub words_at : Program → Given → Kind → List (List ℕ)
+words_at model g (Kind.Word w) = word_text w ∷ []
+words_at model g Kind.Row = (row_at model g.row).name ∷ []
+words_at model g Kind.Column = column_name model g.column ∷ []
+words_at model g Kind.Member = kind_word g.member ∷ name_of model g.member ∷ []
+words_at model g Kind.Source = source_word g.source ∷ source_name model g.source ∷ []
+words_at model g Kind.Side = met_word g.side ∷ []
+words_at model g Kind.Site = site_word g.site ∷ []
+words_at model g Kind.Op = op_word g.op ∷ []
+words_at model g Kind.Noted = noted_word g.kept ∷ []
+words_at model g Kind.Fraction = printed g.value ∷ []
+words_at model g Kind.Nonzero = printed g.value ∷ []
+words_at model g Kind.Positive = printed g.value ∷ []
+words_at model g Kind.Right = printed g.right ∷ []
+words_at model g Kind.Whole = signed_decimal g.at ∷ []
+words_at model g Kind.Split = signed_decimal g.at ∷ []
+words_at model g Kind.Count = decimal g.count ∷ []
+words_at model g Kind.Second = decimal g.second ∷ []
+
+-- what stands for a part that a line does not give
+abbrev pub no_given : Given
+no_given = record { row = 0; column = 0; member = RowLo 0; source = Below 0; side = Lo; site = Settle; op = Plus; kept = false; value = zero_ℚ; right = zero_ℚ; at = pos 0; count = 0; second = 0 }
+
+-- the keyword of a refusal
 abbrev pub refusal_keyword : Refusal → Keyword
 refusal_keyword Refusal.UnknownName = Keyword.Unknown
 refusal_keyword Refusal.NoChange = Keyword.No
 refusal_keyword Refusal.NothingToUndo = Keyword.Nothing
-
-abbrev pub refusal_details : Refusal → List (List ℕ)
-refusal_details Refusal.UnknownName = codes "name" ∷ []
-refusal_details Refusal.NoChange = codes "change" ∷ []
-refusal_details Refusal.NothingToUndo = codes "to" ∷ codes "undo" ∷ []
 
 -- the keyword of a branch, by whether it says at most
 abbrev pub branch_keyword : Bool → Keyword
@@ -241,10 +325,10 @@ branch_keyword false = Keyword.BranchAbove
 
 -- the keyword of what is said of a stop
 abbrev pub stop_keyword : StopPhrase → Keyword
-stop_keyword StopPhrase.Wide = Keyword.Too
+stop_keyword StopPhrase.Wide = Keyword.Wide
 stop_keyword StopPhrase.Spent = Keyword.Pivots
 stop_keyword StopPhrase.Nodes = Keyword.Nodes
-stop_keyword (StopPhrase.Large size) = Keyword.Too
+stop_keyword (StopPhrase.Large size) = Keyword.Large
 stop_keyword (StopPhrase.Site kind) = Keyword.Site
 stop_keyword (StopPhrase.Without m) = Keyword.Without
 stop_keyword (StopPhrase.Enforced m) = Keyword.Enforced
@@ -252,7 +336,7 @@ stop_keyword (StopPhrase.Branch b) = branch_keyword b.upper
 stop_keyword (StopPhrase.Step k) = Keyword.Step
 stop_keyword (StopPhrase.Operation o) = Keyword.Operation
 
--- the keyword of a step of a reduction, and the words after it
+-- the keyword of a step of a reduction
 abbrev pub step_keyword : ReduceStep → Keyword
 step_keyword (Empty i) = Keyword.Empty
 step_keyword (Singleton i) = Keyword.Singleton
@@ -260,14 +344,6 @@ step_keyword (Fixed j v) = Keyword.Fixed
 step_keyword (Redundant i) = Keyword.Redundant
 step_keyword (Forcing i side) = Keyword.Forcing
 step_keyword (Doubleton i j) = Keyword.Doubleton
-
-abbrev pub step_details : Program → ReduceStep → List (List ℕ)
-step_details model (Empty i) = (row_at model i).name ∷ []
-step_details model (Singleton i) = (row_at model i).name ∷ []
-step_details model (Fixed j v) = column_name model j ∷ printed v ∷ []
-step_details model (Redundant i) = (row_at model i).name ∷ []
-step_details model (Forcing i side) = (row_at model i).name ∷ met_word side ∷ []
-step_details model (Doubleton i j) = (row_at model i).name ∷ column_name model j ∷ []
 
 -- the keyword of what is said
 abbrev pub keyword_of : Phrase → Keyword
@@ -305,55 +381,112 @@ keyword_of (Phrase.Left rows columns) = Keyword.Left
 keyword_of Phrase.End = Keyword.End
 keyword_of Phrase.Foot = Keyword.Report
 
--- the words after the keyword of what is said of a stop
-abbrev pub stop_details : Program → StopPhrase → List (List ℕ)
-stop_details model StopPhrase.Wide = codes "wide" ∷ []
-stop_details model StopPhrase.Spent = codes "spent" ∷ []
-stop_details model StopPhrase.Nodes = codes "spent" ∷ []
-stop_details model (StopPhrase.Large size) = codes "large" ∷ decimal size ∷ []
-stop_details model (StopPhrase.Site kind) = site_word kind ∷ []
-stop_details model (StopPhrase.Without m) = kind_word m ∷ name_of model m ∷ []
-stop_details model (StopPhrase.Enforced m) = kind_word m ∷ name_of model m ∷ []
-stop_details model (StopPhrase.Branch b) = column_name model b.column ∷ signed_decimal b.at ∷ []
-stop_details model (StopPhrase.Step k) = decimal k ∷ []
-stop_details model (StopPhrase.Operation o) = op_word o.op ∷ printed o.left ∷ printed o.right ∷ []
+-- what is given of what is said
+abbrev pub stop_given : StopPhrase → Given
+stop_given (StopPhrase.Large size) = record no_given { count = size }
+stop_given (StopPhrase.Site kind) = record no_given { site = kind }
+stop_given (StopPhrase.Without m) = record no_given { member = m }
+stop_given (StopPhrase.Enforced m) = record no_given { member = m }
+stop_given (StopPhrase.Branch b) = record no_given { column = b.column; at = b.at }
+stop_given (StopPhrase.Step k) = record no_given { count = k }
+stop_given (StopPhrase.Operation o) = record no_given { op = o.op; value = o.left; right = o.right }
+stop_given s = no_given
 
--- the words after the keyword
+abbrev pub step_given : ReduceStep → Given
+step_given (Empty i) = record no_given { row = i }
+step_given (Singleton i) = record no_given { row = i }
+step_given (Fixed j v) = record no_given { column = j; value = v }
+step_given (Redundant i) = record no_given { row = i }
+step_given (Forcing i side) = record no_given { row = i; side = side }
+step_given (Doubleton i j) = record no_given { row = i; column = j }
+
+abbrev pub note_given : Note → Given
+note_given (LowerRemoved j) = record no_given { column = j }
+note_given (LowerKept j) = record no_given { column = j; kept = true }
+
+abbrev pub given_of : Phrase → Given
+given_of (Phrase.Note note) = note_given note
+given_of (Phrase.NotLinear j) = record no_given { column = j }
+given_of (Phrase.Stop s) = stop_given s
+given_of (Phrase.Value j v) = record no_given { column = j; value = v }
+given_of (Phrase.Objective v) = record no_given { value = v }
+given_of (Phrase.Bound v) = record no_given { value = v }
+given_of (Phrase.Total v) = record no_given { value = v }
+given_of (Phrase.Rounds n) = record no_given { count = n }
+given_of (Phrase.Member m) = record no_given { member = m }
+given_of (Phrase.Split j k) = record no_given { column = j; at = k }
+given_of (Phrase.Use s) = record no_given { source = s.source; value = s.weight }
+given_of (Phrase.Reduction s) = step_given s
+given_of (Phrase.Left rows columns) = record no_given { count = rows; second = columns }
+given_of p = no_given
+
+-- a note on a column
+abbrev pub note_by : Bool → ℕ → Note
+note_by true j = LowerKept j
+note_by false j = LowerRemoved j
+
+-- the phrase of a keyword and what is given; a command is none
+abbrev pub phrase_by : Keyword → Given → Option Phrase
+phrase_by Keyword.Iisan g = Some Phrase.Head
+phrase_by Keyword.Note g = Some (Phrase.Note (note_by g.kept g.column))
+phrase_by Keyword.Command g = None
+phrase_by Keyword.Feasible g = Some Phrase.Feasible
+phrase_by Keyword.Infeasible g = Some Phrase.Infeasible
+phrase_by Keyword.Irreducible g = Some Phrase.Irreducible
+phrase_by Keyword.Unbounded g = Some Phrase.Unbounded
+phrase_by Keyword.Bounded g = Some Phrase.Bounded
+phrase_by Keyword.Least g = Some Phrase.Least
+phrase_by Keyword.Rigid g = Some Phrase.RigidInfeasible
+phrase_by Keyword.Reduced g = Some Phrase.Reduced
+phrase_by Keyword.Done g = Some Phrase.Done
+phrase_by Keyword.Unknown g = Some (Phrase.Refused Refusal.UnknownName)
+phrase_by Keyword.No g = Some (Phrase.Refused Refusal.NoChange)
+phrase_by Keyword.Nothing g = Some (Phrase.Refused Refusal.NothingToUndo)
+phrase_by Keyword.Not g = Some (Phrase.NotLinear g.column)
+phrase_by Keyword.Point g = Some Phrase.Point
+phrase_by Keyword.Value g = Some (Phrase.Value g.column g.value)
+phrase_by Keyword.Ray g = Some Phrase.Ray
+phrase_by Keyword.Objective g = Some (Phrase.Objective g.value)
+phrase_by Keyword.Bound g = Some (Phrase.Bound g.value)
+phrase_by Keyword.Dual g = Some Phrase.Dual
+phrase_by Keyword.Total g = Some (Phrase.Total g.value)
+phrase_by Keyword.Rounds g = Some (Phrase.Rounds g.count)
+phrase_by Keyword.Price g = Some Phrase.Price
+phrase_by Keyword.Member g = Some (Phrase.Member g.member)
+phrase_by Keyword.Proof g = Some Phrase.Proof
+phrase_by Keyword.Split g = Some (Phrase.Split g.column g.at)
+phrase_by Keyword.Leaf g = Some Phrase.Leaf
+phrase_by Keyword.Use g = Some (Phrase.Use (record { source = g.source; weight = g.value }))
+phrase_by Keyword.Empty g = Some (Phrase.Reduction (Empty g.row))
+phrase_by Keyword.Singleton g = Some (Phrase.Reduction (Singleton g.row))
+phrase_by Keyword.Fixed g = Some (Phrase.Reduction (Fixed g.column g.value))
+phrase_by Keyword.Redundant g = Some (Phrase.Reduction (Redundant g.row))
+phrase_by Keyword.Forcing g = Some (Phrase.Reduction (Forcing g.row g.side))
+phrase_by Keyword.Doubleton g = Some (Phrase.Reduction (Doubleton g.row g.column))
+phrase_by Keyword.Left g = Some (Phrase.Left g.count g.second)
+phrase_by Keyword.Wide g = Some (Phrase.Stop StopPhrase.Wide)
+phrase_by Keyword.Large g = Some (Phrase.Stop (StopPhrase.Large g.count))
+phrase_by Keyword.Pivots g = Some (Phrase.Stop StopPhrase.Spent)
+phrase_by Keyword.Nodes g = Some (Phrase.Stop StopPhrase.Nodes)
+phrase_by Keyword.Site g = Some (Phrase.Stop (StopPhrase.Site g.site))
+phrase_by Keyword.Without g = Some (Phrase.Stop (StopPhrase.Without g.member))
+phrase_by Keyword.Enforced g = Some (Phrase.Stop (StopPhrase.Enforced g.member))
+phrase_by Keyword.BranchBelow g = Some (Phrase.Stop (StopPhrase.Branch (record { column = g.column; upper = true; at = g.at })))
+phrase_by Keyword.BranchAbove g = Some (Phrase.Stop (StopPhrase.Branch (record { column = g.column; upper = false; at = g.at })))
+phrase_by Keyword.Step g = Some (Phrase.Stop (StopPhrase.Step g.count))
+phrase_by Keyword.Operation g = Some (Phrase.Stop (StopPhrase.Operation (record { op = g.op; left = g.value; right = g.right })))
+phrase_by Keyword.End g = Some Phrase.End
+phrase_by Keyword.Report g = Some Phrase.Foot
+
+-- the words after the keyword; those of a branch do not go by its side
 abbrev pub details : Program → Phrase → List (List ℕ)
-details model Phrase.Head = codes "report" ∷ codes "2" ∷ []
-details model (Phrase.Note (LowerRemoved j)) = column_name model j ∷ codes "lower" ∷ codes "removed" ∷ []
-details model (Phrase.Note (LowerKept j)) = column_name model j ∷ codes "lower" ∷ codes "kept" ∷ []
 details model (Phrase.Command command) = command_words command
-details model Phrase.Feasible = []
-details model Phrase.Infeasible = []
-details model Phrase.Irreducible = []
-details model Phrase.Unbounded = []
-details model Phrase.Bounded = []
-details model Phrase.Least = []
-details model Phrase.RigidInfeasible = codes "infeasible" ∷ []
-details model Phrase.Reduced = []
-details model Phrase.Done = []
-details model (Phrase.Refused r) = refusal_details r
-details model (Phrase.NotLinear j) = codes "linear" ∷ column_name model j ∷ []
-details model (Phrase.Stop s) = stop_details model s
-details model Phrase.Point = []
-details model (Phrase.Value j v) = column_name model j ∷ printed v ∷ []
-details model Phrase.Ray = []
-details model (Phrase.Objective v) = printed v ∷ []
-details model (Phrase.Bound v) = printed v ∷ []
-details model Phrase.Dual = []
-details model (Phrase.Total v) = printed v ∷ []
-details model (Phrase.Rounds n) = decimal n ∷ []
-details model Phrase.Price = []
-details model (Phrase.Member m) = kind_word m ∷ name_of model m ∷ []
-details model Phrase.Proof = []
-details model (Phrase.Split j k) = column_name model j ∷ signed_decimal k ∷ []
-details model Phrase.Leaf = []
-details model (Phrase.Use s) = source_word s.source ∷ source_name model s.source ∷ printed s.weight ∷ []
-details model (Phrase.Reduction s) = step_details model s
-details model (Phrase.Left rows columns) = codes "rows" ∷ decimal rows ∷ codes "columns" ∷ decimal columns ∷ []
-details model Phrase.End = []
-details model Phrase.Foot = codes "end" ∷ []
+details model (Phrase.Stop (StopPhrase.Branch b)) = flat_map (words_at model (stop_given (StopPhrase.Branch b))) (kinds_of Keyword.BranchBelow)
+details model p = flat_map (words_at model (given_of p)) (kinds_of (keyword_of p))
+
+-- those of what is said of a stop
+abbrev pub stop_details : Program → StopPhrase → List (List ℕ)
+stop_details model s = details model (Phrase.Stop s)
 
 -- a word, and words after it, with one blank before each of these
 abbrev pub spelled : List ℕ → List (List ℕ) → Line

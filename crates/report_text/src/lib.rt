@@ -8,6 +8,7 @@ mod listed;
 mod phrases;
 mod report;
 mod session;
+mod table;
 
 pub use command_session::CommandSession;
 pub use history::{History, changes_law, history_law};
@@ -22,3 +23,6 @@ pub use report::{
     ReduceSteps, Reduced, Refusal, Report, Script, TargetKind, ToldSite, ToldStop, Witnesses,
 };
 pub use session::{EditStop, Session, UndoStop, names_stand};
+pub use table::{
+    Given, KEYWORDS, Kind, Word, fixed_word, kinds, nothing, phrase_with, row_of, spelling,
+};

@@ -17,15 +17,15 @@ loop-member-init c =
       left = ap (λ (l : List Member). c.args.into.now.items ++ phrases_text c.args.model.now (map Phrase.Member l)) given;
     }
 
-pub print_member-requires : goal.print_member-requires
-print_member-requires c = All-head (IsKnownMember c.args.model.now) c.in-Some.member c.next.new.self (subst (All (IsKnownMember c.args.model.now)) c.in-Some.ensures.steps c.loop-member.invariant.known)
+pub print_phrase-requires : goal.print_phrase-requires
+print_phrase-requires c = (All-head (IsKnownMember c.args.model.now) c.in-Some.member c.next.new.self (subst (All (IsKnownMember c.args.model.now)) c.in-Some.ensures.steps c.loop-member.invariant.known), tt)
 
 pub loop-member-preserved : goal.loop-member-preserved
 loop-member-preserved c =
     let steps = c.in-Some.ensures.steps in
     record {
       known = All-tail (IsKnownMember c.args.model.now) c.in-Some.member c.next.new.self (subst (All (IsKnownMember c.args.model.now)) steps c.loop-member.invariant.known);
-      left = goes_on _ _ _ _ _ _ c.in_ok-print_member.ensures (ap (λ (l : List Member). phrases_text c.args.model.now (map Phrase.Member l)) steps) c.loop-member.invariant.left;
+      left = goes_on _ _ _ _ _ _ c.in_ok-print_phrase.ensures.text (ap (λ (l : List Member). phrases_text c.args.model.now (map Phrase.Member l)) steps) c.loop-member.invariant.left;
     }
 
 pub returns : goal.returns

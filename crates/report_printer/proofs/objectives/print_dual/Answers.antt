@@ -9,9 +9,9 @@ returns-clause-text c =
     let model = c.args.model.now in
     let dual = c.args.dual.now in
     let start = c.args.into.now.items in
-    let first = c.print_bound.new.into.items in
+    let first = c.print_phrase.new.into.items in
     let second = c.push_line.new.into.items in
     in_parts model (Phrase.Bound dual.bound) (Phrase.Dual ∷ []) (map Phrase.Use dual.combo.shares) start first second _
-    (c.in_ok-print_bound.ensures.text model)
+    c.in_ok-print_phrase.ensures.text
     (line_first model first second Phrase.Dual c.in_ok-push_line.ensures)
     (c.in_ok-print_uses.ensures.text ∙ ap (λ shares. second ++ phrases_text model (map Phrase.Use shares)) c.as_slice.ensures)

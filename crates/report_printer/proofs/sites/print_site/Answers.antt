@@ -9,11 +9,11 @@ pub returns : goal.returns
 returns c =
     let model = c.args.model.now in
     let site = c.args.site.now in
-    let first = c.print_kind.new.into.items in
+    let first = c.print_phrase.new.into.items in
     let second = c.print_left_out.new.into.items in
     let third = c.print_enforced.new.into.items in
     in_parts model (Phrase.Stop (StopPhrase.Site site.kind)) (map without_phrase site.left) (map enforced_phrase site.enforced ++ map branch_phrase site.path) _ _ _ _
-    (c.in_ok-print_kind.ensures model)
+    c.in_ok-print_phrase.ensures.text
     (c.in_ok-print_left_out.ensures ∙ ap (λ left. first ++ phrases_text model (map without_phrase left)) c.as_slice.ensures)
     (lines_more model _ third _ (map enforced_phrase site.enforced) (map branch_phrase site.path)
     (c.in_ok-print_enforced.ensures ∙ ap (λ enforced. second ++ phrases_text model (map enforced_phrase enforced)) c.as_slice-2.ensures)

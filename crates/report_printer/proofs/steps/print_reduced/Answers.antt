@@ -14,11 +14,11 @@ returns-clause-text c =
     in_parts model Phrase.Reduced (map Phrase.Reduction reduced.steps) (left ∷ []) _ _ _ _
     c.in_ok-push_line.ensures
     (c.in_ok-print_steps.ensures.text ∙ ap (λ steps. c.push_line.new.into.items ++ phrases_text model (map Phrase.Reduction steps)) c.as_slice.ensures)
-    (line_first model _ _ left (c.in_ok-print_left.ensures.text model))
+    (line_first model _ _ left c.in_ok-print_phrase.ensures.text)
 
 pub returns-clause-within : goal.returns-clause-within
 returns-clause-within c = record {
   steps = subst (All IsStepWithin) c.as_slice.ensures c.in_ok-print_steps.ensures.within;
-  rows = c.in_ok-print_left.ensures.within.0;
-  columns = c.in_ok-print_left.ensures.within.1;
+  rows = c.in_ok-print_phrase.ensures.within.count;
+  columns = c.in_ok-print_phrase.ensures.within.second;
 }
