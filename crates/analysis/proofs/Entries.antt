@@ -1,4 +1,4 @@
--- Entries one after another: the budgets before them, their text, their stops.
+-- Entries one after another: the settings before them, their text, their stops.
 use Rattle.std.proofs.Common.{◌≡◌, refl, ◌∙◌, ap, Bool, true, false, ◌||◌, List, [], ◌∷◌, ◌++◌}
 use Rattle.std.specs.List.{list_any}
 use Rattle.std.proofs.lemmas.List.Sums.{fold-append}
@@ -9,13 +9,13 @@ use Rattle.report_text.specs.Turns.{after, entry_commands}
 use Rattle.report_text.specs.Grammar.{entry_phrases, entries_phrases, phrases_text}
 use Rattle.report_printer.proofs.Printed.{text_both}
 use Rattle.report_text.proofs.InTurn.{gathered-push}
-use Rattle.analysis.specs.Right.{budgets_after, budgets_in_force, first_budgets}
+use Rattle.analysis.specs.Right.{settings_after, settings_in_force, first_settings}
 use Rattle.analysis.specs.Written.{entries_text, is_unmet}
 use Rattle.analysis.specs.Pieces.{entry_text}
 
--- the budgets after one command more
-pub budgets_more : (before : List Command) (c : Command) → budgets_in_force (before ++ c ∷ []) ≡ budgets_after (budgets_in_force before) c
-budgets_more before c = fold-append budgets_after first_budgets before (c ∷ [])
+-- the settings after one command more
+pub settings_more : (before : List Command) (c : Command) → settings_in_force (before ++ c ∷ []) ≡ settings_after (settings_in_force before) c
+settings_more before c = fold-append settings_after first_settings before (c ∷ [])
 
 -- one text more
 pub text_more : (model : Program) (entries : List Entry) (e : Entry) → entries_text model (entries ++ e ∷ []) ≡ entries_text model entries ++ entry_text model (entry_commands entries) e.command e.answer

@@ -40,7 +40,7 @@ use Rattle.report_text.specs.declared.report.Method.TheVariants.{Deletion, Addit
 use Rattle.report_text.specs.declared.report.Core.{Core}
 use Rattle.report_text.specs.declared.report.Bounded.{Bounded}
 use Rattle.report_text.specs.declared.report.Command.{Command}
-use Rattle.report_text.specs.declared.report.Command.TheVariants.{Check, Iis, Unbounded, Relax, Reduce, Edit, Undo, Pivots, Nodes as MostNodes}
+use Rattle.report_text.specs.declared.report.Command.TheVariants.{Check, Iis, Unbounded, Relax, Reduce, Pivots, Nodes as MostNodes}
 use Rattle.report_text.specs.declared.report.ToldSite.{ToldSite}
 use Rattle.report_text.specs.declared.report.ToldStop.{ToldStop}
 use Rattle.report_text.specs.declared.report.ToldStop.TheVariants.{Wide as TooWide, Pivots as Spent, Nodes, Large}
@@ -49,15 +49,14 @@ use Rattle.report_text.specs.declared.report.Answer.{Answer}
 use Rattle.report_text.specs.declared.report.Answer.TheVariants.{Feasible, Infeasible, Irreducible, Unbounded as RunsAway, Bounded as BoundedBy, Least as LeastBy, RigidInfeasible as RigidRefuted, Reduced, Done, Refused, NotLinear, Stopped}
 use Rattle.report_text.specs.declared.report.Entry.{Entry}
 use Rattle.lp_model.specs.declared.edits.Edit.{Edit as OneEdit}
-use Rattle.report_text.specs.History.{changes}
 use Rattle.report_text.specs.declared.report.NamedEdit.{NamedEdit}
 use Rattle.report_text.specs.declared.report.Refusal.{Refusal}
-use Rattle.report_text.specs.Edits.{named_edit, edit_answer, undo_answer}
-use Rattle.report_text.specs.Turns.{after, edits_after, AllEntries, entry_commands}
+use Rattle.report_text.specs.Turns.{after, answer_after, AllEntries, entry_commands}
 use Rattle.report_text.proofs.Standing.{after_well_formed}
 use Rattle.report_text.proofs.Unchanged.{same_names, rows_same, columns_same, row_name_same, column_name_same}
 use Rattle.report_text.specs.Grammar.{column_name}
 use Rattle.report_text.specs.Form.{IsPricedFor, has_price, is_one_leaf, is_word, AreUses, IsBoundedFor, IsRayFor, IsWithinLimit, IsNamedColumn, IsNamedMember, IsNamedRow, IsListed, IsPointFor, IsNamedSource, IsNodeFor, IsProofFor, IsSiteFor, IsStopFor, IsStepFor, IsCoreFor, IsAnswerFor, IsCommand, IsEntryFor, IsReportFor, AreEntriesFor, AreNumbered, IsLeastFor, can_answer, has_rounds}
+use Rattle.report_text.proofs.Replies.{IsReplyTo, reply_after}
 use Rattle.report_printer.specs.EvidenceNumbers.{IsStepWithin}
 use Rattle.reductions.specs.declared.steps.ReduceStep.{ReduceStep}
 use Rattle.reductions.specs.declared.steps.ReduceStep.TheVariants.{Empty, Singleton, Fixed, Redundant, Forcing, Doubleton}
@@ -70,7 +69,7 @@ use Rattle.unbounded.specs.Diagnosed.{IsBoundedBy, IsOwnStop, IsUnboundedBy}
 use Rattle.analysis.specs.Objectives.{IsSized, IsTold, most_entries, system_size}
 use Rattle.analysis.specs.Least.{IsLeastTold}
 use Rattle.analysis.specs.Linear.{IsLinearly, IsLinearlyBy, alternative_size, elastic_size, first_mark}
-use Rattle.analysis.specs.Right.{AreRight, IsAtRun, IsBare, IsChainStop, IsCheapestCore, IsCoreFound, IsEarlyFound, IsEnforcedTold, IsIsolated, IsLateFound, IsLateOfRounds, IsPrintedSite, IsReduction, IsRefutation, IsRightAfter, IsRightCore, IsRoundsTest, IsRunAt, IsSettleStop, IsSolved, IsStoppedBy, IsSupportTest, IsWeighedTold, IsWhole, Right, RightAfter, budgets_in_force}
+use Rattle.analysis.specs.Right.{AreRight, IsAtRun, IsBare, IsChainStop, IsCheapestCore, IsCoreFound, IsEarlyFound, IsEnforcedTold, IsIsolated, IsLateFound, IsLateOfRounds, IsPrintedSite, IsReduction, IsRefutation, IsRightAfter, IsRightCore, IsRoundsTest, IsRunAt, IsSettleStop, IsSolved, IsStoppedBy, IsSupportTest, IsWeighedTold, IsWhole, Right, RightAfter, RightBy, Settings, settings_in_force}
 use Rattle.analysis.specs.Pieces.{Answers}
 use Rattle.analysis.proofs.Leaving.{known_steps}
 use Rattle.analysis.specs.Written.{report_of}
@@ -218,16 +217,8 @@ module _ (model : Program) (words : HasWords model) where
   solved_form : (budgets : Budgets) (answer : Answer) → IsSolved model budgets answer → HasNumbersWithin answer → IsAnswerTo Check answer
   solved_form budgets (Feasible p) h within = (refl, point_form (active_members model) p h.0 within)
   solved_form budgets (Infeasible printed proof) h within = (refl, refutation_form printed proof h.0 within)
-  solved_form budgets (Irreducible core) h within = absurd h
-  solved_form budgets (RunsAway p ray) h within = absurd h
-  solved_form budgets (BoundedBy b) h within = absurd h
-  solved_form budgets (LeastBy p dual) h within = absurd h
-  solved_form budgets (RigidRefuted printed proof) h within = absurd h
-  solved_form budgets (Reduced r) h within = absurd h
-  solved_form budgets Done h within = absurd h
-  solved_form budgets (Refused r) h within = absurd h
-  solved_form budgets (NotLinear j) h within = absurd h
   solved_form budgets (Stopped stop) h within = (refl, stop_form (IsSettleStop (IsWhole model) model budgets) stop h within)
+  solved_form budgets _ h within = absurd h
 
   -- a stop, to a command that may have one
   stopped_form : (command : Command) (IsSo : Site → Stop → Type 0) (answer : Answer) → ((stop : ToldStop) → can_answer command (Stopped stop) ≡ true) → IsStoppedBy (IsAtRun model IsSo) answer → HasNumbersWithin answer → IsAnswerTo command answer
@@ -237,17 +228,9 @@ module _ (model : Program) (words : HasWords model) where
   isolated_form : (IsKept : Core → Type 0) (IsTest : List Member → Type 0) (method : Method) (budgets : Budgets) (answer : Answer)
       → ((core : Core) → IsKept core → can_answer (Iis method) (Irreducible core) ≡ true) → IsIsolated IsKept IsTest model budgets answer → HasNumbersWithin answer → IsAnswerTo (Iis method) answer
   isolated_form IsKept IsTest method budgets (Feasible p) told h within = (refl, point_form (active_members model) p h within)
-  isolated_form IsKept IsTest method budgets (Infeasible printed proof) told h within = absurd h
   isolated_form IsKept IsTest method budgets (Irreducible core) told h within = (told core h.1, core_form core h.0 within)
-  isolated_form IsKept IsTest method budgets (RunsAway p ray) told h within = absurd h
-  isolated_form IsKept IsTest method budgets (BoundedBy b) told h within = absurd h
-  isolated_form IsKept IsTest method budgets (LeastBy p dual) told h within = absurd h
-  isolated_form IsKept IsTest method budgets (RigidRefuted printed proof) told h within = absurd h
-  isolated_form IsKept IsTest method budgets (Reduced r) told h within = absurd h
-  isolated_form IsKept IsTest method budgets Done told h within = absurd h
-  isolated_form IsKept IsTest method budgets (Refused r) told h within = absurd h
-  isolated_form IsKept IsTest method budgets (NotLinear j) told h within = absurd h
   isolated_form IsKept IsTest method budgets (Stopped stop) told h within = (refl, stop_form (IsSettleStop IsTest model budgets) stop h within)
+  isolated_form IsKept IsTest method budgets _ told h within = absurd h
 
   -- neither rounds nor a price is told
   bare_form : (IsKept IsTest : List Member → Type 0) (method : Method) (budgets : Budgets) → ((core : Core) → core.rounds ≡ None → core.price ≡ None → can_answer (Iis method) (Irreducible core) ≡ true)
@@ -314,19 +297,12 @@ module _ (model : Program) (words : HasWords model) where
   }
 
   told_form : (budgets : Budgets) (answer : Answer) → IsTold model budgets answer → HasNumbersWithin answer → IsAnswerTo Unbounded answer
-  told_form budgets (Feasible p) h within = absurd h
   told_form budgets (Infeasible printed proof) h within = (refl, refutation_form printed proof h within)
-  told_form budgets (Irreducible core) h within = absurd h
   told_form budgets (RunsAway p ray) h within = (refl, (point_form (active_members model) p h.point_of within.0, ray_form p ray h within.1))
   told_form budgets (BoundedBy b) h within = (refl, bounded_form b h within)
-  told_form budgets (LeastBy p dual) h within = absurd h
-  told_form budgets (RigidRefuted printed proof) h within = absurd h
-  told_form budgets (Reduced r) h within = absurd h
-  told_form budgets Done h within = absurd h
-  told_form budgets (Refused r) h within = absurd h
-  told_form budgets (NotLinear j) h within = absurd h
   told_form budgets (Stopped stop) (inl h) within = (refl, stop_form (IsSettleStop (IsWhole model) model budgets) stop h within)
   told_form budgets (Stopped stop) (inr h) within = (refl, stop_form (λ site s. IsOwnStop model (active_members model) budgets.pivots s) stop h within)
+  told_form budgets _ h within = absurd h
 
   -- ---- how little must give way
   least_form : (p : Point) (dual : Dual) → IsLeastBy model (active_members model) p dual → IsLeastWithin p dual → IsLeastFor model p dual
@@ -337,18 +313,10 @@ module _ (model : Program) (words : HasWords model) where
   }
 
   relaxed_form : (budgets : Budgets) (answer : Answer) → IsLeastTold model budgets answer → HasNumbersWithin answer → IsAnswerTo Relax answer
-  relaxed_form budgets (Feasible p) h within = absurd h
-  relaxed_form budgets (Infeasible printed proof) h within = absurd h
-  relaxed_form budgets (Irreducible core) h within = absurd h
-  relaxed_form budgets (RunsAway p ray) h within = absurd h
-  relaxed_form budgets (BoundedBy b) h within = absurd h
   relaxed_form budgets (LeastBy p dual) h within = (refl, least_form p dual h within)
   relaxed_form budgets (RigidRefuted printed proof) h within = (h.1.1, refutation_form printed proof h.0 within)
-  relaxed_form budgets (Reduced r) h within = absurd h
-  relaxed_form budgets Done h within = absurd h
-  relaxed_form budgets (Refused r) h within = absurd h
-  relaxed_form budgets (NotLinear j) h within = absurd h
   relaxed_form budgets (Stopped stop) h within = (refl, stop_form (λ site s. IsRelaxStop model (active_members model) budgets.pivots s) stop h within)
+  relaxed_form budgets _ h within = absurd h
 
   -- ---- reductions
   named_row : (i : ℕ) → i < length model.rows → IsNamedRow model i
@@ -367,45 +335,28 @@ module _ (model : Program) (words : HasWords model) where
       let known : All (IsKnownStep model) r.steps = subst (All (IsKnownStep model)) (sym h.steps_are) (known_steps model (active_members model) h.last h.made formed h.reduces) in
       (refl, record { steps = λ k d l. step_form (get_or r.steps k d) (known k d l) (within.steps k d l); rows = within.rows; columns = within.columns })
   reduction_form formed (Infeasible printed proof) h within = (ap is_one_leaf h.1.1.1.leaf, refutation_form printed proof h.0 within)
-  reduction_form formed (Feasible p) h within = absurd h
-  reduction_form formed (Irreducible core) h within = absurd h
-  reduction_form formed (RunsAway p ray) h within = absurd h
-  reduction_form formed (BoundedBy b) h within = absurd h
-  reduction_form formed (LeastBy p dual) h within = absurd h
-  reduction_form formed (RigidRefuted printed proof) h within = absurd h
-  reduction_form formed Done h within = absurd h
-  reduction_form formed (Refused r) h within = absurd h
-  reduction_form formed (NotLinear j) h within = absurd h
-  reduction_form formed (Stopped stop) h within = absurd h
+  reduction_form formed _ h within = absurd h
 
-  answer_form : IsWellFormed model → (budgets : Budgets) (command : Command) (answer : Answer) → Right model budgets command answer → HasNumbersWithin answer → IsAnswerTo command answer
-  answer_form formed budgets Unbounded answer h within = sized_form Unbounded (system_size model 1) (IsTold model budgets) answer (λ n. refl) (told_form budgets) h within
-  answer_form formed budgets Reduce answer h within = reduction_form formed answer h within
-  answer_form formed budgets Check answer h within = sized_form Check (system_size model 0) (IsSolved model budgets) answer (λ n. refl) (solved_form budgets) h within
-  answer_form formed budgets Relax answer h within =
-      linearly_form Relax (elastic_size model (active_members model) (rigid_members model (active_members model))) (IsLeastTold model budgets) answer (λ j. refl) (λ n. refl) (relaxed_form budgets) h within
-  answer_form formed budgets (Iis Deletion) answer h within = sized_form (Iis Deletion) (system_size model 0) (IsLateFound model budgets) answer (λ n. refl) (bare_form _ _ Deletion budgets (λ core bare unpriced. subst (λ (rounds : Option ℕ). (has_rounds Deletion rounds && has_price Deletion core.price) ≡ true) (sym bare) (subst (λ (price : Option (ℚ × Point)). has_price Deletion price ≡ true) (sym unpriced) refl))) h within
-  answer_form formed budgets (Iis Additive) answer h within = sized_form (Iis Additive) (system_size model 0) (IsEarlyFound model budgets) answer (λ n. refl) (bare_form _ _ Additive budgets (λ core bare unpriced. subst (λ (rounds : Option ℕ). (has_rounds Additive rounds && has_price Additive core.price) ≡ true) (sym bare) (subst (λ (price : Option (ℚ × Point)). has_price Additive price ≡ true) (sym unpriced) refl))) h within
-  answer_form formed budgets (Iis Elastic) answer h within = linearly_form (Iis Elastic) (elastic_size model (active_members model) []) (IsEnforcedTold model budgets) answer (λ j. refl) (λ n. refl) (enforced_form budgets) h within
-  answer_form formed budgets (Iis Alternative) answer h within = linearly_form (Iis Alternative) (alternative_size model (active_members model)) (IsWeighedTold model budgets) answer (λ j. refl) (λ n. refl) (weighed_form budgets) h within
-  answer_form formed budgets (Iis Sensitivity) answer h within = sized_form (Iis Sensitivity) (system_size model 0) (IsCoreFound model budgets) answer (λ n. refl) (bare_form _ _ Sensitivity budgets (λ core bare unpriced. subst (λ (rounds : Option ℕ). (has_rounds Sensitivity rounds && has_price Sensitivity core.price) ≡ true) (sym bare) (subst (λ (price : Option (ℚ × Point)). has_price Sensitivity price ≡ true) (sym unpriced) refl))) h within
-  answer_form formed budgets (Edit e) answer h within = absurd h
-  answer_form formed budgets Undo answer h within = absurd h
-  answer_form formed budgets (Pivots n) answer h within = subst (IsAnswerTo (Pivots n)) (sym h) (refl, tt)
-  answer_form formed budgets (MostNodes n) answer h within = subst (IsAnswerTo (MostNodes n)) (sym h) (refl, tt)
+  answer_form : IsWellFormed model → (settings : Settings) (command : Command) (answer : Answer) → Right model settings command answer → HasNumbersWithin answer → IsAnswerTo command answer
+  answer_form formed settings Unbounded answer h within = sized_form Unbounded (system_size model 1) (IsTold model settings.budgets) answer (λ n. refl) (told_form settings.budgets) h within
+  answer_form formed settings Reduce answer h within = reduction_form formed answer h within
+  answer_form formed settings Check answer h within = sized_form Check (system_size model 0) (IsSolved model settings.budgets) answer (λ n. refl) (solved_form settings.budgets) h within
+  answer_form formed settings Relax answer h within =
+      linearly_form Relax (elastic_size model (active_members model) (rigid_members model (active_members model))) (IsLeastTold model settings.budgets) answer (λ j. refl) (λ n. refl) (relaxed_form settings.budgets) h within
+  answer_form formed settings (Iis Deletion) answer h within = sized_form (Iis Deletion) (system_size model 0) (IsLateFound model settings.budgets) answer (λ n. refl) (bare_form _ _ Deletion settings.budgets (λ core bare unpriced. subst (λ (rounds : Option ℕ). (has_rounds Deletion rounds && has_price Deletion core.price) ≡ true) (sym bare) (subst (λ (price : Option (ℚ × Point)). has_price Deletion price ≡ true) (sym unpriced) refl))) h within
+  answer_form formed settings (Iis Additive) answer h within = sized_form (Iis Additive) (system_size model 0) (IsEarlyFound model settings.budgets) answer (λ n. refl) (bare_form _ _ Additive settings.budgets (λ core bare unpriced. subst (λ (rounds : Option ℕ). (has_rounds Additive rounds && has_price Additive core.price) ≡ true) (sym bare) (subst (λ (price : Option (ℚ × Point)). has_price Additive price ≡ true) (sym unpriced) refl))) h within
+  answer_form formed settings (Iis Elastic) answer h within = linearly_form (Iis Elastic) (elastic_size model (active_members model) []) (IsEnforcedTold model settings.budgets) answer (λ j. refl) (λ n. refl) (enforced_form settings.budgets) h within
+  answer_form formed settings (Iis Alternative) answer h within = linearly_form (Iis Alternative) (alternative_size model (active_members model)) (IsWeighedTold model settings.budgets) answer (λ j. refl) (λ n. refl) (weighed_form settings.budgets) h within
+  answer_form formed settings (Iis Sensitivity) answer h within = sized_form (Iis Sensitivity) (system_size model 0) (IsCoreFound model settings.budgets) answer (λ n. refl) (bare_form _ _ Sensitivity settings.budgets (λ core bare unpriced. subst (λ (rounds : Option ℕ). (has_rounds Sensitivity rounds && has_price Sensitivity core.price) ≡ true) (sym bare) (subst (λ (price : Option (ℚ × Point)). has_price Sensitivity price ≡ true) (sym unpriced) refl))) h within
+  answer_form formed settings (Pivots n) answer h within = subst (IsAnswerTo (Pivots n)) (sym h) (refl, tt)
+  answer_form formed settings (MostNodes n) answer h within = subst (IsAnswerTo (MostNodes n)) (sym h) (refl, tt)
+  answer_form formed settings _ answer h within = absurd h
 
-  -- ---- edits
-  edit_form : (e : NamedEdit) (now : Program) (edit : Option OneEdit) → IsAnswerTo (Edit e) (edit_answer now edit)
-  edit_form e now None = (refl, tt)
-  edit_form e now (Some edit) = by (changes now edit)
-    where
-      by : (b : Bool) → IsAnswerTo (Edit e) (cond b Done (Refused Refusal.NoChange))
-      by true = (refl, tt)
-      by false = (refl, tt)
-
-  undo_form : (edits : List OneEdit) → IsAnswerTo Undo (undo_answer edits)
-  undo_form [] = (refl, tt)
-  undo_form (edit ∷ edits) = (refl, tt)
+  -- what comes by replay
+  reply_form : (command : Command) (answer : Answer) → IsReplyTo command answer → IsAnswerTo command answer
+  reply_form command Done h = (h.1, tt)
+  reply_form command (Refused r) h = (h.1, tt)
+  reply_form command _ h = absurd h.0
 
 -- no edit changes a name
 words_stand : (first : Program) (before : List Command) → HasWords first → HasWords (after first before)
@@ -422,15 +373,11 @@ words_stand first before words =
 module _ (model : Program) (words : HasWords model) where
   -- ---- reports
   right_form : (before : List Command) → IsWellFormed (after model before) → (command : Command) (answer : Answer) → RightAfter model before command answer → HasNumbersWithin answer → IsAnswerTo (after model before) (words_stand model before words) command answer
-  right_form before formed Check answer h within = answer_form (after model before) (words_stand model before words) formed (budgets_in_force before) Check answer h within
-  right_form before formed (Iis method) answer h within = answer_form (after model before) (words_stand model before words) formed (budgets_in_force before) (Iis method) answer h within
-  right_form before formed (Edit e) answer h within = subst (IsAnswerTo (after model before) (words_stand model before words) (Edit e)) (sym h) (edit_form (after model before) (words_stand model before words) e (after model before) (named_edit model e))
-  right_form before formed Undo answer h within = subst (IsAnswerTo (after model before) (words_stand model before words) Undo) (sym h) (undo_form (after model before) (words_stand model before words) (edits_after model before))
-  right_form before formed Unbounded answer h within = answer_form (after model before) (words_stand model before words) formed (budgets_in_force before) Unbounded answer h within
-  right_form before formed Relax answer h within = answer_form (after model before) (words_stand model before words) formed (budgets_in_force before) Relax answer h within
-  right_form before formed Reduce answer h within = answer_form (after model before) (words_stand model before words) formed (budgets_in_force before) Reduce answer h within
-  right_form before formed (Pivots n) answer h within = answer_form (after model before) (words_stand model before words) formed (budgets_in_force before) (Pivots n) answer h within
-  right_form before formed (MostNodes n) answer h within = answer_form (after model before) (words_stand model before words) formed (budgets_in_force before) (MostNodes n) answer h within
+  right_form before formed command answer h within = by (answer_after model before command) refl h
+    where
+      by : (reply : Option Answer) → answer_after model before command ≡ reply → RightBy reply (after model before) (settings_in_force before) command answer → IsAnswerTo (after model before) (words_stand model before words) command answer
+      by (Some right) e is = subst (IsAnswerTo (after model before) (words_stand model before words) command) (sym is) (reply_form (after model before) (words_stand model before words) command right (reply_after model before command right e))
+      by None e is = answer_form (after model before) (words_stand model before words) formed (settings_in_force before) command answer is within
 
   entry_form : (before : List Command) (e : Entry) → IsWellFormed (after model before) → IsCommand e.command → IsRightAfter model before e → IsEntryFor (after model before) e
   entry_form before e formed built h =

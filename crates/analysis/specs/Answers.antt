@@ -1,4 +1,4 @@
--- The budgets in code, the oracle that makes runs and trees, and answers from what filters and oracles tell.
+-- The settings in code, the oracle that makes runs and trees, and answers from what filters and oracles tell.
 use Rattle.std.specs.Prelude.{◌≡◌, ◌⊎◌, ⊤, List, [], ◌∷◌, ◌++◌, ℕ, Option, None, Some, filter, Result, Ok, Err}
 use Rattle.lp_model.specs.declared.members.Member.{Member}
 use Rattle.lp_model.specs.Program.{Program}
@@ -22,15 +22,19 @@ use Rattle.report_text.specs.declared.report.ToldStop.{ToldStop}
 use Rattle.report_text.specs.declared.report.Answer.{Answer}
 use Rattle.report_text.specs.declared.report.Answer.TheVariants.{Feasible, Infeasible, Irreducible as Isolated, Stopped}
 use Rattle.analysis.specs.declared.answering.Budgets.{Budgets as Code}
+use Rattle.analysis.specs.declared.answering.Settings.{Settings as SettingsOfCode}
 use Rattle.report_text.specs.History.{HistoryValue}
 use Rattle.report_text.specs.declared.report.Command.{Command}
 use Rattle.report_text.specs.Session.{session_at}
 use Rattle.report_text.specs.Told.{told_site}
-use Rattle.analysis.specs.Right.{IsRefutation, IsRightStop, IsStoppedBy, IsWithoutOne, RightAfter, budgets_in_force}
+use Rattle.analysis.specs.Right.{IsRefutation, IsRightStop, IsStoppedBy, IsWithoutOne, RightAfter, Settings, settings_in_force}
 
 -- as contracts have them
 abbrev pub budgets_of : Code → Budgets
 budgets_of b = record { pivots = b.pivots; nodes = b.nodes }
+
+abbrev pub settings_of : SettingsOfCode → Settings
+settings_of s = record { budgets = budgets_of s.budgets }
 
 -- an oracle that presolves, and makes the runs and trees of a program within the budgets, and was asked nothing yet
 abbrev pub fresh_oracle : Program → Budgets → BranchValue PresolveValue
@@ -41,9 +45,9 @@ abbrev pub oracle_state : BranchValue PresolveValue → OracleState
 oracle_state oracle = with_trees (presolve_state oracle.inner) oracle.nodes oracle.tale
 
 -- a command is answered right, and done to the session's program where it edits it
-pub record IsNext (old new : HistoryValue) (budgets : Budgets) (command : Command) (answer : Answer) : Type 0 where
+pub record IsNext (old new : HistoryValue) (settings : Settings) (command : Command) (answer : Answer) : Type 0 where
   pub goes_on : (first : Program) (before : List Command) → old ≡ session_at first before → new ≡ session_at first (before ++ command ∷ [])
-  pub right : (first : Program) (before : List Command) → old ≡ session_at first before → budgets ≡ budgets_in_force before → RightAfter first before command answer
+  pub right : (first : Program) (before : List Command) → old ≡ session_at first before → settings ≡ settings_in_force before → RightAfter first before command answer
 
 -- the answer has the proof, with the members that it uses
 abbrev pub IsRefutedBy : Program → Proof → Answer → Type 0

@@ -28,7 +28,7 @@ use Rattle.report_text.specs.declared.report.Method.{Method}
 use Rattle.report_text.specs.declared.report.Method.TheVariants.{Deletion, Additive, Sensitivity, Elastic, Alternative}
 use Rattle.report_text.specs.declared.report.Core.{Core}
 use Rattle.report_text.specs.declared.report.Command.{Command}
-use Rattle.report_text.specs.declared.report.Command.TheVariants.{Check, Iis, Unbounded, Relax, Reduce, Edit, Undo, Pivots, Nodes as MostNodes}
+use Rattle.report_text.specs.declared.report.Command.TheVariants.{Check, Iis, Unbounded, Relax, Reduce, Pivots, Nodes as MostNodes}
 use Rattle.report_text.specs.declared.report.ToldSite.{ToldSite}
 use Rattle.report_text.specs.declared.report.ToldStop.{ToldStop}
 use Rattle.report_text.specs.declared.report.ToldStop.TheVariants.{Nodes}
@@ -190,41 +190,46 @@ IsReduction model (Reduced r) = IsReducedTo model r.steps r.rows r.columns
 IsReduction model (Infeasible printed proof) = IsDecided model printed proof
 IsReduction model _ = ⊥
 
--- An answer is right only to a command that may have it; a budget is always done, and no edit is asked here.
-abbrev pub Right : Program → Budgets → Command → Answer → Type 0
-Right model budgets Check answer = IsChecked model budgets answer
-Right model budgets (Iis method) answer = IsFound method model budgets answer
-Right model budgets Unbounded answer = IsDiagnosed model budgets answer
-Right model budgets Relax answer = IsRelaxation model budgets answer
-Right model budgets Reduce answer = IsReduction model answer
-Right model budgets (Edit e) answer = ⊥
-Right model budgets Undo answer = ⊥
-Right model budgets (Pivots n) answer = answer ≡ Done
-Right model budgets (MostNodes n) answer = answer ≡ Done
+-- ---- settings
+-- what is in force: what each solve may spend
+pub record Settings : Type 0 where
+  pub budgets : Budgets
 
--- ---- budgets
--- those in force at first
-abbrev pub first_budgets : Budgets
-first_budgets = record { pivots = 100000; nodes = 10000 }
+-- at first
+abbrev pub first_settings : Settings
+first_settings = record { budgets = record { pivots = 100000; nodes = 10000 } }
 
 -- and after a command
-abbrev pub budgets_after : Budgets → Command → Budgets
-budgets_after budgets (Pivots n) = record budgets { pivots = n }
-budgets_after budgets (MostNodes n) = record budgets { nodes = n }
-budgets_after budgets _ = budgets
+abbrev pub settings_after : Settings → Command → Settings
+settings_after settings (Pivots n) = record { budgets = record settings.budgets { pivots = n } }
+settings_after settings (MostNodes n) = record { budgets = record settings.budgets { nodes = n } }
+settings_after settings _ = settings
 
--- those in force behind commands
-abbrev pub budgets_in_force : List Command → Budgets
-budgets_in_force before = fold budgets_after first_budgets before
+-- behind commands
+abbrev pub settings_in_force : List Command → Settings
+settings_in_force before = fold settings_after first_settings before
+
+-- ---- commands
+-- An answer is right only to a command that may have it; a budget is always done, and no edit is asked here.
+abbrev pub Right : Program → Settings → Command → Answer → Type 0
+Right model settings Check answer = IsChecked model settings.budgets answer
+Right model settings (Iis method) answer = IsFound method model settings.budgets answer
+Right model settings Unbounded answer = IsDiagnosed model settings.budgets answer
+Right model settings Relax answer = IsRelaxation model settings.budgets answer
+Right model settings Reduce answer = IsReduction model answer
+Right model settings (Pivots n) answer = answer ≡ Done
+Right model settings (MostNodes n) answer = answer ≡ Done
+Right model settings _ answer = ⊥
 
 -- ---- entries
--- What is right to a command after others: to an edit or an undo the answer that it has then, and to another one what is right of the program as then edited, within the budgets then in force.
+-- the answer that comes by replay, where one does; and else what is right of the program under the settings
+abbrev pub RightBy : Option Answer → Program → Settings → Command → Answer → Type 0
+RightBy (Some right) model settings command answer = answer ≡ right
+RightBy None model settings command answer = Right model settings command answer
+
+-- What is right to a command after others: to an edit or an undo the answer that it has then, and to another one what is right of the program as then edited, under the settings then in force.
 abbrev pub RightAfter : Program → List Command → Command → Answer → Type 0
-RightAfter first before command answer = by (answer_after first before command)
-  where
-    by : Option Answer → Type 0
-    by (Some right) = answer ≡ right
-    by None = Right (after first before) (budgets_in_force before) command answer
+RightAfter first before command answer = RightBy (answer_after first before command) (after first before) (settings_in_force before) command answer
 
 -- an answer is right, and its numbers are fractions within the limit and counts of 64 bits
 pub record IsGiven (first : Program) (before : List Command) (command : Command) (answer : Answer) : Type 0 where

@@ -6,8 +6,8 @@ ghost use Rattle.certs.specs.Order.{AreLeavesInOrder};
 ghost use Rattle.certs.specs.Proof.{IsFittingNode, IsProof};
 ghost use Rattle.report_text.specs.Form.{IsCommand};
 ghost use Rattle.report_printer.specs.Printing.{IsKnownAnswer};
-ghost use Rattle.analysis.specs.Answers.{IsNext, IsRefutedBy, budgets_of, fresh_oracle};
-ghost use Rattle.analysis.specs.Right.{BoxLaw, IsChecked, IsSolved, budgets_after, first_budgets as budgets_at_first};
+ghost use Rattle.analysis.specs.Answers.{IsNext, IsRefutedBy, budgets_of, fresh_oracle, settings_of};
+ghost use Rattle.analysis.specs.Right.{BoxLaw, IsChecked, IsSolved, first_settings as settings_at_first, settings_after};
 
 use crate::asking::{Reference, keep, quick_oracle};
 use crate::diagnosing::diagnosis;
@@ -28,31 +28,35 @@ pub struct Budgets {
     pub nodes: u64,
 }
 
-/// The budgets at first.
-pub(crate) fn first_budgets() -> Budgets
-    ensures { budgets_of result ≡ budgets_at_first }
+/// What is in force before a command: what each solve may spend.
+#[derive(Clone, Copy)]
+pub(crate) struct Settings {
+    pub(crate) budgets: Budgets,
+}
+
+/// The settings at first.
+pub(crate) fn first_settings() -> Settings
+    ensures { settings_of result ≡ settings_at_first }
 {
-    Budgets {
-        pivots: 100_000,
-        nodes: 10_000,
+    Settings {
+        budgets: Budgets {
+            pivots: 100_000,
+            nodes: 10_000,
+        },
     }
 }
 
-/// The budgets after a command.
-pub(crate) fn after(budgets: Budgets, command: &Command) -> Budgets
-    ensures { budgets_of result ≡ budgets_after (budgets_of budgets) command.now }
+/// The settings after a command.
+pub(crate) fn after(settings: Settings, command: &Command) -> Settings
+    ensures { settings_of result ≡ settings_after (settings_of settings) command.now }
 {
+    let mut budgets = settings.budgets;
     match command {
-        Command::Pivots(pivots) => Budgets {
-            pivots: *pivots,
-            nodes: budgets.nodes,
-        },
-        Command::Nodes(nodes) => Budgets {
-            pivots: budgets.pivots,
-            nodes: *nodes,
-        },
-        _ => budgets,
+        Command::Pivots(pivots) => budgets.pivots = *pivots,
+        Command::Nodes(nodes) => budgets.nodes = *nodes,
+        _ => {}
     }
+    Settings { budgets }
 }
 
 /// The right answer to a command, where memory allows; an edit or an undo is done. What is kept of the program serves the
@@ -60,15 +64,16 @@ pub(crate) fn after(budgets: Budgets, command: &Command) -> Budgets
 pub(crate) fn answer(
     alloc: Global,
     session: &mut CommandSession,
-    budgets: Budgets,
+    settings: Settings,
     command: &Command,
     kept: &mut Kept,
 ) -> Result<Answer, AllocError>
     requires built { IsCommand command.now }
-    requires few { budgets.pivots < 2 ^ 63 }
-    ensures next { IfOk result (IsNext session.old session.new (budgets_of budgets) command.now) }
+    requires few { settings.budgets.pivots < 2 ^ 63 }
+    ensures next { IfOk result (IsNext session.old session.new (settings_of settings) command.now) }
     ensures known { IfOk result (IsKnownAnswer session.new.model) }
 {
+    let budgets = settings.budgets;
     match command {
         Command::Check => check(alloc, session.model(), budgets, kept),
         Command::Iis(method) => search(alloc, session.model(), budgets, *method, kept),

@@ -4,13 +4,13 @@ ghost use Rattle.lp_model.specs.Program.{Program};
 ghost use Rattle.report_text.specs.declared.report.Command.{Command};
 ghost use Rattle.analysis.specs.declared.pieces.Want.TheVariants.{Memory};
 ghost use Rattle.report_text.specs.Form.{IsCommand};
-ghost use Rattle.analysis.specs.Answers.{budgets_of};
+ghost use Rattle.analysis.specs.Answers.{settings_of};
 ghost use Rattle.report_text.specs.Session.{session_at};
-ghost use Rattle.analysis.specs.Right.{budgets_in_force};
+ghost use Rattle.analysis.specs.Right.{settings_in_force};
 ghost use Rattle.analysis.specs.Pieces.{EntriesPut, EntryPut, ReportPut, TextPut};
 ghost use Rattle.analysis.specs.Written.{IsAnalysis, head_text, foot_text, is_unmet as is_unmet_answer};
 
-use crate::answering::{Budgets, after, answer, first_budgets};
+use crate::answering::{Settings, after, answer, first_settings};
 use iis_edge::{PutFault, Sink};
 use lp_model::Model;
 use quick_answers::Kept;
@@ -118,13 +118,13 @@ fn put_entries<W: Sink>(
     requires fresh { session.old.formers ≡ [] }
     ensures { EntriesPut W.faults W.taken out.old out.new session.old.model commands.now result }
 {
-    let mut budgets = first_budgets();
+    let mut settings = first_settings();
     let mut kept = Kept::new();
     let mut some_unmet = false;
     for command in commands {
-        let unmet = put_entry(alloc, session, budgets, command, &mut kept, out)?;
+        let unmet = put_entry(alloc, session, settings, command, &mut kept, out)?;
         some_unmet = is_either(some_unmet, unmet);
-        budgets = after(budgets, command);
+        settings = after(settings, command);
     }
     Ok(some_unmet)
 }
@@ -140,20 +140,20 @@ fn is_either(first: bool, second: bool) -> bool
 fn put_entry<W: Sink>(
     alloc: Global,
     session: &mut CommandSession,
-    budgets: Budgets,
+    settings: Settings,
     command: &Command,
     kept: &mut Kept,
     out: &mut W,
 ) -> Result<bool, Want>
     requires built { IsCommand command.now }
-    requires few { budgets.pivots < 2 ^ 63 }
+    requires few { settings.budgets.pivots < 2 ^ 63 }
     ensures put { (first : Program) (before : List Command) → session.old ≡ session_at first before
-        → budgets_of budgets ≡ budgets_in_force before
+        → settings_of settings ≡ settings_in_force before
         → EntryPut W.faults W.taken out.old out.new first before command.now result }
     ensures goes_on { (first : Program) (before : List Command) → session.old ≡ session_at first before
         → IfOk result (λ unmet. session.new ≡ session_at first (before ++ command.now ∷ [])) }
 {
-    let answer = answer(alloc, session, budgets, command, kept)?;
+    let answer = answer(alloc, session, settings, command, kept)?;
     let mut text = Vec::new(alloc);
     print_entry(session.model(), command, &answer, &mut text)?;
     put(out, text.as_slice())?;

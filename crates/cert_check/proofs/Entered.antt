@@ -1,18 +1,18 @@
 -- Entries one after another: where the trials of those that are left stop the check.
 use Rattle.std.proofs.Common.{◌≡◌, ◌<◌, ◌+◌, refl, sym, ◌∙◌, ap, List, [], ◌∷◌, ◌++◌, length, take, drop, flat_map, get_or, ℕ, Option, None, Some, false, Result, Ok, Err}
-use Rattle.std.proofs.lemmas.Grind.{flat_map-append}
-use Rattle.std.proofs.lemmas.List.{append-nil, take_more}
+use Rattle.std.proofs.lemmas.List.{take_more}
 use Rattle.std.specs.Option.{is_some}
 use Rattle.std.specs.Prelude.{OnOk}
 use Rattle.lp_model.specs.Program.{Program}
-use Rattle.report_text.specs.History.{Action, HistoryValue, after_edits, standing}
+use Rattle.report_text.specs.History.{HistoryValue, standing}
 use Rattle.report_text.specs.Session.{session_at, Takes}
 use Rattle.report_text.specs.declared.report.Answer.{Answer}
 use Rattle.report_text.specs.declared.report.Command.{Command}
-use Rattle.report_text.specs.declared.report.Command.TheVariants.{Check, Iis, Unbounded, Relax, Reduce, Edit, Undo, Pivots, Nodes}
 use Rattle.report_text.specs.declared.report.Entry.{Entry}
-use Rattle.report_text.specs.Turns.{actions_of, after, answer_after, entry_commands}
+use Rattle.report_text.specs.Turns.{after, answer_after, edits_after, entry_commands}
 use Rattle.report_text.proofs.InTurn.{gathered-at, commands_push}
+use Rattle.report_text.proofs.Replies.{nothing_done}
+use Rattle.report_text.proofs.Taken.{session_stays}
 use Rattle.cert_check.specs.declared.outcome.Stop.{Stop}
 use Rattle.cert_check.specs.declared.outcome.Stop.TheVariants.{Memory}
 use Rattle.cert_check.specs.Trials.{Trial, claim_trials, reply_trials, entry_trials, entries_trials}
@@ -53,25 +53,11 @@ module _ (old : HistoryValue) (e : Entry) where
   }
 
 -- ---- what no edit and no undo changes
--- a command that is answered nothing here does nothing to the program
-nothing_done : (first : Program) (before : List Command) (command : Command) → answer_after first before command ≡ None → actions_of first command ≡ []
-nothing_done first before Check e = refl
-nothing_done first before (Iis method) e = refl
-nothing_done first before Unbounded e = refl
-nothing_done first before Relax e = refl
-nothing_done first before Reduce e = refl
-nothing_done first before (Edit edit) e = absurd (cc)
-nothing_done first before Undo e = absurd (cc)
-nothing_done first before (Pivots n) e = refl
-nothing_done first before (Nodes n) e = refl
-
--- so that the program stays
+-- a command that is answered nothing here leaves the program as it is
 pub model_stays : (old new : HistoryValue) (command : Command) (first : Program) (before : List Command) → Takes old command None new → old ≡ session_at first before → new.model ≡ old.model
 model_stays old new command first before takes is =
-    let none = nothing_done first before command (sym (takes.answers first before is)) in
-    let same : flat_map (actions_of first) (before ++ command ∷ []) ≡ flat_map (actions_of first) before =
-    flat_map-append (actions_of first) before (command ∷ []) ∙ ap (λ (l : List Action). flat_map (actions_of first) before ++ (l ++ [])) none ∙ append-nil (flat_map (actions_of first) before) in
-    ap (λ (v : HistoryValue). v.model) (takes.goes_on first before is) ∙ ap (λ (l : List Action). after_edits first (standing first [] l)) same ∙ sym (ap (λ (v : HistoryValue). v.model) is)
+    let stays = session_stays first before command (ap (standing first (edits_after first before)) (nothing_done first before command (sym (takes.answers first before is)))) in
+    ap (λ (v : HistoryValue). v.model) (takes.goes_on first before is ∙ sym stays ∙ sym is)
 
 -- what is not there is none
 pub none_of : {A : Type 0} (o : Option A) → is_some o ≡ false → o ≡ None

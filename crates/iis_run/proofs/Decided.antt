@@ -65,12 +65,7 @@ model_stopped name file before now (TooLong Model) h = h.1
 model_stopped name file before now (TooLong Report) h = let wrong = h.0 in absurd (cc)
 model_stopped name file before now (TooLong Script) h = let wrong = h.0 in absurd (cc)
 model_stopped name file before now Memory h = tt
-model_stopped name file before now Usage h = absurd h
-model_stopped name file before now (ModelRefused stop) h = absurd h
-model_stopped name file before now (BadReport n) h = absurd h
-model_stopped name file before now CutReport h = absurd h
-model_stopped name file before now (BadScript n) h = absurd h
-model_stopped name file before now (Checked v) h = absurd h
+model_stopped name file before now _ h = absurd h
 
 -- ---- the report
 -- the report was not fetched
@@ -82,12 +77,7 @@ report_stopped p file before now (TooLong Report) h = h.1
 report_stopped p file before now (TooLong Model) h = let wrong = h.0 in absurd (cc)
 report_stopped p file before now (TooLong Script) h = let wrong = h.0 in absurd (cc)
 report_stopped p file before now Memory h = tt
-report_stopped p file before now Usage h = absurd h
-report_stopped p file before now (ModelRefused stop) h = absurd h
-report_stopped p file before now (BadReport n) h = absurd h
-report_stopped p file before now CutReport h = absurd h
-report_stopped p file before now (BadScript n) h = absurd h
-report_stopped p file before now (Checked v) h = absurd h
+report_stopped p file before now _ h = absurd h
 
 -- the report came to an ending
 report_of : (p : Program) (file : Option (List ℕ)) (bytes : List ℕ) (e : Ending) → IsFetched file bytes Report → IsReportEnding p bytes e → IfSome file (λ r. IsReportOf p r e)
@@ -98,11 +88,7 @@ report_ended p file before now bytes (BadReport n) is h = report_of p file bytes
 report_ended p file before now bytes CutReport is h = report_of p file bytes CutReport is h
 report_ended p file before now bytes (Checked v) is h = (h.0, report_of p file bytes (Checked v) is h)
 report_ended p file before now bytes Memory is h = tt
-report_ended p file before now bytes Usage is h = absurd h
-report_ended p file before now bytes (ReadFault which) is h = absurd h
-report_ended p file before now bytes (TooLong which) is h = absurd h
-report_ended p file before now bytes (ModelRefused stop) is h = absurd h
-report_ended p file before now bytes (BadScript n) is h = absurd h
+report_ended p file before now bytes _ is h = absurd h
 
 -- ---- the script
 -- the script was not fetched
@@ -114,12 +100,7 @@ script_stopped file before now (TooLong Script) h = h.1
 script_stopped file before now (TooLong Model) h = let wrong = h.0 in absurd (cc)
 script_stopped file before now (TooLong Report) h = let wrong = h.0 in absurd (cc)
 script_stopped file before now Memory h = tt
-script_stopped file before now Usage h = absurd h
-script_stopped file before now (ModelRefused stop) h = absurd h
-script_stopped file before now (BadReport n) h = absurd h
-script_stopped file before now CutReport h = absurd h
-script_stopped file before now (BadScript n) h = absurd h
-script_stopped file before now (Checked v) h = absurd h
+script_stopped file before now _ h = absurd h
 
 -- the script is commands
 pub script_read : (file : Option (List ℕ)) (bytes : List ℕ) (commands : List Command) → IsFetched file bytes Script → commands ≡ commands_of (lines_of bytes) → first_bad (lines_of bytes) ≡ None → IfSome file (λ s. IsCommands s commands)
@@ -148,40 +129,26 @@ reported name (Some b) (Some c) p e m r = (is_model name (Some b) p m, record { 
 module _ (file : List ℕ → Option (List ℕ)) (before mid now : List ℕ → ℕ) (model second : List ℕ) (p : Program) where
   check_caused : (e : Ending) → IfSome (file model) (λ b. IsModelOf model b p) → before second ≤ mid second → IsCheckEnd p (file second) (mid second) (now second) e → IsCaused file before now (Some (Request.Verify model second)) e
   check_caused (ReadFault Report) m later h = (rose_since _ _ _ later h, is_model model (file model) p m)
-  check_caused (ReadFault Model) m later h = absurd h
-  check_caused (ReadFault Script) m later h = absurd h
   check_caused (TooLong Report) m later h = (is_model model (file model) p m, h)
-  check_caused (TooLong Model) m later h = absurd h
-  check_caused (TooLong Script) m later h = absurd h
   check_caused Memory m later h = tt
   check_caused (BadReport n) m later h = reported model (file model) (file second) p (BadReport n) m h
   check_caused CutReport m later h = reported model (file model) (file second) p CutReport m h
   check_caused (Checked v) m later h = (h.0, reported model (file model) (file second) p (Checked v) m h.1)
-  check_caused Usage m later h = absurd h
-  check_caused (ModelRefused stop) m later h = absurd h
-  check_caused (BadScript n) m later h = absurd h
+  check_caused _ m later h = absurd h
 
   script_caused : (e : Ending) → IfSome (file model) (λ b. IsModelOf model b p) → before second ≤ mid second → IsScriptEnd (file second) (mid second) (now second) e → IsCaused file before now (Some (Request.Analyse model second)) e
   script_caused (ReadFault Script) m later h = (rose_since _ _ _ later h, is_model model (file model) p m)
-  script_caused (ReadFault Model) m later h = absurd h
-  script_caused (ReadFault Report) m later h = absurd h
   script_caused (TooLong Script) m later h = (is_model model (file model) p m, h)
-  script_caused (TooLong Model) m later h = absurd h
-  script_caused (TooLong Report) m later h = absurd h
   script_caused Memory m later h = tt
   script_caused (BadScript n) m later h = (is_model model (file model) p m, h)
-  script_caused (BadReport n) m later h = absurd h
-  script_caused CutReport m later h = absurd h
-  script_caused (Checked v) m later h = absurd h
-  script_caused Usage m later h = absurd h
-  script_caused (ModelRefused stop) m later h = absurd h
+  script_caused _ m later h = absurd h
 
   -- what the second file comes to has its cause
   pub second_planned : (verb : Verb) (plan : Plan) → IfSome (file model) (λ b. IsModelOf model b p) → before second ≤ mid second → IsSecondPlan verb p (file second) (mid second) (now second) plan → IsPlanned file before now (Some (request_for verb model second)) plan
   second_planned Verify (Say e) m later h = check_caused e m later h
   second_planned Verify (Answer q commands) m later h = absurd h
-  second_planned Verify (Make n) m later h = absurd h
   second_planned Analyse (Say e) m later h = script_caused e m later h
+  second_planned Verify (Make n) m later h = absurd h
   second_planned Analyse (Make n) m later h = absurd h
   second_planned Analyse (Answer q commands) m later h = record { declares = subst (λ (r : Program). IfSome (file model) (λ b. IsModelOf model b r)) (sym h.0) m; says = h.1 }
 
@@ -191,34 +158,18 @@ model_planned file before now Verify model second e h k = by e h k
   where
     by : (f : Ending) → IsModelStop model (file model) (before model) (now model) f → IsQuietEnd before now f → IsCaused file before now (Some (Request.Verify model second)) f
     by (ReadFault Model) g k = g
-    by (ReadFault Report) g k = absurd g
-    by (ReadFault Script) g k = absurd g
     by (TooLong Model) g k = g
-    by (TooLong Report) g k = absurd g
-    by (TooLong Script) g k = absurd g
     by (ModelRefused stop) g k = (g, k)
     by Memory g k = tt
-    by Usage g k = absurd g
-    by (BadReport n) g k = absurd g
-    by CutReport g k = absurd g
-    by (BadScript n) g k = absurd g
-    by (Checked v) g k = absurd g
+    by _ g k = absurd g
 model_planned file before now Analyse model second e h k = by e h k
   where
     by : (f : Ending) → IsModelStop model (file model) (before model) (now model) f → IsQuietEnd before now f → IsCaused file before now (Some (Request.Analyse model second)) f
     by (ReadFault Model) g k = g
-    by (ReadFault Report) g k = absurd g
-    by (ReadFault Script) g k = absurd g
     by (TooLong Model) g k = g
-    by (TooLong Report) g k = absurd g
-    by (TooLong Script) g k = absurd g
     by (ModelRefused stop) g k = (g, k)
     by Memory g k = tt
-    by Usage g k = absurd g
-    by (BadReport n) g k = absurd g
-    by CutReport g k = absurd g
-    by (BadScript n) g k = absurd g
-    by (Checked v) g k = absurd g
+    by _ g k = absurd g
 
 -- ---- what a report comes to
 -- a report that was not read

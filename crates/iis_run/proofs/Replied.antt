@@ -1,17 +1,15 @@
 -- The trials of an edit or an undo that is answered right are not failed, and those of notes beside themselves.
-use Rattle.std.proofs.Common.{◌≡◌, ◌+◌, refl, sym, subst, ℕ, Bool, true, false, cond, List, [], ◌∷◌, Option, None, Some, eq-eqb}
+use Rattle.std.proofs.Common.{◌≡◌, ◌+◌, refl, sym, subst, ℕ, true, List, [], ◌∷◌, Some, eq-eqb}
 use Rattle.std.specs.Prelude.{All}
 use Rattle.std.proofs.lemmas.List.Elements.{All-cons, All-nil}
-use Rattle.lp_model.specs.declared.edits.Edit.{Edit}
 use Rattle.lp_model.specs.declared.parts.Note.{Note}
 use Rattle.lp_model.specs.declared.parts.Note.TheVariants.{LowerRemoved, LowerKept}
 use Rattle.lp_model.specs.Program.{Program}
-use Rattle.report_text.specs.History.{changes}
 use Rattle.report_text.specs.contracts.report.RefusalPartialEq.TheImpl.{ghosts as refusal_test}
 use Rattle.report_text.specs.declared.report.Answer.{Answer}
 use Rattle.report_text.specs.declared.report.Answer.TheVariants.{Done, Refused}
 use Rattle.report_text.specs.declared.report.Refusal.{Refusal}
-use Rattle.report_text.specs.Edits.{edit_answer, undo_answer}
+use Rattle.report_text.specs.Session.{IsReply}
 use Rattle.cert_check.specs.Trials.{said, answer_trials, paired_trials, reply_trials, same_note, same_reply}
 use Rattle.iis_run.proofs.Unfailed.{AreUnfailed, nothing, alone, said_true, paired_unfailed}
 
@@ -28,24 +26,6 @@ pub notes_unfailed : (n : ℕ) (notes : List Note) → AreUnfailed (paired_trial
 notes_unfailed n notes = paired_unfailed same_note n notes (notes_themselves notes)
 
 -- ---- answers to edits and undos
--- a command is done, or it is refused
-abbrev pub IsReply : Answer → Type 0
-IsReply Done = Unit {0}
-IsReply (Refused r) = Unit {0}
-IsReply _ = ⊥
-
-pub edit_reply : (model : Program) (edit : Option Edit) → IsReply (edit_answer model edit)
-edit_reply model None = tt
-edit_reply model (Some edit) = by (changes model edit)
-  where
-    by : (b : Bool) → IsReply (cond b Done (Refused Refusal.NoChange))
-    by true = tt
-    by false = tt
-
-pub undo_reply : (edits : List Edit) → IsReply (undo_answer edits)
-undo_reply [] = tt
-undo_reply (edit ∷ edits) = tt
-
 refusal_itself : (r : Refusal) → refusal_test.eq r r ≡ true
 refusal_itself Refusal.UnknownName = refl
 refusal_itself Refusal.NoChange = refl

@@ -47,45 +47,20 @@ zero_or_one false n zero one h = one (sym h)
 
 usage_only : (e : Ending) → status_of e ≡ 2 → e ≡ Usage
 usage_only Usage h = refl
-usage_only (ReadFault which) h = absurd (omega arith)
-usage_only (TooLong which) h = absurd (omega arith)
-usage_only Memory h = absurd (omega arith)
-usage_only (ModelRefused stop) h = absurd (omega arith)
-usage_only (BadReport n) h = absurd (omega arith)
-usage_only (BadScript n) h = absurd (omega arith)
-usage_only CutReport h = absurd (omega arith)
 usage_only (Checked (Accepted settled unsettled)) h = absurd (zero_or_one (unsettled == 0) 2 (λ k. omega arith) (λ k. omega arith) h)
-usage_only (Checked (Rejected n)) h = absurd (omega arith)
-usage_only (Checked (Wide n w)) h = absurd (omega arith)
-usage_only (Checked Want) h = absurd (omega arith)
+usage_only _ h = absurd (omega arith)
 
 model_refused_only : (e : Ending) → status_of e ≡ 5 → (stop : ReadStop) × (e ≡ ModelRefused stop)
 model_refused_only (ModelRefused stop) h = (stop, refl)
-model_refused_only Usage h = absurd (omega arith)
-model_refused_only (ReadFault which) h = absurd (omega arith)
-model_refused_only (TooLong which) h = absurd (omega arith)
-model_refused_only Memory h = absurd (omega arith)
-model_refused_only (BadReport n) h = absurd (omega arith)
-model_refused_only (BadScript n) h = absurd (omega arith)
-model_refused_only CutReport h = absurd (omega arith)
 model_refused_only (Checked (Accepted settled unsettled)) h = absurd (zero_or_one (unsettled == 0) 5 (λ k. omega arith) (λ k. omega arith) h)
-model_refused_only (Checked (Rejected n)) h = absurd (omega arith)
-model_refused_only (Checked (Wide n w)) h = absurd (omega arith)
-model_refused_only (Checked Want) h = absurd (omega arith)
+model_refused_only _ h = absurd (omega arith)
 
 text_refused_only : (e : Ending) → status_of e ≡ 6 → (e ≡ CutReport) ⊎ (((n : ℕ) × (e ≡ BadReport n)) ⊎ ((n : ℕ) × (e ≡ BadScript n)))
 text_refused_only CutReport h = inl refl
 text_refused_only (BadReport n) h = inr (inl (n, refl))
 text_refused_only (BadScript n) h = inr (inr (n, refl))
-text_refused_only Usage h = absurd (omega arith)
-text_refused_only (ReadFault which) h = absurd (omega arith)
-text_refused_only (TooLong which) h = absurd (omega arith)
-text_refused_only Memory h = absurd (omega arith)
-text_refused_only (ModelRefused stop) h = absurd (omega arith)
 text_refused_only (Checked (Accepted settled unsettled)) h = absurd (zero_or_one (unsettled == 0) 6 (λ k. omega arith) (λ k. omega arith) h)
-text_refused_only (Checked (Rejected n)) h = absurd (omega arith)
-text_refused_only (Checked (Wide n w)) h = absurd (omega arith)
-text_refused_only (Checked Want) h = absurd (omega arith)
+text_refused_only _ h = absurd (omega arith)
 
 -- some entries are unsettled
 unsettled_only : (e : Ending) → status_of e ≡ 1 → (settled : ℕ) × ((unsettled : ℕ) × ((unsettled ≢ 0) × (e ≡ Checked (Accepted settled unsettled))))
@@ -93,17 +68,7 @@ unsettled_only (Checked (Accepted settled unsettled)) h = (settled, (unsettled, 
   where
     some : unsettled ≡ 0 → ⊥
     some none = let at : status_of (Checked (Accepted settled 0)) ≡ 1 = subst (λ (u : ℕ). status_of (Checked (Accepted settled u)) ≡ 1) none h in omega arith
-unsettled_only Usage h = absurd (omega arith)
-unsettled_only (ReadFault which) h = absurd (omega arith)
-unsettled_only (TooLong which) h = absurd (omega arith)
-unsettled_only Memory h = absurd (omega arith)
-unsettled_only (ModelRefused stop) h = absurd (omega arith)
-unsettled_only (BadReport n) h = absurd (omega arith)
-unsettled_only CutReport h = absurd (omega arith)
-unsettled_only (BadScript n) h = absurd (omega arith)
-unsettled_only (Checked (Rejected n)) h = absurd (omega arith)
-unsettled_only (Checked (Wide n w)) h = absurd (omega arith)
-unsettled_only (Checked Want) h = absurd (omega arith)
+unsettled_only _ h = absurd (omega arith)
 
 accepted_only : (e : Ending) → status_of e ≡ 0 → (settled : ℕ) × (e ≡ Checked (Accepted settled 0))
 accepted_only (Checked (Accepted settled unsettled)) h = (settled, ap (λ u. Checked (Accepted settled u)) (none (unsettled == 0) refl 0 refl h))
@@ -111,47 +76,21 @@ accepted_only (Checked (Accepted settled unsettled)) h = (settled, ap (λ u. Che
     none : (b : Bool) → (unsettled == 0) ≡ b → (n : ℕ) → n ≡ 0 → cond b 0 1 ≡ n → unsettled ≡ 0
     none true e n z k = eqb-true unsettled 0 e
     none false e n z k = absurd (omega arith)
-accepted_only Usage h = absurd (omega arith)
-accepted_only (ReadFault which) h = absurd (omega arith)
-accepted_only (TooLong which) h = absurd (omega arith)
-accepted_only Memory h = absurd (omega arith)
-accepted_only (ModelRefused stop) h = absurd (omega arith)
-accepted_only (BadReport n) h = absurd (omega arith)
-accepted_only (BadScript n) h = absurd (omega arith)
-accepted_only CutReport h = absurd (omega arith)
-accepted_only (Checked (Rejected n)) h = absurd (omega arith)
-accepted_only (Checked (Wide n w)) h = absurd (omega arith)
-accepted_only (Checked Want) h = absurd (omega arith)
+accepted_only _ h = absurd (omega arith)
 
 -- a line that fails, or on which an operation is too wide
 refuted_only : (e : Ending) → status_of e ≡ 8 → (n : ℕ) × ((o : Outcome) × (((o ≡ Rejected n) ⊎ ((w : Operation) × (o ≡ Wide n w))) × (e ≡ Checked o)))
 refuted_only (Checked (Rejected n)) h = (n, (Rejected n, (inl refl, refl)))
 refuted_only (Checked (Wide n w)) h = (n, (Wide n w, (inr (w, refl), refl)))
-refuted_only Usage h = absurd (omega arith)
-refuted_only (ReadFault which) h = absurd (omega arith)
-refuted_only (TooLong which) h = absurd (omega arith)
-refuted_only Memory h = absurd (omega arith)
-refuted_only (ModelRefused stop) h = absurd (omega arith)
-refuted_only (BadReport n) h = absurd (omega arith)
-refuted_only (BadScript n) h = absurd (omega arith)
-refuted_only CutReport h = absurd (omega arith)
 refuted_only (Checked (Accepted settled unsettled)) h = absurd (zero_or_one (unsettled == 0) 8 (λ k. omega arith) (λ k. omega arith) h)
-refuted_only (Checked Want) h = absurd (omega arith)
+refuted_only _ h = absurd (omega arith)
 
 -- a fetch that stops
 stopped_only : (e : Ending) → status_of e ≡ 3 → (which : Which) × ((e ≡ ReadFault which) ⊎ (e ≡ TooLong which))
 stopped_only (ReadFault which) h = (which, inl refl)
 stopped_only (TooLong which) h = (which, inr refl)
-stopped_only Usage h = absurd (omega arith)
-stopped_only Memory h = absurd (omega arith)
-stopped_only (ModelRefused stop) h = absurd (omega arith)
-stopped_only (BadReport n) h = absurd (omega arith)
-stopped_only (BadScript n) h = absurd (omega arith)
-stopped_only CutReport h = absurd (omega arith)
 stopped_only (Checked (Accepted settled unsettled)) h = absurd (zero_or_one (unsettled == 0) 3 (λ k. omega arith) (λ k. omega arith) h)
-stopped_only (Checked (Rejected n)) h = absurd (omega arith)
-stopped_only (Checked (Wide n w)) h = absurd (omega arith)
-stopped_only (Checked Want) h = absurd (omega arith)
+stopped_only _ h = absurd (omega arith)
 
 -- the greatest status, and one that is no ending's own
 status_bounds : (e : Ending) → (status_of e ≤ 8) × (status_of e ≢ 4)
@@ -289,29 +228,26 @@ called_or_memory file before now q (Checked v) calm cause = inr cause
 -- ---- sessions
 -- files of an analysis call for no ending
 session_uncalled : (file : List ℕ → Option (List ℕ)) (q : Request) (p : Program) (commands : List Command) (e : Ending) → IsAskedSession file (Some q) p commands → AreTold file q e → Calls file q e → ⊥
-session_uncalled file (Request.Verify model report) p commands e session told calls = absurd session
-session_uncalled file (Request.Make n) p commands e session told calls = absurd session
 session_uncalled file (Request.Analyse model script) p commands e session told calls = none_called_as_told model (file model) (file script) p commands e session.declares session.says told calls
+session_uncalled file _ p commands e session told calls = absurd session
 
 told_uncalled : (file : List ℕ → Option (List ℕ)) (q : Request) (p : Program) (commands : List Command) (e : Ending) → IsToldSession file q p commands → Calls file q e → ⊥
-told_uncalled file (Request.Verify model report) p commands e session calls = absurd session
-told_uncalled file (Request.Make n) p commands e session calls = absurd session
 told_uncalled file (Request.Analyse model script) p commands e session calls = by (file model) (file script) session calls
   where
     by : (m s : Option (List ℕ)) → IsToldAs (λ b. IsModelOf model b p) m × IsToldAs (λ b. IsCommands b commands) s → CallsForScript model m s e → ⊥
     by (Some m) (Some s) told c = none_called model m s p commands e told.0 told.1 c
     by (Some m) None told c = absurd told.1
     by None s told c = absurd told.0
+told_uncalled file _ p commands e session calls = absurd session
 
 told_same : (file : List ℕ → Option (List ℕ)) (q : Request) (p r : Program) (a b : List Command) → IsAskedSession file (Some q) p a → IsToldSession file q r b → (p ≡ r) × (a ≡ b)
-told_same file (Request.Verify model report) p r a b session told = absurd session
-told_same file (Request.Make n) p r a b session told = absurd session
 told_same file (Request.Analyse model script) p r a b session told = by (file model) (file script) session.declares session.says told
   where
     by : (m s : Option (List ℕ)) → IfSome m (λ x. IsModelOf model x p) → IfSome s (λ x. IsCommands x a) → IsToldAs (λ x. IsModelOf model x r) m × IsToldAs (λ x. IsCommands x b) s → (p ≡ r) × (a ≡ b)
     by (Some m) (Some s) declares says t = one_session model m s p r a b declares t.0 says t.1
     by (Some m) None declares says t = absurd t.1
     by None s declares says t = absurd t.0
+told_same file _ p r a b session told = absurd session
 
 -- ---- answers
 module _ {K : Type 0} (faults : K → ℕ) (taken : K → Option (List ℕ)) (old new : K) where
@@ -476,10 +412,8 @@ module _ {S K : Type 0} (file : S → List ℕ → Option (List ℕ)) (fetch_fau
       answered = by_status put_faults taken out_old out_new run.program run.commands status stopped h (its_answers request status run)
 
       by : (r : Option Request) → IsAskedSession (file shelf_old) r run.program run.commands → P r
-      by None session = absurd session
-      by (Some (Request.Verify model report)) session = absurd session
-      by (Some (Request.Make n)) session = absurd session
       by (Some (Request.Analyse model script)) session = make model script (record { program = run.program; commands = run.commands; session = session; answered = answered })
+      by _ session = absurd session
 
   -- the check of a report accepts it
   accepts : (request : Option Request) (status : ℕ) → (run : Ended request status) → status ≡ 0 → (settled : ℕ) × AskedFor (file shelf_old) request (Checked (Accepted settled 0))
@@ -535,10 +469,8 @@ module _ {S K : Type 0} (file : S → List ℕ → Option (List ℕ)) (fetch_fau
           subst (λ (x : Entries). IsTrueReport program x) same.1 (subst (λ (p : Program). IsTrueReport p at.comes.1.report) same.0 (is_true law mb name at.program at.comes.1.report at.declares at.comes.1.reads.form (subst IsPassed at.comes.1.found tt)))
 
       by : (r : Option Request) → AskedFor (file shelf_old) r (Checked (Accepted settled unsettled)) → IsBorneOut (file shelf_old) r
-      by None a = absurd a
       by (Some (Request.Verify model report)) a = so model (file shelf_old model) (file shelf_old report) a.1
-      by (Some (Request.Analyse model script)) a = absurd a
-      by (Some (Request.Make n)) a = absurd a
+      by _ a = absurd a
 
   pub borne_out_clause : AcceptedLaw → (request : Option Request) (status : ℕ) → Run request status → (status ≡ 0) ⊎ (status ≡ 1) → IsBorneOut (file shelf_old) request
   borne_out_clause law request status (inl run) (inl h) = let a = accepts request status run h in accepted_so law request a.0 0 a.1
@@ -551,9 +483,8 @@ module _ {S K : Type 0} (file : S → List ℕ → Option (List ℕ)) (fetch_fau
   -- the check of right answers is no rejection
   decided : (entries : List Entry) (outcome : Outcome) → IsAcceptedOrWide entries outcome → IsDecided outcome
   decided entries (Accepted settled unsettled) h = tt
-  decided entries (Rejected n) h = absurd h
   decided entries (Wide n o) h = tt
-  decided entries Want h = absurd h
+  decided entries _ h = absurd h
 
   done_read : AcceptedAgainLaw → (model script : List ℕ) (stopped : Bool) → IsDone (file shelf_old) put_faults taken out_old out_new model script stopped → IsReadBack (file shelf_old) taken out_old out_new (Some (Request.Analyse model script))
   done_read law model script stopped d = by (file shelf_old model) d.session.declares

@@ -11,7 +11,7 @@ use Rattle.report_text.specs.declared.report.Answer.TheVariants.{Feasible, Irred
 use Rattle.model_maker.specs.PlanProgram.{plan_program}
 use Rattle.model_maker.specs.Refutation.{CannotBeMet}
 use Rattle.analysis.specs.Objectives.{most_entries, system_size}
-use Rattle.analysis.specs.Right.{IsCoreFound, first_budgets}
+use Rattle.analysis.specs.Right.{IsCoreFound, first_settings}
 use Rattle.analysis.specs.Puts.{PutWhole, PutFailed}
 use Rattle.iis_run.specs.Plans.{told_text, told_status, IsPlanAnswer, IsPlanFound, IsSummarised, IsPlanStopped, IsPlanTold, IsMade}
 use Rattle.iis_run.specs.Steps.{IsTold}
@@ -23,7 +23,7 @@ found n none answer right = elim (cases_lt most_entries (system_size (plan_progr
   | inr l ↦ by answer right (right.1 l)
 ]
   where
-    by : (answer : Answer) → IsPlanAnswer n answer → IsCoreFound (plan_program n) first_budgets answer → IsPlanFound n answer
+    by : (answer : Answer) → IsPlanAnswer n answer → IsCoreFound (plan_program n) first_settings.budgets answer → IsPlanFound n answer
     by (Feasible point) right h = absurd (none.values (values_at point.values) h.satisfies)
     by (Irreducible core) right h = record { right = right; is = inl (core, refl) }
     by (Stopped stop) right h = record { right = right; is = inr (stop, refl) }

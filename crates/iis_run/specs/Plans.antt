@@ -8,7 +8,7 @@ use Rattle.report_text.specs.declared.report.Answer.TheVariants.{Irreducible, St
 use Rattle.report_text.specs.Grammar.{answer_phrases, phrases_text, text_of}
 use Rattle.report_text.specs.declared.report.ToldStop.{ToldStop}
 use Rattle.analysis.specs.Puts.{PutWhole, PutFailed}
-use Rattle.analysis.specs.Right.{Right, first_budgets}
+use Rattle.analysis.specs.Right.{Right, first_settings}
 use Rattle.model_maker.specs.PlanProgram.{plan_program}
 use Rattle.iis_run.specs.Said.{EndsInWant}
 
@@ -38,9 +38,9 @@ told_status (Stopped stop) = 1
 told_status answer = 0
 
 -- ---- what is right
--- right to the sensitivity filter of the plan, within the budgets at first
+-- right to the sensitivity filter of the plan, under the settings at first
 abbrev pub IsPlanAnswer : ℕ → Answer → Type 0
-IsPlanAnswer n answer = Right (plan_program n) first_budgets (Iis Sensitivity) answer
+IsPlanAnswer n answer = Right (plan_program n) first_settings (Iis Sensitivity) answer
 
 -- an irreducible set is right, and its summary is written
 pub record IsSummarised {K : Type 0} (put_faults : K → ℕ) (taken : K → Option (List ℕ)) (out_old out_new : K) (n : ℕ) : Type 0 where

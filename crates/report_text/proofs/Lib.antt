@@ -6,4 +6,5 @@ pub mod Histories
 pub mod Unchanged
 pub mod Standing
 pub mod Taken
+pub mod Replies
 pub mod Ordered

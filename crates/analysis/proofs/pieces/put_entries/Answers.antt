@@ -1,10 +1,10 @@
 use Rattle.std.proofs.Common.{◌+◌, ◌<◌, ◌^◌, sym, ◌∙◌, ap, subst, take}
 use Rattle.std.proofs.lemmas.Result.{err_from_is_err_and}
 use Rattle.std.proofs.lemmas.List.Elements.{All-get_or}
-use Rattle.certs.specs.Sites.{Budgets}
 use Rattle.report_text.specs.Form.{IsCommand}
 use Rattle.report_text.specs.Session.{session_at}
-use Rattle.analysis.specs.Answers.{budgets_of}
+use Rattle.analysis.specs.Answers.{settings_of}
+use Rattle.analysis.specs.Right.{Settings}
 use Rattle.analysis.proofs.Sofar.{HasPut, has_more, has_stopped, has_all, few_after, next_front}
 use Rattle.analysis.proofs.pieces.put_entries.Goals as goal
 
@@ -14,8 +14,8 @@ returns-in_err-unmet g c =
     let l = c.loop-command in
     let first = c.args.session.now.model in
     rw (p.1, p.2)
-    (has_stopped g.W.Sink.faults g.W.Sink.taken c.args.out.now l.out c.put_entry.new.out first c.args.commands.now l.command-index c.command-item.result c.command-item.result (budgets_of l.budgets) l.some_unmet _ c.loop-command-test.true c.command-item.is l.invariant.put
-    (c.in_err-unmet.ensures.put first (take l.command-index c.args.commands.now) l.invariant.stands l.invariant.put.budgets_are))
+    (has_stopped g.W.Sink.faults g.W.Sink.taken c.args.out.now l.out c.put_entry.new.out first c.args.commands.now l.command-index c.command-item.result c.command-item.result (settings_of l.settings) l.some_unmet _ c.loop-command-test.true c.command-item.is l.invariant.put
+    (c.in_err-unmet.ensures.put first (take l.command-index c.args.commands.now) l.invariant.stands l.invariant.put.settings_are))
 
 pub loop-command-preserved : goal.loop-command-preserved
 loop-command-preserved g c =
@@ -24,14 +24,14 @@ loop-command-preserved g c =
     let before = take l.command-index c.args.commands.now in
     record {
       put =
-          subst (HasPut g.W.Sink.faults g.W.Sink.taken c.args.out.now c.put_entry.new.out first c.args.commands.now (l.command-index + 1) (budgets_of c.after-budgets.result)) (sym c.is_either-some_unmet.ensures)
-          (has_more g.W.Sink.faults g.W.Sink.taken c.args.out.now l.out c.put_entry.new.out first c.args.commands.now l.command-index c.command-item.result c.command-item.result (budgets_of l.budgets) (budgets_of c.after-budgets.result) l.some_unmet c.in_ok-unmet.unmet
-          c.loop-command-test.true c.command-item.is l.invariant.put (c.in_ok-unmet.ensures.put first before l.invariant.stands l.invariant.put.budgets_are) c.after-budgets.ensures);
+          subst (HasPut g.W.Sink.faults g.W.Sink.taken c.args.out.now c.put_entry.new.out first c.args.commands.now (l.command-index + 1) (settings_of c.after-settings.result)) (sym c.is_either-some_unmet.ensures)
+          (has_more g.W.Sink.faults g.W.Sink.taken c.args.out.now l.out c.put_entry.new.out first c.args.commands.now l.command-index c.command-item.result c.command-item.result (settings_of l.settings) (settings_of c.after-settings.result) l.some_unmet c.in_ok-unmet.unmet
+          c.loop-command-test.true c.command-item.is l.invariant.put (c.in_ok-unmet.ensures.put first before l.invariant.stands l.invariant.put.settings_are) c.after-settings.ensures);
       stands = c.in_ok-unmet.ensures.goes_on first before l.invariant.stands ∙ ap (session_at first) (sym (next_front c.args.commands.now l.command-index c.command-item.result c.command-item.result c.loop-command-test.true c.command-item.is));
-      few = subst (λ (b : Budgets). b.pivots < 2 ^ 63) (sym c.after-budgets.ensures) (few_after (budgets_of l.budgets) c.command-item.result (subst IsCommand (sym c.command-item.is) (All-get_or IsCommand c.args.commands.now l.command-index c.command-item.result c.loop-command-test.true c.requires.built)) l.invariant.few);
+      few = subst (λ (b : Settings). b.budgets.pivots < 2 ^ 63) (sym c.after-settings.ensures) (few_after (settings_of l.settings) c.command-item.result (subst IsCommand (sym c.command-item.is) (All-get_or IsCommand c.args.commands.now l.command-index c.command-item.result c.loop-command-test.true c.requires.built)) l.invariant.few);
     }
 
 pub returns : goal.returns
 returns g c =
     let l = c.loop-command in
-    has_all g.W.Sink.faults g.W.Sink.taken c.args.out.now l.out l.out c.args.session.now.model c.args.commands.now l.command-index (budgets_of l.budgets) l.some_unmet c.loop-command-test.false l.invariant.put
+    has_all g.W.Sink.faults g.W.Sink.taken c.args.out.now l.out l.out c.args.session.now.model c.args.commands.now l.command-index (settings_of l.settings) l.some_unmet c.loop-command-test.false l.invariant.put
