@@ -2,12 +2,12 @@
 """Tries the pages of reports: `tools/page_check.py [PROGRAM..]`
 
 Each `verify` of examples/runs.txt is made as a page. Where the report is accepted, the page is parsed by the standard
-library's HTML parser: every tag is closed in its turn, no id stands twice, and nothing is loaded from elsewhere; the
-members that stand on it are those of the report and of its duals, in its order, under their own names; and where
-examples/ has the page of the report (NAME.html for NAME.report), it is that page byte by byte. Where it is refused, the
-line and the status are those of `verify`. Then come a model whose names are markup, and a report of 401 members.
-Without words the program is the one that ./iisan-page proves and builds. The last line is 'N pages passed, M failed',
-and the status 1 where some page is not as it is to be.
+library's HTML parser: every tag is closed in its turn, no id stands twice, there is no script and no style sheet but the
+head's, and nothing is loaded from elsewhere; the members that stand on it are those of the report and of its duals, in its
+order, under their own names; and where examples/ has the page of the report (NAME.html for NAME.report), it is that page
+byte by byte. Where it is refused, the line and the status are those of `verify`. Then come a model whose names are markup,
+and a report of 401 members. Without words the program is the one that ./iisan-page proves and builds. The last line is
+'N pages passed, M failed', and the status 1 where some page is not as it is to be.
 """
 
 import os
@@ -43,7 +43,7 @@ class Page(HTMLParser):
                 self.ids.add(value)
             if name in ("src", "href", "onload", "onclick"):
                 self.faults.append(f"{tag} has {name}")
-        if tag in ("script", "link", "img", "iframe"):
+        if tag in ("script", "link", "img", "iframe") or (tag == "style" and "head" not in self.open):
             self.faults.append(f"a tag {tag}")
         if tag == "b":
             self.titles.append("")

@@ -7,7 +7,7 @@ use Rattle.cert_check.specs.declared.outcome.Outcome.{Outcome}
 use Rattle.cert_check.specs.declared.outcome.Outcome.TheVariants.{Accepted, Memory as Want}
 use Rattle.cert_check.specs.Trials.{trials, outcome_of, IsAccepted}
 use Rattle.cert_check.specs.Truth.{AreTrue}
-use Rattle.report_page.specs.Page.{page_of}
+use Rattle.report_page.specs.Pieces.{IsPage}
 use Rattle.iisan_page.specs.Paged.{PageValue, IsPageOf}
 
 -- an accepted outcome is that of the trials
@@ -21,7 +21,7 @@ pub record Says (model : Program) (report : Report) (o : Outcome) : Type 0 where
   pub notes : IsAccepted o → report.notes ≡ model.notes
   pub true_answers : IsAccepted o → AreTrue model [] report.entries
 
-pub accepted_page : (program : Program) (bytes : List ℕ) (report : Report) (page : PageValue) (o : Outcome) → Reads program bytes report → Says program report o → o ≡ Accepted page.settled page.unsettled → page.text ≡ page_of program report → IsPageOf program bytes page
+pub accepted_page : (program : Program) (bytes : List ℕ) (report : Report) (page : PageValue) (o : Outcome) → Reads program bytes report → Says program report o → o ≡ Accepted page.settled page.unsettled → IsPage [] page.text → IsPageOf program bytes page
 accepted_page program bytes report page o reads says h text =
     let passed : IsAccepted o = subst IsAccepted (sym h) tt in
     record {

@@ -1,5 +1,5 @@
 -- What a run of the program comes to.
-use Rattle.std.specs.Prelude.{◌≡◌, ◌⊎◌, ⊤, ℕ, ◌≤◌, List, length, ◌∷◌, codes, map, Option, Some, None, IfSome, String, string_bytes}
+use Rattle.std.specs.Prelude.{◌≡◌, ◌⊎◌, ⊤, ℕ, ◌≤◌, List, length, [], ◌∷◌, codes, map, Option, Some, None, IfSome, String, string_bytes}
 use Rattle.std.specs.declared.alloc.Global.{Global}
 use Rattle.lp_model.specs.Program.{Program}
 use Rattle.report_text.specs.declared.report.Report.{Report}
@@ -15,7 +15,7 @@ use Rattle.iis_run.specs.Words.{Request, request_of_texts}
 use Rattle.iis_run.specs.declared.endings.Ending.{Ending}
 use Rattle.iis_run.specs.declared.endings.Ending.TheVariants.{Checked}
 use Rattle.iis_run.specs.declared.endings.Which.TheVariants.{Report as ReportFile}
-use Rattle.report_page.specs.Page.{page_of}
+use Rattle.report_page.specs.Pieces.{IsPage}
 
 -- ---- the words
 -- what `iisan verify` would be asked for by these words
@@ -32,11 +32,11 @@ pub record PageValue : Type 0 where
   pub settled : ℕ
   pub unsettled : ℕ
 
--- the check of the report against the program accepts it, with these counts; what the report says is true; and the text is its page
+-- the check of the report against the program accepts it, with these counts; what the report says is true; and the text is a page, of which no text of the model's opens or closes a tag
 pub record IsAcceptedPage (program : Program) (report : Report) (page : PageValue) : Type 0 where
   pub accepted : outcome_of report.entries (trials program report) ≡ Accepted page.settled page.unsettled
   pub holds : IsTrueReport program report
-  pub text : page.text ≡ page_of program report
+  pub text : IsPage [] page.text
 
 -- the same of the report on the program that bytes are
 pub record IsPageOf (program : Program) (bytes : List ℕ) (page : PageValue) : Type 0 where

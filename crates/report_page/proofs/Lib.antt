@@ -1,4 +1,4 @@
 pub mod Escaped
-pub mod Nested
-pub mod Pieced
+pub mod Marked
+pub mod Placed
 pub mod Turned

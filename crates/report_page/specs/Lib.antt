@@ -1,16 +1,2 @@
 pub mod Escaping
-pub mod Markup
 pub mod Pieces
-pub mod Demands
-pub mod Members
-pub mod Cases
-pub mod Reasons
-pub mod Drawing
-pub mod Steps
-pub mod Points
-pub mod Objectives
-pub mod Leasts
-pub mod Prices
-pub mod Stops
-pub mod Edits
-pub mod Page

@@ -1,61 +1,74 @@
 //! Commands and their answers.
-#![tactic(auto, using(crate::proofs::Pieced::more))]
-
-ghost use Rattle.std.specs.Prelude.{◌≡◌, OnOk};
-ghost use Rattle.report_page.specs.Pieces.{Writes};
-ghost use Rattle.report_page.specs.Page.{method_words, command_pieces, conflict_pieces, rounds_pieces, irreducible_pieces, stopped_pieces, answer_pieces};
+ghost use Rattle.std.specs.Prelude.{OnOk};
+ghost use Rattle.report_page.specs.Pieces.{IsMarkedUp};
 
 use crate::drawing::write_drawing;
 use crate::edits::{write_edit, write_refused};
-use crate::leasts::{write_least, write_not_linear};
-use crate::markup::{Change, Giving, Reach, Removal, Tag, Words};
+use crate::leasts::{write_least, write_price};
 use crate::members::{Among, write_list};
 use crate::objectives::{write_bounded, write_unbounded};
-use crate::pieces::{Piece, write};
-use crate::points::write_feasible;
-use crate::prices::write_price;
+use crate::parts::column_name;
+use crate::pieces::Piece::{Count, Fixed, Text};
+use crate::pieces::{write, write_fixed};
+use crate::points::{Told, write_fold};
 use crate::reasons::{leaf_shares, write_reason};
 use crate::steps::write_reduced;
-use crate::stops::{write_enforced_at, write_stop};
+use crate::stops::write_stopped;
 use certs::{Node, PackedPoint};
 use lp_model::Model;
-use report_text::{Answer, Command, Core, MemberList, Method, ToldStop};
+use report_text::{Answer, Command, Core, MemberList, Method};
 use std::alloc::AllocError;
 
-// What a method is asked.
-fn method_asked(method: Method) -> Words
-    ensures { result ≡ method_words method }
+// Writes which contradiction is asked for, and by which method.
+fn write_method(method: Method, into: &mut Vec<u8>) -> Result<(), AllocError>
+    ensures { OnOk result (IsMarkedUp into.old.items into.new.items) }
 {
+    write_fixed("Which requirements contradict one another", into)?;
     match method {
-        Method::Deletion => Words::DeletionAsked,
-        Method::Additive => Words::AdditiveAsked,
-        Method::Sensitivity => Words::SensitivityAsked,
-        Method::Elastic => Words::ElasticAsked,
-        Method::Alternative => Words::AlternativeAsked,
+        Method::Deletion => write_fixed("? (deletion)", into),
+        Method::Additive => write_fixed("? (additive)", into),
+        Method::Sensitivity => write_fixed("? (sensitivity)", into),
+        Method::Elastic => write_fixed("? (elastic)", into),
+        Method::Alternative => write_fixed(" at the least cost? (alternative)", into),
     }
 }
 
 /// Writes what a command asks, or sets.
 pub(crate) fn write_command(command: &Command, into: &mut Vec<u8>) -> Result<(), AllocError>
-    ensures { OnOk result (Writes into.old.items into.new.items (command_pieces command.now)) }
+    ensures { OnOk result (IsMarkedUp into.old.items into.new.items) }
 {
     match command {
-        Command::Check => write(&[Piece::Words(Words::CheckAsked)], into),
-        Command::Iis(method) => write(&[Piece::Words(method_asked(*method))], into),
-        Command::Unbounded => write(&[Piece::Reach(Reach::Asked)], into),
-        Command::Relax => write(&[Piece::Giving(Giving::Asked)], into),
-        Command::Reduce => write(&[Piece::Removal(Removal::Asked)], into),
+        Command::Check => write_fixed("Can all requirements be met?", into),
+        Command::Iis(method) => write_method(*method, into),
+        Command::Unbounded => write_fixed("Can the objective get better without end?", into),
+        Command::Relax => write_fixed("How little must give way?", into),
+        Command::Reduce => write_fixed("How far is the program reduced before it is solved?", into),
         Command::Edit(edit) => write_edit(edit, into),
-        Command::Undo => write(&[Piece::Change(Change::Undo)], into),
+        Command::Undo => write_fixed("Take back the last edit that stands", into),
         Command::Pivots(most) => write(
-            &[Piece::Words(Words::PivotBudget), Piece::Count(*most)],
+            &[
+                Fixed("From here on, how many pivots a calculation may take: "),
+                Count(*most),
+            ],
             into,
         ),
         Command::Nodes(most) => write(
-            &[Piece::Words(Words::NodeBudget), Piece::Count(*most)],
+            &[
+                Fixed("From here on, how many cases a calculation may tell apart: "),
+                Count(*most),
+            ],
             into,
         ),
     }
+}
+
+// Writes a point that meets all members.
+fn write_feasible(model: &Model, point: &PackedPoint, into: &mut Vec<u8>) -> Result<(), AllocError>
+    ensures { OnOk result (IsMarkedUp into.old.items into.new.items) }
+{
+    write_fixed("<p>All requirements can be met at once.</p>\n", into)?;
+    let point = point.unpacked(*into.allocator())?;
+    write_fold(model, Told::Value, point.values.as_slice(), into)
 }
 
 // Writes members that cannot all be met, with their witnesses as far as there are witnesses, and why, and what ties them
@@ -68,9 +81,7 @@ fn write_conflict(
     nodes: &[Node],
     into: &mut Vec<u8>,
 ) -> Result<(), AllocError>
-    ensures { let members = set.now.members in
-        let pieces = conflict_pieces model.now among members witnesses.now nodes.now in
-        OnOk result (Writes into.old.items into.new.items pieces) }
+    ensures { OnOk result (IsMarkedUp into.old.items into.new.items) }
 {
     write_list(model, among, leaf_shares(nodes), set, witnesses, into)?;
     write_reason(model, nodes, into)?;
@@ -79,18 +90,18 @@ fn write_conflict(
 
 // Writes in how many rounds members were enforced, where it is told, which the check does not look into.
 fn write_rounds(rounds: Option<u64>, into: &mut Vec<u8>) -> Result<(), AllocError>
-    ensures { OnOk result (Writes into.old.items into.new.items (rounds_pieces rounds)) }
+    ensures { OnOk result (IsMarkedUp into.old.items into.new.items) }
 {
     let Some(rounds) = rounds else {
         return Ok(());
     };
     write(
         &[
-            Piece::Tag(Tag::Paragraph),
-            Piece::Words(Words::Rounds),
-            Piece::Count(rounds),
-            Piece::Giving(Giving::NotLooked),
-            Piece::Tag(Tag::ParagraphEnd),
+            Fixed(
+                "<p>Rounds of enforcing, until the enforced requirements contradicted one another: ",
+            ),
+            Count(rounds),
+            Fixed(". The check does not look into this.</p>\n"),
         ],
         into,
     )
@@ -98,8 +109,7 @@ fn write_rounds(rounds: Option<u64>, into: &mut Vec<u8>) -> Result<(), AllocErro
 
 // Writes an irreducible set.
 fn write_irreducible(model: &Model, core: &Core, into: &mut Vec<u8>) -> Result<(), AllocError>
-    ensures { let pieces = irreducible_pieces model.now core.now in
-        OnOk result (Writes into.old.items into.new.items pieces) }
+    ensures { OnOk result (IsMarkedUp into.old.items into.new.items) }
 {
     write_conflict(
         model,
@@ -113,23 +123,29 @@ fn write_irreducible(model: &Model, core: &Core, into: &mut Vec<u8>) -> Result<(
     write_price(model, &core.price, into)
 }
 
-// Writes that a calculation stopped.
-fn write_stopped(model: &Model, stop: &ToldStop, into: &mut Vec<u8>) -> Result<(), AllocError>
-    ensures { OnOk result (Writes into.old.items into.new.items (stopped_pieces model.now stop.now)) }
+// Writes that a question is not asked where this column is to be whole.
+fn write_not_linear(model: &Model, column: u32, into: &mut Vec<u8>) -> Result<(), AllocError>
+    ensures { OnOk result (IsMarkedUp into.old.items into.new.items) }
 {
-    write(&[Piece::Tag(Tag::Paragraph)], into)?;
-    write_stop(model, stop, into)?;
-    write(&[Piece::Tag(Tag::ParagraphEnd)], into)?;
-    write_enforced_at(model, stop, into)
+    write(
+        &[
+            Fixed(
+                "<p>This is asked only where no quantity has to be whole. The first that has to be is ",
+            ),
+            Text(column_name(model, column)),
+            Fixed(". The check does not look into this.</p>\n"),
+        ],
+        into,
+    )
 }
 
-/// Writes an answer.
+/// Writes an answer; that a command is done needs no words.
 pub(crate) fn write_answer(
     model: &Model,
     answer: &Answer,
     into: &mut Vec<u8>,
 ) -> Result<(), AllocError>
-    ensures { OnOk result (Writes into.old.items into.new.items (answer_pieces model.now answer.now)) }
+    ensures { OnOk result (IsMarkedUp into.old.items into.new.items) }
 {
     match answer {
         Answer::Feasible(point) => write_feasible(model, point, into),

@@ -1,39 +1,21 @@
 //! What members ask for, in the words of the model.
-#![tactic(auto, using(crate::proofs::Pieced::more))]
+ghost use Rattle.std.specs.Prelude.{OnOk};
+ghost use Rattle.report_page.specs.Pieces.{IsClosed, IsMarkedUp};
 
-ghost use Rattle.std.specs.Prelude.{◌≡◌, ◌∷◌, [], OnOk, flat_map};
-ghost use Rattle.rational.specs.Rational.{zero_ℚ, one_ℚ, lt_q, eq_ℚ};
-ghost use Rattle.lp_model.specs.Satisfaction.{values_at};
-ghost use Rattle.lp_model.specs.Members.{column_form, form};
-ghost use Rattle.report_text.specs.Grammar.{column_name as column_named};
-ghost use Rattle.report_page.specs.Pieces.{Piece as Shown, Writes};
-ghost use Rattle.report_page.specs.Demands.{magnitude as without_sign, amount_pieces, first_sign as sign_at_first, next_sign as sign_between, first_pieces, next_pieces, sum_pieces, title_words, title_pieces, bound_pieces, demand_pieces, value_pieces, first_value, next_value, values_pieces};
-
-use crate::markup::{Sign, Words};
 use crate::parts::{asked, column_name, member_name, row_terms};
-use crate::pieces::{Piece, write};
+use crate::pieces::Piece::{Fixed, Number, Text};
+use crate::pieces::{write, write_fixed};
 use frac128::Frac;
 use lp_model::{Member, Model, Term};
 use std::alloc::AllocError;
 
 /// Whether a number is below 0.
-pub(crate) fn is_negative(number: Frac) -> bool
-    ensures { result ≡ lt_q number zero_ℚ }
-{
+pub(crate) fn is_negative(number: Frac) -> bool {
     number < Frac::whole(0)
 }
 
-/// Whether a number is 1.
-pub(crate) fn is_one(number: Frac) -> bool
-    ensures { result ≡ eq_ℚ number one_ℚ }
-{
-    number == Frac::whole(1)
-}
-
 /// A number without its sign.
-pub(crate) fn magnitude(number: Frac) -> Frac
-    ensures { result ≡ without_sign number }
-{
+pub(crate) fn magnitude(number: Frac) -> Frac {
     if is_negative(number) {
         return number.negate();
     }
@@ -47,92 +29,40 @@ fn write_amount(
     column: u32,
     into: &mut Vec<u8>,
 ) -> Result<(), AllocError>
-    ensures { OnOk result (Writes into.old.items into.new.items (amount_pieces model.now amount column)) }
+    ensures { OnOk result (IsMarkedUp into.old.items into.new.items) }
 {
     let name = column_name(model, column);
-    if is_one(amount) {
-        return write(&[Piece::Text(name)], into);
+    if amount == Frac::whole(1) {
+        return write(&[Text(name)], into);
     }
-    write(
-        &[
-            Piece::Number(amount),
-            Piece::Sign(Sign::Blank),
-            Piece::Text(name),
-        ],
-        into,
-    )
+    write(&[Number(amount), Fixed(" "), Text(name)], into)
 }
 
-// The sign of a first term.
-fn first_sign(factor: Frac) -> Sign
-    ensures { result ≡ sign_at_first factor }
+// What stands before a term of a sum, by its factor.
+fn sign_before(factor: Frac, is_first: bool) -> &'static str
+    ensures { IsClosed result.now }
 {
-    if is_negative(factor) {
-        Sign::Negative
-    } else {
-        Sign::Nothing
+    let is_minus = is_negative(factor);
+    if is_first {
+        return if is_minus { "-" } else { "" };
     }
-}
-
-// The sign of a further term.
-fn next_sign(factor: Frac) -> Sign
-    ensures { result ≡ sign_between factor }
-{
-    if is_negative(factor) {
-        Sign::Minus
-    } else {
-        Sign::Plus
-    }
-}
-
-// Writes the first term of a sum.
-fn write_first(model: &Model, term: Term, into: &mut Vec<u8>) -> Result<(), AllocError>
-    ensures { OnOk result (Writes into.old.items into.new.items (first_pieces model.now term)) }
-{
-    write(&[Piece::Sign(first_sign(term.factor))], into)?;
-    write_amount(model, magnitude(term.factor), term.column, into)
-}
-
-// Writes a further term.
-fn write_next(model: &Model, term: Term, into: &mut Vec<u8>) -> Result<(), AllocError>
-    ensures { OnOk result (Writes into.old.items into.new.items (next_pieces model.now term)) }
-{
-    write(&[Piece::Sign(next_sign(term.factor))], into)?;
-    write_amount(model, magnitude(term.factor), term.column, into)
-}
-
-// Writes further terms.
-fn write_others(model: &Model, terms: &[Term], into: &mut Vec<u8>) -> Result<(), AllocError>
-    ensures { OnOk result (Writes into.old.items into.new.items (flat_map (next_pieces model.now) terms.now)) }
-{
-    for term in terms {
-        write_next(model, *term, into)?;
-    }
-    Ok(())
+    if is_minus { " - " } else { " + " }
 }
 
 // Writes a sum.
 fn write_sum(model: &Model, terms: &[Term], into: &mut Vec<u8>) -> Result<(), AllocError>
-    ensures { OnOk result (Writes into.old.items into.new.items (sum_pieces model.now terms.now)) }
+    ensures { OnOk result (IsMarkedUp into.old.items into.new.items) }
 {
-    let [first, others @ ..] = terms else {
-        return write(&[Piece::Number(Frac::whole(0))], into);
-    };
-    write_first(model, *first, into)?;
-    write_others(model, others, into)
-}
-
-// What is said of a row or a column before its name, by the member.
-fn title(member: Member) -> Words
-    ensures { result ≡ title_words member }
-{
-    match member {
-        Member::RowLo(_) => Words::LowerSideTitle,
-        Member::RowUp(_) => Words::UpperSideTitle,
-        Member::Lower(_) => Words::LeastTitle,
-        Member::Upper(_) => Words::GreatestTitle,
-        Member::Whole(_) => Words::WholeTitle,
+    if terms.is_empty() {
+        return write_fixed("0", into);
     }
+    let mut is_first = true;
+    for term in terms {
+        write_fixed(sign_before(term.factor, is_first), into)?;
+        write_amount(model, magnitude(term.factor), term.column, into)?;
+        is_first = false;
+    }
+    Ok(())
 }
 
 /// Writes the name of a member.
@@ -141,37 +71,16 @@ pub(crate) fn write_title(
     member: Member,
     into: &mut Vec<u8>,
 ) -> Result<(), AllocError>
-    ensures { OnOk result (Writes into.old.items into.new.items (title_pieces model.now member)) }
+    ensures { OnOk result (IsMarkedUp into.old.items into.new.items) }
 {
-    write(
-        &[
-            Piece::Words(title(member)),
-            Piece::Text(member_name(model, member)),
-        ],
-        into,
-    )
-}
-
-// Writes the number that a member asks for, behind a sign.
-fn write_bound(
-    model: &Model,
-    sign: Sign,
-    member: Member,
-    into: &mut Vec<u8>,
-) -> Result<(), AllocError>
-    ensures { OnOk result (Writes into.old.items into.new.items (bound_pieces model.now sign member)) }
-{
-    write(
-        &[Piece::Sign(sign), Piece::Number(asked(model, member))],
-        into,
-    )
-}
-
-// Writes the name of a column.
-fn write_column(model: &Model, column: u32, into: &mut Vec<u8>) -> Result<(), AllocError>
-    ensures { OnOk result (Writes into.old.items into.new.items (Shown.Text (column_named model.now column) ∷ [])) }
-{
-    write(&[Piece::Text(column_name(model, column))], into)
+    let name = member_name(model, member);
+    match member {
+        Member::RowLo(_) => write(&[Fixed("lower side of row "), Text(name)], into),
+        Member::RowUp(_) => write(&[Fixed("upper side of row "), Text(name)], into),
+        Member::Lower(_) => write(&[Fixed("least value of "), Text(name)], into),
+        Member::Upper(_) => write(&[Fixed("greatest value of "), Text(name)], into),
+        Member::Whole(_) => write(&[Fixed("whole values of "), Text(name)], into),
+    }
 }
 
 /// Writes what a member asks for.
@@ -180,29 +89,22 @@ pub(crate) fn write_demand(
     member: Member,
     into: &mut Vec<u8>,
 ) -> Result<(), AllocError>
-    ensures { OnOk result (Writes into.old.items into.new.items (demand_pieces model.now member)) }
+    ensures { OnOk result (IsMarkedUp into.old.items into.new.items) }
 {
+    let number = asked(model, member);
+    let name = member_name(model, member);
     match member {
         Member::RowLo(index) => {
             write_sum(model, row_terms(model, index), into)?;
-            write_bound(model, Sign::AtLeast, member, into)
+            write(&[Fixed(" &gt;= "), Number(number)], into)
         }
         Member::RowUp(index) => {
             write_sum(model, row_terms(model, index), into)?;
-            write_bound(model, Sign::AtMost, member, into)
+            write(&[Fixed(" &lt;= "), Number(number)], into)
         }
-        Member::Lower(index) => {
-            write_column(model, index, into)?;
-            write_bound(model, Sign::AtLeast, member, into)
-        }
-        Member::Upper(index) => {
-            write_column(model, index, into)?;
-            write_bound(model, Sign::AtMost, member, into)
-        }
-        Member::Whole(index) => {
-            write_column(model, index, into)?;
-            write(&[Piece::Sign(Sign::IsWhole)], into)
-        }
+        Member::Lower(_) => write(&[Text(name), Fixed(" &gt;= "), Number(number)], into),
+        Member::Upper(_) => write(&[Text(name), Fixed(" &lt;= "), Number(number)], into),
+        Member::Whole(_) => write(&[Text(name), Fixed(" is a whole number")], into),
     }
 }
 
@@ -213,67 +115,35 @@ pub(crate) fn write_value(
     value: Frac,
     into: &mut Vec<u8>,
 ) -> Result<(), AllocError>
-    ensures { OnOk result (Writes into.old.items into.new.items (value_pieces model.now column value)) }
+    ensures { OnOk result (IsMarkedUp into.old.items into.new.items) }
 {
     write(
         &[
-            Piece::Text(column_name(model, column)),
-            Piece::Sign(Sign::Equals),
-            Piece::Number(value),
+            Text(column_name(model, column)),
+            Fixed(" = "),
+            Number(value),
         ],
         into,
     )
 }
 
 /// The value of a column, or 0 past the last.
-pub(crate) fn value_at(values: &[Frac], column: u32) -> Frac
-    ensures { result ≡ values_at values.now column }
-{
+pub(crate) fn value_at(values: &[Frac], column: u32) -> Frac {
     match values.get(column as usize) {
         Some(value) => *value,
         None => Frac::whole(0),
     }
 }
 
-// Writes the value of the column of a first term.
-fn write_first_value(
-    model: &Model,
-    values: &[Frac],
-    term: Term,
-    into: &mut Vec<u8>,
-) -> Result<(), AllocError>
-    ensures { OnOk result (Writes into.old.items into.new.items (first_value model.now (values_at values.now) term)) }
+// What stands before a value.
+fn lead(is_first: bool) -> &'static str
+    ensures { IsClosed result.now }
 {
-    write(&[Piece::Words(Words::ForInstance)], into)?;
-    write_value(model, term.column, value_at(values, term.column), into)
-}
-
-// Writes the value of the column of a further term.
-fn write_next_value(
-    model: &Model,
-    values: &[Frac],
-    term: Term,
-    into: &mut Vec<u8>,
-) -> Result<(), AllocError>
-    ensures { OnOk result (Writes into.old.items into.new.items (next_value model.now (values_at values.now) term)) }
-{
-    write(&[Piece::Sign(Sign::Comma)], into)?;
-    write_value(model, term.column, value_at(values, term.column), into)
-}
-
-// Writes the values of the columns of further terms.
-fn write_other_values(
-    model: &Model,
-    values: &[Frac],
-    terms: &[Term],
-    into: &mut Vec<u8>,
-) -> Result<(), AllocError>
-    ensures { OnOk result (Writes into.old.items into.new.items (flat_map (next_value model.now (values_at values.now)) terms.now)) }
-{
-    for term in terms {
-        write_next_value(model, values, *term, into)?;
+    if is_first {
+        ", for instance with "
+    } else {
+        ", "
     }
-    Ok(())
 }
 
 // Writes the values of the columns of terms.
@@ -283,29 +153,15 @@ fn write_term_values(
     terms: &[Term],
     into: &mut Vec<u8>,
 ) -> Result<(), AllocError>
-    ensures { OnOk result (Writes into.old.items into.new.items (values_pieces model.now (values_at values.now) terms.now)) }
+    ensures { OnOk result (IsMarkedUp into.old.items into.new.items) }
 {
-    let [first, others @ ..] = terms else {
-        return Ok(());
-    };
-    write_first_value(model, values, *first, into)?;
-    write_other_values(model, values, others, into)
-}
-
-// Writes the value of a column as that of a form.
-fn write_column_value(
-    model: &Model,
-    values: &[Frac],
-    column: u32,
-    into: &mut Vec<u8>,
-) -> Result<(), AllocError>
-    ensures { OnOk result (Writes into.old.items into.new.items (values_pieces model.now (values_at values.now) (column_form column))) }
-{
-    let term = Term {
-        column,
-        factor: Frac::whole(1),
-    };
-    write_first_value(model, values, term, into)
+    let mut is_first = true;
+    for term in terms {
+        write_fixed(lead(is_first), into)?;
+        write_value(model, term.column, value_at(values, term.column), into)?;
+        is_first = false;
+    }
+    Ok(())
 }
 
 /// Writes the values of the columns of a member's form.
@@ -315,13 +171,15 @@ pub(crate) fn write_values(
     member: Member,
     into: &mut Vec<u8>,
 ) -> Result<(), AllocError>
-    ensures { OnOk result (Writes into.old.items into.new.items (values_pieces model.now (values_at values.now) (form model.now member))) }
+    ensures { OnOk result (IsMarkedUp into.old.items into.new.items) }
 {
     match member {
-        Member::RowLo(index) => write_term_values(model, values, row_terms(model, index), into),
-        Member::RowUp(index) => write_term_values(model, values, row_terms(model, index), into),
-        Member::Lower(index) => write_column_value(model, values, index, into),
-        Member::Upper(index) => write_column_value(model, values, index, into),
-        Member::Whole(index) => write_column_value(model, values, index, into),
+        Member::RowLo(index) | Member::RowUp(index) => {
+            write_term_values(model, values, row_terms(model, index), into)
+        }
+        Member::Lower(column) | Member::Upper(column) | Member::Whole(column) => {
+            let factor = Frac::whole(1);
+            write_term_values(model, values, &[Term { column, factor }], into)
+        }
     }
 }

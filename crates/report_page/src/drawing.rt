@@ -1,240 +1,159 @@
 //! A drawing of the columns that tie members together.
-#![tactic(auto, using(crate::proofs::Pieced::more))]
+ghost use Rattle.std.specs.Prelude.{OnOk};
+ghost use Rattle.report_page.specs.Pieces.{IsMarkedUp};
 
-ghost use Rattle.std.specs.Prelude.{◌≡◌, ◌==◌, ◌<◌, ◌≤◌, ◌+◌, [], OnOk, IfOk, cond, length};
-ghost use Rattle.std.specs.List.{list_any};
-ghost use Rattle.lp_model.specs.Shown.{most_columns};
-ghost use Rattle.report_page.specs.Pieces.{Writes};
-ghost use Rattle.report_page.specs.Drawing.{is_in_form, is_shared as is_shared_by, shared_count, numbered, member_pieces, column_pieces, tie_pieces, tied_pieces, shared_pieces, figure_pieces, drawing_pieces};
-
-use crate::markup::{Sign, Tag, Words};
-use crate::members::fold_tag;
+use crate::folds::begin_fold;
 use crate::parts::{column_name, member_name, row_terms};
-use crate::pieces::{Piece, write};
+use crate::pieces::Piece::{Count, Fixed, Text};
+use crate::pieces::{write, write_fixed};
 use lp_model::{Member, Model, Term};
 use report_text::MemberList;
-use std::alloc::AllocError;
+use std::alloc::{AllocError, Global};
 
 /// The most members of a drawing, and the most columns.
 const MOST_DRAWN: u64 = 60;
 
+/// How far one line of it stands below another.
+const LINE: u64 = 20;
+
 // Whether a column stands among terms.
-fn has_column(terms: &[Term], column: u32) -> bool
-    ensures { result ≡ list_any (λ t. t.column == column) terms.now }
-{
+fn has_column(terms: &[Term], column: u32) -> bool {
     terms.iter().any(|term| term.column == column)
 }
 
 // Whether a column stands in the form of a member.
-fn stands_in(model: &Model, column: u32, member: Member) -> bool
-    ensures { result ≡ is_in_form model.now column member }
-{
+fn stands_in(model: &Model, column: u32, member: Member) -> bool {
     match member {
-        Member::RowLo(index) => has_column(row_terms(model, index), column),
-        Member::RowUp(index) => has_column(row_terms(model, index), column),
-        Member::Lower(index) => index == column,
-        Member::Upper(index) => index == column,
-        Member::Whole(index) => index == column,
+        Member::RowLo(index) | Member::RowUp(index) => {
+            has_column(row_terms(model, index), column)
+        }
+        Member::Lower(index) | Member::Upper(index) | Member::Whole(index) => index == column,
     }
 }
 
 // Whether a column stands in the forms of at least two members.
-fn is_shared(model: &Model, column: u32, set: &MemberList) -> bool
-    requires { length set.now.members ≤ 60 }
-    ensures { result ≡ is_shared_by model.now set.now.members column }
-{
-    let mut count: u64 = 0;
+fn is_shared(model: &Model, column: u32, set: &MemberList) -> bool {
+    let mut is_found = false;
     for member in set.iter() {
         if stands_in(model, column, member) {
-            count += 1;
+            if is_found {
+                return true;
+            }
+            is_found = true;
         }
     }
-    count > 1
+    false
 }
 
-// How many columns are shared.
-fn count_shared(model: &Model, set: &MemberList) -> u64
-    requires { length set.now.members ≤ 60 }
-    ensures { result ≡ shared_count model.now set.now.members (length model.now.columns) }
-{
-    let mut count: u64 = 0;
+// The columns that are shared.
+fn shared_columns(alloc: Global, model: &Model, set: &MemberList) -> Result<Vec<u32>, AllocError> {
+    let mut shared = Vec::new(alloc);
     for column in 0..model.column_count() {
         if is_shared(model, column, set) {
-            count += 1;
+            shared.push(column)?;
         }
     }
-    count
+    Ok(shared)
 }
 
-// Writes a member on the left.
-fn write_member(
-    model: &Model,
-    place: u64,
-    member: Member,
-    into: &mut Vec<u8>,
-) -> Result<(), AllocError>
-    requires { place ≤ 60 }
-    ensures { OnOk result (Writes into.old.items into.new.items (member_pieces model.now place member)) }
-{
-    write(
-        &[
-            Piece::Tag(Tag::OnLeft),
-            Piece::Count(20 * place),
-            Piece::Tag(Tag::LabelBody),
-            Piece::Count(place),
-            Piece::Sign(Sign::Blank),
-            Piece::Text(member_name(model, member)),
-            Piece::Tag(Tag::LabelEnd),
-        ],
-        into,
-    )
-}
-
-// Writes the members on the left.
+// Writes the members on the left, one below the other.
 fn write_members(model: &Model, set: &MemberList, into: &mut Vec<u8>) -> Result<(), AllocError>
-    requires { length set.now.members ≤ 60 }
-    ensures { OnOk result (Writes into.old.items into.new.items (numbered (member_pieces model.now) 1 set.now.members)) }
+    ensures { OnOk result (IsMarkedUp into.old.items into.new.items) }
 {
     let mut place: u64 = 1;
     for member in set.iter() {
-        write_member(model, place, member, into)?;
-        place += 1;
+        write(
+            &[
+                Fixed("<text x=0 y="),
+                Count(place.saturating_mul(LINE)),
+                Fixed(">"),
+                Count(place),
+                Fixed(" "),
+                Text(member_name(model, member)),
+                Fixed("</text>\n"),
+            ],
+            into,
+        )?;
+        place = place.saturating_add(1);
     }
     Ok(())
 }
 
-// Writes a column on the right.
+// Writes a column on the right, and a line to it from each member in whose form it stands.
 fn write_column(
     model: &Model,
-    place: u64,
     column: u32,
+    height: u64,
+    set: &MemberList,
     into: &mut Vec<u8>,
 ) -> Result<(), AllocError>
-    requires { place ≤ most_columns }
-    ensures { OnOk result (Writes into.old.items into.new.items (column_pieces model.now place column)) }
+    ensures { OnOk result (IsMarkedUp into.old.items into.new.items) }
 {
     write(
         &[
-            Piece::Tag(Tag::OnRight),
-            Piece::Count(20 * place),
-            Piece::Tag(Tag::LabelBody),
-            Piece::Text(column_name(model, column)),
-            Piece::Tag(Tag::LabelEnd),
+            Fixed("<text x=238 y="),
+            Count(height),
+            Fixed(">"),
+            Text(column_name(model, column)),
+            Fixed("</text>\n"),
         ],
         into,
-    )
+    )?;
+    let mut from: u64 = LINE;
+    for member in set.iter() {
+        write_tie(stands_in(model, column, member), from, height, into)?;
+        from = from.saturating_add(LINE);
+    }
+    Ok(())
 }
 
-// Writes a line from a member to a column, where that stands in its form.
-fn write_tie(
-    model: &Model,
-    place: u64,
-    column: u32,
-    from: u64,
-    member: Member,
-    into: &mut Vec<u8>,
-) -> Result<(), AllocError>
-    requires column { place ≤ most_columns }
-    requires member { from ≤ 60 }
-    ensures { OnOk result (Writes into.old.items into.new.items (tie_pieces model.now place column from member)) }
+// Writes a line from a member to a column, where they are tied.
+fn write_tie(is_tied: bool, from: u64, height: u64, into: &mut Vec<u8>) -> Result<(), AllocError>
+    ensures { OnOk result (IsMarkedUp into.old.items into.new.items) }
 {
-    if !stands_in(model, column, member) {
+    if !is_tied {
         return Ok(());
     }
     write(
         &[
-            Piece::Tag(Tag::LineFrom),
-            Piece::Count(20 * from),
-            Piece::Tag(Tag::LineTo),
-            Piece::Count(20 * place),
-            Piece::Tag(Tag::LineEnd),
+            Fixed("<line x1=140 y1="),
+            Count(from),
+            Fixed(" x2=230 y2="),
+            Count(height),
+            Fixed("></line>\n"),
         ],
         into,
     )
 }
 
-// Writes the lines to a column.
-fn write_ties(
-    model: &Model,
-    place: u64,
-    column: u32,
-    set: &MemberList,
-    into: &mut Vec<u8>,
-) -> Result<(), AllocError>
-    requires column { place ≤ most_columns }
-    requires members { length set.now.members ≤ 60 }
-    ensures { OnOk result (Writes into.old.items into.new.items (numbered (tie_pieces model.now place column) 1 set.now.members)) }
-{
-    let mut from: u64 = 1;
-    for member in set.iter() {
-        write_tie(model, place, column, from, member, into)?;
-        from += 1;
-    }
-    Ok(())
-}
-
-// Writes a column and its lines below so many others, where it is shared, and says how many there are then.
-fn write_shared(
-    model: &Model,
-    above: u64,
-    column: u32,
-    set: &MemberList,
-    into: &mut Vec<u8>,
-) -> Result<u64, AllocError>
-    requires column { above < most_columns }
-    requires members { length set.now.members ≤ 60 }
-    ensures count { IfOk result (λ n. n ≡ above + cond (is_shared_by model.now set.now.members column) 1 0) }
-    ensures written { OnOk result (Writes into.old.items into.new.items (cond (is_shared_by model.now set.now.members column) (tied_pieces model.now set.now.members (above + 1) column) [])) }
-{
-    if !is_shared(model, column, set) {
-        return Ok(above);
-    }
-    write_column(model, above + 1, column, into)?;
-    write_ties(model, above + 1, column, set, into)?;
-    Ok(above + 1)
-}
-
-// Writes the shared columns, one below the other, and their lines.
-fn write_columns(model: &Model, set: &MemberList, into: &mut Vec<u8>) -> Result<(), AllocError>
-    requires { length set.now.members ≤ 60 }
-    ensures { OnOk result (Writes into.old.items into.new.items (shared_pieces model.now set.now.members (length model.now.columns))) }
-{
-    let mut count: u64 = 0;
-    for column in 0..model.column_count() {
-        count = write_shared(model, count, column, set, into)?;
-    }
-    Ok(())
-}
-
-// Writes the drawing of members with so many shared columns.
+// Writes the drawing of members with these shared columns.
 fn write_figure(
     model: &Model,
     set: &MemberList,
-    shared: u64,
+    columns: &[u32],
     into: &mut Vec<u8>,
 ) -> Result<(), AllocError>
-    requires columns { shared ≤ 60 }
-    requires members { length set.now.members ≤ 60 }
-    ensures { OnOk result (Writes into.old.items into.new.items (figure_pieces model.now set.now.members shared)) }
+    ensures { OnOk result (IsMarkedUp into.old.items into.new.items) }
 {
+    let shared = columns.len() as u64;
+    let lines = set.count().max(shared);
+    begin_fold("Quantities that two or more of them share: ", shared, into)?;
     write(
         &[
-            Piece::Tag(fold_tag(shared)),
-            Piece::Words(Words::SharedFold),
-            Piece::Count(shared),
-            Piece::Tag(Tag::FoldBody),
-            Piece::Tag(Tag::Drawing),
-            Piece::Count(20 * set.count().max(shared) + 8),
-            Piece::Tag(Tag::DrawingBody),
+            Fixed("<svg role=img aria-label='Which quantities tie which requirements together' "),
+            Fixed("viewBox='0 0 400 "),
+            Count(lines.saturating_mul(LINE).saturating_add(8)),
+            Fixed("'>\n"),
         ],
         into,
     )?;
     write_members(model, set, into)?;
-    write_columns(model, set, into)?;
-    write(
-        &[Piece::Tag(Tag::DrawingEnd), Piece::Tag(Tag::FoldEnd)],
-        into,
-    )
+    let mut height: u64 = LINE;
+    for column in columns {
+        write_column(model, *column, height, set, into)?;
+        height = height.saturating_add(LINE);
+    }
+    write_fixed("</svg>\n</details>\n", into)
 }
 
 /// Writes which columns tie members together, where there are from 1 to 60 such columns and at most 60 members.
@@ -243,14 +162,14 @@ pub(crate) fn write_drawing(
     set: &MemberList,
     into: &mut Vec<u8>,
 ) -> Result<(), AllocError>
-    ensures { OnOk result (Writes into.old.items into.new.items (drawing_pieces model.now set.now.members)) }
+    ensures { OnOk result (IsMarkedUp into.old.items into.new.items) }
 {
     if set.count() > MOST_DRAWN {
         return Ok(());
     }
-    let shared = count_shared(model, set);
-    if shared == 0 || shared > MOST_DRAWN {
+    let shared = shared_columns(*into.allocator(), model, set)?;
+    if shared.is_empty() || shared.len() as u64 > MOST_DRAWN {
         return Ok(());
     }
-    write_figure(model, set, shared, into)
+    write_figure(model, set, shared.as_slice(), into)
 }

@@ -1,151 +1,136 @@
 //! Edits: what each asks for, and why one is refused.
-#![tactic(auto, using(crate::proofs::Pieced::more))]
+ghost use Rattle.std.specs.Prelude.{OnOk};
+ghost use Rattle.report_page.specs.Pieces.{IsClosed, IsMarkedUp};
 
-ghost use Rattle.std.specs.Prelude.{◌≡◌, OnOk};
-ghost use Rattle.report_page.specs.Pieces.{piece_shown, Writes};
-ghost use Rattle.report_page.specs.Edits.{side_piece, bound_piece, target_piece, asked_pieces, limit_piece, weight_piece, mark_piece, wanted_pieces, edit_pieces, refusal_words, refused_pieces};
-
-use crate::markup::{Change, Sign, Tag, Words};
-use crate::pieces::{Piece, write};
+use crate::pieces::Piece::{Fixed, Number, Text};
+use crate::pieces::{write, write_fixed};
 use frac128::Frac;
 use lp_model::{Side, Weight};
 use report_text::{EditKind, NamedEdit, Refusal, TargetKind};
 use std::alloc::AllocError;
 
+// What is done.
+fn done(kind: EditKind) -> &'static str
+    ensures { IsClosed result.now }
+{
+    match kind {
+        EditKind::Drop(_) => "Drop the ",
+        EditKind::Keep(_) => "Keep the ",
+        EditKind::Weigh(_, _) => "Weigh the ",
+        EditKind::SetSide(_, _) | EditKind::SetBound(_, _) => "Set the ",
+        EditKind::SetMark(_) => "Mark ",
+    }
+}
+
 // What the page calls a side of a row.
-fn side_title(side: Side) -> Piece<'static>
-    ensures { piece_shown result ≡ side_piece side }
+fn side_title(side: Side) -> &'static str
+    ensures { IsClosed result.now }
 {
     match side {
-        Side::Lo => Piece::Words(Words::LowerSideTitle),
-        Side::Up => Piece::Words(Words::UpperSideTitle),
+        Side::Lo => "lower side of row ",
+        Side::Up => "upper side of row ",
     }
 }
 
-// What the page calls a bound of a column.
-fn bound_title(side: Side) -> Piece<'static>
-    ensures { piece_shown result ≡ bound_piece side }
+// What it calls a bound of a column.
+fn bound_title(side: Side) -> &'static str
+    ensures { IsClosed result.now }
 {
     match side {
-        Side::Lo => Piece::Words(Words::LeastTitle),
-        Side::Up => Piece::Words(Words::GreatestTitle),
+        Side::Lo => "least value of ",
+        Side::Up => "greatest value of ",
     }
 }
 
-// What the page calls what an edit is of.
-fn target_title(target: TargetKind) -> Piece<'static>
-    ensures { piece_shown result ≡ target_piece target }
+// What it calls a target.
+fn target_title(target: TargetKind) -> &'static str
+    ensures { IsClosed result.now }
 {
     match target {
-        TargetKind::Row => Piece::Change(Change::Row),
+        TargetKind::Row => "row ",
         TargetKind::RowLo => side_title(Side::Lo),
         TargetKind::RowUp => side_title(Side::Up),
         TargetKind::Lower => bound_title(Side::Lo),
         TargetKind::Upper => bound_title(Side::Up),
-        TargetKind::Whole => Piece::Words(Words::WholeTitle),
+        TargetKind::Whole => "whole values of ",
     }
 }
 
-// A number that is set, or that there is to be none.
-fn limit_wanted(limit: Option<Frac>) -> Piece<'static>
-    ensures { piece_shown result ≡ limit_piece limit }
+// What it calls that of which an edit is.
+fn edited_title(kind: EditKind) -> &'static str
+    ensures { IsClosed result.now }
 {
-    match limit {
-        Some(number) => Piece::Number(number),
-        None => Piece::Change(Change::NoNumber),
+    match kind {
+        EditKind::Drop(target) | EditKind::Keep(target) | EditKind::Weigh(target, _) => {
+            target_title(target)
+        }
+        EditKind::SetSide(side, _) => side_title(side),
+        EditKind::SetBound(side, _) => bound_title(side),
+        EditKind::SetMark(_) => "",
     }
 }
 
-// A weight that is given.
-fn weight_wanted(weight: Weight) -> Piece<'static>
-    ensures { piece_shown result ≡ weight_piece weight }
+// Writes what a number is set to, or a weight, or words where there is to be none.
+fn write_number(
+    number: Option<Frac>,
+    none: &'static str,
+    into: &mut Vec<u8>,
+) -> Result<(), AllocError>
+    requires { IsClosed none.now }
+    ensures { OnOk result (IsMarkedUp into.old.items into.new.items) }
 {
+    match number {
+        Some(number) => write(&[Fixed(": "), Number(number)], into),
+        None => write_fixed(none, into),
+    }
+}
+
+// A weight that is given, where it is not rigid.
+fn soft_weight(weight: Weight) -> Option<Frac> {
     match weight {
-        Weight::Soft(number) => Piece::Number(number),
-        Weight::Rigid => Piece::Change(Change::Rigid),
+        Weight::Soft(number) => Some(number),
+        Weight::Rigid => None,
     }
 }
 
 // Whether a column is to be whole.
-fn mark_wanted(whole: bool) -> Piece<'static>
-    ensures { piece_shown result ≡ mark_piece whole }
+fn mark_wanted(whole: bool) -> &'static str
+    ensures { IsClosed result.now }
 {
-    if whole {
-        return Piece::Change(Change::Whole);
-    }
-    Piece::Change(Change::Plain)
-}
-
-// Writes what is done, and of what.
-fn write_asked(kind: EditKind, into: &mut Vec<u8>) -> Result<(), AllocError>
-    ensures { OnOk result (Writes into.old.items into.new.items (asked_pieces kind)) }
-{
-    match kind {
-        EditKind::Drop(target) => {
-            write(&[Piece::Change(Change::Drop), target_title(target)], into)
-        }
-        EditKind::Keep(target) => {
-            write(&[Piece::Change(Change::Keep), target_title(target)], into)
-        }
-        EditKind::Weigh(target, _) => {
-            write(&[Piece::Change(Change::Weigh), target_title(target)], into)
-        }
-        EditKind::SetSide(side, _) => write(&[Piece::Change(Change::Set), side_title(side)], into),
-        EditKind::SetBound(side, _) => write(
-            &[Piece::Change(Change::Set), bound_title(side)],
-            into,
-        ),
-        EditKind::SetMark(_) => write(&[Piece::Change(Change::Mark)], into),
-    }
+    if whole { ": whole" } else { ": plain" }
 }
 
 // Writes what an edit makes something, where it does.
 fn write_wanted(kind: EditKind, into: &mut Vec<u8>) -> Result<(), AllocError>
-    ensures { OnOk result (Writes into.old.items into.new.items (wanted_pieces kind)) }
+    ensures { OnOk result (IsMarkedUp into.old.items into.new.items) }
 {
     match kind {
         EditKind::Drop(_) | EditKind::Keep(_) => Ok(()),
-        EditKind::Weigh(_, weight) => write(
-            &[Piece::Sign(Sign::Colon), weight_wanted(weight)],
-            into,
-        ),
+        EditKind::Weigh(_, weight) => write_number(soft_weight(weight), ": rigid", into),
         EditKind::SetSide(_, limit) | EditKind::SetBound(_, limit) => {
-            write(&[Piece::Sign(Sign::Colon), limit_wanted(limit)], into)
+            write_number(limit, ": none", into)
         }
-        EditKind::SetMark(whole) => write(&[Piece::Sign(Sign::Colon), mark_wanted(whole)], into),
+        EditKind::SetMark(whole) => write_fixed(mark_wanted(whole), into),
     }
 }
 
 /// Writes what an edit asks for.
 pub(crate) fn write_edit(edit: &NamedEdit, into: &mut Vec<u8>) -> Result<(), AllocError>
-    ensures { OnOk result (Writes into.old.items into.new.items (edit_pieces edit.now)) }
+    ensures { OnOk result (IsMarkedUp into.old.items into.new.items) }
 {
-    write_asked(edit.kind, into)?;
-    write(&[Piece::Text(edit.name.bytes())], into)?;
+    write_fixed(done(edit.kind), into)?;
+    write_fixed(edited_title(edit.kind), into)?;
+    write(&[Text(edit.name.bytes())], into)?;
     write_wanted(edit.kind, into)
-}
-
-// The words of a refusal.
-fn refusal_said(reason: Refusal) -> Change
-    ensures { result ≡ refusal_words reason }
-{
-    match reason {
-        Refusal::UnknownName => Change::UnknownName,
-        Refusal::NoChange => Change::NoChange,
-        Refusal::NothingToUndo => Change::NothingToUndo,
-    }
 }
 
 /// Writes why an edit is refused, or an undo.
 pub(crate) fn write_refused(reason: Refusal, into: &mut Vec<u8>) -> Result<(), AllocError>
-    ensures { OnOk result (Writes into.old.items into.new.items (refused_pieces reason)) }
+    ensures { OnOk result (IsMarkedUp into.old.items into.new.items) }
 {
-    write(
-        &[
-            Piece::Tag(Tag::Paragraph),
-            Piece::Change(refusal_said(reason)),
-            Piece::Tag(Tag::ParagraphEnd),
-        ],
-        into,
-    )
+    match reason {
+        Refusal::UnknownName => write_fixed("<p>The model has no such name.</p>\n", into),
+        Refusal::NoChange => write_fixed("<p>The model would stay as it is.</p>\n", into),
+        Refusal::NothingToUndo => { write_fixed("<p>There is no edit to take back.</p>\n", into) }
+    }
 }

@@ -1,14 +1,10 @@
-//! How little must give way.
-#![tactic(auto, using(crate::proofs::Pieced::more))]
+//! How little must give way, and what a cheapest way to show a contradiction costs.
+ghost use Rattle.std.specs.Prelude.{OnOk};
+ghost use Rattle.report_page.specs.Pieces.{IsClosed, IsMarkedUp};
 
-ghost use Rattle.std.specs.Prelude.{◌≡◌, OnOk};
-ghost use Rattle.report_page.specs.Pieces.{Writes};
-ghost use Rattle.report_page.specs.Leasts.{gives_words, least_total, no_less_pieces, showing_pieces, least_pieces, not_linear_pieces};
-
-use crate::markup::{Giving, Sign, Tag, Words};
-use crate::objectives::{Support, write_holders};
-use crate::parts::column_name;
-use crate::pieces::{Piece, write};
+use crate::objectives::write_holders;
+use crate::pieces::Piece::{Fixed, Number};
+use crate::pieces::{write, write_fixed};
 use crate::points::{Told, write_fold};
 use certs::{PackedPoint, Share};
 use frac128::Frac;
@@ -16,50 +12,26 @@ use lp_model::Model;
 use std::alloc::AllocError;
 
 // Whether any requirement is said to have to give way.
-fn gives(total: Frac) -> Giving
-    ensures { result ≡ gives_words total }
+fn gives(total: Frac) -> &'static str
+    ensures { IsClosed result.now }
 {
     if total == Frac::whole(0) {
-        return Giving::NoneGives;
+        return "<p class=lead>All requirements can be met at once.";
     }
-    Giving::SomeGive
+    "<p class=lead>Not all requirements can be met at once."
 }
 
 // Writes the least weighted violation.
 fn write_total(total: Frac, into: &mut Vec<u8>) -> Result<(), AllocError>
-    ensures { OnOk result (Writes into.old.items into.new.items (least_total total)) }
+    ensures { OnOk result (IsMarkedUp into.old.items into.new.items) }
 {
+    write_fixed(gives(total), into)?;
     write(
         &[
-            Piece::Tag(Tag::Lead),
-            Piece::Giving(gives(total)),
-            Piece::Number(total),
-            Piece::Sign(Sign::FullStop),
-            Piece::Tag(Tag::ParagraphEnd),
-            Piece::Tag(Tag::Paragraph),
-            Piece::Giving(Giving::Meaning),
-            Piece::Tag(Tag::ParagraphEnd),
-        ],
-        into,
-    )
-}
-
-// Writes what the shares of the dual add up to, and what follows.
-fn write_no_less(total: Frac, into: &mut Vec<u8>) -> Result<(), AllocError>
-    ensures { OnOk result (Writes into.old.items into.new.items (no_less_pieces total)) }
-{
-    write(
-        &[
-            Piece::Tag(Tag::Paragraph),
-            Piece::Words(Words::AddUp),
-            Piece::Tag(Tag::Form),
-            Piece::Words(Words::ZeroAtLeast),
-            Piece::Number(total),
-            Piece::Tag(Tag::FormEnd),
-            Piece::Giving(Giving::NoLess),
-            Piece::Number(total),
-            Piece::Sign(Sign::FullStop),
-            Piece::Tag(Tag::ParagraphEnd),
+            Fixed(" The least weighted violation is "),
+            Number(total),
+            Fixed(".</p>\n<p>That is by how much each requirement is missed, times its weight, "),
+            Fixed("added up over those that are not rigid. The rigid ones are met.</p>\n"),
         ],
         into,
     )
@@ -72,14 +44,29 @@ fn write_showing(
     total: Frac,
     into: &mut Vec<u8>,
 ) -> Result<(), AllocError>
-    ensures { let pieces = showing_pieces model.now shares.now total in
-        OnOk result (Writes into.old.items into.new.items pieces) }
+    ensures { OnOk result (IsMarkedUp into.old.items into.new.items) }
 {
     if shares.is_empty() {
         return Ok(());
     }
-    write_holders(model, Support::Total, shares, into)?;
-    write_no_less(total, into)
+    write_holders(
+        model,
+        "Requirements that show that no less is enough: ",
+        shares,
+        into,
+    )?;
+    write(
+        &[
+            Fixed("<p>Take each as often as it says, turn round those with &lt;=, and add up: "),
+            Fixed("on the left everything cancels, and together they say <code>0 &gt;= "),
+            Number(total),
+            Fixed("</code>. None is taken more often than it weighs, rigid ones aside: "),
+            Fixed("so wherever the rigid ones are met, the weighted violation is at least "),
+            Number(total),
+            Fixed(".</p>\n"),
+        ],
+        into,
+    )
 }
 
 /// Writes a point of least weighted violation, and why none is less.
@@ -90,8 +77,7 @@ pub(crate) fn write_least(
     total: Frac,
     into: &mut Vec<u8>,
 ) -> Result<(), AllocError>
-    ensures { let pieces = least_pieces model.now point.now.values shares.now total in
-        OnOk result (Writes into.old.items into.new.items pieces) }
+    ensures { OnOk result (IsMarkedUp into.old.items into.new.items) }
 {
     write_total(total, into)?;
     let point = point.unpacked(*into.allocator())?;
@@ -99,23 +85,43 @@ pub(crate) fn write_least(
     write_showing(model, shares, total, into)
 }
 
-/// Writes that a question is not asked where this column is to be whole.
-pub(crate) fn write_not_linear(
-    model: &Model,
-    column: u32,
-    into: &mut Vec<u8>,
-) -> Result<(), AllocError>
-    ensures { let pieces = not_linear_pieces model.now column in
-        OnOk result (Writes into.old.items into.new.items pieces) }
+// Writes what the cheapest way costs, and what the values of its price show.
+fn write_cost(total: Frac, into: &mut Vec<u8>) -> Result<(), AllocError>
+    ensures { OnOk result (IsMarkedUp into.old.items into.new.items) }
 {
     write(
         &[
-            Piece::Tag(Tag::Paragraph),
-            Piece::Giving(Giving::OnlyLinear),
-            Piece::Text(column_name(model, column)),
-            Piece::Giving(Giving::NotLooked),
-            Piece::Tag(Tag::ParagraphEnd),
+            Fixed(
+                "<p>Of all ways to add requirements up to 0 &gt;= 1 none costs less than this one. ",
+            ),
+            Fixed(
+                "What a way costs is how often it takes each requirement, times the weight of that ",
+            ),
+            Fixed("requirement (1 where it is rigid), added up. Here it is "),
+            Number(total),
+            Fixed(".</p>\n<p>The values below show this. If each requirement asked for "),
+            Number(total),
+            Fixed(" times its number, these values would miss none by more than its weight "),
+            Fixed("(1 where it is rigid). So, added up, each way costs at least "),
+            Number(total),
+            Fixed(".</p>\n"),
         ],
         into,
     )
+}
+
+/// Writes a total with its price, where they are told.
+pub(crate) fn write_price(
+    model: &Model,
+    price: &Option<(Frac, PackedPoint)>,
+    into: &mut Vec<u8>,
+) -> Result<(), AllocError>
+    ensures { OnOk result (IsMarkedUp into.old.items into.new.items) }
+{
+    let Some((total, price)) = price else {
+        return Ok(());
+    };
+    write_cost(*total, into)?;
+    let price = price.unpacked(*into.allocator())?;
+    write_fold(model, Told::Price, price.values.as_slice(), into)
 }

@@ -1,25 +1,22 @@
 //! One page for a report, in the words of the model.
-#![tactic(auto)]
+#![tactic(auto, using(crate::proofs::Marked::nothing, crate::proofs::Marked::more, crate::proofs::Marked::then_more))]
 
 mod answers;
 mod cases;
 mod demands;
 mod drawing;
 mod edits;
+mod folds;
 mod leasts;
-mod markup;
 mod members;
 mod objectives;
 mod pages;
 mod parts;
 mod pieces;
 mod points;
-mod prices;
 mod reasons;
 mod steps;
 mod stops;
-mod totals;
 
-pub use markup::{Account, Change, Giving, Pricing, Reach, Removal, Sign, Tag, Words};
 pub use pages::page;
-pub use pieces::{Piece, escape, escaping_law, write};
+pub use pieces::{Piece, escape, escaping_law, markup_law, write};

@@ -1,34 +1,26 @@
 //! Members that no point satisfies, one after another.
-#![tactic(auto, using(crate::proofs::Pieced::more))]
+ghost use Rattle.std.specs.Prelude.{OnOk};
+ghost use Rattle.report_page.specs.Pieces.{IsClosed, IsMarkedUp};
 
-ghost use Rattle.std.specs.Prelude.{◌≡◌, OnOk, drop};
-ghost use Rattle.certs.specs.Violation.{is_of};
-ghost use Rattle.report_page.specs.Pieces.{piece_shown, Writes};
-ghost use Rattle.report_page.specs.Members.{weight_of as weight_among, times_pieces, taken_pieces, witness_pieces, asking_pieces, member_pieces, members_pieces, one_piece, some_piece, cannot_pieces, fold_tag as tag_of_fold, lead_pieces, list_pieces};
-
-use crate::demands::{is_one, write_demand, write_title, write_values};
-use crate::markup::{Giving, Sign, Tag, Words};
-use crate::pieces::{Piece, write};
+use crate::demands::{write_demand, write_title, write_values};
+use crate::folds::begin_fold;
+use crate::pieces::Piece::{Count, Fixed, Number};
+use crate::pieces::{write, write_fixed};
 use certs::{PackedPoint, Share, Source};
 use frac128::Frac;
 use lp_model::{Member, Model};
 use report_text::MemberList;
 use std::alloc::AllocError;
 
-/// The most items of a fold that is open.
-const MOST_OPEN: u64 = 20;
-
 /// Which members cannot all be met: any, or rigid ones alone.
 #[derive(Clone, Copy, PartialEq, Eq)]
-pub enum Among {
+pub(crate) enum Among {
     Any,
     Rigid,
 }
 
 // Whether a share is of a member.
-fn is_share_of(share: &Share, member: Member) -> bool
-    ensures { result ≡ is_of member share.now.source }
-{
+fn is_share_of(share: &Share, member: Member) -> bool {
     match share.source {
         Source::Member(other) => member == other,
         Source::Below(_) | Source::Above(_) => false,
@@ -36,9 +28,7 @@ fn is_share_of(share: &Share, member: Member) -> bool
 }
 
 // The weight of the first share of a member, where it has one.
-fn weight_of(shares: &[Share], member: Member) -> Option<Frac>
-    ensures { result ≡ weight_among shares.now member }
-{
+fn weight_of(shares: &[Share], member: Member) -> Option<Frac> {
     for share in shares {
         if is_share_of(share, member) {
             return Some(share.weight);
@@ -47,33 +37,24 @@ fn weight_of(shares: &[Share], member: Member) -> Option<Frac>
     None
 }
 
-// Writes how often a member is taken.
-fn write_times(weight: Frac, into: &mut Vec<u8>) -> Result<(), AllocError>
-    ensures { OnOk result (Writes into.old.items into.new.items (times_pieces weight)) }
-{
-    if is_one(weight) {
-        return write(&[Piece::Words(Words::TakenOnce)], into);
-    }
-    write(
-        &[
-            Piece::Words(Words::Taken),
-            Piece::Number(weight),
-            Piece::Words(Words::Times),
-        ],
-        into,
-    )
-}
-
 /// Writes how often a member is taken, where it is.
 pub(crate) fn write_taken(weight: Option<Frac>, into: &mut Vec<u8>) -> Result<(), AllocError>
-    ensures { OnOk result (Writes into.old.items into.new.items (taken_pieces weight)) }
+    ensures { OnOk result (IsMarkedUp into.old.items into.new.items) }
 {
     let Some(weight) = weight else {
         return Ok(());
     };
-    write(&[Piece::Tag(Tag::Taken)], into)?;
-    write_times(weight, into)?;
-    write(&[Piece::Tag(Tag::TakenEnd)], into)
+    if weight == Frac::whole(1) {
+        return write_fixed("\n<span class=times>taken once</span>", into);
+    }
+    write(
+        &[
+            Fixed("\n<span class=times>taken "),
+            Number(weight),
+            Fixed(" times</span>"),
+        ],
+        into,
+    )
 }
 
 // Writes what the first of some witnesses gives the columns of a member's form.
@@ -83,21 +64,18 @@ fn write_witness(
     witnesses: &[PackedPoint],
     into: &mut Vec<u8>,
 ) -> Result<(), AllocError>
-    ensures { OnOk result (Writes into.old.items into.new.items (witness_pieces model.now member witnesses.now)) }
+    ensures { OnOk result (IsMarkedUp into.old.items into.new.items) }
 {
     let [witness, ..] = witnesses else {
         return Ok(());
     };
-    write(
-        &[Piece::Tag(Tag::Without), Piece::Words(Words::Without)],
+    write_fixed(
+        "\n<p class=without>Without this one the others can be met",
         into,
     )?;
     let point = witness.unpacked(*into.allocator())?;
     write_values(model, point.values.as_slice(), member, into)?;
-    write(
-        &[Piece::Sign(Sign::FullStop), Piece::Tag(Tag::ParagraphEnd)],
-        into,
-    )
+    write_fixed(".</p>\n", into)
 }
 
 /// Writes what a member is and what it asks for.
@@ -106,13 +84,13 @@ pub(crate) fn write_asking(
     member: Member,
     into: &mut Vec<u8>,
 ) -> Result<(), AllocError>
-    ensures { OnOk result (Writes into.old.items into.new.items (asking_pieces model.now member)) }
+    ensures { OnOk result (IsMarkedUp into.old.items into.new.items) }
 {
-    write(&[Piece::Tag(Tag::Item), Piece::Tag(Tag::Title)], into)?;
+    write_fixed("<li><b>", into)?;
     write_title(model, member, into)?;
-    write(&[Piece::Tag(Tag::TitleEnd), Piece::Tag(Tag::Form)], into)?;
+    write_fixed("</b>\n<code>", into)?;
     write_demand(model, member, into)?;
-    write(&[Piece::Tag(Tag::FormEnd)], into)
+    write_fixed("</code>", into)
 }
 
 // Writes a member with the first of some witnesses.
@@ -123,107 +101,57 @@ fn write_member(
     witnesses: &[PackedPoint],
     into: &mut Vec<u8>,
 ) -> Result<(), AllocError>
-    ensures { OnOk result (Writes into.old.items into.new.items (member_pieces model.now shares.now member witnesses.now)) }
+    ensures { OnOk result (IsMarkedUp into.old.items into.new.items) }
 {
     write_asking(model, member, into)?;
     write_taken(weight_of(shares, member), into)?;
     write_witness(model, member, witnesses, into)?;
-    write(&[Piece::Tag(Tag::ItemEnd)], into)
+    write_fixed("</li>\n", into)
 }
 
 // The witnesses behind the first.
-fn others(witnesses: &[PackedPoint]) -> &[PackedPoint]
-    ensures { result.now ≡ drop 1 witnesses.now }
-{
+fn others(witnesses: &[PackedPoint]) -> &[PackedPoint] {
     if witnesses.is_empty() {
         return witnesses;
     }
     &witnesses[1..]
 }
 
-// Writes members with their witnesses, as far as there are witnesses.
-fn write_members(
-    model: &Model,
-    shares: &[Share],
-    set: &MemberList,
-    witnesses: &[PackedPoint],
-    into: &mut Vec<u8>,
-) -> Result<(), AllocError>
-    ensures { OnOk result (Writes into.old.items into.new.items (members_pieces model.now shares.now set.now.members witnesses.now)) }
-{
-    let mut rest = witnesses;
-    for member in set.iter() {
-        write_member(model, shares, member, rest, into)?;
-        rest = others(rest);
-    }
-    Ok(())
-}
-
 // That one member cannot be met.
-fn one_cannot(among: Among) -> Piece<'static>
-    ensures { piece_shown result ≡ one_piece among }
+fn one_cannot(among: Among) -> &'static str
+    ensures { IsClosed result.now }
 {
     match among {
-        Among::Any => Piece::Words(Words::OneCannot),
-        Among::Rigid => Piece::Giving(Giving::OneRigid),
+        Among::Any => "<p class=lead>This requirement cannot be met: it must give way.</p>\n",
+        Among::Rigid => {
+            "<p class=lead>This requirement is rigid, and it cannot be met, whatever else gives way.</p>\n"
+        }
     }
 }
 
 // That some members cannot all be met.
-fn some_cannot(among: Among) -> Piece<'static>
-    ensures { piece_shown result ≡ some_piece among }
+fn some_cannot(among: Among) -> &'static str
+    ensures { IsClosed result.now }
 {
     match among {
-        Among::Any => Piece::Words(Words::Cannot),
-        Among::Rigid => Piece::Giving(Giving::RigidCannot),
+        Among::Any => {
+            " requirements cannot all be met. At least one of them must give way.</p>\n"
+        }
+        Among::Rigid => {
+            " requirements are rigid, and they cannot all be met, whatever else gives way.</p>\n"
+        }
     }
 }
 
 // Writes that so many members cannot all be met.
-fn write_cannot(among: Among, count: u64, into: &mut Vec<u8>) -> Result<(), AllocError>
-    ensures { OnOk result (Writes into.old.items into.new.items (cannot_pieces among count)) }
+fn write_lead(among: Among, count: u64, into: &mut Vec<u8>) -> Result<(), AllocError>
+    ensures { OnOk result (IsMarkedUp into.old.items into.new.items) }
 {
     if count == 1 {
-        return write(&[one_cannot(among)], into);
+        return write_fixed(one_cannot(among), into);
     }
-    write(
-        &[
-            Piece::Words(Words::These),
-            Piece::Count(count),
-            some_cannot(among),
-        ],
-        into,
-    )
-}
-
-/// How a fold of so many items begins.
-pub(crate) fn fold_tag(count: u64) -> Tag
-    ensures { result ≡ tag_of_fold count }
-{
-    if count <= MOST_OPEN {
-        Tag::OpenFold
-    } else {
-        Tag::Fold
-    }
-}
-
-// Writes what stands before the members.
-fn write_lead(among: Among, count: u64, into: &mut Vec<u8>) -> Result<(), AllocError>
-    ensures { OnOk result (Writes into.old.items into.new.items (lead_pieces among count)) }
-{
-    write(&[Piece::Tag(Tag::Lead)], into)?;
-    write_cannot(among, count, into)?;
-    write(
-        &[
-            Piece::Tag(Tag::ParagraphEnd),
-            Piece::Tag(fold_tag(count)),
-            Piece::Words(Words::MembersFold),
-            Piece::Count(count),
-            Piece::Tag(Tag::FoldBody),
-            Piece::Tag(Tag::Ordered),
-        ],
-        into,
-    )
+    write(&[Fixed("<p class=lead>These "), Count(count)], into)?;
+    write_fixed(some_cannot(among), into)
 }
 
 /// Writes that members cannot all be met, and the members, with their witnesses as far as there are witnesses.
@@ -235,13 +163,15 @@ pub(crate) fn write_list(
     witnesses: &[PackedPoint],
     into: &mut Vec<u8>,
 ) -> Result<(), AllocError>
-    ensures { let pieces = list_pieces model.now among shares.now set.now.members witnesses.now in
-        OnOk result (Writes into.old.items into.new.items pieces) }
+    ensures { OnOk result (IsMarkedUp into.old.items into.new.items) }
 {
     write_lead(among, set.count(), into)?;
-    write_members(model, shares, set, witnesses, into)?;
-    write(
-        &[Piece::Tag(Tag::OrderedEnd), Piece::Tag(Tag::FoldEnd)],
-        into,
-    )
+    begin_fold("Requirements: ", set.count(), into)?;
+    write_fixed("<ol>\n", into)?;
+    let mut rest = witnesses;
+    for member in set.iter() {
+        write_member(model, shares, member, rest, into)?;
+        rest = others(rest);
+    }
+    write_fixed("</ol>\n</details>\n", into)
 }

@@ -1,27 +1,18 @@
 //! Whether the objective gets better without end, or how far it can go.
-#![tactic(auto, using(crate::proofs::Pieced::more))]
-
-ghost use Rattle.std.specs.Prelude.{◌≡◌, OnOk, flat_map};
-ghost use Rattle.report_page.specs.Pieces.{piece_shown, Writes};
-ghost use Rattle.report_page.specs.Objectives.{unbounded_pieces, best_words, reached_pieces, never_better, limit_pieces, holder_pieces, held_pieces, holders_words, holders_pieces, add_up_words, add_up_pieces, support_pieces, bounded_pieces};
+ghost use Rattle.std.specs.Prelude.{OnOk};
+ghost use Rattle.report_page.specs.Pieces.{IsClosed, IsMarkedUp};
 
 use crate::cases::write_source;
-use crate::markup::{Giving, Reach, Sign, Tag};
-use crate::members::{fold_tag, write_asking, write_taken};
-use crate::pieces::{Piece, write};
+use crate::folds::begin_fold;
+use crate::members::{write_asking, write_taken};
+use crate::pieces::Piece::{Fixed, Number};
+use crate::pieces::{write, write_fixed};
 use crate::points::{Told, write_fold};
 use certs::{PackedPoint, PackedRay, Share, Source};
 use frac128::Frac;
 use lp_model::Model;
 use report_text::Bounded;
 use std::alloc::AllocError;
-
-/// What shares show: how far the objective can go, or how little must give way.
-#[derive(Clone, Copy, PartialEq, Eq)]
-pub enum Support {
-    Bound,
-    Total,
-}
 
 /// Writes a point from which the objective gets better without end, and a ray along which it does.
 pub(crate) fn write_unbounded(
@@ -30,13 +21,12 @@ pub(crate) fn write_unbounded(
     ray: &PackedRay,
     into: &mut Vec<u8>,
 ) -> Result<(), AllocError>
-    ensures { OnOk result (Writes into.old.items into.new.items (unbounded_pieces model.now point.now.values ray.now.values)) }
+    ensures { OnOk result (IsMarkedUp into.old.items into.new.items) }
 {
     write(
         &[
-            Piece::Tag(Tag::Lead),
-            Piece::Reach(Reach::RunsAway),
-            Piece::Tag(Tag::ParagraphEnd),
+            Fixed("<p class=lead>All requirements can be met, "),
+            Fixed("and the objective gets better without end.</p>\n"),
         ],
         into,
     )?;
@@ -44,9 +34,9 @@ pub(crate) fn write_unbounded(
     write_fold(model, Told::Value, point.values.as_slice(), into)?;
     write(
         &[
-            Piece::Tag(Tag::Paragraph),
-            Piece::Reach(Reach::Onward),
-            Piece::Tag(Tag::ParagraphEnd),
+            Fixed("<p>From these values the quantities can go on changing as below, "),
+            Fixed("in steps that keep whole values whole: no requirement stops them, "),
+            Fixed("and the objective gets better with each step.</p>\n"),
         ],
         into,
     )?;
@@ -55,163 +45,75 @@ pub(crate) fn write_unbounded(
 }
 
 // Whether a value is said to be the best.
-fn best(bound: Frac, value: Frac) -> Reach
-    ensures { result ≡ best_words bound value }
+fn best(bound: Frac, value: Frac) -> &'static str
+    ensures { IsClosed result.now }
 {
     if value == bound {
-        return Reach::IsBest;
+        return ", and no values are better.</p>\n";
     }
-    Reach::MayBeBetter
+    ". Whether other values are better is not said.</p>\n"
 }
 
 // Writes the objective's value, where it is told.
-fn write_value(bound: Frac, value: Option<Frac>, into: &mut Vec<u8>) -> Result<(), AllocError>
-    ensures { OnOk result (Writes into.old.items into.new.items (reached_pieces bound value)) }
+fn write_reached(bound: Frac, value: Option<Frac>, into: &mut Vec<u8>) -> Result<(), AllocError>
+    ensures { OnOk result (IsMarkedUp into.old.items into.new.items) }
 {
-    match value {
-        Some(value) => write(
+    let Some(value) = value else {
+        return write(
             &[
-                Piece::Reach(Reach::ValueIs),
-                Piece::Number(value),
-                Piece::Reach(best(bound, value)),
+                Fixed(" What it is with the values below is left out: "),
+                Fixed("a number on the way to it is too long to be kept exactly.</p>\n"),
             ],
             into,
-        ),
-        None => write(&[Piece::Reach(Reach::LeftOut)], into),
-    }
-}
-
-// Writes a bound, and the objective's value.
-fn write_bound(bound: Frac, value: Option<Frac>, into: &mut Vec<u8>) -> Result<(), AllocError>
-    ensures { OnOk result (Writes into.old.items into.new.items (never_better bound value)) }
-{
+        );
+    };
     write(
-        &[
-            Piece::Tag(Tag::Paragraph),
-            Piece::Reach(Reach::NeverBetter),
-            Piece::Number(bound),
-            Piece::Sign(Sign::FullStop),
-        ],
+        &[Fixed(" With the values below it is "), Number(value)],
         into,
     )?;
-    write_value(bound, value, into)?;
-    write(&[Piece::Tag(Tag::ParagraphEnd)], into)
+    write_fixed(best(bound, value), into)
 }
 
-// Writes a limit of a case as what a share takes.
-fn write_limit(model: &Model, source: Source, into: &mut Vec<u8>) -> Result<(), AllocError>
-    ensures { OnOk result (Writes into.old.items into.new.items (limit_pieces model.now source)) }
-{
-    write(&[Piece::Tag(Tag::Item), Piece::Tag(Tag::Title)], into)?;
-    write_source(model, source, into)?;
-    write(&[Piece::Tag(Tag::TitleEnd)], into)
-}
-
-// Writes what a share takes.
+// Writes a limit of a case, or a member, as what a share takes.
 fn write_holder(model: &Model, source: Source, into: &mut Vec<u8>) -> Result<(), AllocError>
-    ensures { OnOk result (Writes into.old.items into.new.items (holder_pieces model.now source)) }
+    ensures { OnOk result (IsMarkedUp into.old.items into.new.items) }
 {
-    match source {
-        Source::Member(member) => write_asking(model, member, into),
-        Source::Below(_) => write_limit(model, source, into),
-        Source::Above(_) => write_limit(model, source, into),
+    if let Source::Member(member) = source {
+        return write_asking(model, member, into);
     }
+    write_fixed("<li><b>", into)?;
+    write_source(model, source, into)?;
+    write_fixed("</b>\n", into)
 }
 
-// Writes what a share takes, and how often.
-fn write_held(model: &Model, share: &Share, into: &mut Vec<u8>) -> Result<(), AllocError>
-    ensures { OnOk result (Writes into.old.items into.new.items (held_pieces model.now share.now)) }
-{
-    write_holder(model, share.source, into)?;
-    write_taken(Some(share.weight), into)?;
-    write(&[Piece::Tag(Tag::ItemEnd)], into)
-}
-
-// Writes an item for each share.
-fn write_each(model: &Model, shares: &[Share], into: &mut Vec<u8>) -> Result<(), AllocError>
-    ensures { OnOk result (Writes into.old.items into.new.items (flat_map (held_pieces model.now) shares.now)) }
-{
-    for share in shares {
-        write_held(model, share, into)?;
-    }
-    Ok(())
-}
-
-// What a fold of shares is called.
-fn holders_title(support: Support) -> Piece<'static>
-    ensures { piece_shown result ≡ holders_words support }
-{
-    match support {
-        Support::Bound => Piece::Reach(Reach::HoldersFold),
-        Support::Total => Piece::Giving(Giving::ShowingFold),
-    }
-}
-
-/// Writes shares in a fold.
+/// Writes shares in a fold: what each takes, and how often.
 pub(crate) fn write_holders(
     model: &Model,
-    support: Support,
+    title: &'static str,
     shares: &[Share],
     into: &mut Vec<u8>,
 ) -> Result<(), AllocError>
-    ensures { let pieces = holders_pieces model.now support shares.now in
-        OnOk result (Writes into.old.items into.new.items pieces) }
+    requires { IsClosed title.now }
+    ensures { OnOk result (IsMarkedUp into.old.items into.new.items) }
 {
-    let count = shares.len() as u64;
-    write(
-        &[
-            Piece::Tag(fold_tag(count)),
-            holders_title(support),
-            Piece::Count(count),
-            Piece::Tag(Tag::FoldBody),
-            Piece::Tag(Tag::Ordered),
-        ],
-        into,
-    )?;
-    write_each(model, shares, into)?;
-    write(
-        &[Piece::Tag(Tag::OrderedEnd), Piece::Tag(Tag::FoldEnd)],
-        into,
-    )
+    begin_fold(title, shares.len() as u64, into)?;
+    write_fixed("<ol>\n", into)?;
+    for share in shares {
+        write_holder(model, share.source, into)?;
+        write_taken(Some(share.weight), into)?;
+        write_fixed("</li>\n", into)?;
+    }
+    write_fixed("</ol>\n</details>\n", into)
 }
 
-// How the shares add up, by whether the objective is made greatest.
-fn add_up(maximise: bool) -> Reach
-    ensures { result ≡ add_up_words maximise }
+// What the shares add up to, by whether the objective is made greatest.
+fn add_up(maximise: bool) -> &'static str
+    ensures { IsClosed result.now }
 {
     if maximise {
-        return Reach::AddUpAtMost;
+        return "<p>Take each as often as it says, turn round those with &gt;=, and add up: on the left this comes to the objective, and together they say that it is at most ";
     }
-    Reach::AddUpAtLeast
-}
-
-// Writes what the shares add up to.
-fn write_add_up(model: &Model, bound: Frac, into: &mut Vec<u8>) -> Result<(), AllocError>
-    ensures { OnOk result (Writes into.old.items into.new.items (add_up_pieces model.now bound)) }
-{
-    write(
-        &[
-            Piece::Tag(Tag::Paragraph),
-            Piece::Reach(add_up(model.maximise())),
-            Piece::Number(bound),
-            Piece::Sign(Sign::FullStop),
-            Piece::Tag(Tag::ParagraphEnd),
-        ],
-        into,
-    )
-}
-
-// Writes what holds the objective, and what that adds up to.
-fn write_support(
-    model: &Model,
-    shares: &[Share],
-    bound: Frac,
-    into: &mut Vec<u8>,
-) -> Result<(), AllocError>
-    ensures { OnOk result (Writes into.old.items into.new.items (support_pieces model.now shares.now bound)) }
-{
-    write_holders(model, Support::Bound, shares, into)?;
-    write_add_up(model, bound, into)
+    "<p>Take each as often as it says, turn round those with &lt;=, and add up: on the left this comes to the objective, and together they say that it is at least "
 }
 
 /// Writes how far the objective can go, and what holds it there.
@@ -220,11 +122,27 @@ pub(crate) fn write_bounded(
     bounded: &Bounded,
     into: &mut Vec<u8>,
 ) -> Result<(), AllocError>
-    ensures { OnOk result (Writes into.old.items into.new.items (bounded_pieces model.now bounded.now)) }
+    ensures { OnOk result (IsMarkedUp into.old.items into.new.items) }
 {
     let dual = &bounded.dual;
-    write_bound(dual.bound, bounded.objective, into)?;
+    let shares = dual.combo.shares.as_slice();
+    write(
+        &[
+            Fixed("<p>All requirements can be met, and then the objective is never better than "),
+            Number(dual.bound),
+            Fixed("."),
+        ],
+        into,
+    )?;
+    write_reached(dual.bound, bounded.objective, into)?;
     let point = bounded.point.unpacked(*into.allocator())?;
     write_fold(model, Told::Value, point.values.as_slice(), into)?;
-    write_support(model, dual.combo.shares.as_slice(), dual.bound, into)
+    write_holders(
+        model,
+        "Requirements that hold the objective: ",
+        shares,
+        into,
+    )?;
+    write_fixed(add_up(model.maximise()), into)?;
+    write(&[Number(dual.bound), Fixed(".</p>\n")], into)
 }

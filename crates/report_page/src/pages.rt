@@ -1,20 +1,41 @@
 //! The page of a report.
-#![tactic(auto, using(crate::proofs::Pieced::more))]
-
-ghost use Rattle.std.specs.Prelude.{◌≡◌, ◌++◌, [], All, OnOk, flat_map};
+ghost use Rattle.std.specs.Prelude.{◌≡◌, ◌++◌, [], All, OnOk};
 ghost use Rattle.report_text.specs.Form.{IsCommand};
 ghost use Rattle.cert_check.specs.Trials.{settled_count, unsettled_count};
-ghost use Rattle.report_page.specs.Pieces.{Writes};
-ghost use Rattle.report_page.specs.Page.{entry_pieces, noted_pieces, note_pieces, notes_pieces, head_pieces, entries_pieces, page_pieces, page_of, IsSessionOf};
+ghost use Rattle.report_page.specs.Pieces.{IsClosed, IsMarkedUp, IsPage, IsSessionOf};
 
 use crate::answers::{write_answer, write_command};
-use crate::markup::{Sign, Tag, Words};
 use crate::parts::column_name;
-use crate::pieces::{Piece, write};
+use crate::pieces::Piece::{Count, Fixed, Text};
+use crate::pieces::{write, write_fixed};
 use cert_check::settles;
 use lp_model::{Model, Note};
 use report_text::{CommandSession, Entry, Report};
 use std::alloc::AllocError;
+
+/// The head of each page, with its style sheet, and the title in its body.
+const HEAD: &str = "\
+    <!doctype html>\n\
+    <html lang=en>\n\
+    <head>\n\
+    <meta charset=utf-8>\n\
+    <meta name=viewport content='width=device-width, initial-scale=1'>\n\
+    <title>What the model asks for</title>\n\
+    <style>\n\
+    :root{color-scheme:light dark;--ink:#1c2330;--soft:#566073;--paper:#fff;--panel:#f3f5f8;--line:#d4d9e2;--mark:#a3360b}\n\
+    @media(prefers-color-scheme:dark){:root{--ink:#e6e9ef;--soft:#a9b2c1;--paper:#14171c;--panel:#1e242c;--line:#3a424f;--mark:#ff9d6b}}\n\
+    body{margin:0 auto;max-width:46rem;padding:1rem;background:var(--paper);color:var(--ink);font:1rem/1.5 system-ui,sans-serif}\n\
+    h1{font-size:1.5rem;line-height:1.2}h2{margin-top:2.5rem;font-size:1.15rem;border-top:1px solid var(--line);padding-top:1rem}\n\
+    code{font:.95em ui-monospace,monospace;overflow-wrap:anywhere}p.lead{font-size:1.15rem;color:var(--mark)}\n\
+    ol,ul{padding-left:2rem}li{margin:.5rem 0;padding:.5rem .75rem;background:var(--panel);border-left:3px solid var(--line)}\n\
+    li b{display:block}li p{margin:.25rem 0 0}p.without,span.times,summary{color:var(--soft)}span.times{white-space:nowrap}\n\
+    ul.cases{padding-left:0;list-style:none}ul.cases li{padding:.25rem 0 .25rem .5rem}details{overflow-x:auto}\n\
+    svg{display:block;width:100%;height:auto;max-width:26rem}svg text{fill:var(--ink);font-size:12px}svg line{stroke:var(--soft);transform:translateY(-4px)}\n\
+    @media print{body{max-width:none}li{break-inside:avoid}}\n\
+    </style>\n\
+    </head>\n\
+    <body>\n\
+    <h1>What the model asks for</h1>\n";
 
 // How many entries are settled.
 fn count_settled(entries: &[Entry]) -> u64
@@ -36,95 +57,89 @@ fn count_unsettled(entries: &[Entry]) -> u64
     entries.len() as u64 - count_settled(entries)
 }
 
-// Writes what stands before the notes.
-fn write_head(entries: &[Entry], into: &mut Vec<u8>) -> Result<(), AllocError>
-    ensures { OnOk result (Writes into.old.items into.new.items (head_pieces entries.now)) }
+// Writes how many entries are settled, and how many are not.
+fn write_counts(entries: &[Entry], into: &mut Vec<u8>) -> Result<(), AllocError>
+    ensures { OnOk result (IsMarkedUp into.old.items into.new.items) }
 {
     write(
         &[
-            Piece::Tag(Tag::Head),
-            Piece::Tag(Tag::Style),
-            Piece::Tag(Tag::Body),
-            Piece::Tag(Tag::Paragraph),
-            Piece::Words(Words::Settled),
-            Piece::Count(count_settled(entries)),
-            Piece::Words(Words::Unsettled),
-            Piece::Count(count_unsettled(entries)),
-            Piece::Sign(Sign::FullStop),
-            Piece::Tag(Tag::ParagraphEnd),
+            Fixed("<p>This report was checked against the model. Answers that hold: "),
+            Count(count_settled(entries)),
+            Fixed(
+                "; calculations that stopped before there was an answer, questions that are asked only ",
+            ),
+            Fixed(
+                "where no quantity has to be whole, and reductions, into which the check does not look: ",
+            ),
+            Count(count_unsettled(entries)),
+            Fixed(".</p>\n"),
         ],
         into,
     )
 }
 
-// Writes a note on a column.
-fn write_noted(
-    model: &Model,
-    column: u32,
-    what: Words,
-    into: &mut Vec<u8>,
-) -> Result<(), AllocError>
-    ensures { OnOk result (Writes into.old.items into.new.items (noted_pieces model.now column what)) }
+// The column of a note.
+fn column_of(note: Note) -> u32 {
+    match note {
+        Note::LowerRemoved(column) | Note::LowerKept(column) => column,
+    }
+}
+
+// What is noted.
+fn noted(note: Note) -> &'static str
+    ensures { IsClosed result.now }
 {
-    write(
-        &[
-            Piece::Tag(Tag::Item),
-            Piece::Text(column_name(model, column)),
-            Piece::Words(what),
-            Piece::Tag(Tag::ItemEnd),
-        ],
-        into,
-    )
+    match note {
+        Note::LowerRemoved(_) => {
+            ": its upper bound is below 0, and the model was read so that it has no lower bound</li>\n"
+        }
+        Note::LowerKept(_) => {
+            ": its upper bound is below 0, and the model was read so that it keeps its lower bound 0</li>\n"
+        }
+    }
 }
 
 // Writes a note.
 fn write_note(model: &Model, note: Note, into: &mut Vec<u8>) -> Result<(), AllocError>
-    ensures { OnOk result (Writes into.old.items into.new.items (note_pieces model.now note)) }
+    ensures { OnOk result (IsMarkedUp into.old.items into.new.items) }
 {
-    match note {
-        Note::LowerRemoved(column) => write_noted(model, column, Words::LowerRemoved, into),
-        Note::LowerKept(column) => write_noted(model, column, Words::LowerKept, into),
-    }
-}
-
-// Writes each note.
-fn write_each_note(model: &Model, notes: &[Note], into: &mut Vec<u8>) -> Result<(), AllocError>
-    ensures { OnOk result (Writes into.old.items into.new.items (flat_map (note_pieces model.now) notes.now)) }
-{
-    for note in notes {
-        write_note(model, *note, into)?;
-    }
-    Ok(())
+    write(
+        &[Fixed("<li>"), Text(column_name(model, column_of(note)))],
+        into,
+    )?;
+    write_fixed(noted(note), into)
 }
 
 // Writes the notes, where there are any.
 fn write_notes(model: &Model, notes: &[Note], into: &mut Vec<u8>) -> Result<(), AllocError>
-    ensures { OnOk result (Writes into.old.items into.new.items (notes_pieces model.now notes.now)) }
+    ensures { OnOk result (IsMarkedUp into.old.items into.new.items) }
 {
     if notes.is_empty() {
         return Ok(());
     }
-    write(&[Piece::Tag(Tag::Unordered)], into)?;
-    write_each_note(model, notes, into)?;
-    write(&[Piece::Tag(Tag::UnorderedEnd)], into)
+    write_fixed("<ul>\n", into)?;
+    for note in notes {
+        write_note(model, *note, into)?;
+    }
+    write_fixed("</ul>\n", into)
 }
 
 // Writes a command and its answer.
 fn write_entry(model: &Model, entry: &Entry, into: &mut Vec<u8>) -> Result<(), AllocError>
-    ensures { OnOk result (Writes into.old.items into.new.items (entry_pieces model.now entry.now)) }
+    ensures { OnOk result (IsMarkedUp into.old.items into.new.items) }
 {
     write(
         &[
-            Piece::Tag(Tag::Section),
-            Piece::Count(u64::from(entry.line)),
-            Piece::Tag(Tag::SectionTitle),
+            Fixed("<section id=line-"),
+            Count(u64::from(entry.line)),
+            Fixed(">\n<h2>"),
         ],
         into,
     )?;
     write_command(&entry.command, into)?;
-    write(&[Piece::Tag(Tag::SectionBody)], into)?;
+    write_fixed("</h2>\n", into)?;
     write_answer(model, &entry.answer, into)?;
-    write(&[Piece::Tag(Tag::SectionEnd)], into)
+    write_fixed("</section>\n", into)
 }
 
 // Writes entries, each of the program as the commands before it edited it.
@@ -135,8 +150,7 @@ fn write_entries(
 ) -> Result<(), AllocError>
     requires fresh { session.old.formers ≡ [] }
     requires commands { All (λ e. IsCommand e.command) entries.now }
-    ensures written { let pieces = entries_pieces session.old.model [] entries.now in
-        OnOk result (Writes into.old.items into.new.items pieces) }
+    ensures written { OnOk result (IsMarkedUp into.old.items into.new.items) }
     ensures of_program { IsSessionOf session.old.model session.new }
 {
     for entry in entries {
@@ -146,24 +160,29 @@ fn write_entries(
     Ok(())
 }
 
-// Writes the pieces of the page.
-fn write_page(
+// Writes what stands behind the head.
+fn write_body(
     session: &mut CommandSession,
     report: &Report,
     into: &mut Vec<u8>,
 ) -> Result<(), AllocError>
     requires fresh { session.old.formers ≡ [] }
     requires commands { All (λ e. IsCommand e.command) report.now.entries }
-    ensures written { let pieces = page_pieces session.old.model report.now in
-        OnOk result (Writes into.old.items into.new.items pieces) }
+    ensures written { OnOk result (IsMarkedUp into.old.items into.new.items) }
     ensures of_program { IsSessionOf session.old.model session.new }
 {
     let entries = report.entries.as_slice();
-    let model = session.model();
-    write_head(entries, into)?;
-    write_notes(model, report.notes.as_slice(), into)?;
+    write_counts(entries, into)?;
+    write_notes(session.model(), report.notes.as_slice(), into)?;
     write_entries(session, entries, into)?;
-    write(&[Piece::Tag(Tag::End)], into)
+    write_fixed("</body>\n</html>\n", into)
+}
+
+// Writes the head.
+fn write_head(into: &mut Vec<u8>) -> Result<(), AllocError>
+    ensures { OnOk result (into.new.items ≡ into.old.items ++ HEAD.now) }
+{
+    into.extend_from_slice(HEAD.as_bytes())
 }
 
 /// Appends one page for a report on a program: an HTML document that needs no other file.
@@ -177,7 +196,8 @@ fn write_page(
 /// far it can go, with what holds it there; or the least weighted violation, with a point that has it and what shows that none
 /// is less; or that a question is not asked where a column is to be whole; or how far the program is reduced, step by step; or
 /// why an edit is refused; or why a calculation stopped, where, and what was enforced there. Each answer is written of the
-/// program as the commands before it edited it. Names are escaped.
+/// program as the commands before it edited it. Names are escaped, and all else is fixed or a number:
+/// the tags of the page are opened and closed by its fixed bytes alone.
 ///
 /// The session is one of which nothing was edited yet, and it is so again in the end, whether memory is refused or not.
 /// The commands of the report are to be such as may be asked, as those of one that was read are.
@@ -192,11 +212,11 @@ pub fn page(
 ) -> Result<(), AllocError>
     requires fresh { session.old.formers ≡ [] }
     requires commands { All (λ e. IsCommand e.command) report.now.entries }
-    ensures written { let bytes = page_of session.old.model report.now in
-        OnOk result (into.new.items ≡ into.old.items ++ bytes) }
+    ensures written { OnOk result (IsPage into.old.items into.new.items) }
     ensures back { session.new ≡ session.old }
 {
-    let written = write_page(session, report, into);
+    write_head(into)?;
+    let written = write_body(session, report, into);
     session.rewind();
     written
 }

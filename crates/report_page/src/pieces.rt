@@ -2,25 +2,16 @@
 ghost use Rattle.std.specs.Prelude.{◌≡◌, ◌++◌, OnOk, decimal, map};
 ghost use Rattle.std.specs.Fmt.{signed_decimal};
 ghost use Rattle.report_page.specs.Escaping.{escaped_byte, escaped, EscapingLaw};
-ghost use Rattle.report_page.specs.Pieces.{piece_shown, piece_bytes, Writes};
+ghost use Rattle.report_page.specs.Pieces.{Place, piece_shown, piece_bytes, behind_pieces, IsClosed, IsMarkedUp, MarkupLaw};
 
-use crate::markup::{Account, Change, Giving, Pricing, Reach, Removal, Sign, Tag, Words};
 use frac128::Frac;
 use itoa::Buffer;
 use std::alloc::AllocError;
 
-/// A piece of a page: fixed markup or words, a text that is escaped, a number, or a count.
+/// A piece of a page: fixed words and markup, a text of the model's, which is escaped, or a number.
 #[derive(Clone, Copy)]
 pub enum Piece<'a> {
-    Tag(Tag),
-    Sign(Sign),
-    Words(Words),
-    Account(Account),
-    Change(Change),
-    Removal(Removal),
-    Reach(Reach),
-    Giving(Giving),
-    Pricing(Pricing),
+    Fixed(&'static str),
     Text(&'a [u8]),
     Number(Frac),
     Whole(i128),
@@ -75,15 +66,7 @@ fn write_piece(piece: &Piece<'_>, into: &mut Vec<u8>) -> Result<(), AllocError>
     ensures { OnOk result (into.new.items ≡ into.old.items ++ piece_bytes (piece_shown piece.now)) }
 {
     match piece {
-        Piece::Tag(tag) => into.extend_from_slice(tag.text().as_bytes()),
-        Piece::Sign(sign) => into.extend_from_slice(sign.text().as_bytes()),
-        Piece::Words(words) => into.extend_from_slice(words.text().as_bytes()),
-        Piece::Account(account) => into.extend_from_slice(account.text().as_bytes()),
-        Piece::Change(change) => into.extend_from_slice(change.text().as_bytes()),
-        Piece::Removal(removal) => into.extend_from_slice(removal.text().as_bytes()),
-        Piece::Reach(reach) => into.extend_from_slice(reach.text().as_bytes()),
-        Piece::Giving(giving) => into.extend_from_slice(giving.text().as_bytes()),
-        Piece::Pricing(pricing) => into.extend_from_slice(pricing.text().as_bytes()),
+        Piece::Fixed(text) => into.extend_from_slice(text.as_bytes()),
         Piece::Text(text) => escape(text, into),
         Piece::Number(number) => {
             number.print(into)?;
@@ -94,9 +77,10 @@ fn write_piece(piece: &Piece<'_>, into: &mut Vec<u8>) -> Result<(), AllocError>
     }
 }
 
-/// Appends pieces.
+/// Appends pieces that close each tag that they open, and have no text in a tag.
 pub fn write(pieces: &[Piece<'_>], into: &mut Vec<u8>) -> Result<(), AllocError>
-    ensures { OnOk result (Writes into.old.items into.new.items (map piece_shown pieces.now)) }
+    requires { behind_pieces Place.Running (map piece_shown pieces.now) ≡ Place.Running }
+    ensures { OnOk result (IsMarkedUp into.old.items into.new.items) }
 {
     for piece in pieces {
         write_piece(piece, into)?;
@@ -104,8 +88,22 @@ pub fn write(pieces: &[Piece<'_>], into: &mut Vec<u8>) -> Result<(), AllocError>
     Ok(())
 }
 
+/// Appends fixed words and markup that close each tag that they open.
+pub(crate) fn write_fixed(text: &'static str, into: &mut Vec<u8>) -> Result<(), AllocError>
+    requires { IsClosed text.now }
+    ensures { OnOk result (IsMarkedUp into.old.items into.new.items) }
+{
+    write(&[Piece::Fixed(text)], into)
+}
+
 /// In an escaped text no byte is one of `<`, `>`, `"` and `'`, each `&` begins one of the five entities, and no two texts
 /// are escaped alike. It does nothing when it runs.
 pub fn escaping_law()
     ensures { EscapingLaw }
+{}
+
+/// Whatever bytes the texts of a page have, its tags are opened and closed by its fixed bytes alone. It does nothing when it
+/// runs.
+pub fn markup_law()
+    ensures { MarkupLaw }
 {}

@@ -1,24 +1,18 @@
 //! Why members cannot all be met: a sum, or cases with a sum each.
-#![tactic(auto, using(crate::proofs::Pieced::more))]
-
-ghost use Rattle.std.specs.Prelude.{◌≡◌, OnOk};
-ghost use Rattle.std.specs.Option.{option_map};
-ghost use Rattle.report_page.specs.Pieces.{Writes};
-ghost use Rattle.report_page.specs.Reasons.{shares_of as shares_at, leaf_of as leaf_among, leaf_shares as shares_among, gap_pieces, total_pieces, reason_pieces};
+ghost use Rattle.std.specs.Prelude.{OnOk};
+ghost use Rattle.report_page.specs.Pieces.{IsMarkedUp};
 
 use crate::cases::write_cases;
-use crate::markup::{Tag, Words};
-use crate::pieces::{Piece, write};
-use crate::totals::gap;
+use crate::pieces::Piece::Number;
+use crate::pieces::{write, write_fixed};
+use bound_checks::right_side;
 use certs::{Node, Share};
 use frac128::Frac;
 use lp_model::Model;
 use std::alloc::AllocError;
 
 // The shares of a node, where it is a leaf.
-fn shares_of(node: &Node) -> Option<&[Share]>
-    ensures { option_map (λ shares. shares.now) result ≡ shares_at node.now }
-{
+fn shares_of(node: &Node) -> Option<&[Share]> {
     match node {
         Node::Split { .. } => None,
         Node::Leaf(combo) => Some(combo.shares.as_slice()),
@@ -26,9 +20,7 @@ fn shares_of(node: &Node) -> Option<&[Share]>
 }
 
 // The shares of the only node, where it is a leaf.
-fn leaf_of(nodes: &[Node]) -> Option<&[Share]>
-    ensures { option_map (λ shares. shares.now) result ≡ leaf_among nodes.now }
-{
+fn leaf_of(nodes: &[Node]) -> Option<&[Share]> {
     let [node] = nodes else {
         return None;
     };
@@ -36,53 +28,47 @@ fn leaf_of(nodes: &[Node]) -> Option<&[Share]>
 }
 
 /// The shares of a proof without cases, or none.
-pub(crate) fn leaf_shares(nodes: &[Node]) -> &[Share]
-    ensures { result.now ≡ shares_among nodes.now }
-{
+pub(crate) fn leaf_shares(nodes: &[Node]) -> &[Share] {
     match leaf_of(nodes) {
         Some(shares) => shares,
         None => &[],
     }
 }
 
-// Writes a number that 0 would have to be at least.
+// The number that 0 would have to be at least, where no operation on the way to it is too wide.
+fn gap_of(model: &Model, shares: &[Share]) -> Option<Frac> {
+    match right_side(model, shares) {
+        Ok(sum) => Some(sum.negate()),
+        Err(_) => None,
+    }
+}
+
+// Writes the number that 0 would have to be at least, or words for it where an operation on the way to it is too wide.
 fn write_gap(gap: &Option<Frac>, into: &mut Vec<u8>) -> Result<(), AllocError>
-    ensures { OnOk result (Writes into.old.items into.new.items (gap_pieces gap.now)) }
+    ensures { OnOk result (IsMarkedUp into.old.items into.new.items) }
 {
     match gap {
-        Some(number) => write(&[Piece::Number(*number)], into),
-        None => write(&[Piece::Words(Words::SomeNumber)], into),
+        Some(gap) => write(&[Number(*gap)], into),
+        None => write_fixed("a number above 0", into),
     }
 }
 
 // Writes what the shares of a proof without cases add up to.
 fn write_total(model: &Model, shares: &[Share], into: &mut Vec<u8>) -> Result<(), AllocError>
-    ensures { OnOk result (Writes into.old.items into.new.items (total_pieces model.now shares.now)) }
+    ensures { OnOk result (IsMarkedUp into.old.items into.new.items) }
 {
-    write(
-        &[
-            Piece::Tag(Tag::Paragraph),
-            Piece::Words(Words::AddUp),
-            Piece::Tag(Tag::Form),
-            Piece::Words(Words::ZeroAtLeast),
-        ],
+    let gap = gap_of(model, shares);
+    write_fixed(
+        "<p>Take each as often as it says, turn round those with &lt;=, and add up: on the left everything cancels, and together they say <code>0 &gt;= ",
         into,
     )?;
-    let missing = gap(model, shares);
-    write_gap(&missing, into)?;
-    write(
-        &[
-            Piece::Tag(Tag::FormEnd),
-            Piece::Words(Words::IsFalse),
-            Piece::Words(Words::Together),
-        ],
+    write_gap(&gap, into)?;
+    write_fixed(
+        "</code>, which is false. So together they have to give way by at least ",
         into,
     )?;
-    write_gap(&missing, into)?;
-    write(
-        &[Piece::Words(Words::InAll), Piece::Tag(Tag::ParagraphEnd)],
-        into,
-    )
+    write_gap(&gap, into)?;
+    write_fixed(", each counted as often as it is taken.</p>\n", into)
 }
 
 /// Writes why the members of a proof cannot all be met.
@@ -91,7 +77,7 @@ pub(crate) fn write_reason(
     nodes: &[Node],
     into: &mut Vec<u8>,
 ) -> Result<(), AllocError>
-    ensures { OnOk result (Writes into.old.items into.new.items (reason_pieces model.now nodes.now)) }
+    ensures { OnOk result (IsMarkedUp into.old.items into.new.items) }
 {
     match leaf_of(nodes) {
         Some(shares) => write_total(model, shares, into),

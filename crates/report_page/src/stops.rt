@@ -1,16 +1,12 @@
 //! Calculations that stopped.
-#![tactic(auto, using(crate::proofs::Pieced::more))]
+ghost use Rattle.std.specs.Prelude.{OnOk};
+ghost use Rattle.report_page.specs.Pieces.{IsClosed, IsMarkedUp};
 
-ghost use Rattle.std.specs.Prelude.{◌≡◌, ◌-◌, ◌∷◌, [], IfOk, OnOk, cond, flat_map, length};
-ghost use Rattle.lp_model.specs.Members.{active_members};
-ghost use Rattle.report_text.specs.declared.report.ToldStop.TheVariants.{Wide as TooWide};
-ghost use Rattle.report_page.specs.Pieces.{Piece as Shown, Writes};
-ghost use Rattle.report_page.specs.Stops.{op_sign, branch_pieces, first_branch, next_branch, path_pieces, asking_words, members_words, site_pieces, operation_pieces, stop_pieces, enforced_item, enforced_fold, enforced_pieces, enforced_at};
-
-use crate::markup::{Account, Sign, Tag};
-use crate::members::{fold_tag, write_asking};
+use crate::folds::begin_fold;
+use crate::members::write_asking;
 use crate::parts::column_name;
-use crate::pieces::{Piece, write};
+use crate::pieces::Piece::{Count, Fixed, Number, Text, Whole};
+use crate::pieces::{write, write_fixed};
 use certs::{Branch, SiteKind};
 use frac128::{Op, Wide};
 use lp_model::{Member, Model};
@@ -18,142 +14,145 @@ use report_text::{ToldSite, ToldStop};
 use std::alloc::{AllocError, Global};
 
 // The sign of an operation.
-fn sign_of(op: Op) -> Sign
-    ensures { result ≡ op_sign op }
+fn sign_of(op: Op) -> &'static str
+    ensures { IsClosed result.now }
 {
     match op {
-        Op::Plus => Sign::Plus,
-        Op::Minus => Sign::Minus,
-        Op::Times => Sign::Product,
-        Op::Over => Sign::Quotient,
+        Op::Plus => " + ",
+        Op::Minus => " - ",
+        Op::Times => " * ",
+        Op::Over => " / ",
     }
-}
-
-// The sign of the side of its column on which a branch is.
-fn side_sign(upper: bool) -> Sign
-    ensures { result ≡ cond upper Sign.AtMost Sign.AtLeast }
-{
-    if upper { Sign::AtMost } else { Sign::AtLeast }
 }
 
 // Writes what a branch asks for.
 fn write_branch(model: &Model, branch: Branch, into: &mut Vec<u8>) -> Result<(), AllocError>
-    ensures { OnOk result (Writes into.old.items into.new.items (branch_pieces model.now branch)) }
+    ensures { OnOk result (IsMarkedUp into.old.items into.new.items) }
 {
-    write(
-        &[
-            Piece::Text(column_name(model, branch.column)),
-            Piece::Sign(side_sign(branch.upper)),
-            Piece::Whole(branch.at),
-        ],
-        into,
-    )
-}
-
-// Writes the first branch of a path.
-fn write_first_branch(model: &Model, branch: Branch, into: &mut Vec<u8>) -> Result<(), AllocError>
-    ensures { OnOk result (Writes into.old.items into.new.items (first_branch model.now branch)) }
-{
-    write(&[Piece::Account(Account::Where)], into)?;
-    write_branch(model, branch, into)
-}
-
-// Writes a further branch.
-fn write_next_branch(model: &Model, branch: Branch, into: &mut Vec<u8>) -> Result<(), AllocError>
-    ensures { OnOk result (Writes into.old.items into.new.items (next_branch model.now branch)) }
-{
-    write(&[Piece::Sign(Sign::Comma)], into)?;
-    write_branch(model, branch, into)
-}
-
-// Writes further branches.
-fn write_other_branches(
-    model: &Model,
-    path: &[Branch],
-    into: &mut Vec<u8>,
-) -> Result<(), AllocError>
-    ensures { OnOk result (Writes into.old.items into.new.items (flat_map (next_branch model.now) path.now)) }
-{
-    for branch in path {
-        write_next_branch(model, *branch, into)?;
+    let name = column_name(model, branch.column);
+    if branch.upper {
+        return write(&[Text(name), Fixed(" &lt;= "), Whole(branch.at)], into);
     }
-    Ok(())
+    write(&[Text(name), Fixed(" &gt;= "), Whole(branch.at)], into)
+}
+
+// What stands before a branch.
+fn lead(is_first: bool) -> &'static str
+    ensures { IsClosed result.now }
+{
+    if is_first { ", where " } else { ", " }
 }
 
 // Writes the branches of a path.
 fn write_path(model: &Model, path: &[Branch], into: &mut Vec<u8>) -> Result<(), AllocError>
-    ensures { OnOk result (Writes into.old.items into.new.items (path_pieces model.now path.now)) }
+    ensures { OnOk result (IsMarkedUp into.old.items into.new.items) }
 {
-    let [first, others @ ..] = path else {
-        return Ok(());
-    };
-    write_first_branch(model, *first, into)?;
-    write_other_branches(model, others, into)
+    let mut is_first = true;
+    for branch in path {
+        write_fixed(lead(is_first), into)?;
+        write_branch(model, *branch, into)?;
+        is_first = false;
+    }
+    Ok(())
 }
 
 // What a run asks.
-fn asking(kind: SiteKind) -> Account
-    ensures { result ≡ asking_words kind }
+fn asking(kind: SiteKind) -> &'static str
+    ensures { IsClosed result.now }
 {
     match kind {
-        SiteKind::Improve => Account::AskingReach,
-        SiteKind::Stretch => Account::AskingStretch,
-        SiteKind::Relax => Account::AskingRelax,
-        SiteKind::Alternative => Account::AskingCheapest,
-        _ => Account::Asking,
+        SiteKind::Improve => " It was asking how far the objective can go while ",
+        SiteKind::Stretch => " It was asking for the least violation, with all weights 1, of ",
+        SiteKind::Relax => " It was asking for the least weighted violation of ",
+        SiteKind::Alternative => {
+            " It was asking for the cheapest way to show a contradiction among "
+        }
+        _ => " It was asking whether ",
     }
 }
 
 // What it asks of its members.
-fn asking_members(kind: SiteKind) -> Account
-    ensures { result ≡ members_words kind }
+fn asking_members(kind: SiteKind) -> &'static str
+    ensures { IsClosed result.now }
 {
     match kind {
-        SiteKind::Improve => Account::Hold,
-        SiteKind::Stretch | SiteKind::Relax | SiteKind::Alternative => Account::OfThese,
-        _ => Account::CanBeMet,
+        SiteKind::Improve => " requirements are met",
+        SiteKind::Stretch | SiteKind::Relax | SiteKind::Alternative => " requirements",
+        _ => " requirements can be met together",
     }
 }
 
 // How many members a run was of: the active ones without those left out.
-fn member_count(alloc: Global, model: &Model, left: &[Member]) -> Result<u64, AllocError>
-    ensures { IfOk result (λ count. count ≡ length (active_members model.now) - length left.now) }
-{
+fn member_count(alloc: Global, model: &Model, left: &[Member]) -> Result<u64, AllocError> {
     let active = model.members(alloc)?;
     Ok(active.count().saturating_sub(left.len() as u64))
 }
 
 // Writes the site of a stop.
 fn write_site(model: &Model, site: &ToldSite, into: &mut Vec<u8>) -> Result<(), AllocError>
-    ensures { OnOk result (Writes into.old.items into.new.items (site_pieces model.now site.now)) }
+    ensures { OnOk result (IsMarkedUp into.old.items into.new.items) }
 {
     let count = member_count(*into.allocator(), model, site.left.as_slice())?;
+    write_fixed(asking(site.kind), into)?;
+    write(&[Count(count)], into)?;
+    write_fixed(asking_members(site.kind), into)?;
+    write_path(model, site.path.as_slice(), into)?;
+    write_fixed(".", into)
+}
+
+// Writes the operation that is too wide, in the turn with this number.
+fn write_operation(step: u64, operation: &Wide, into: &mut Vec<u8>) -> Result<(), AllocError>
+    ensures { OnOk result (IsMarkedUp into.old.items into.new.items) }
+{
     write(
         &[
-            Piece::Account(asking(site.kind)),
-            Piece::Count(count),
-            Piece::Account(asking_members(site.kind)),
+            Fixed(" That was in turn "),
+            Count(step),
+            Fixed(", at "),
+            Number(operation.left),
         ],
         into,
     )?;
-    write_path(model, site.path.as_slice(), into)?;
-    write(&[Piece::Sign(Sign::FullStop)], into)
+    write_fixed(sign_of(operation.op), into)?;
+    write(&[Number(operation.right), Fixed(".</p>\n")], into)
 }
 
-// Writes an operation.
-fn write_operation(operation: &Wide, into: &mut Vec<u8>) -> Result<(), AllocError>
-    ensures { OnOk result (Writes into.old.items into.new.items (operation_pieces operation.now)) }
+// Writes enforced members in a fold, where there are any.
+fn write_enforced(model: &Model, enforced: &[Member], into: &mut Vec<u8>) -> Result<(), AllocError>
+    ensures { OnOk result (IsMarkedUp into.old.items into.new.items) }
 {
-    write(
-        &[
-            Piece::Account(Account::At),
-            Piece::Number(operation.left),
-            Piece::Sign(sign_of(operation.op)),
-            Piece::Number(operation.right),
-            Piece::Sign(Sign::FullStop),
-        ],
+    if enforced.is_empty() {
+        return Ok(());
+    }
+    begin_fold(
+        "Enforced requirements, which had to be met: ",
+        enforced.len() as u64,
         into,
-    )
+    )?;
+    write_fixed("<ol>\n", into)?;
+    for member in enforced {
+        write_asking(model, *member, into)?;
+        write_fixed("</li>\n", into)?;
+    }
+    write_fixed("</ol>\n</details>\n", into)
+}
+
+// Writes why a calculation stopped at a site.
+fn write_why(
+    model: &Model,
+    reason: &'static str,
+    site: &ToldSite,
+    into: &mut Vec<u8>,
+) -> Result<(), AllocError>
+    requires { IsClosed reason.now }
+    ensures { OnOk result (IsMarkedUp into.old.items into.new.items) }
+{
+    write_fixed(
+        "<p>This calculation stopped before there was an answer: ",
+        into,
+    )?;
+    write_fixed(reason, into)?;
+    write_site(model, site, into)
 }
 
 // Writes that an operation is too wide.
@@ -164,130 +163,65 @@ fn write_wide(
     operation: &Wide,
     into: &mut Vec<u8>,
 ) -> Result<(), AllocError>
-    ensures { OnOk result (Writes into.old.items into.new.items (stop_pieces model.now (TooWide site.now step operation.now))) }
+    ensures { OnOk result (IsMarkedUp into.old.items into.new.items) }
 {
-    write(&[Piece::Account(Account::StoppedWide)], into)?;
-    write_site(model, site, into)?;
-    write(&[Piece::Account(Account::Step), Piece::Count(step)], into)?;
-    write_operation(operation, into)
+    write_why(
+        model,
+        "a number became too long to be kept exactly.",
+        site,
+        into,
+    )?;
+    write_operation(step, operation, into)?;
+    write_enforced(model, site.enforced.as_slice(), into)
 }
 
 // Writes that a budget is spent.
 fn write_spent(
     model: &Model,
-    what: Account,
+    budget: &'static str,
     site: &ToldSite,
     into: &mut Vec<u8>,
 ) -> Result<(), AllocError>
-    ensures { OnOk result (Writes into.old.items into.new.items (Shown.Account what ∷ site_pieces model.now site.now)) }
+    requires { IsClosed budget.now }
+    ensures { OnOk result (IsMarkedUp into.old.items into.new.items) }
 {
-    write(&[Piece::Account(what)], into)?;
-    write_site(model, site, into)
+    write_why(model, budget, site, into)?;
+    write_fixed("</p>\n", into)?;
+    write_enforced(model, site.enforced.as_slice(), into)
 }
 
-// Writes that a system is too large.
-fn write_large(size: u64, into: &mut Vec<u8>) -> Result<(), AllocError>
-    ensures { OnOk result (Writes into.old.items into.new.items (Shown.Account Account.StoppedLarge ∷ Shown.Count size ∷ Shown.Sign Sign.FullStop ∷ [])) }
-{
-    write(
-        &[
-            Piece::Account(Account::StoppedLarge),
-            Piece::Count(size),
-            Piece::Sign(Sign::FullStop),
-        ],
-        into,
-    )
-}
-
-/// Writes why a calculation stopped, and where.
-pub(crate) fn write_stop(
+/// Writes why a calculation stopped, where, and what was enforced there.
+pub(crate) fn write_stopped(
     model: &Model,
     stop: &ToldStop,
     into: &mut Vec<u8>,
 ) -> Result<(), AllocError>
-    ensures { OnOk result (Writes into.old.items into.new.items (stop_pieces model.now stop.now)) }
+    ensures { OnOk result (IsMarkedUp into.old.items into.new.items) }
 {
     match stop {
         ToldStop::Wide(site, step, operation) => write_wide(model, site, *step, operation, into),
-        ToldStop::Pivots(site) => write_spent(model, Account::StoppedPivots, site, into),
-        ToldStop::Nodes(site) => write_spent(model, Account::StoppedNodes, site, into),
-        ToldStop::Large(size) => write_large(*size, into),
-    }
-}
-
-// Writes an item with an enforced member.
-fn write_enforced_item(model: &Model, member: Member, into: &mut Vec<u8>) -> Result<(), AllocError>
-    ensures { OnOk result (Writes into.old.items into.new.items (enforced_item model.now member)) }
-{
-    write_asking(model, member, into)?;
-    write(&[Piece::Tag(Tag::ItemEnd)], into)
-}
-
-// Writes an item for each enforced member.
-fn write_each_enforced(
-    model: &Model,
-    enforced: &[Member],
-    into: &mut Vec<u8>,
-) -> Result<(), AllocError>
-    ensures { let pieces = flat_map (enforced_item model.now) enforced.now in
-        OnOk result (Writes into.old.items into.new.items pieces) }
-{
-    for member in enforced {
-        write_enforced_item(model, *member, into)?;
-    }
-    Ok(())
-}
-
-// Writes enforced members in a fold.
-fn write_enforced_fold(
-    model: &Model,
-    enforced: &[Member],
-    into: &mut Vec<u8>,
-) -> Result<(), AllocError>
-    ensures { let pieces = enforced_fold model.now enforced.now in
-        OnOk result (Writes into.old.items into.new.items pieces) }
-{
-    let count = enforced.len() as u64;
-    write(
-        &[
-            Piece::Tag(fold_tag(count)),
-            Piece::Account(Account::EnforcedFold),
-            Piece::Count(count),
-            Piece::Tag(Tag::FoldBody),
-            Piece::Tag(Tag::Ordered),
-        ],
-        into,
-    )?;
-    write_each_enforced(model, enforced, into)?;
-    write(
-        &[Piece::Tag(Tag::OrderedEnd), Piece::Tag(Tag::FoldEnd)],
-        into,
-    )
-}
-
-// Writes enforced members, where there are any.
-fn write_enforced(model: &Model, enforced: &[Member], into: &mut Vec<u8>) -> Result<(), AllocError>
-    ensures { let pieces = enforced_pieces model.now enforced.now in
-        OnOk result (Writes into.old.items into.new.items pieces) }
-{
-    if enforced.is_empty() {
-        return Ok(());
-    }
-    write_enforced_fold(model, enforced, into)
-}
-
-/// Writes the members that were enforced at the site of a stop.
-pub(crate) fn write_enforced_at(
-    model: &Model,
-    stop: &ToldStop,
-    into: &mut Vec<u8>,
-) -> Result<(), AllocError>
-    ensures { OnOk result (Writes into.old.items into.new.items (enforced_at model.now stop.now)) }
-{
-    match stop {
-        ToldStop::Wide(site, _, _) => write_enforced(model, site.enforced.as_slice(), into),
-        ToldStop::Pivots(site) => write_enforced(model, site.enforced.as_slice(), into),
-        ToldStop::Nodes(site) => write_enforced(model, site.enforced.as_slice(), into),
-        ToldStop::Large(_) => Ok(()),
+        ToldStop::Pivots(site) => {
+            write_spent(
+                model,
+                "the pivots that it may take were used up.",
+                site,
+                into,
+            )
+        }
+        ToldStop::Nodes(site) => write_spent(
+            model,
+            "the cases that it may tell apart were used up.",
+            site,
+            into,
+        ),
+        ToldStop::Large(size) => write(
+            &[
+                Fixed("<p>This calculation stopped before there was an answer: "),
+                Fixed("it is too large, of size "),
+                Count(*size),
+                Fixed(".</p>\n"),
+            ],
+            into,
+        ),
     }
 }

@@ -1,10 +1,10 @@
-use Rattle.std.proofs.Common.{◌≡◌, ◌⊎◌, ◌<◌, sym, ◌∙◌, ap, subst, ℕ, List, ◌++◌, length, arith}
+use Rattle.std.proofs.Common.{◌≡◌, ◌⊎◌, ◌<◌, sym, ◌∙◌, ap, subst, ℕ, List, length, arith}
 use Rattle.lp_model.specs.Program.{Program}
 use Rattle.report_text.specs.History.{HistoryValue}
 use Rattle.report_text.specs.Form.{IsReportFor}
 use Rattle.report_text.specs.Grammar.{report_lines}
 use Rattle.report_reader.specs.Reading.{Reads, IsReportStop}
-use Rattle.report_page.specs.Page.{page_of}
+use Rattle.report_page.specs.Pieces.{IsPage}
 use Rattle.report_page.proofs.Turned.{commands_asked}
 use Rattle.cert_check.specs.Trials.{outcome_of, trials}
 use Rattle.cert_check.specs.declared.outcome.Outcome.{Outcome}
@@ -37,10 +37,9 @@ pub returns-in-Ok-accepted_counts : goal.returns-in-Ok-accepted_counts
 returns-in-Ok-accepted_counts c =
     let report = c.in-Ok.report in
     let first = ap (λ (v : HistoryValue). v.model) c.new-session.ensures in
-    let read = ap (λ (v : HistoryValue). v.model) c.read_report.ensures.back ∙ first in
     let same = c.into_model.ensures ∙ ap (λ (v : HistoryValue). v.model) (c.page.ensures.back ∙ c.read_report.ensures.back) ∙ first in
     let says = subst (λ (m : Program). Says m report c.verify.result) same (record { said = c.verify.ensures.said; notes = c.verify.ensures.notes; true_answers = c.verify.ensures.true_answers }) in
-    let text = c.in-Ok-page.ensures.written ∙ ap (λ (t : List ℕ). t ++ page_of c.read_report.new.session.model report) c.new-text.ensures.items ∙ ap (λ (m : Program). page_of m report) read in
+    let text = subst (λ (t : List ℕ). IsPage t c.page.new.into.items) c.new-text.ensures.items c.in-Ok-page.ensures.written in
     record {
       page = accepted_page c.args.model c.args.bytes.now report (record { text = c.page.new.into.items; settled = c.in-Ok-accepted_counts.counts.0; unsettled = c.in-Ok-accepted_counts.counts.1 }) c.verify.result
           (subst (λ (m : Program). Reads m c.args.bytes.now report) first c.in-Ok.ensures.read) says c.in-Ok-accepted_counts.ensures text;

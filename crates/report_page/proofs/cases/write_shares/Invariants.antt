@@ -1,8 +1,0 @@
-use Rattle.std.proofs.Common.{◌≡◌, ◌++◌, flat_map, drop}
-use Rattle.report_page.specs.Pieces.{bytes_of}
-use Rattle.report_page.specs.Cases.{share_pieces}
-use Rattle.report_page.proofs.cases.write_shares.Given as goal
-
--- the shares that are left complete the bytes
-abbrev pub invariant-loop-share : goal.invariant-loop-share
-invariant-loop-share l = l.into.items ++ bytes_of (flat_map (share_pieces l.model) (drop l.share-index l.shares)) ≡ l.initial.into.items ++ bytes_of (flat_map (share_pieces l.model) l.shares)
