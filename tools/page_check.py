@@ -4,10 +4,11 @@
 Each `verify` of examples/runs.txt is made as a page. Where the report is accepted, the page is parsed by the standard
 library's HTML parser: every tag is closed in its turn, no id stands twice, there is no script and no style sheet but the
 head's, and nothing is loaded from elsewhere; the members that stand on it are those of the report and of its duals, in its
-order, under their own names; and where examples/ has the page of the report (NAME.html for NAME.report), it is that page
-byte by byte. Where it is refused, the line and the status are those of `verify`. Then come a model whose names are markup,
-and a report of 401 members. Without words the program is the one that ./iisan-page proves and builds. The last line is
-'N pages passed, M failed', and the status 1 where some page is not as it is to be.
+order (those that only ask that a column is not negative behind the others), under their own names, each taken as often as
+there; and where examples/ has the page of the report (NAME.html for NAME.report), it is that page byte by byte. Where it is
+refused, the line and the status are those of `verify`. Then come a model whose names are markup, and a report of 401
+members. Without words the program is the one that ./iisan-page proves and builds. The last line is 'N pages passed, M
+failed', and the status 1 where some page is not as it is to be.
 """
 
 import os
@@ -18,13 +19,13 @@ from html.parser import HTMLParser
 
 TOP = os.path.dirname(os.path.dirname(os.path.realpath(__file__)))
 EXAMPLES = f"{TOP}/examples"
-VOID = {"meta"}
-TITLES = {
-    "rowlo": "lower side of row ",
-    "rowup": "upper side of row ",
-    "lower": "least value of ",
-    "upper": "greatest value of ",
-    "whole": "whole values of ",
+VOID = {"meta", "br"}
+ASKED = {
+    "rowlo": " needs at least ",
+    "rowup": " allows at most ",
+    "lower": " is at least ",
+    "upper": " is at most ",
+    "whole": " has to be whole",
 }
 
 
@@ -34,6 +35,7 @@ class Page(HTMLParser):
     def __init__(self):
         super().__init__(convert_charrefs=True)
         self.open, self.ids, self.faults, self.titles = [], set(), [], []
+        self.not_negative, self.in_signs, self.times, self.in_times = [], False, [], False
 
     def handle_starttag(self, tag, attrs):
         for name, value in attrs:
@@ -41,12 +43,19 @@ class Page(HTMLParser):
                 self.faults.append(f"id {value} twice")
             if name == "id":
                 self.ids.add(value)
-            if name in ("src", "href", "onload", "onclick"):
+            if name in ("src", "onload", "onclick") or (name == "href" and not value.startswith("#")):
                 self.faults.append(f"{tag} has {name}")
         if tag in ("script", "link", "img", "iframe") or (tag == "style" and "head" not in self.open):
             self.faults.append(f"a tag {tag}")
+        if tag == "li":
+            self.in_signs = ("class", "signs") in attrs
+        if tag == "span":
+            self.in_times = ("class", "times") in attrs
+            self.times += [""] * self.in_times
         if tag == "b":
             self.titles.append("")
+        if tag == "code" and self.in_signs:
+            self.not_negative.append("")
         if tag not in VOID:
             self.open.append(tag)
 
@@ -57,17 +66,22 @@ class Page(HTMLParser):
     def handle_data(self, data):
         if self.open[-1:] == ["b"]:
             self.titles[-1] += data
+        if self.open[-1:] == ["span"] and self.in_times:
+            self.times[-1] += data
+        if self.open[-1:] == ["code"] and self.in_signs:
+            self.not_negative[-1] += data
 
 
 def members_of(report):
-    """The kind and the name of each member that is to stand on the page of a report: those listed, and those a dual uses."""
-    found, in_dual = [], False
-    for line in report.decode().splitlines():
-        word, *rest = line.split(" ")
-        in_dual = word == "dual" or (in_dual and word == "use")
-        if word in ("member", "enforced") or (in_dual and word == "use"):
-            found.append(rest[:2])
-    return found
+    """The kind, the name and how often it is taken, if it is, of each member that is to stand on the page of a report, by its
+    commands: those listed, with the shares of a proof without cases, and those that a dual uses."""
+    for entry in report.decode().split("\ncommand ")[1:]:
+        lines = [line.split(" ") for line in entry.splitlines()]
+        is_one = sum(words == ["leaf"] for words in lines) == 1
+        used = [words[1:] for words in lines if words[0] == "use"]
+        listed = [words[1:3] for words in lines if words[0] in ("member", "enforced")]
+        taken = {(kind, name): weight for kind, name, weight in used if is_one}
+        yield [[*it, taken.get(tuple(it))] for it in listed] + used * (["dual"] in lines)
 
 
 def faults_of(page, report):
@@ -77,9 +91,23 @@ def faults_of(page, report):
     found = Page()
     found.feed(page.decode())
     found.close()
-    wanted = [TITLES[kind] + name for kind, name in members_of(report)]
-    wrong = [] if found.titles == wanted else ["other members than those of the report"]
-    return found.faults + [f"{tag} is not closed" for tag in found.open] + wrong
+    taken = []
+    for members in members_of(report):
+        last = []
+        for kind, name, weight in members:
+            if found.titles and found.titles[0].startswith(name + ASKED[kind]):
+                found.titles.pop(0)
+                taken += [weight] * (weight is not None)
+            elif kind == "lower" and found.not_negative[:1] == [name]:
+                found.not_negative.pop(0)
+                last += [weight] * (weight not in (None, "1"))
+            else:
+                found.faults.append(f"no member {kind} {name} in its turn")
+        taken += last
+    said = ["1" if times == "taken once" else times.split(" ")[1] for times in found.times]
+    found.faults += ["other members than those of the report"] * bool(found.titles or found.not_negative)
+    found.faults += ["members are taken otherwise than in the report"] * (said != taken)
+    return found.faults + [f"{tag} is not closed" for tag in found.open]
 
 
 def read(path):

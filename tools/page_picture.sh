@@ -8,6 +8,6 @@ top=$(CDPATH='' cd -- "$(dirname -- "$0")/.." && pwd)
 room=$(mktemp -d)
 trap 'rm -rf "$room"' EXIT
 "${1:-$top/iisan-page}" "$top/examples/production.lp" "$top/examples/production.irreducible.report" >"$room/page.html"
-chromium --headless --no-sandbox --disable-gpu --hide-scrollbars --window-size=800,1330 --screenshot="$room/page.png" \
+chromium --headless --no-sandbox --disable-gpu --hide-scrollbars --window-size=800,1400 --screenshot="$room/page.png" \
     "file://$room/page.html" >/dev/null 2>&1
 cp "$room/page.png" "$top/docs/page.png"

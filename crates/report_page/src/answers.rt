@@ -2,16 +2,16 @@
 ghost use Rattle.std.specs.Prelude.{OnOk};
 ghost use Rattle.report_page.specs.Pieces.{IsMarkedUp};
 
-use crate::drawing::write_drawing;
+use crate::bars::write_bars;
 use crate::edits::{write_edit, write_refused};
 use crate::leasts::{write_least, write_price};
-use crate::members::{Among, write_list};
+use crate::members::{Among, Conflict, write_list};
 use crate::objectives::{write_bounded, write_unbounded};
 use crate::parts::column_name;
 use crate::pieces::Piece::{Count, Fixed, Text};
 use crate::pieces::{write, write_fixed};
 use crate::points::{Told, write_fold};
-use crate::reasons::{leaf_shares, write_reason};
+use crate::reasons::{gap_of, leaf_shares, write_reason};
 use crate::steps::write_reduced;
 use crate::stops::write_stopped;
 use certs::{Node, PackedPoint};
@@ -71,8 +71,7 @@ fn write_feasible(model: &Model, point: &PackedPoint, into: &mut Vec<u8>) -> Res
     write_fold(model, Told::Value, point.values.as_slice(), into)
 }
 
-// Writes members that cannot all be met, with their witnesses as far as there are witnesses, and why, and what ties them
-// together.
+// Writes members that cannot all be met, with their witnesses as far as there are witnesses, and why.
 fn write_conflict(
     model: &Model,
     among: Among,
@@ -83,9 +82,14 @@ fn write_conflict(
 ) -> Result<(), AllocError>
     ensures { OnOk result (IsMarkedUp into.old.items into.new.items) }
 {
-    write_list(model, among, leaf_shares(nodes), set, witnesses, into)?;
+    let conflict = Conflict {
+        among,
+        shares: leaf_shares(nodes),
+        gap: gap_of(model, nodes),
+    };
+    write_list(model, &conflict, set, witnesses, into)?;
     write_reason(model, nodes, into)?;
-    write_drawing(model, set, into)
+    write_bars(model, conflict.shares, into)
 }
 
 // Writes in how many rounds members were enforced, where it is told, which the check does not look into.

@@ -2,25 +2,13 @@
 ghost use Rattle.std.specs.Prelude.{OnOk};
 ghost use Rattle.report_page.specs.Pieces.{IsClosed, IsMarkedUp};
 
+use crate::numbers::{is_negative, magnitude, write_number};
 use crate::parts::{asked, column_name, member_name, row_terms};
 use crate::pieces::Piece::{Fixed, Number, Text};
 use crate::pieces::{write, write_fixed};
 use frac128::Frac;
 use lp_model::{Member, Model, Term};
 use std::alloc::AllocError;
-
-/// Whether a number is below 0.
-pub(crate) fn is_negative(number: Frac) -> bool {
-    number < Frac::whole(0)
-}
-
-/// A number without its sign.
-pub(crate) fn magnitude(number: Frac) -> Frac {
-    if is_negative(number) {
-        return number.negate();
-    }
-    number
-}
 
 // Writes so much of a column.
 fn write_amount(
@@ -65,7 +53,20 @@ fn write_sum(model: &Model, terms: &[Term], into: &mut Vec<u8>) -> Result<(), Al
     Ok(())
 }
 
-/// Writes the name of a member.
+// What a member asks of that of which it is, before its number.
+fn asking(member: Member) -> &'static str
+    ensures { IsClosed result.now }
+{
+    match member {
+        Member::RowLo(_) => " needs at least ",
+        Member::RowUp(_) => " allows at most ",
+        Member::Lower(_) => " is at least ",
+        Member::Upper(_) => " is at most ",
+        Member::Whole(_) => " has to be whole",
+    }
+}
+
+/// Writes a member in words: its name, and what it asks for.
 pub(crate) fn write_title(
     model: &Model,
     member: Member,
@@ -73,17 +74,32 @@ pub(crate) fn write_title(
 ) -> Result<(), AllocError>
     ensures { OnOk result (IsMarkedUp into.old.items into.new.items) }
 {
-    let name = member_name(model, member);
-    match member {
-        Member::RowLo(_) => write(&[Fixed("lower side of row "), Text(name)], into),
-        Member::RowUp(_) => write(&[Fixed("upper side of row "), Text(name)], into),
-        Member::Lower(_) => write(&[Fixed("least value of "), Text(name)], into),
-        Member::Upper(_) => write(&[Fixed("greatest value of "), Text(name)], into),
-        Member::Whole(_) => write(&[Fixed("whole values of "), Text(name)], into),
+    write(&[Text(member_name(model, member))], into)?;
+    write_fixed(asking(member), into)?;
+    if let Member::Whole(_) = member {
+        return Ok(());
     }
+    write_number(asked(model, member), into)
 }
 
-/// Writes what a member asks for.
+// Writes a row as an inequality.
+fn write_row(
+    model: &Model,
+    row: u32,
+    relation: &'static str,
+    member: Member,
+    into: &mut Vec<u8>,
+) -> Result<(), AllocError>
+    requires { IsClosed relation.now }
+    ensures { OnOk result (IsMarkedUp into.old.items into.new.items) }
+{
+    write_fixed("\n<code>", into)?;
+    write_sum(model, row_terms(model, row), into)?;
+    write_fixed(relation, into)?;
+    write(&[Number(asked(model, member)), Fixed("</code>")], into)
+}
+
+/// Writes the inequality of a member of a row; a bound or a mark says all in its title.
 pub(crate) fn write_demand(
     model: &Model,
     member: Member,
@@ -91,20 +107,10 @@ pub(crate) fn write_demand(
 ) -> Result<(), AllocError>
     ensures { OnOk result (IsMarkedUp into.old.items into.new.items) }
 {
-    let number = asked(model, member);
-    let name = member_name(model, member);
     match member {
-        Member::RowLo(index) => {
-            write_sum(model, row_terms(model, index), into)?;
-            write(&[Fixed(" &gt;= "), Number(number)], into)
-        }
-        Member::RowUp(index) => {
-            write_sum(model, row_terms(model, index), into)?;
-            write(&[Fixed(" &lt;= "), Number(number)], into)
-        }
-        Member::Lower(_) => write(&[Text(name), Fixed(" &gt;= "), Number(number)], into),
-        Member::Upper(_) => write(&[Text(name), Fixed(" &lt;= "), Number(number)], into),
-        Member::Whole(_) => write(&[Text(name), Fixed(" is a whole number")], into),
+        Member::RowLo(row) => write_row(model, row, " &gt;= ", member, into),
+        Member::RowUp(row) => write_row(model, row, " &lt;= ", member, into),
+        _ => Ok(()),
     }
 }
 

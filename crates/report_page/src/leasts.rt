@@ -6,6 +6,7 @@ use crate::objectives::write_holders;
 use crate::pieces::Piece::{Fixed, Number};
 use crate::pieces::{write, write_fixed};
 use crate::points::{Told, write_fold};
+use crate::relaxed::write_yielding;
 use certs::{PackedPoint, Share};
 use frac128::Frac;
 use lp_model::Model;
@@ -81,6 +82,7 @@ pub(crate) fn write_least(
 {
     write_total(total, into)?;
     let point = point.unpacked(*into.allocator())?;
+    write_yielding(model, total, point.values.as_slice(), into)?;
     write_fold(model, Told::LeastValue, point.values.as_slice(), into)?;
     write_showing(model, shares, total, into)
 }

@@ -4,7 +4,9 @@ ghost use Rattle.report_page.specs.Pieces.{IsClosed, IsMarkedUp};
 
 use crate::demands::{write_demand, write_title, write_values};
 use crate::folds::begin_fold;
-use crate::pieces::Piece::{Count, Fixed, Number};
+use crate::numbers::{quotient, sum, write_number};
+use crate::parts::{asked, member_name};
+use crate::pieces::Piece::{Count, Fixed, Text};
 use crate::pieces::{write, write_fixed};
 use certs::{PackedPoint, Share, Source};
 use frac128::Frac;
@@ -17,6 +19,15 @@ use std::alloc::AllocError;
 pub(crate) enum Among {
     Any,
     Rigid,
+}
+
+/// What is known of members that cannot all be met: of which kind they are, and where the proof has no cases its shares, and
+/// the number that 0 would have to be at least by these, unless an operation on the way to it is too wide.
+#[derive(Clone, Copy)]
+pub(crate) struct Conflict<'a> {
+    pub among: Among,
+    pub shares: &'a [Share],
+    pub gap: Option<Frac>,
 }
 
 // Whether a share is of a member.
@@ -37,24 +48,160 @@ fn weight_of(shares: &[Share], member: Member) -> Option<Frac> {
     None
 }
 
-/// Writes how often a member is taken, where it is.
-pub(crate) fn write_taken(weight: Option<Frac>, into: &mut Vec<u8>) -> Result<(), AllocError>
+/// Writes how often a member is taken.
+pub(crate) fn write_taken(weight: Frac, into: &mut Vec<u8>) -> Result<(), AllocError>
     ensures { OnOk result (IsMarkedUp into.old.items into.new.items) }
 {
-    let Some(weight) = weight else {
-        return Ok(());
-    };
     if weight == Frac::whole(1) {
         return write_fixed("\n<span class=times>taken once</span>", into);
     }
-    write(
-        &[
-            Fixed("\n<span class=times>taken "),
-            Number(weight),
-            Fixed(" times</span>"),
-        ],
-        into,
-    )
+    write_fixed("\n<span class=times>taken ", into)?;
+    write_number(weight, into)?;
+    write_fixed(" times</span>", into)
+}
+
+// The number to which a member would have to be moved by itself, so that the sum of a gap, in which it is taken so often, is
+// no contradiction. There is none where an operation on the way to it is too wide.
+fn moved(model: &Model, member: Member, gap: &Option<Frac>, weight: Frac) -> Option<Frac> {
+    let Some(gap) = gap else {
+        return None;
+    };
+    let change = quotient(*gap, weight)?;
+    match member {
+        Member::RowLo(_) | Member::Lower(_) => sum(asked(model, member), change.negate()),
+        Member::RowUp(_) | Member::Upper(_) => sum(asked(model, member), change),
+        Member::Whole(_) => None,
+    }
+}
+
+// Which way a member would have to be moved.
+fn way(member: Member) -> &'static str
+    ensures { IsClosed result.now }
+{
+    match member {
+        Member::RowLo(_) | Member::Lower(_) => "\n<span class=alone>alone: down to ",
+        _ => "\n<span class=alone>alone: up to ",
+    }
+}
+
+// Writes how far a member would have to be moved by itself, where that is known.
+fn write_alone(
+    model: &Model,
+    member: Member,
+    gap: &Option<Frac>,
+    weight: Frac,
+    into: &mut Vec<u8>,
+) -> Result<(), AllocError>
+    ensures { OnOk result (IsMarkedUp into.old.items into.new.items) }
+{
+    let Some(moved) = moved(model, member, gap, weight) else {
+        return Ok(());
+    };
+    write_fixed(way(member), into)?;
+    write_number(moved, into)?;
+    write_fixed("</span>", into)
+}
+
+/// Writes what a member is and what it asks for.
+pub(crate) fn write_asking(
+    model: &Model,
+    member: Member,
+    into: &mut Vec<u8>,
+) -> Result<(), AllocError>
+    ensures { OnOk result (IsMarkedUp into.old.items into.new.items) }
+{
+    write_fixed("<li><b>", into)?;
+    write_title(model, member, into)?;
+    write_fixed("</b>", into)?;
+    write_demand(model, member, into)
+}
+
+// Whether a member only asks that a column is not negative.
+fn is_not_negative(model: &Model, member: Member) -> bool {
+    matches!(member, Member::Lower(_)) && asked(model, member) == Frac::whole(0)
+}
+
+// Whether some of the members do.
+fn has_not_negative(model: &Model, set: &MemberList) -> bool {
+    for member in set.iter() {
+        if is_not_negative(model, member) {
+            return true;
+        }
+    }
+    false
+}
+
+// Writes the column of a member that only asks that it is not negative, and how often that is taken if not once.
+fn write_column(
+    model: &Model,
+    shares: &[Share],
+    member: Member,
+    into: &mut Vec<u8>,
+) -> Result<(), AllocError>
+    ensures { OnOk result (IsMarkedUp into.old.items into.new.items) }
+{
+    if !is_not_negative(model, member) {
+        return Ok(());
+    }
+    let name = Text(member_name(model, member));
+    write(&[Fixed(" <code>"), name, Fixed("</code>")], into)?;
+    match weight_of(shares, member) {
+        Some(weight) if weight != Frac::whole(1) => write_taken(weight, into),
+        _ => Ok(()),
+    }
+}
+
+// Writes in one item which columns are only asked not to be negative, where there are any.
+fn write_not_negative(
+    model: &Model,
+    shares: &[Share],
+    set: &MemberList,
+    into: &mut Vec<u8>,
+) -> Result<(), AllocError>
+    ensures { OnOk result (IsMarkedUp into.old.items into.new.items) }
+{
+    if !has_not_negative(model, set) {
+        return Ok(());
+    }
+    write_fixed("<li class=signs>Not negative:", into)?;
+    for member in set.iter() {
+        write_column(model, shares, member, into)?;
+    }
+    write_fixed("</li>\n", into)
+}
+
+// Writes a member, how often it is taken, and how far it would have to be moved by itself. One that only asks that a column is
+// not negative stands with its like.
+fn write_member(
+    model: &Model,
+    conflict: &Conflict<'_>,
+    member: Member,
+    into: &mut Vec<u8>,
+) -> Result<(), AllocError>
+    ensures { OnOk result (IsMarkedUp into.old.items into.new.items) }
+{
+    if is_not_negative(model, member) {
+        return Ok(());
+    }
+    write_asking(model, member, into)?;
+    write_share(model, conflict, member, into)?;
+    write_fixed("</li>\n", into)
+}
+
+// Writes how far a member would have to be moved by itself, and how often it is taken, where it is.
+fn write_share(
+    model: &Model,
+    conflict: &Conflict<'_>,
+    member: Member,
+    into: &mut Vec<u8>,
+) -> Result<(), AllocError>
+    ensures { OnOk result (IsMarkedUp into.old.items into.new.items) }
+{
+    let Some(weight) = weight_of(conflict.shares, member) else {
+        return Ok(());
+    };
+    write_alone(model, member, &conflict.gap, weight, into)?;
+    write_taken(weight, into)
 }
 
 // Writes what the first of some witnesses gives the columns of a member's form.
@@ -69,44 +216,12 @@ fn write_witness(
     let [witness, ..] = witnesses else {
         return Ok(());
     };
-    write_fixed(
-        "\n<p class=without>Without this one the others can be met",
-        into,
-    )?;
+    write_fixed("<li>Without <q>", into)?;
+    write_title(model, member, into)?;
+    write_fixed("</q> the others can be met", into)?;
     let point = witness.unpacked(*into.allocator())?;
     write_values(model, point.values.as_slice(), member, into)?;
-    write_fixed(".</p>\n", into)
-}
-
-/// Writes what a member is and what it asks for.
-pub(crate) fn write_asking(
-    model: &Model,
-    member: Member,
-    into: &mut Vec<u8>,
-) -> Result<(), AllocError>
-    ensures { OnOk result (IsMarkedUp into.old.items into.new.items) }
-{
-    write_fixed("<li><b>", into)?;
-    write_title(model, member, into)?;
-    write_fixed("</b>\n<code>", into)?;
-    write_demand(model, member, into)?;
-    write_fixed("</code>", into)
-}
-
-// Writes a member with the first of some witnesses.
-fn write_member(
-    model: &Model,
-    shares: &[Share],
-    member: Member,
-    witnesses: &[PackedPoint],
-    into: &mut Vec<u8>,
-) -> Result<(), AllocError>
-    ensures { OnOk result (IsMarkedUp into.old.items into.new.items) }
-{
-    write_asking(model, member, into)?;
-    write_taken(weight_of(shares, member), into)?;
-    write_witness(model, member, witnesses, into)?;
-    write_fixed("</li>\n", into)
+    write_fixed(".</li>\n", into)
 }
 
 // The witnesses behind the first.
@@ -115,6 +230,33 @@ fn others(witnesses: &[PackedPoint]) -> &[PackedPoint] {
         return witnesses;
     }
     &witnesses[1..]
+}
+
+// Writes the witness of each member, as far as there are witnesses.
+fn write_witnesses(
+    model: &Model,
+    set: &MemberList,
+    witnesses: &[PackedPoint],
+    into: &mut Vec<u8>,
+) -> Result<(), AllocError>
+    ensures { OnOk result (IsMarkedUp into.old.items into.new.items) }
+{
+    if witnesses.is_empty() {
+        return Ok(());
+    }
+    write(
+        &[
+            Fixed("<details>\n<summary>Each of them is needed: without it the others can be met"),
+            Fixed("</summary>\n<ul>\n"),
+        ],
+        into,
+    )?;
+    let mut rest = witnesses;
+    for member in set.iter() {
+        write_witness(model, member, rest, into)?;
+        rest = others(rest);
+    }
+    write_fixed("</ul>\n</details>\n", into)
 }
 
 // That one member cannot be met.
@@ -157,21 +299,20 @@ fn write_lead(among: Among, count: u64, into: &mut Vec<u8>) -> Result<(), AllocE
 /// Writes that members cannot all be met, and the members, with their witnesses as far as there are witnesses.
 pub(crate) fn write_list(
     model: &Model,
-    among: Among,
-    shares: &[Share],
+    conflict: &Conflict<'_>,
     set: &MemberList,
     witnesses: &[PackedPoint],
     into: &mut Vec<u8>,
 ) -> Result<(), AllocError>
     ensures { OnOk result (IsMarkedUp into.old.items into.new.items) }
 {
-    write_lead(among, set.count(), into)?;
+    write_lead(conflict.among, set.count(), into)?;
     begin_fold("Requirements: ", set.count(), into)?;
     write_fixed("<ol>\n", into)?;
-    let mut rest = witnesses;
     for member in set.iter() {
-        write_member(model, shares, member, rest, into)?;
-        rest = others(rest);
+        write_member(model, conflict, member, into)?;
     }
-    write_fixed("</ol>\n</details>\n", into)
+    write_not_negative(model, conflict.shares, set, into)?;
+    write_fixed("</ol>\n</details>\n", into)?;
+    write_witnesses(model, set, witnesses, into)
 }

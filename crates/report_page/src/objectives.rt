@@ -100,7 +100,7 @@ pub(crate) fn write_holders(
     write_fixed("<ol>\n", into)?;
     for share in shares {
         write_holder(model, share.source, into)?;
-        write_taken(Some(share.weight), into)?;
+        write_taken(share.weight, into)?;
         write_fixed("</li>\n", into)?;
     }
     write_fixed("</ol>\n</details>\n", into)

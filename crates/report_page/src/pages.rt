@@ -8,6 +8,7 @@ use crate::answers::{write_answer, write_command};
 use crate::parts::column_name;
 use crate::pieces::Piece::{Count, Fixed, Text};
 use crate::pieces::{write, write_fixed};
+use crate::verdicts::write_verdict;
 use cert_check::settles;
 use lp_model::{Model, Note};
 use report_text::{CommandSession, Entry, Report};
@@ -30,11 +31,15 @@ const HEAD: &str = "\
     ol,ul{padding-left:2rem}li{margin:.5rem 0;padding:.5rem .75rem;background:var(--panel);border-left:3px solid var(--line)}\n\
     li b{display:block}li p{margin:.25rem 0 0}p.without,span.times,summary{color:var(--soft)}span.times{white-space:nowrap}\n\
     ul.cases{padding-left:0;list-style:none}ul.cases li{padding:.25rem 0 .25rem .5rem}details{overflow-x:auto}\n\
-    svg{display:block;width:100%;height:auto;max-width:26rem}svg text{fill:var(--ink);font-size:12px}svg line{stroke:var(--soft);transform:translateY(-4px)}\n\
+    table{border-collapse:collapse;font-variant-numeric:tabular-nums}caption{text-align:left;font-weight:600}div.wide{overflow-x:auto;margin-bottom:1rem}\n\
+    th,td{padding:.2rem .15rem;border-bottom:1px solid var(--line);text-align:right}th:first-child{text-align:left}table{font-size:.8em}\n\
+    ul.verdicts{padding:0;list-style:none}span.alone{display:block;font-weight:600}a{color:inherit}p.checked{color:var(--soft)}\n\
+    dl.bars dd{margin:0 0 .5rem;height:.6rem;border:1px solid var(--soft);background:var(--line)}\n\
     @media print{body{max-width:none}li{break-inside:avoid}}\n\
     </style>\n\
     </head>\n\
     <body>\n\
+    <main>\n\
     <h1>What the model asks for</h1>\n";
 
 // How many entries are settled.
@@ -63,14 +68,9 @@ fn write_counts(entries: &[Entry], into: &mut Vec<u8>) -> Result<(), AllocError>
 {
     write(
         &[
-            Fixed("<p>This report was checked against the model. Answers that hold: "),
+            Fixed("<p class=checked>Checked against the model. Answers that hold: "),
             Count(count_settled(entries)),
-            Fixed(
-                "; calculations that stopped before there was an answer, questions that are asked only ",
-            ),
-            Fixed(
-                "where no quantity has to be whole, and reductions, into which the check does not look: ",
-            ),
+            Fixed("; without an answer that is checked: "),
             Count(count_unsettled(entries)),
             Fixed(".</p>\n"),
         ],
@@ -160,6 +160,41 @@ fn write_entries(
     Ok(())
 }
 
+// Writes the answers in short, each of the program as the commands before it edited it.
+fn write_verdicts(
+    session: &mut CommandSession,
+    entries: &[Entry],
+    into: &mut Vec<u8>,
+) -> Result<(), AllocError>
+    requires fresh { session.old.formers ≡ [] }
+    requires commands { All (λ e. IsCommand e.command) entries.now }
+    ensures written { OnOk result (IsMarkedUp into.old.items into.new.items) }
+    ensures of_program { IsSessionOf session.old.model session.new }
+{
+    write_fixed("<nav aria-label='Answers'>\n<ul class=verdicts>\n", into)?;
+    for entry in entries {
+        write_verdict(session.model(), entry, into)?;
+        session.take(&entry.command)?;
+    }
+    write_fixed("</ul>\n</nav>\n", into)
+}
+
+// Writes the answers in short, and leaves the session as it was.
+fn write_overview(
+    session: &mut CommandSession,
+    entries: &[Entry],
+    into: &mut Vec<u8>,
+) -> Result<(), AllocError>
+    requires fresh { session.old.formers ≡ [] }
+    requires commands { All (λ e. IsCommand e.command) entries.now }
+    ensures written { OnOk result (IsMarkedUp into.old.items into.new.items) }
+    ensures back { session.new ≡ session.old }
+{
+    let written = write_verdicts(session, entries, into);
+    session.rewind();
+    written
+}
+
 // Writes what stands behind the head.
 fn write_body(
     session: &mut CommandSession,
@@ -172,10 +207,11 @@ fn write_body(
     ensures of_program { IsSessionOf session.old.model session.new }
 {
     let entries = report.entries.as_slice();
+    write_overview(session, entries, into)?;
     write_counts(entries, into)?;
     write_notes(session.model(), report.notes.as_slice(), into)?;
     write_entries(session, entries, into)?;
-    write_fixed("</body>\n</html>\n", into)
+    write_fixed("</main>\n</body>\n</html>\n", into)
 }
 
 // Writes the head.
@@ -188,16 +224,15 @@ fn write_head(into: &mut Vec<u8>) -> Result<(), AllocError>
 /// Appends one page for a report on a program: an HTML document that needs no other file.
 ///
 /// The page says that the report was checked, and how many of its answers are settled; so it is to be written of a report
-/// that a check accepted. It has, in the words of the model and in the order of the report, each note, and each command
-/// with its answer: the values of a point; the members that cannot all be met, each once, in order, with what it asks for,
-/// how often it is taken, and what its witness gives the columns of its form; and why they cannot, as a sum or as cases, and
-/// in how many rounds members were enforced, or what it costs to show it, with the price that shows that nothing costs less; or
-/// the point and the ray along which the objective gets better without end, or how
-/// far it can go, with what holds it there; or the least weighted violation, with a point that has it and what shows that none
-/// is less; or that a question is not asked where a column is to be whole; or how far the program is reduced, step by step; or
-/// why an edit is refused; or why a calculation stopped, where, and what was enforced there. Each answer is written of the
-/// program as the commands before it edited it. Names are escaped, and all else is fixed or a number:
-/// the tags of the page are opened and closed by its fixed bytes alone.
+/// that a check accepted. First comes each answer in a line, with what to do next. Then, in the words of the model and in the
+/// order of the report, each note, and each command with its answer: the values of a point; the members that cannot all be
+/// met, with what each asks for, how often it is taken and how far it would have to move by itself, and why they cannot, as a
+/// sum or as cases; in how many rounds members were enforced, or what it costs to show it, with its price; the point and the
+/// ray along which the objective gets better without end, or how far it can go, with what holds it there; the least weighted
+/// violation, with who gives way and what shows that none is less; that a question is not asked where a column is to be whole;
+/// how far the program is reduced; why an edit is refused; or why a calculation stopped, where, and what was enforced there.
+/// Each answer is written of the program as the commands before it edited it. Names are escaped: the tags of the page are
+/// opened and closed by its fixed bytes alone.
 ///
 /// The session is one of which nothing was edited yet, and it is so again in the end, whether memory is refused or not.
 /// The commands of the report are to be such as may be asked, as those of one that was read are.

@@ -2,7 +2,7 @@
 
 use certs::member_number;
 use frac128::Frac;
-use lp_model::{Member, Model, Term};
+use lp_model::{Member, Model, Term, Weight};
 
 /// The name of a column.
 pub(crate) fn column_name(model: &Model, column: u32) -> &[u8] {
@@ -44,5 +44,20 @@ pub(crate) fn asked(model: &Model, member: Member) -> Frac {
     match member_number(model, member) {
         Some(number) => number,
         None => Frac::whole(0),
+    }
+}
+
+/// What a member weighs. A mark never gives way.
+pub(crate) fn member_weight(model: &Model, member: Member) -> Weight {
+    match member {
+        Member::RowLo(row) if row < model.row_count() => model.row(row).lo_weight,
+        Member::RowUp(row) if row < model.row_count() => model.row(row).up_weight,
+        Member::Lower(column) if column < model.column_count() => {
+            model.column(column).lower_weight
+        }
+        Member::Upper(column) if column < model.column_count() => {
+            model.column(column).upper_weight
+        }
+        _ => Weight::Rigid,
     }
 }

@@ -2,8 +2,9 @@
 ghost use Rattle.std.specs.Prelude.{◌≤◌, OnOk, length};
 ghost use Rattle.report_page.specs.Pieces.{IsClosed, IsMarkedUp};
 
-use crate::demands::{is_negative, magnitude, value_at, write_value};
+use crate::demands::{value_at, write_value};
 use crate::folds::begin_fold;
+use crate::numbers::{is_negative, magnitude, write_number};
 use crate::parts::column_name;
 use crate::pieces::Piece::{Fixed, Number, Text};
 use crate::pieces::{write, write_fixed};

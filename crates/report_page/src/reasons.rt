@@ -3,7 +3,8 @@ ghost use Rattle.std.specs.Prelude.{OnOk};
 ghost use Rattle.report_page.specs.Pieces.{IsMarkedUp};
 
 use crate::cases::write_cases;
-use crate::pieces::Piece::Number;
+use crate::numbers::write_number;
+use crate::pieces::Piece::Fixed;
 use crate::pieces::{write, write_fixed};
 use bound_checks::right_side;
 use certs::{Node, Share};
@@ -35,40 +36,47 @@ pub(crate) fn leaf_shares(nodes: &[Node]) -> &[Share] {
     }
 }
 
-// The number that 0 would have to be at least, where no operation on the way to it is too wide.
-fn gap_of(model: &Model, shares: &[Share]) -> Option<Frac> {
-    match right_side(model, shares) {
+/// The number that 0 would have to be at least by the shares of a proof without cases, where no operation on the way to it is
+/// too wide.
+pub(crate) fn gap_of(model: &Model, nodes: &[Node]) -> Option<Frac> {
+    match right_side(model, leaf_of(nodes)?) {
         Ok(sum) => Some(sum.negate()),
         Err(_) => None,
     }
 }
 
-// Writes the number that 0 would have to be at least, or words for it where an operation on the way to it is too wide.
-fn write_gap(gap: &Option<Frac>, into: &mut Vec<u8>) -> Result<(), AllocError>
+// Writes a number that 0 would have to be at least.
+fn write_gap(gap: Option<Frac>, into: &mut Vec<u8>) -> Result<(), AllocError>
     ensures { OnOk result (IsMarkedUp into.old.items into.new.items) }
 {
     match gap {
-        Some(gap) => write(&[Number(*gap)], into),
+        Some(gap) => write_number(gap, into),
         None => write_fixed("a number above 0", into),
     }
 }
 
 // Writes what the shares of a proof without cases add up to.
-fn write_total(model: &Model, shares: &[Share], into: &mut Vec<u8>) -> Result<(), AllocError>
+fn write_total(gap: Option<Frac>, into: &mut Vec<u8>) -> Result<(), AllocError>
     ensures { OnOk result (IsMarkedUp into.old.items into.new.items) }
 {
-    let gap = gap_of(model, shares);
-    write_fixed(
-        "<p>Take each as often as it says, turn round those with &lt;=, and add up: on the left everything cancels, and together they say <code>0 &gt;= ",
+    write(
+        &[
+            Fixed("<p>Take each as often as it says, turn round those with &lt;=, and add up: "),
+            Fixed("on the left everything cancels, and together they say that 0 is at least "),
+        ],
         into,
     )?;
-    write_gap(&gap, into)?;
-    write_fixed(
-        "</code>, which is false. So together they have to give way by at least ",
+    write_gap(gap, into)?;
+    write(
+        &[
+            Fixed(", which is false. So together they have to give way by at least as much, "),
+            Fixed(
+                "each counted as often as it is taken. One of them alone, moved as far as it says, ",
+            ),
+            Fixed("ends this contradiction; there may be others.</p>\n"),
+        ],
         into,
-    )?;
-    write_gap(&gap, into)?;
-    write_fixed(", each counted as often as it is taken.</p>\n", into)
+    )
 }
 
 /// Writes why the members of a proof cannot all be met.
@@ -80,7 +88,7 @@ pub(crate) fn write_reason(
     ensures { OnOk result (IsMarkedUp into.old.items into.new.items) }
 {
     match leaf_of(nodes) {
-        Some(shares) => write_total(model, shares, into),
+        Some(_) => write_total(gap_of(model, nodes), into),
         None => write_cases(model, nodes, into),
     }
 }

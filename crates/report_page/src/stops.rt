@@ -167,7 +167,7 @@ fn write_wide(
 {
     write_why(
         model,
-        "a number became too long to be kept exactly.",
+        "a number became too long to be kept exactly. What helps: fewer digits in the numbers of the model, or another method.",
         site,
         into,
     )?;
@@ -203,14 +203,14 @@ pub(crate) fn write_stopped(
         ToldStop::Pivots(site) => {
             write_spent(
                 model,
-                "the pivots that it may take were used up.",
+                "the pivots that it may take were used up. What helps: a larger budget of pivots.",
                 site,
                 into,
             )
         }
         ToldStop::Nodes(site) => write_spent(
             model,
-            "the cases that it may tell apart were used up.",
+            "the cases that it may tell apart were used up. What helps: a larger budget of nodes, bounds on the whole quantities, or the question without whole values.",
             site,
             into,
         ),
@@ -219,7 +219,7 @@ pub(crate) fn write_stopped(
                 Fixed("<p>This calculation stopped before there was an answer: "),
                 Fixed("it is too large, of size "),
                 Count(*size),
-                Fixed(".</p>\n"),
+                Fixed(". What helps: to drop requirements, or to make them rigid.</p>\n"),
             ],
             into,
         ),

@@ -1,5 +1,5 @@
 use Rattle.report_page.specs.Pieces.{IsMarkedUp}
-use Rattle.report_page.proofs.drawing.write_column.Given as goal
+use Rattle.report_page.proofs.members.write_not_negative.Given as goal
 
 -- what was written so far is marked up
 abbrev pub invariant-loop-member : goal.invariant-loop-member
