@@ -4,11 +4,12 @@
 Each `verify` of examples/runs.txt is made as a page. Where the report is accepted, the page is parsed by the standard
 library's HTML parser: every tag is closed in its turn, no id stands twice, there is no script and no style sheet but the
 head's, and nothing is loaded from elsewhere; the members that stand on it are those of the report and of its duals, in its
-order (those that only ask that a column is not negative behind the others), under their own names, each taken as often as
-there; and where examples/ has the page of the report (NAME.html for NAME.report), it is that page byte by byte. Where it is
-refused, the line and the status are those of `verify`. Then come a model whose names are markup, and a report of 401
-members. Without words the program is the one that ./iisan-page proves and builds. The last line is 'N pages passed, M
-failed', and the status 1 where some page is not as it is to be.
+order (those that only ask that a column is not negative behind the others, and both sides of an equation as one), under
+their own names, each taken as often as there; and where examples/ has the page of the report (NAME.html for NAME.report), it
+is that page byte by byte, under another model's name where examples/runs.txt has the report for two. Where it is refused, the
+line and the status are those of `verify`. Then come a model whose names are markup, a report of 401 members of which 399 are
+a family, and one with both sides of an equation. Without words the program is the one that ./iisan-page proves and builds.
+The last line is 'N pages passed, M failed', and the status 1 where some page is not as it is to be.
 """
 
 import os
@@ -26,6 +27,26 @@ ASKED = {
     "lower": " is at least ",
     "upper": " is at most ",
     "whole": " has to be whole",
+}
+EXACTLY = " has to be exactly "
+# What the pages of some made cases have on them.
+PARTS = {
+    "401 members": """
+<details open>
+<summary>Requirements: 401</summary>
+<ol>
+<li><details>
+<summary>r…: 399 requirements</summary>
+<ol>
+<li><b>r1 needs""",
+    "an equation": """
+<li><b>e has to be exactly 3</b>
+<code>x + y = 3</code>
+<span class=alone>alone: down to 1</span>
+<span class=times>taken 1/2 (0.5) times</span>
+<span class=alone>alone: up to 5</span>
+<span class=times>taken 1/2 (0.5) times</span></li>
+""",
 }
 
 
@@ -93,17 +114,25 @@ def faults_of(page, report):
     found.close()
     taken = []
     for members in members_of(report):
-        last = []
+        last, equations = [], set()
         for kind, name, weight in members:
-            if found.titles and found.titles[0].startswith(name + ASKED[kind]):
-                found.titles.pop(0)
-                taken += [weight] * (weight is not None)
-            elif kind == "lower" and found.not_negative[:1] == [name]:
+            title = found.titles[0] if found.titles else ""
+            if kind == "lower" and found.not_negative[:1] == [name] and not title.startswith(name + ASKED[kind]):
                 found.not_negative.pop(0)
                 last += [weight] * (weight not in (None, "1"))
+                continue
+            if kind == "rowup" and name in equations:
+                equations.remove(name)
+            elif kind == "rowlo" and title.startswith(name + EXACTLY):
+                equations.add(name)
+                found.titles.pop(0)
+            elif title.startswith(name + ASKED[kind]):
+                found.titles.pop(0)
             else:
                 found.faults.append(f"no member {kind} {name} in its turn")
+            taken += [weight] * (weight is not None)
         taken += last
+        found.faults += [f"{name} is no equation" for name in equations]
     said = ["1" if times == "taken once" else times.split(" ")[1] for times in found.times]
     found.faults += ["other members than those of the report"] * bool(found.titles or found.not_negative)
     found.faults += ["members are taken otherwise than in the report"] * (said != taken)
@@ -117,6 +146,7 @@ def read(path):
 
 def example_cases():
     """The checks of the examples: a name, the model's name, both files, the status, and the page or the line, if known."""
+    first_models = {}
     with open(f"{EXAMPLES}/runs.txt", encoding="utf-8") as lines:
         for line in lines:
             words, _, expected = line.strip().partition(" => ")
@@ -126,19 +156,31 @@ def example_cases():
             status, _, said = expected.partition(" ")
             page = f"{EXAMPLES}/{report.removesuffix('.report')}.html"
             known = f"{said}\n".encode() if int(status) > 1 else read(page) if os.path.isfile(page) else None
+            if known:
+                first = first_models.setdefault(report, model)
+                known = known.replace(f"Model: <code>{first}<".encode(), f"Model: <code>{model}<".encode())
             yield words, model, read(f"{EXAMPLES}/{model}"), read(f"{EXAMPLES}/{report}"), int(status), known
 
 
+def report_of(members, uses):
+    """A report that these members cannot all be met, by a proof without cases."""
+    lines = ["iisan report 2", "command check", "infeasible", *[f"member {it}" for it in members], "proof", "leaf"]
+    return "\n".join([*lines, *[f"use {it}" for it in uses], "end", "report end", ""]).encode()
+
+
 def made_cases():
-    """A model whose names are markup, and a chain of 401 members of which the last contradicts the others."""
+    """A model whose names are markup; a chain of 401 members of which the last contradicts the others; and an equation, both
+    sides of which are taken beside a contradiction."""
     data = f"{TOP}/crates/iisan_page"
     yield "names of markup", "m.mps", read(f"{data}/data/m.mps"), read(f"{data}/data/r.txt"), 0, read(f"{data}/stdout")
     rows = [f" r{i}: x{i} - x{i - 1} >= 1" for i in range(1, 400)]
     model = "\n".join(["Minimize", " cost: x0", "Subject To", *rows, "Bounds", " x399 <= 398", "End", ""])
     members = [f"rowlo r{i}" for i in range(1, 400)] + ["lower x0", "upper x399"]
-    uses = [f"use {member} 1" for member in members]
-    report = ["iisan report 2", "command check", "infeasible", *[f"member {it}" for it in members], "proof", "leaf", *uses]
-    yield "401 members", "chain.lp", model.encode(), "\n".join([*report, "end", "report end", ""]).encode(), 0, None
+    yield "401 members", "chain.lp", model.encode(), report_of(members, [f"{it} 1" for it in members]), 0, None
+    model = "Minimize\n cost: x\nSubject To\n a: x >= 2\n e: x + y = 3\nBounds\n x <= 1\nEnd\n"
+    members = {"rowlo a": "1", "rowlo e": "1/2", "rowup e": "1/2", "upper x": "1"}
+    report = report_of(members, [f"{member} {weight}" for member, weight in members.items()])
+    yield "an equation", "equation.lp", model.encode(), report, 0, None
 
 
 def run(program, model, model_text, report_text):
@@ -166,6 +208,7 @@ def main(programs):
             faults = [] if ended == status else [f"status {ended}"]
             faults += faults_of(written, report_text) if status < 2 else []
             faults += ["other bytes than are known"] if known not in (None, written) else []
+            faults += [] if PARTS.get(name, "") in written.decode() else ["other items than are known"]
             passed, failed = passed + (not faults), failed + bool(faults)
             if faults:
                 print(f"{program}: not as it is to be: {name}: {'; '.join(faults)}")

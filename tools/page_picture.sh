@@ -7,7 +7,9 @@ set -eu
 top=$(CDPATH='' cd -- "$(dirname -- "$0")/.." && pwd)
 room=$(mktemp -d)
 trap 'rm -rf "$room"' EXIT
-"${1:-$top/iisan-page}" "$top/examples/production.lp" "$top/examples/production.irreducible.report" >"$room/page.html"
+program=$(realpath -- "${1:-$top/iisan-page}")
+cd -- "$top"
+"$program" examples/production.lp examples/production.irreducible.report >"$room/page.html"
 chromium --headless --no-sandbox --disable-gpu --hide-scrollbars --window-size=800,1400 --screenshot="$room/page.png" \
     "file://$room/page.html" >/dev/null 2>&1
-cp "$room/page.png" "$top/docs/page.png"
+cp "$room/page.png" docs/page.png

@@ -43,8 +43,13 @@ fn accepted_counts(outcome: Outcome) -> Result<(u64, u64), Ending>
     }
 }
 
-// Reads a report, makes its page, and checks it: the page is kept where the report is accepted.
-fn check_page(alloc: Global, model: Model, bytes: &[u8]) -> Result<AcceptedPage, Ending>
+// Reads a report on a model, whose file has this name, makes its page, and checks it: the page is kept where the report is accepted.
+fn check_page(
+    alloc: Global,
+    model: Model,
+    name: &[u8],
+    bytes: &[u8],
+) -> Result<AcceptedPage, Ending>
     requires { length bytes.now ≤ 67108864 }
     ensures page { IfOk result (IsPageOf model bytes.now) }
     ensures comes { IfErr result (ComesTo model bytes.now) }
@@ -56,7 +61,7 @@ fn check_page(alloc: Global, model: Model, bytes: &[u8]) -> Result<AcceptedPage,
         Err(stop) => return Err(stop_ending(stop)),
     };
     let mut text = Vec::new(alloc);
-    let Ok(()) = page(&mut session, &report, &mut text) else {
+    let Ok(()) = page(&mut session, &report, name, &mut text) else {
         return Err(Ending::Memory);
     };
     match accepted_counts(verify(alloc, session.into_model(), report)) {
@@ -93,5 +98,5 @@ pub(crate) fn fetch_page<S: Shelf>(
         Ok(bytes) => bytes,
         Err(ending) => return Err(ending),
     };
-    check_page(alloc, program, bytes.as_slice())
+    check_page(alloc, program, model.as_bytes(), bytes.as_slice())
 }

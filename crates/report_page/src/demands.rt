@@ -82,7 +82,22 @@ pub(crate) fn write_title(
     write_number(asked(model, member), into)
 }
 
-// Writes a row as an inequality.
+/// Writes a row whose sides are both members, which ask for one number, as an equation.
+pub(crate) fn write_equation(model: &Model, row: u32, into: &mut Vec<u8>) -> Result<(), AllocError>
+    ensures { OnOk result (IsMarkedUp into.old.items into.new.items) }
+{
+    let side = Member::RowLo(row);
+    write_fixed("<li><b>", into)?;
+    write(
+        &[Text(member_name(model, side)), Fixed(" has to be exactly ")],
+        into,
+    )?;
+    write_number(asked(model, side), into)?;
+    write_fixed("</b>", into)?;
+    write_row(model, row, " = ", side, into)
+}
+
+// Writes a row as an inequality, or as an equation.
 fn write_row(
     model: &Model,
     row: u32,

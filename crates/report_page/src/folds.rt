@@ -9,8 +9,8 @@ use std::alloc::AllocError;
 /// The most items of a fold that is open.
 const MOST_OPEN: u64 = 20;
 
-// How a fold of so many items begins.
-fn fold_tag(count: u64) -> &'static str
+/// How a fold of so many items begins.
+pub(crate) fn fold_tag(count: u64) -> &'static str
     ensures { IsClosed result.now }
 {
     if count <= MOST_OPEN {
@@ -29,7 +29,20 @@ pub(crate) fn begin_fold(
     requires { IsClosed title.now }
     ensures { OnOk result (IsMarkedUp into.old.items into.new.items) }
 {
-    write_fixed(fold_tag(count), into)?;
+    begin_fold_of(title, count, count, into)
+}
+
+/// Begins a fold of so many things, which stand in so many items.
+pub(crate) fn begin_fold_of(
+    title: &'static str,
+    count: u64,
+    items: u64,
+    into: &mut Vec<u8>,
+) -> Result<(), AllocError>
+    requires { IsClosed title.now }
+    ensures { OnOk result (IsMarkedUp into.old.items into.new.items) }
+{
+    write_fixed(fold_tag(items), into)?;
     write_fixed(title, into)?;
     write(&[Count(count), Fixed("</summary>\n")], into)
 }

@@ -6,6 +6,7 @@ mod bars;
 mod cases;
 mod demands;
 mod edits;
+mod families;
 mod folds;
 mod leasts;
 mod members;

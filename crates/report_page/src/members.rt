@@ -2,8 +2,9 @@
 ghost use Rattle.std.specs.Prelude.{OnOk};
 ghost use Rattle.report_page.specs.Pieces.{IsClosed, IsMarkedUp};
 
-use crate::demands::{write_demand, write_title, write_values};
-use crate::folds::begin_fold;
+use crate::demands::{write_demand, write_equation, write_title, write_values};
+use crate::families::{count_items, write_families};
+use crate::folds::begin_fold_of;
 use crate::numbers::{quotient, sum, write_number};
 use crate::parts::{asked, member_name};
 use crate::pieces::Piece::{Count, Fixed, Text};
@@ -12,7 +13,7 @@ use certs::{PackedPoint, Share, Source};
 use frac128::Frac;
 use lp_model::{Member, Model};
 use report_text::MemberList;
-use std::alloc::AllocError;
+use std::alloc::{AllocError, Global};
 
 /// Which members cannot all be met: any, or rigid ones alone.
 #[derive(Clone, Copy, PartialEq, Eq)]
@@ -151,6 +152,52 @@ fn write_column(
     }
 }
 
+// Whether a set has a member.
+fn has(set: &MemberList, member: Member) -> bool {
+    for other in set.iter() {
+        if other == member {
+            return true;
+        }
+    }
+    false
+}
+
+// Whether a set has both sides of a row, which ask for one number.
+fn is_equation(model: &Model, set: &MemberList, row: u32) -> bool {
+    let (lower, upper) = (Member::RowLo(row), Member::RowUp(row));
+    asked(model, lower) == asked(model, upper) && has(set, lower) && has(set, upper)
+}
+
+// Whether a member is the upper side of an equation, which stands with the lower one.
+fn is_second(model: &Model, set: &MemberList, member: Member) -> bool {
+    match member {
+        Member::RowUp(row) => is_equation(model, set, row),
+        _ => false,
+    }
+}
+
+/// How many requirements the members of a set are: both sides of an equation are one.
+pub(crate) fn count_requirements(model: &Model, set: &MemberList) -> u64 {
+    let mut count: u64 = 0;
+    for member in set.iter() {
+        if !is_second(model, set, member) {
+            count = count.saturating_add(1);
+        }
+    }
+    count
+}
+
+// The members that stand by themselves.
+fn standing(model: &Model, set: &MemberList, alloc: Global) -> Result<Vec<Member>, AllocError> {
+    let mut members = Vec::new(alloc);
+    for member in set.iter() {
+        if !is_not_negative(model, member) && !is_second(model, set, member) {
+            members.push(member)?;
+        }
+    }
+    Ok(members)
+}
+
 // Writes in one item which columns are only asked not to be negative, where there are any.
 fn write_not_negative(
     model: &Model,
@@ -170,21 +217,27 @@ fn write_not_negative(
     write_fixed("</li>\n", into)
 }
 
-// Writes a member, how often it is taken, and how far it would have to be moved by itself. One that only asks that a column is
-// not negative stands with its like.
-fn write_member(
+/// Writes a member, how often it is taken, and how far it would have to be moved by itself. Both sides of an equation are one.
+pub(crate) fn write_member(
     model: &Model,
     conflict: &Conflict<'_>,
+    set: &MemberList,
     member: Member,
     into: &mut Vec<u8>,
 ) -> Result<(), AllocError>
     ensures { OnOk result (IsMarkedUp into.old.items into.new.items) }
 {
-    if is_not_negative(model, member) {
-        return Ok(());
+    match member {
+        Member::RowLo(row) if is_equation(model, set, row) => {
+            write_equation(model, row, into)?;
+            write_share(model, conflict, member, into)?;
+            write_share(model, conflict, Member::RowUp(row), into)?;
+        }
+        _ => {
+            write_asking(model, member, into)?;
+            write_share(model, conflict, member, into)?;
+        }
     }
-    write_asking(model, member, into)?;
-    write_share(model, conflict, member, into)?;
     write_fixed("</li>\n", into)
 }
 
@@ -296,6 +349,24 @@ fn write_lead(among: Among, count: u64, into: &mut Vec<u8>) -> Result<(), AllocE
     write_fixed(some_cannot(among), into)
 }
 
+// Writes the members, in a fold.
+fn write_items(
+    model: &Model,
+    conflict: &Conflict<'_>,
+    set: &MemberList,
+    members: &[Member],
+    into: &mut Vec<u8>,
+) -> Result<(), AllocError>
+    ensures { OnOk result (IsMarkedUp into.old.items into.new.items) }
+{
+    let count = count_requirements(model, set);
+    begin_fold_of("Requirements: ", count, count_items(model, members), into)?;
+    write_fixed("<ol>\n", into)?;
+    write_families(model, conflict, set, members, into)?;
+    write_not_negative(model, conflict.shares, set, into)?;
+    write_fixed("</ol>\n</details>\n", into)
+}
+
 /// Writes that members cannot all be met, and the members, with their witnesses as far as there are witnesses.
 pub(crate) fn write_list(
     model: &Model,
@@ -306,13 +377,8 @@ pub(crate) fn write_list(
 ) -> Result<(), AllocError>
     ensures { OnOk result (IsMarkedUp into.old.items into.new.items) }
 {
-    write_lead(conflict.among, set.count(), into)?;
-    begin_fold("Requirements: ", set.count(), into)?;
-    write_fixed("<ol>\n", into)?;
-    for member in set.iter() {
-        write_member(model, conflict, member, into)?;
-    }
-    write_not_negative(model, conflict.shares, set, into)?;
-    write_fixed("</ol>\n</details>\n", into)?;
+    let members = standing(model, set, *into.allocator())?;
+    write_lead(conflict.among, count_requirements(model, set), into)?;
+    write_items(model, conflict, set, members.as_slice(), into)?;
     write_witnesses(model, set, witnesses, into)
 }

@@ -195,10 +195,25 @@ fn write_overview(
     written
 }
 
+// Writes the name of the model's file.
+fn write_model(name: &[u8], into: &mut Vec<u8>) -> Result<(), AllocError>
+    ensures { OnOk result (IsMarkedUp into.old.items into.new.items) }
+{
+    write(
+        &[
+            Fixed("<p class=model>Model: <code>"),
+            Text(name),
+            Fixed("</code></p>\n"),
+        ],
+        into,
+    )
+}
+
 // Writes what stands behind the head.
 fn write_body(
     session: &mut CommandSession,
     report: &Report,
+    name: &[u8],
     into: &mut Vec<u8>,
 ) -> Result<(), AllocError>
     requires fresh { session.old.formers ≡ [] }
@@ -207,6 +222,7 @@ fn write_body(
     ensures of_program { IsSessionOf session.old.model session.new }
 {
     let entries = report.entries.as_slice();
+    write_model(name, into)?;
     write_overview(session, entries, into)?;
     write_counts(entries, into)?;
     write_notes(session.model(), report.notes.as_slice(), into)?;
@@ -221,10 +237,10 @@ fn write_head(into: &mut Vec<u8>) -> Result<(), AllocError>
     into.extend_from_slice(HEAD.as_bytes())
 }
 
-/// Appends one page for a report on a program: an HTML document that needs no other file.
+/// Appends one page for a report on a program, whose file has this name: an HTML document that needs no other file.
 ///
 /// The page says that the report was checked, and how many of its answers are settled; so it is to be written of a report
-/// that a check accepted. First comes each answer in a line, with what to do next. Then, in the words of the model and in the
+/// that a check accepted. Behind the name comes first each answer in a line, with what to do next. Then, in the words of the model and in the
 /// order of the report, each note, and each command with its answer: the values of a point; the members that cannot all be
 /// met, with what each asks for, how often it is taken and how far it would have to move by itself, and why they cannot, as a
 /// sum or as cases; in how many rounds members were enforced, or what it costs to show it, with its price; the point and the
@@ -243,6 +259,7 @@ fn write_head(into: &mut Vec<u8>) -> Result<(), AllocError>
 pub fn page(
     session: &mut CommandSession,
     report: &Report,
+    name: &[u8],
     into: &mut Vec<u8>,
 ) -> Result<(), AllocError>
     requires fresh { session.old.formers ≡ [] }
@@ -251,7 +268,7 @@ pub fn page(
     ensures back { session.new ≡ session.old }
 {
     write_head(into)?;
-    let written = write_body(session, report, into);
+    let written = write_body(session, report, name, into);
     session.rewind();
     written
 }

@@ -3,6 +3,7 @@ ghost use Rattle.std.specs.Prelude.{OnOk};
 ghost use Rattle.report_page.specs.Pieces.{IsClosed, IsMarkedUp};
 
 use crate::answers::write_command;
+use crate::members::count_requirements;
 use crate::numbers::write_number;
 use crate::pieces::Piece::{Count, Fixed};
 use crate::pieces::{write, write_fixed};
@@ -89,10 +90,16 @@ fn write_short(model: &Model, answer: &Answer, into: &mut Vec<u8>) -> Result<(),
 {
     match answer {
         Answer::Infeasible(set, proof) => {
-            write_conflict(model, set.count(), ".", proof.nodes.as_slice(), into)
+            write_conflict(
+                model,
+                count_requirements(model, set),
+                ".",
+                proof.nodes.as_slice(),
+                into,
+            )
         }
         Answer::Irreducible(core) => {
-            let count = core.members.count();
+            let count = count_requirements(model, &core.members);
             let nodes = core.proof.nodes.as_slice();
             write_conflict(model, count, ", each of them needed for that.", nodes, into)
         }
@@ -105,7 +112,7 @@ fn write_short(model: &Model, answer: &Answer, into: &mut Vec<u8>) -> Result<(),
         Answer::RigidInfeasible(set, proof) => {
             write_conflict(
                 model,
-                set.count(),
+                count_requirements(model, set),
                 ", all rigid.",
                 proof.nodes.as_slice(),
                 into,
