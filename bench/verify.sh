@@ -1,8 +1,8 @@
 #!/bin/sh
 # Prints the seconds and the peak memory of `iisan verify`: first of models of 250, 1,000 and 2,000 rows in the MPS format, each
 # with a report that satisfies it; then of reports that list all members of a model, each with a witness of so many values that
-# are not 0, and are rejected behind the last of them; then of so many answers that a model is feasible, up to 64 MiB of text; then
-# of proofs that are a chain of splits, as long, in two shapes: each lower child is a leaf, or each upper one. It wants GNU time
+# are not 0, and are rejected behind the last of them; then of so many answers that a model is feasible, infeasible or unbounded,
+# up to 64 MiB of text; then of proofs that are a chain of splits, as long, in two shapes: each lower child is a leaf, or each upper one. It wants GNU time
 # (Debian's package `time`). A benchmark, no test.
 set -eu
 
@@ -12,15 +12,21 @@ trap 'rm -rf "$work"' EXIT
 # shellcheck source=bench/building.sh
 . "$top/bench/building.sh"
 
-# A model of so many rows, twice as many columns and so many entries a column; and with upper bounds, where there is a third word.
+# A model of so many rows, twice as many columns and so many entries a column; and with upper bounds, where there is a third word;
+# with a row that contradicts one of them, where that is "clash", or with a column that runs away, where it is "away".
 model() {
     awk -v rows="$1" -v entries="$2" -v bounds="${3:-}" 'BEGIN {
         print "ROWS"
+        if (bounds == "away") print " N cost"
+        if (bounds == "clash") print " G clash"
         for (i = 0; i < rows; i++) print " L row" i
         print "COLUMNS"
         for (j = 0; j < 2 * rows; j++)
             for (k = 0; k < entries; k++) print " column" j " row" (j * 7 + k * 9) % rows " " 1 + (j + k) % 9
+        if (bounds == "clash") print " column" 2 * rows - 1 " clash 1"
+        if (bounds == "away") print " away cost -1"
         print "RHS"
+        if (bounds == "clash") print " clash 2000"
         for (i = 0; i < rows; i++) print " row" i " 1000000"
         if (bounds) {
             print "BOUNDS"
@@ -57,6 +63,24 @@ answers() {
             print "end"
             start = (start + 13) % (2 * rows - values)
         }
+        print "report end"
+    }'
+}
+
+# A report of so many answers that the contradiction is one, or that the column runs away.
+refuted() {
+    awk -v column="column$((2 * $1 - 1))" -v answers="$2" 'BEGIN {
+        members = "member rowlo clash\nmember upper " column
+        proof = "proof\nleaf\nuse rowlo clash 1\nuse upper " column " 1"
+        print "iisan report 2"
+        for (i = 0; i < answers; i++) print "command check\ninfeasible\n" members "\n" proof "\nend"
+        print "report end"
+    }'
+}
+rays() {
+    awk -v answers="$1" 'BEGIN {
+        print "iisan report 2"
+        for (i = 0; i < answers; i++) print "command unbounded\nunbounded\npoint\nray\nvalue away 1\nend"
         print "report end"
     }'
 }
@@ -132,6 +156,13 @@ for count in "1 0" "1000 0" "2000000 0" "100000 20"; do
     answers 20000 $count >"$work/report"
     verified model.mps "accepted settled ${count% *} unsettled 0" "$count" "$(wc -c <"$work/report")"
 done
+echo "infeasible or unbounded answers, bytes seconds megabytes"
+model 19999 10 clash >"$work/model.mps"
+refuted 19999 450000 >"$work/report"
+verified model.mps "accepted settled 450000 unsettled 0" infeasible 450000 "$(wc -c <"$work/report")"
+model 19999 10 away >"$work/model.mps"
+rays 1100000 >"$work/report"
+verified model.mps "accepted settled 1100000 unsettled 0" unbounded 1100000 "$(wc -c <"$work/report")"
 echo "splits leaves bytes seconds megabytes"
 for splits in 20000 100000 1300000; do
     for leaves in lower upper; do

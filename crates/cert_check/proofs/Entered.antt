@@ -1,5 +1,5 @@
 -- Entries one after another: where the trials of those that are left stop the check.
-use Rattle.std.proofs.Common.{◌≡◌, ◌<◌, ◌+◌, refl, sym, ◌∙◌, ap, List, [], ◌∷◌, ◌++◌, length, take, drop, flat_map, get_or, ℕ, Option, None, Some, false, Result, Ok, Err}
+use Rattle.std.proofs.Common.{◌≡◌, ◌<◌, ◌+◌, refl, sym, ◌∙◌, ap, List, [], ◌∷◌, ◌++◌, length, take, drop, get_or, ℕ, Option, None, Some, false, Result, Ok, Err}
 use Rattle.std.proofs.lemmas.List.{take_more}
 use Rattle.std.specs.Option.{is_some}
 use Rattle.std.specs.Prelude.{OnOk}
@@ -13,6 +13,7 @@ use Rattle.report_text.specs.Turns.{after, answer_after, edits_after, entry_comm
 use Rattle.report_text.proofs.InTurn.{gathered-at, commands_push}
 use Rattle.report_text.proofs.Replies.{nothing_done}
 use Rattle.report_text.proofs.Taken.{session_stays}
+use Rattle.report_text.proofs.Unchanged.{columns_same, same_names}
 use Rattle.cert_check.specs.declared.outcome.Stop.{Stop}
 use Rattle.cert_check.specs.declared.outcome.Stop.TheVariants.{Memory}
 use Rattle.cert_check.specs.Trials.{Trial, claim_trials, reply_trials, entry_trials, entries_trials}
@@ -58,6 +59,12 @@ pub model_stays : (old new : HistoryValue) (command : Command) (first : Program)
 model_stays old new command first before takes is =
     let stays = session_stays first before command (ap (standing first (edits_after first before)) (nothing_done first before command (sym (takes.answers first before is)))) in
     ap (λ (v : HistoryValue). v.model) (takes.goes_on first before is ∙ sym stays ∙ sym is)
+
+-- and no command changes how many columns there are
+pub columns_stay : (old new : HistoryValue) (command : Command) (first : Program) (before : List Command) → old ≡ session_at first before → new ≡ session_at first (before ++ command ∷ []) → length old.model.columns ≡ length new.model.columns
+columns_stay old new command first before is next =
+    let count : HistoryValue → ℕ = λ v. length v.model.columns in
+    ap count is ∙ columns_same first (after first before) (same_names first before) ∙ sym (ap count next ∙ columns_same first (after first (before ++ command ∷ [])) (same_names first (before ++ command ∷ [])))
 
 -- what is not there is none
 pub none_of : {A : Type 0} (o : Option A) → is_some o ≡ false → o ≡ None

@@ -1,13 +1,7 @@
 -- Where the trials of parts stop the check of the whole.
 use Rattle.std.proofs.Common.{◌≡◌, refl, sym, ◌∙◌, ap, subst, ℕ, List, [], ◌∷◌, ◌++◌, Option, Some, None, Result}
-use Rattle.lp_model.specs.Program.{Program}
-use Rattle.lp_model.specs.Members.{active_members}
-use Rattle.lp_model.specs.MemberSets.{SetValue, active_set}
-use Rattle.lp_model.specs.Satisfaction.{values_at}
 use Rattle.certs.specs.declared.evidence.Checked.{Checked}
 use Rattle.certs.specs.declared.evidence.Checked.TheVariants.{Yes, No, Wide}
-use Rattle.certs.specs.declared.evidence.Point.{Point}
-use Rattle.certs.specs.Checks.{outcome, point_steps}
 use Rattle.cert_check.specs.declared.outcome.Stop.{Stop}
 use Rattle.cert_check.specs.declared.outcome.Stop.TheVariants.{Rejected, Wide as TooWide, Memory}
 use Rattle.cert_check.specs.Trials.{Trial}
@@ -69,9 +63,3 @@ stop_second a b s e h = stop_of _ _ s (sym (passed_over a b e)) h
 -- it is the same under an equation
 pub says_of : (first other : Option Stop) (r : Result (Unit {0}) Stop) → first ≡ other → Says first r → Says other r
 says_of first other r e h = subst (λ (f : Option Stop). Says f r) e h
-
--- what the check of a point says of the active members, and of what was kept of the point
-pub checked_at : (model : Program) (found : Checked) (s : SetValue) (p q : Point) → found ≡ outcome (point_steps model s.members (values_at p.values)) → s ≡ active_set model → p ≡ q
-    → found ≡ outcome (point_steps model (active_members model) (values_at q.values))
-checked_at model found s p q is whole same =
-    is ∙ ap (λ (s : SetValue). outcome (point_steps model s.members (values_at p.values))) whole ∙ ap (λ (p : Point). outcome (point_steps model (active_members model) (values_at p.values))) same

@@ -11,4 +11,5 @@ pub mod Reaching
 pub mod Pricing
 pub mod Believed
 pub mod Reached
+pub mod Along
 mod Examples

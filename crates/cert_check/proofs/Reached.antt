@@ -1,8 +1,8 @@
 -- Points with few values: what reaches a member, and how the others stand.
 use Rattle.std.proofs.Common.{◌≡◌, ◌≢◌, ◌<◌, ◌≤◌, ◌==◌, ℕ, All, Option, None, Some, zero, suc, ◌+◌, cond, filter, replicate, List, [], ◌∷◌, ◌++◌, length, get_or, set, Contains, subst, arith, ◌⊎◌, inl, inr, ◌||◌, ◌∙◌, refl, sym, ap, true, false, true≢false, not, Bool}
 use Rattle.std.specs.Global.{Vec}
-use Rattle.std.proofs.lemmas.Bool.{cases_eq, cases_lt, or_left, or_right}
-use Rattle.std.proofs.lemmas.List.{get_or-map, get_or-set_same, get_or-set_other, get_or_append_left, get_or_past, get_or_push, length-map, length_push, map-set, map_push}
+use Rattle.std.proofs.lemmas.Bool.{cases_eq, or_left, or_right}
+use Rattle.std.proofs.lemmas.List.{get_or-map, get_or-set_same, get_or-set_other, length-map, map-set}
 use Rattle.std.proofs.lemmas.List.Elements.{All-cons, All-contains, All-contains_itself, All-filter, All-head, All-nil, All-tail, All-weaker, Contains-append_left, Contains-push, Contains-push_cases, filter_passes}
 use Rattle.rational.specs.Rational.{ℚ, zero_ℚ, eq_ℚ, ◌+ℚ◌, ◌*ℚ◌}
 use Rattle.rational.specs.Linear.{Term, Assignment, form_value}
@@ -20,11 +20,10 @@ use Rattle.certs.specs.declared.evidence.Checked.TheVariants.{Yes, No}
 use Rattle.certs.specs.Checks.{IsSetOf, outcome, unless_wide, point_steps, at_least_test, at_most_test}
 use Rattle.certs.specs.Packed.{HasNonzeros}
 use Rattle.certs.proofs.Walk.{member_decides}
-use Rattle.cert_check.specs.declared.active.Active.{Active}
 use Rattle.cert_check.specs.declared.sparse.Sparse.{Sparse}
-use Rattle.lp_model.specs.Members.{active_members, form, has, is_same}
+use Rattle.lp_model.specs.Members.{form, has, is_same}
 use Rattle.lp_model.specs.MemberSets.{SetValue, IsMemberFor, IsPossibleIn, IsWithin, possible_in, set_with, set_without}
-use Rattle.cert_check.specs.Sparse.{HasFailing, HasReached, IsActive, IsListed, IsSparseFor, Lacks, ListsRows, Passes, Reaches, listed_rows, nonzero_count}
+use Rattle.cert_check.specs.Sparse.{HasFailing, HasReached, IsListed, IsSparseFor, Lacks, ListsRows, Passes, Reaches, listed_rows, nonzero_count}
 use Rattle.lp_model.proofs.Sets.{contains_of_has, has_of_contains, same_members, same_self}
 use Rattle.lp_model.proofs.Marked.{has_filter, possible_of}
 
@@ -102,19 +101,6 @@ module _ (lists : List (Vec ℕ)) (at : ℕ) (old new : Vec ℕ) (row : ℕ) (wi
     | inr other ↦ inr (subst (λ (xs : List ℕ). Contains xs i) (rows_same j other) c)
   ]
 
--- an empty list more
-pub none_pushed : (lists : List (Vec ℕ)) (v : Vec ℕ) → v.items ≡ [] → ((j : ℕ) → get_or (listed_rows lists) j [] ≡ []) → (j : ℕ) → get_or (listed_rows (lists ++ v ∷ [])) j [] ≡ []
-none_pushed lists v empty none j =
-    let long = length-map lists (λ (w : Vec ℕ). w.items) in
-    ap (λ (l : List (List ℕ)). get_or l j []) (map_push (λ (w : Vec ℕ). w.items) lists v)
-    ∙ elim (cases_lt j (length (listed_rows lists))) [
-      | inl low ↦ get_or_append_left (listed_rows lists) (v.items ∷ []) [] j low ∙ none j
-      | inr high ↦ elim (cases_eq j (length (listed_rows lists))) [
-        | inl e ↦ get_or_push (listed_rows lists) v.items [] j (sym e) ∙ empty
-        | inr past ↦ get_or_past (listed_rows lists ++ v.items ∷ []) j [] (let more = length_push (listed_rows lists) v.items in omega arith)
-      ]
-    ]
-
 -- ---- values that are not 0
 -- one more value, whatever its test says
 count_head : (b : Bool) (v : ℚ) (xs : List ℚ) → cond b 1 0 + length xs ≡ length (cond b (v ∷ xs) xs)
@@ -146,7 +132,7 @@ cleared_count (v ∷ values) (suc j) l =
 -- ---- members that no column reaches
 -- what is calculated for a member, and what is found, hang on the columns of its form alone
 module _ (x y : Assignment) where
-  same_value : (terms : List Term) → All (λ t. x t.column ≡ y t.column) terms → form_value terms x ≡ form_value terms y
+  pub same_value : (terms : List Term) → All (λ t. x t.column ≡ y t.column) terms → form_value terms x ≡ form_value terms y
   same_value [] h = refl
   same_value (t ∷ terms) h =
       let here = All-head (λ (s : Term). x s.column ≡ y s.column) t terms h in
@@ -164,7 +150,7 @@ module _ (x y : Assignment) where
       (All-tail (λ (s : Term). x s.column ≡ y s.column) t terms h) in
       λ k. operation Times t.factor (here k) ∷ operation Plus (e k) (t.factor *ℚ here k) ∷ rest k
 
-  same_side : (o : Option ℚ) (terms : List Term) → All (λ t. x t.column ≡ y t.column) terms → side_operations o terms x ≡ side_operations o terms y
+  pub same_side : (o : Option ℚ) (terms : List Term) → All (λ t. x t.column ≡ y t.column) terms → side_operations o terms x ≡ side_operations o terms y
   same_side None terms h = refl
   same_side (Some b) terms h = same_steps terms zero_ℚ zero_ℚ refl h
 
@@ -194,20 +180,16 @@ zero_at zero j = refl
 zero_at (suc n) zero = refl
 zero_at (suc n) (suc j) = zero_at n j
 
--- a member that no column with a value reaches passes where it does at zeros
-pub unreached : (model : Program) (lists : List (Vec ℕ)) (set part : List Member) (columns : List ℕ) (values : List ℚ) (m : Member)
+-- a member that no column with a value reaches has zeros alone
+pub untouched : (model : Program) (lists : List (Vec ℕ)) (set part : List Member) (columns : List ℕ) (values : List ℚ) (m : Member)
     → ListsRows model lists → HasReached lists set columns part → HasNonzeros values columns → IsMemberFor (length model.rows) (length model.columns) m → has set m ≡ true → has part m ≡ false
-    → Passes model (values_at (replicate (length model.columns) zero_ℚ)) m → Passes model (values_at values) m
-unreached model lists set part columns values m rows reached nonzeros l h none passes =
-    let n = length model.columns in
-    let zeros = replicate n zero_ℚ in
-    same_outcome (values_at values) (values_at zeros) model m
-    (All-weaker (λ (t : Term). Reaches t.column (get_or (listed_rows lists) t.column []) m) (λ (t : Term). values_at values t.column ≡ values_at zeros t.column)
+    → All (λ t. values_at values t.column ≡ zero_ℚ) (form model m)
+untouched model lists set part columns values m rows reached nonzeros l h none =
+    All-weaker (λ (t : Term). Reaches t.column (get_or (listed_rows lists) t.column []) m) (λ (t : Term). values_at values t.column ≡ zero_ℚ)
     (λ t r. elim (zero_or_not (values_at values t.column)) [
-      | inl e ↦ e ∙ sym (zero_at n t.column)
+      | inl e ↦ e
       | inr ne ↦ absurd (true≢false (sym (reached m t.column h (nonzeros t.column ne) r) ∙ none))
-    ]) (form model m) (reaches model lists rows m l))
-    ∙ passes
+    ]) (form model m) (reaches model lists rows m l)
 
 left_true : (a b : Bool) → (a || b) ≡ true → b ≡ false → a ≡ true
 left_true true b e none = refl
@@ -246,7 +228,12 @@ module _ (model : Program) (lists : List (Vec ℕ)) (left part failing : SetValu
 
       by : (b : Bool) → has part.members m ≡ b → (f : Bool) → has failing.members m ≡ f → Passes model (values_at values) m
       by true e f g = All-contains (Passes model (values_at values)) part.members m hold (contains_of_has part.members m e)
-      by false e false g = unreached model lists left.members part.members columns values m rows reached nonzeros in_model h e (fails m h g)
+      by false e false g =
+          let zeros = replicate (length model.columns) zero_ℚ in
+          let apart = untouched model lists left.members part.members columns values m rows reached nonzeros in_model h e in
+          same_outcome (values_at values) (values_at zeros) model m
+          (All-weaker (λ (t : Term). values_at values t.column ≡ zero_ℚ) (λ (t : Term). values_at values t.column ≡ values_at zeros t.column) (λ t z. z ∙ sym (zero_at (length model.columns) t.column)) (form model m) apart)
+          ∙ fails m h g
       by false e true g =
           let there = has_of_contains (joined part member).members m (All-contains (Contains (joined part member).members) failing.members m within (contains_of_has failing.members m g)) in
           absurd (true≢false (sym h ∙ is_reached left part member m lacks in_part e there))
@@ -269,8 +256,6 @@ sparse_without model set m (Some s) h =
       rows = h.rows;
       same = h.same;
       failing = λ n there. h.failing n (has_of_contains set.members n (All-contains (Contains set.members) (set_without set m).members n part (contains_of_has (set_without set m).members n there)));
-      zeros = h.zeros;
-      few = h.few;
     }
 
 -- which does not have it
@@ -282,10 +267,6 @@ without_it set m = by (has (set_without set m).members m) refl
     by true e =
         let others = All-contains (λ n. not (is_same n m) ≡ true) (set_without set m).members m (filter_passes (λ n. not (is_same n m)) set.members) (contains_of_has (set_without set m).members m e) in
         absurd (true≢false (sym (same_self m) ∙ not_true (is_same m m) others))
-
--- active members with what is kept for them now
-pub still_active : (model : Program) (a : Active) (now : Option Sparse) → IsActive model a → (IsSparseFor model (active_members model) a.sparse → IsSparseFor model (active_members model) now) → IsActive model (record { set = a.set; sparse = now })
-still_active model a now h stays = record { set = h.set; sparse = stays h.sparse }
 
 -- no more values are not 0 than there are
 pub few_nonzeros : (values : List ℚ) → nonzero_count values ≤ length values

@@ -1,4 +1,4 @@
--- Points with few values: which members of a set they reach, and how the others stand where every column is 0.
+-- Points and rays with few values: the room that they take, which members of a set they reach, and how the others stand where every column is 0.
 use Rattle.std.specs.Prelude.{◌≡◌, ℕ, ◌<◌, ◌≤◌, true, false, List, [], ◌∷◌, All, Contains, Option, None, Some, not, filter, length, map, replicate, slice_index_or}
 use Rattle.std.specs.Global.{Vec}
 use Rattle.rational.specs.Rational.{ℚ, zero_ℚ, eq_ℚ}
@@ -12,8 +12,11 @@ use Rattle.lp_model.specs.Satisfaction.{values_at}
 use Rattle.lp_model.specs.Shown.{most_columns}
 use Rattle.certs.specs.declared.evidence.Checked.TheVariants.{Yes}
 use Rattle.certs.specs.Checks.{IsSetOf, outcome, point_steps}
+use Rattle.certs.specs.Packed.{HasNonzeros}
+use Rattle.certs.specs.Trees.{has_mark}
 use Rattle.cert_check.specs.declared.sparse.Sparse.{Sparse}
 use Rattle.cert_check.specs.declared.active.Active.{Active}
+use Rattle.cert_check.specs.declared.active.Kept.{Kept}
 
 -- nothing that is calculated for the member at the point is too wide, and it holds
 abbrev pub Passes : Program → Assignment → Member → Type 0
@@ -49,19 +52,30 @@ HasReached lists set columns part = (m : Member) (j : ℕ) → has set m ≡ tru
 abbrev pub HasFailing : Program → List Member → List Member → Type 0
 HasFailing model set failing = (m : Member) → has set m ≡ true → has failing m ≡ false → Passes model (values_at (replicate (length model.columns) zero_ℚ)) m
 
+-- ---- room
+-- so many zeros
+pub record IsRoom (count : ℕ) (room : List ℚ) : Type 0 where
+  pub zeros : room ≡ replicate count zero_ℚ
+  pub few : count ≤ most_columns
+
+-- values that stand in room, and columns, among which is that of each value that is not 0
+pub record AreSpread (values : List ℚ) (columns : List ℕ) : Type 0 where
+  pub nonzeros : HasNonzeros values columns
+  pub within : All (λ j. j < length values) columns
+  pub few : length values ≤ most_columns
+
 -- how many values are not 0
 abbrev pub nonzero_count : List ℚ → ℕ
 nonzero_count values = length (filter (λ v. not (eq_ℚ v zero_ℚ)) values)
 
--- what is kept for a set of the program
+-- ---- what is kept
+-- for a set of the program
 pub record IsSparse (model : Program) (set : List Member) (s : Sparse) : Type 0 where
   pub rows : ListsRows model s.rows.items
   pub same : IsSetOf model s.failing
   pub failing : HasFailing model set s.failing.members
-  pub zeros : s.zeros.items ≡ replicate (length model.columns) zero_ℚ
-  pub few : length model.columns ≤ most_columns
 
--- what is kept for it, where something is
+-- for it, where something is
 abbrev pub IsSparseFor : Program → List Member → Option Sparse → Type 0
 IsSparseFor model set None = Unit {0}
 IsSparseFor model set (Some s) = IsSparse model set s
@@ -74,9 +88,15 @@ Lacks set (Some m) = has set m ≡ false
 -- these are the active members of the program, with what is kept for them
 pub record IsActive (model : Program) (a : Active) : Type 0 where
   pub set : a.set ≡ active_set model
+  pub marked : a.marked ≡ has_mark (active_members model)
   pub sparse : IsSparseFor model (active_members model) a.sparse
 
 -- where they are there
 abbrev pub IsActiveFor : Program → Option Active → Type 0
 IsActiveFor model None = Unit {0}
 IsActiveFor model (Some a) = IsActive model a
+
+-- from answer to answer
+pub record IsKept (model : Program) (k : Kept) : Type 0 where
+  pub active : IsActiveFor model k.active
+  pub room : IsRoom (length model.columns) k.room.items

@@ -13,9 +13,9 @@ ghost use Rattle.cert_check.specs.Trials.{witnesses_of, feasible_trials, refuted
 ghost use Rattle.cert_check.specs.Stops.{first_stop, IsStop, Says};
 ghost use Rattle.cert_check.specs.Uses.{IsShort, AreShort};
 ghost use Rattle.cert_check.specs.Replay.{Replays};
-ghost use Rattle.cert_check.specs.Sparse.{IsActiveFor};
+ghost use Rattle.cert_check.specs.Sparse.{IsKept, IsRoom};
 
-use crate::active::{Active, check_active};
+use crate::active::{Active, Kept, check_active};
 use crate::leasts::check_least;
 use crate::members::{check_members, used_members};
 use crate::objectives::{check_bounded, check_unbounded};
@@ -23,8 +23,8 @@ use crate::outcome::{Stop, settle};
 use crate::prices::check_priced;
 use crate::trees::{check_tree, line_behind};
 use crate::witnesses::check_witnesses;
-use bound_checks::has_mark;
 use certs::{PackedPoint, Proof};
+use frac128::Frac;
 use least_checks::rigid_set;
 use lp_model::{MemberSet, Model};
 use report_text::{
@@ -44,7 +44,11 @@ pub(crate) fn check_entries(
     requires short { AreShort session.old.model [] entries.now }
     ensures { Says (first_stop (entries_trials session.old.model [] entries.now)) result }
 {
-    let mut kept = None;
+    let columns = session.model().column_count();
+    let Ok(room) = vec![in alloc; Frac::whole(0); columns as usize] else {
+        return Err(Stop::Memory);
+    };
+    let mut kept = Kept { active: None, room };
     for entry in entries {
         check_entry(alloc, session, &mut kept, entry)?;
     }
@@ -56,22 +60,22 @@ pub(crate) fn check_entries(
 fn check_entry(
     alloc: Global,
     session: &mut CommandSession,
-    kept: &mut Option<Active>,
+    kept: &mut Kept,
     entry: &Entry,
 ) -> Result<(), Stop>
     requires form { IsEntryFor session.old.model entry.now }
     requires short { IsShort session.old.model entry.now }
-    requires kept { IsActiveFor session.old.model kept.old }
+    requires kept { IsKept session.old.model kept.old }
     ensures replays { Replays session.old entry.now result session.new }
     ensures kept { OnOk result ((first : Program) (before : List OneCommand)
-        → session.old ≡ session_at first before → IsActiveFor session.new.model kept.new) }
+        → session.old ≡ session_at first before → IsKept session.new.model kept.new) }
 {
     check_claim(alloc, session.model(), kept, entry)?;
     let Ok(right) = session.take(&entry.command) else {
         return Err(Stop::Memory);
     };
     if right.is_some() {
-        *kept = None;
+        kept.active = None;
     }
     check_reply(right, &entry.answer, entry.line)
 }
@@ -112,36 +116,34 @@ fn is_refused(answer: &Answer, reason: Refusal) -> bool
 }
 
 // Checks what an entry claims of the program.
-fn check_claim(
-    alloc: Global,
-    model: &Model,
-    kept: &mut Option<Active>,
-    entry: &Entry,
-) -> Result<(), Stop>
+fn check_claim(alloc: Global, model: &Model, kept: &mut Kept, entry: &Entry) -> Result<(), Stop>
     requires form { IsAnswerFor model.now entry.now.answer }
     requires short { IsShort model.now entry.now }
-    requires kept { IsActiveFor model.now kept.old }
+    requires kept { IsKept model.now kept.old }
     ensures says { Says (first_stop (claim_trials model.now entry.now)) result }
-    ensures kept { OnOk result (IsActiveFor model.now kept.new) }
+    ensures kept { OnOk result (IsKept model.now kept.new) }
 {
-    check_linear(alloc, model, entry)?;
+    check_linear(alloc, model, kept, entry)?;
     check_answer(alloc, model, kept, &entry.answer, entry.line)
 }
 
 // Checks that no active member is a mark, where the answer settles a command that is for linear constraints alone.
-fn check_linear(alloc: Global, model: &Model, entry: &Entry) -> Result<(), Stop>
-    requires { entry.now.line + 1 < 4294967296 }
-    ensures { Says (first_stop (linear_trials model.now entry.now)) result }
+fn check_linear(alloc: Global, model: &Model, kept: &mut Kept, entry: &Entry) -> Result<(), Stop>
+    requires short { entry.now.line + 1 < 4294967296 }
+    requires kept { IsKept model.now kept.old }
+    ensures says { Says (first_stop (linear_trials model.now entry.now)) result }
+    ensures kept { OnOk result (IsKept model.now kept.new) }
 {
     if !needs_linear(&entry.command) || !settles(&entry.answer) {
         return Ok(());
     }
-    let Ok(active) = model.members(alloc) else {
+    let Ok(active) = Active::taken(alloc, model, &mut kept.active) else {
         return Err(Stop::Memory);
     };
-    if has_mark(&active) {
+    if active.marked {
         return Err(Stop::Rejected(entry.line + 1));
     }
+    kept.active = Some(active);
     Ok(())
 }
 
@@ -169,15 +171,15 @@ pub fn settles(answer: &Answer) -> bool
 fn check_answer(
     alloc: Global,
     model: &Model,
-    kept: &mut Option<Active>,
+    kept: &mut Kept,
     answer: &Answer,
     line: u32,
 ) -> Result<(), Stop>
     requires form { IsAnswerFor model.now answer.now }
     requires short { line + length (answer_phrases model.now answer.now) < 4294967280 }
-    requires kept { IsActiveFor model.now kept.old }
+    requires kept { IsKept model.now kept.old }
     ensures says { Says (first_stop (answer_trials model.now line answer.now)) result }
-    ensures kept { OnOk result (IsActiveFor model.now kept.new) }
+    ensures kept { OnOk result (IsKept model.now kept.new) }
 {
     match answer {
         Answer::Feasible(point) => check_feasible(alloc, model, kept, point, line),
@@ -185,12 +187,12 @@ fn check_answer(
             check_infeasible(alloc, model, kept, members, proof, line)
         }
         Answer::RigidInfeasible(members, proof) => {
-            check_rigid(alloc, model, members, proof, line)
+            check_rigid(alloc, model, kept, members, proof, line)
         }
-        Answer::Irreducible(core) => check_core(alloc, model, core, line),
-        Answer::Unbounded(point, ray) => check_unbounded(alloc, model, point, ray, line),
-        Answer::Bounded(bounded) => check_bounded(alloc, model, bounded, line),
-        Answer::Least(point, dual) => check_least(alloc, model, point, dual, line),
+        Answer::Irreducible(core) => check_core(alloc, model, kept, core, line),
+        Answer::Unbounded(point, ray) => check_unbounded(alloc, model, kept, point, ray, line),
+        Answer::Bounded(bounded) => check_bounded(alloc, model, kept, bounded, line),
+        Answer::Least(point, dual) => check_least(alloc, model, kept, point, dual, line),
         Answer::Reduced(_)
         | Answer::Done
         | Answer::Refused(_)
@@ -203,17 +205,17 @@ fn check_answer(
 fn check_feasible(
     alloc: Global,
     model: &Model,
-    kept: &mut Option<Active>,
+    kept: &mut Kept,
     point: &PackedPoint,
     line: u32,
 ) -> Result<(), Stop>
     requires form { IsPointFor model.now point.now }
     requires short { line + 2 < 4294967296 }
-    requires kept { IsActiveFor model.now kept.old }
+    requires kept { IsKept model.now kept.old }
     ensures says { Says (first_stop (feasible_trials model.now line point.now)) result }
-    ensures kept { OnOk result (IsActiveFor model.now kept.new) }
+    ensures kept { OnOk result (IsKept model.now kept.new) }
 {
-    let Ok(found) = check_active(alloc, model, kept, point) else {
+    let Ok((found, _)) = check_active(alloc, model, kept, point) else {
         return Err(Stop::Memory);
     };
     settle(line + OPENING_LINES, found)
@@ -223,7 +225,7 @@ fn check_feasible(
 fn check_infeasible(
     alloc: Global,
     model: &Model,
-    kept: &mut Option<Active>,
+    kept: &mut Kept,
     members: &MemberList,
     proof: &Proof,
     line: u32,
@@ -232,16 +234,17 @@ fn check_infeasible(
     requires proof { IsProofFor model.now proof.now }
     requires short { let nodes = flat_map node_phrases proof.now.nodes in
         line + (length members.now.members + length nodes) < 4294967290 }
-    requires kept { IsActiveFor model.now kept.old }
+    requires kept { IsKept model.now kept.old }
     ensures says { let active = active_members model.now in
         Says (first_stop (refuted_trials model.now active line members.now proof.now)) result }
-    ensures kept { OnOk result (IsActiveFor model.now kept.new) }
+    ensures kept { OnOk result (IsKept model.now kept.new) }
 {
-    let Ok(active) = Active::taken(alloc, model, kept) else {
+    let Ok(active) = Active::taken(alloc, model, &mut kept.active) else {
         return Err(Stop::Memory);
     };
-    check_refuted(alloc, model, active.set(), members, proof, line)?;
-    *kept = Some(active);
+    let room = &mut kept.room;
+    check_refuted(alloc, model, &active.set, members, proof, room, line)?;
+    kept.active = Some(active);
     Ok(())
 }
 
@@ -249,6 +252,7 @@ fn check_infeasible(
 fn check_rigid(
     alloc: Global,
     model: &Model,
+    kept: &mut Kept,
     members: &MemberList,
     proof: &Proof,
     line: u32,
@@ -257,16 +261,20 @@ fn check_rigid(
     requires proof { IsProofFor model.now proof.now }
     requires short { let nodes = flat_map node_phrases proof.now.nodes in
         line + (length members.now.members + length nodes) < 4294967290 }
-    ensures { let rigid = rigid_active model.now in
+    requires kept { IsKept model.now kept.old }
+    ensures says { let rigid = rigid_active model.now in
         Says (first_stop (refuted_trials model.now rigid line members.now proof.now)) result }
+    ensures kept { OnOk result (IsKept model.now kept.new) }
 {
-    let Ok(active) = model.members(alloc) else {
+    let Ok(active) = Active::taken(alloc, model, &mut kept.active) else {
         return Err(Stop::Memory);
     };
-    let Ok(rigid) = rigid_set(alloc, model, &active) else {
+    let Ok(rigid) = rigid_set(alloc, model, &active.set) else {
         return Err(Stop::Memory);
     };
-    check_refuted(alloc, model, &rigid, members, proof, line)
+    kept.active = Some(active);
+    let room = &mut kept.room;
+    check_refuted(alloc, model, &rigid, members, proof, room, line)
 }
 
 // Checks members, each of a set, and a proof that no point satisfies them.
@@ -276,6 +284,7 @@ fn check_refuted(
     among: &MemberSet,
     members: &MemberList,
     proof: &Proof,
+    room: &mut Vec<Frac>,
     line: u32,
 ) -> Result<(), Stop>
     requires same { IsSetOf model.now among.now }
@@ -283,8 +292,10 @@ fn check_refuted(
     requires proof { IsProofFor model.now proof.now }
     requires short { let nodes = flat_map node_phrases proof.now.nodes in
         line + (length members.now.members + length nodes) < 4294967290 }
-    ensures { let among = among.now.members in
+    requires room { IsRoom (length model.now.columns) room.old.items }
+    ensures says { let among = among.now.members in
         Says (first_stop (refuted_trials model.now among line members.now proof.now)) result }
+    ensures room { OnOk result (IsRoom (length model.now.columns) room.new.items) }
 {
     let Ok(used) = used_members(alloc, model, proof) else {
         return Err(Stop::Memory);
@@ -293,16 +304,24 @@ fn check_refuted(
         return Err(Stop::Memory);
     };
     let end = check_members(model, among, &members, &used, line + OPENING_LINES)?;
-    check_tree(alloc, model, &members, proof, end + PROOF_LINES)
+    check_tree(alloc, model, &members, proof, room, end + PROOF_LINES)
 }
 
 // Checks an irreducible set: its members with their witnesses, its proof, and what stands behind that.
-fn check_core(alloc: Global, model: &Model, core: &Core, line: u32) -> Result<(), Stop>
+fn check_core(
+    alloc: Global,
+    model: &Model,
+    kept: &mut Kept,
+    core: &Core,
+    line: u32,
+) -> Result<(), Stop>
     requires form { IsCoreFor model.now core.now }
     requires short { let witnesses = flat_map witness_phrases (witnesses_of core.now) in
         let nodes = flat_map node_phrases core.now.proof.nodes in
         line + (length witnesses + length nodes) < 4294967290 }
-    ensures { Says (first_stop (irreducible_trials model.now line core.now)) result }
+    requires kept { IsKept model.now kept.old }
+    ensures says { Says (first_stop (irreducible_trials model.now line core.now)) result }
+    ensures kept { OnOk result (IsKept model.now kept.new) }
 {
     let Ok(members) = core.members.unpacked(alloc, model) else {
         return Err(Stop::Memory);
@@ -310,10 +329,10 @@ fn check_core(alloc: Global, model: &Model, core: &Core, line: u32) -> Result<()
     let Ok(mut others) = members.copy(alloc) else {
         return Err(Stop::Memory);
     };
-    let witnesses = core.witnesses.as_slice();
+    let (witnesses, room) = (core.witnesses.as_slice(), &mut kept.room);
     let start = line + OPENING_LINES;
-    let end = check_witnesses(alloc, model, &members, &mut others, witnesses, start)?;
-    check_tree(alloc, model, &members, &core.proof, end + PROOF_LINES)?;
+    let end = check_witnesses(alloc, model, &members, &mut others, witnesses, room, start)?;
+    check_tree(alloc, model, &members, &core.proof, room, end + PROOF_LINES)?;
     let behind = line_behind(&core.proof, end + PROOF_LINES);
     check_tail(alloc, model, core, behind)
 }

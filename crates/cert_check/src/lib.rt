@@ -10,6 +10,7 @@ mod objectives;
 mod outcome;
 mod prices;
 mod reports;
+mod room;
 mod sparse;
 mod trees;
 mod witnesses;

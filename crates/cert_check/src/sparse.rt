@@ -1,28 +1,27 @@
-//! Whether points with few values satisfy a set, in a time that follows their values.
-ghost use Rattle.std.specs.Prelude.{◌≡◌, ◌<◌, ◌⊎◌, IfOk, IfSome, OnOk, List, All, true, false, ℕ, length, replicate};
-ghost use Rattle.rational.specs.Rational.{zero_ℚ};
+//! Whether points and rays with few values pass, in a time that follows their values.
+ghost use Rattle.std.specs.Prelude.{◌≡◌, ◌<◌, ◌⊎◌, IfOk, IfSome, OnOk, List, All, true, false, ℕ, length};
 ghost use Rattle.lp_model.specs.declared.members.Member.{Member as OneMember};
 ghost use Rattle.lp_model.specs.Members.{has};
 ghost use Rattle.lp_model.specs.MemberSets.{IsPossibleIn};
 ghost use Rattle.lp_model.specs.Satisfaction.{values_at};
-ghost use Rattle.certs.specs.Checks.{IsSetOf, outcome, point_steps};
-ghost use Rattle.certs.specs.Packed.{HasNonzeros};
-ghost use Rattle.report_text.specs.Grammar.{witness_phrases};
-ghost use Rattle.cert_check.specs.Sparse.{Lacks, Passes, HasFailing, HasReached, IsListed, IsSparse, IsSparseFor, ListsRows, Reaches, nonzero_count};
+ghost use Rattle.certs.specs.Checks.{IsSetOf, outcome, point_steps, ray_steps};
+ghost use Rattle.report_text.specs.Grammar.{point_phrases};
+ghost use Rattle.cert_check.specs.Sparse.{AreSpread, Lacks, Passes, HasFailing, HasReached, IsListed, IsRoom, IsSparse, IsSparseFor, ListsRows, Reaches};
 
-use certs::{Checked, PackedPoint, check_point, is_present};
+use crate::room::{give_back, spread};
+use bound_checks::check_ray;
+use certs::{Checked, PackedPoint, PackedRay, Point, Ray, check_point, is_present};
 use frac128::Frac;
 use lp_model::{Member, MemberSet, Model, Term};
-use report_text::witness_length;
 use std::alloc::{AllocError, Global};
 
 /// From how many members on it pays to list the rows of columns.
 const MANY_MEMBERS: u64 = 256;
 
-/// How many members a set has at least for each value of a point with few values.
+/// How many members a set has at least for each value of a point or a ray with few values.
 const MEMBERS_A_VALUE: u64 = 16;
 
-/// What tells of points with few values whether they satisfy the others of a set.
+/// What tells of points and rays with few values whether they pass.
 #[derive(Drop)]
 pub(crate) struct Sparse {
     /// How many members the set has.
@@ -31,127 +30,164 @@ pub(crate) struct Sparse {
     rows: Vec<Vec<u32>>,
     /// The members of the set that fail where every column is 0.
     failing: MemberSet,
-    /// A 0 for each column.
-    zeros: Vec<Frac>,
 }
 
-/// That of a set with many members.
+/// That of a set with many members. There is a 0 for each column.
 pub(crate) fn sparse_for(
     alloc: Global,
     model: &Model,
     set: &MemberSet,
+    zeros: &[Frac],
 ) -> Result<Option<Sparse>, AllocError>
-    requires { IsSetOf model.now set.now }
+    requires same { IsSetOf model.now set.now }
+    requires room { IsRoom (length model.now.columns) zeros.now }
     ensures { IfOk result (IsSparseFor model.now set.now.members) }
 {
     if set.count() < MANY_MEMBERS {
         return Ok(None);
     }
-    Ok(Some(Sparse::new(alloc, model, set)?))
+    Ok(Some(Sparse {
+        members: set.count(),
+        rows: list_rows(alloc, model)?,
+        failing: list_failing(alloc, model, set, zeros)?,
+    }))
 }
 
-impl Sparse {
-    // That of a set.
-    fn new(alloc: Global, model: &Model, set: &MemberSet) -> Result<Sparse, AllocError>
-        requires { IsSetOf model.now set.now }
-        ensures { IfOk result (IsSparse model.now set.now.members) }
-    {
-        let rows = list_rows(alloc, model)?;
-        let zeros = vec![in alloc; Frac::whole(0); model.column_count() as usize]?;
-        let failing = list_failing(alloc, model, set, zeros.as_slice())?;
-        Ok(Sparse {
-            members: set.count(),
-            rows,
-            failing,
-            zeros,
-        })
-    }
-
-    // Whether a point passes the check against the set, or what is left of it without a member, and how many of its values
-    // are not 0. Where these are few, no members are looked at but those that they reach.
-    fn passes(
-        &mut self,
-        alloc: Global,
-        model: &Model,
-        left: &MemberSet,
-        without: Option<Member>,
-        point: &PackedPoint,
-    ) -> Result<(bool, u64), AllocError>
-        requires sparse { IsSparse model.now left.now.members self.old }
-        requires same { IsSetOf model.now left.now }
-        requires possible { IfSome without (IsPossibleIn left.now) }
-        requires lacks { Lacks left.now.members without }
-        requires point { length point.now.values ≡ length model.now.columns }
-        ensures stays { OnOk result ((set : List OneMember) → IsSparse model.now set self.old → IsSparse model.now set self.new) }
-        ensures passes { IfOk result (λ r. r.0 ≡ true → All (Passes model.now (values_at point.now.values)) left.now.members) }
-        ensures count { IfOk result (λ r. r.1 ≡ nonzero_count point.now.values) }
-    {
-        let columns = point.values.spread(alloc, self.zeros.as_mut_slice())?;
-        let passes = self.all_pass(alloc, model, left, without, columns.as_slice())?;
-        Ok((passes, clear(self.zeros.as_mut_slice(), columns.as_slice())))
-    }
-
-    // Whether those that are left pass where the zeros have given way to values of these columns.
-    fn all_pass(
-        &self,
-        alloc: Global,
-        model: &Model,
-        left: &MemberSet,
-        without: Option<Member>,
-        columns: &[u32],
-    ) -> Result<bool, AllocError>
-        requires rows { ListsRows model.now self.now.rows.items }
-        requires failing { IsSetOf model.now self.now.failing }
-        requires fails { HasFailing model.now left.now.members self.now.failing.members }
-        requires same { IsSetOf model.now left.now }
-        requires possible { IfSome without (IsPossibleIn left.now) }
-        requires lacks { Lacks left.now.members without }
-        requires values { length self.now.zeros.items ≡ length model.now.columns }
-        requires nonzeros { HasNonzeros self.now.zeros.items columns.now }
-        requires within { All (λ j. j < length model.now.columns) columns.now }
-        ensures { IfOk result (λ yes. yes ≡ true → All (Passes model.now (values_at self.now.zeros.items)) left.now.members) }
-    {
-        let values = self.zeros.as_slice();
-        if (columns.len() as u64).saturating_mul(MEMBERS_A_VALUE) >= self.members {
-            return Ok(hold(model, left, values));
-        }
-        left.stands_in_order();
-        let mut reached = reached(alloc, self.rows.as_slice(), left, columns)?;
-        let hold = hold(model, &reached, values);
-        if let Some(member) = without {
-            reached.insert(member);
-        }
-        Ok(hold && self.failing.within(&reached))
-    }
-}
-
-/// What the check of a point says of a set, or of what is left of it without a member, and how many lines a member has with
-/// this point as its witness.
+/// What the check of a point says of a set, or of what is left of it without a member, and how many lines the point has.
 pub(crate) fn check_packed(
     alloc: Global,
     model: &Model,
     left: &MemberSet,
-    sparse: &mut Option<Sparse>,
+    sparse: &Option<Sparse>,
     without: Option<Member>,
-    point: &PackedPoint,
+    packed: &PackedPoint,
+    room: &mut Vec<Frac>,
 ) -> Result<(Checked, u64), AllocError>
-    requires sparse { IsSparseFor model.now left.now.members sparse.old }
+    requires sparse { IsSparseFor model.now left.now.members sparse.now }
+    requires same { IsSetOf model.now left.now }
+    requires possible { IfSome without (IsPossibleIn left.now) }
+    requires lacks { Lacks left.now.members without }
+    requires point { length packed.now.values ≡ length model.now.columns }
+    requires room { IsRoom (length model.now.columns) room.old.items }
+    ensures found { let x = values_at packed.now.values in
+        IfOk result (λ r. r.0 ≡ outcome (point_steps model.now left.now.members x)) }
+    ensures lines { IfOk result (λ r. r.1 ≡ length (point_phrases packed.now)) }
+    ensures room { OnOk result (IsRoom (length model.now.columns) room.new.items) }
+{
+    let (values, columns) = spread(alloc, &packed.values, room)?;
+    let point = Point { values };
+    let found = if passes(
+        alloc,
+        model,
+        left,
+        sparse,
+        without,
+        &point,
+        columns.as_slice(),
+    )? {
+        Checked::Yes
+    } else {
+        check_point(model, left, &point)
+    };
+    let count = give_back(point.values, columns.as_slice(), room);
+    Ok((found, 1 + count))
+}
+
+/// What the check of a ray says of a set.
+pub(crate) fn check_packed_ray(
+    alloc: Global,
+    model: &Model,
+    set: &MemberSet,
+    sparse: &Option<Sparse>,
+    packed: &PackedRay,
+    room: &mut Vec<Frac>,
+) -> Result<Checked, AllocError>
+    requires sparse { IsSparseFor model.now set.now.members sparse.now }
+    requires same { IsSetOf model.now set.now }
+    requires ray { length packed.now.values ≡ length model.now.columns }
+    requires room { IsRoom (length model.now.columns) room.old.items }
+    ensures found { let x = values_at packed.now.values in
+        IfOk result (λ found. found ≡ outcome (ray_steps model.now set.now.members x)) }
+    ensures room { OnOk result (IsRoom (length model.now.columns) room.new.items) }
+{
+    let (values, columns) = spread(alloc, &packed.values, room)?;
+    let ray = Ray { values };
+    let found = if is_kept_by(alloc, model, set, sparse, &ray, columns.as_slice())? {
+        Checked::Yes
+    } else {
+        check_ray(model, set, &ray)
+    };
+    give_back(ray.values, columns.as_slice(), room);
+    Ok(found)
+}
+
+// Whether a point with few values passes the check against a set, or what is left of it without a member. No members are
+// looked at but those that its columns reach.
+fn passes(
+    alloc: Global,
+    model: &Model,
+    left: &MemberSet,
+    sparse: &Option<Sparse>,
+    without: Option<Member>,
+    point: &Point,
+    columns: &[u32],
+) -> Result<bool, AllocError>
+    requires sparse { IsSparseFor model.now left.now.members sparse.now }
     requires same { IsSetOf model.now left.now }
     requires possible { IfSome without (IsPossibleIn left.now) }
     requires lacks { Lacks left.now.members without }
     requires point { length point.now.values ≡ length model.now.columns }
-    ensures stays { OnOk result ((set : List OneMember) → IsSparseFor model.now set sparse.old → IsSparseFor model.now set sparse.new) }
-    ensures found { IfOk result (λ r. r.0 ≡ outcome (point_steps model.now left.now.members (values_at point.now.values))) }
-    ensures lines { IfOk result (λ r. (m : OneMember) → r.1 ≡ length (witness_phrases (m, point.now))) }
+    requires spread { AreSpread point.now.values columns.now }
+    ensures { let steps = point_steps model.now left.now.members (values_at point.now.values) in
+        IfOk result (λ yes. yes ≡ true → outcome steps ≡ Checked.Yes) }
 {
-    if let Some(sparse) = sparse {
-        let (passes, values) = sparse.passes(alloc, model, left, without, point)?;
-        if passes {
-            return Ok((Checked::Yes, 2 + values));
-        }
+    let Some(sparse) = sparse else {
+        return Ok(false);
+    };
+    if !sparse.are_few(columns) {
+        return Ok(false);
     }
-    let point = point.unpacked(alloc)?;
-    Ok((check_point(model, left, &point), witness_length(&point)))
+    left.stands_in_order();
+    let mut reached = reached(alloc, sparse.rows.as_slice(), left, columns)?;
+    let hold = hold(model, &reached, point.values.as_slice());
+    if let Some(member) = without {
+        reached.insert(member);
+    }
+    Ok(hold && sparse.failing.within(&reached))
+}
+
+// Whether a ray with few values passes the check against a set. No members are looked at but those that its columns reach.
+fn is_kept_by(
+    alloc: Global,
+    model: &Model,
+    set: &MemberSet,
+    sparse: &Option<Sparse>,
+    ray: &Ray,
+    columns: &[u32],
+) -> Result<bool, AllocError>
+    requires sparse { IsSparseFor model.now set.now.members sparse.now }
+    requires same { IsSetOf model.now set.now }
+    requires ray { length ray.now.values ≡ length model.now.columns }
+    requires spread { AreSpread ray.now.values columns.now }
+    ensures { let steps = ray_steps model.now set.now.members (values_at ray.now.values) in
+        IfOk result (λ yes. yes ≡ true → outcome steps ≡ Checked.Yes) }
+{
+    let Some(sparse) = sparse else {
+        return Ok(false);
+    };
+    if !sparse.are_few(columns) {
+        return Ok(false);
+    }
+    set.stands_in_order();
+    let reached = reached(alloc, sparse.rows.as_slice(), set, columns)?;
+    Ok(matches!(check_ray(model, &reached, ray), Checked::Yes))
+}
+
+impl Sparse {
+    // Whether values that are not 0 in these columns alone are few.
+    fn are_few(&self, columns: &[u32]) -> bool {
+        (columns.len() as u64).saturating_mul(MEMBERS_A_VALUE) < self.members
+    }
 }
 
 // For each column the rows in which it stands.
@@ -190,7 +226,7 @@ fn list_failing(
     zeros: &[Frac],
 ) -> Result<MemberSet, AllocError>
     requires same { IsSetOf model.now set.now }
-    requires zeros { zeros.now ≡ replicate (length model.now.columns) zero_ℚ }
+    requires room { IsRoom (length model.now.columns) zeros.now }
     ensures same { IfOk result (IsSetOf model.now) }
     ensures failing { IfOk result (λ failing. HasFailing model.now set.now.members failing.members) }
 {
@@ -280,21 +316,4 @@ fn holds(model: &Model, member: Member, values: &[Frac]) -> bool
     ensures { result ≡ true → Passes model.now (values_at values.now) member }
 {
     !is_present(model, member) || matches!(model.holds(member, values), Ok(true))
-}
-
-// Puts zeros back, and tells how many values were not 0.
-fn clear(values: &mut [Frac], columns: &[u32]) -> u64
-    requires within { All (λ j. j < length values.old) columns.now }
-    requires nonzeros { HasNonzeros values.old columns.now }
-    ensures zeros { values.new ≡ replicate (length values.old) zero_ℚ }
-    ensures count { result ≡ nonzero_count values.old }
-{
-    let zero = Frac::whole(0);
-    let mut count: u64 = 0;
-    for column in columns {
-        let at = *column as usize;
-        count += u64::from(values[at] != zero);
-        values[at] = zero;
-    }
-    count
 }

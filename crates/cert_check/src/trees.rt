@@ -1,14 +1,16 @@
 //! Whether the proofs of a report hold.
-ghost use Rattle.std.specs.Prelude.{◌≡◌, ◌+◌, ◌≤◌, ◌<◌, length, flat_map};
+ghost use Rattle.std.specs.Prelude.{◌≡◌, ◌+◌, ◌≤◌, ◌<◌, OnOk, length, flat_map};
 ghost use Rattle.certs.specs.Checks.{IsSetOf};
 ghost use Rattle.report_text.specs.Form.{IsProofFor};
 ghost use Rattle.report_text.specs.Grammar.{node_phrases};
 ghost use Rattle.cert_check.specs.Trials.{node_line, proof_trials};
 ghost use Rattle.cert_check.specs.Stops.{first_stop, Says};
+ghost use Rattle.cert_check.specs.Sparse.{IsRoom};
 
-use crate::outcome::Stop;
+use crate::outcome::{Stop, settle};
 use branch_proof::{Judged, check_proof};
-use certs::{Node, Proof};
+use certs::{BranchPath, Node, Proof, check_leaf};
+use frac128::Frac;
 use lp_model::{MemberSet, Model};
 use std::alloc::Global;
 
@@ -18,17 +20,25 @@ pub(crate) fn check_tree(
     model: &Model,
     set: &MemberSet,
     proof: &Proof,
+    room: &mut Vec<Frac>,
     line: u32,
 ) -> Result<(), Stop>
     requires same { IsSetOf model.now set.now }
     requires form { IsProofFor model.now proof.now }
+    requires room { IsRoom (length model.now.columns) room.old.items }
     requires short { line + length (flat_map node_phrases proof.now.nodes) < 4294967296 }
-    ensures { Says (first_stop (proof_trials model.now set.now.members line proof.now)) result }
+    ensures says { Says (first_stop (proof_trials model.now set.now.members line proof.now)) result }
+    ensures room { OnOk result (IsRoom (length model.now.columns) room.new.items) }
 {
+    let nodes = proof.nodes.as_slice();
+    if let [Node::Leaf(combo)] = nodes {
+        let path = BranchPath::new(alloc);
+        let found = check_leaf(model, set, &path, combo, room.as_mut_slice());
+        return settle(line, found);
+    }
     let Ok(judged) = check_proof(alloc, model, set, proof) else {
         return Err(Stop::Memory);
     };
-    let nodes = proof.nodes.as_slice();
     match judged {
         Judged::Yes => Ok(()),
         Judged::No(n) => Err(Stop::Rejected(line_of(nodes, n, line))),

@@ -6,11 +6,12 @@ ghost use Rattle.certs.specs.Checks.{IsSetOf};
 ghost use Rattle.report_text.specs.Grammar.{witness_phrases};
 ghost use Rattle.cert_check.specs.Trials.{witness_trials};
 ghost use Rattle.cert_check.specs.Stops.{first_stop, IsStop};
-ghost use Rattle.cert_check.specs.Sparse.{IsSparseFor};
+ghost use Rattle.cert_check.specs.Sparse.{IsRoom, IsSparseFor};
 
 use crate::outcome::{Stop, settle};
 use crate::sparse::{Sparse, check_packed, sparse_for};
 use certs::PackedPoint;
+use frac128::Frac;
 use lp_model::{Member, MemberSet, Model};
 use report_text::MEMBER_LINES;
 use std::alloc::Global;
@@ -24,29 +25,33 @@ pub(crate) fn check_witnesses(
     members: &MemberSet,
     others: &mut MemberSet,
     witnesses: &[PackedPoint],
+    room: &mut Vec<Frac>,
     start: u32,
 ) -> Result<u32, Stop>
     requires same { IsSetOf model.now members.now }
     requires copy { others.old ≡ members.now }
     requires each { length witnesses.now ≡ length members.now.members }
     requires points { All (λ p. length p.values ≡ length model.now.columns) witnesses.now }
+    requires room { IsRoom (length model.now.columns) room.old.items }
     requires short { start + length (flat_map witness_phrases (zip members.now.members witnesses.now)) < 4294967296 }
-    ensures { MatchResult result
+    ensures says { MatchResult result
         (λ line. (first_stop (witness_trials model.now members.now.members start (zip members.now.members witnesses.now)) ≡ None)
         × (line ≡ start + length (flat_map witness_phrases (zip members.now.members witnesses.now))))
         (IsStop (first_stop (witness_trials model.now members.now.members start (zip members.now.members witnesses.now)))) }
+    ensures room { OnOk result (IsRoom (length model.now.columns) room.new.items) }
 {
     members.stands_in_order();
-    let Ok(mut sparse) = sparse_for(alloc, model, members) else {
+    let Ok(sparse) = sparse_for(alloc, model, members, room.as_slice()) else {
         return Err(Stop::Memory);
     };
+    let sparse = &sparse;
     let mut line = start;
     let mut left = members.iter();
     for witness in witnesses {
         let Some(member) = left.next() else {
             unreachable!()
         };
-        line += check_witness(alloc, model, others, &mut sparse, member, witness, line)?;
+        line += check_witness(alloc, model, others, sparse, member, witness, room, line)?;
     }
     Ok(line)
 }
@@ -57,32 +62,34 @@ fn check_witness(
     alloc: Global,
     model: &Model,
     members: &mut MemberSet,
-    sparse: &mut Option<Sparse>,
+    sparse: &Option<Sparse>,
     member: Member,
     witness: &PackedPoint,
+    room: &mut Vec<Frac>,
     line: u32,
 ) -> Result<u32, Stop>
     requires same { IsSetOf model.now members.old }
     requires there { IsTrue (has members.old.members member) }
     requires possible { IsPossibleIn members.old member }
-    requires sparse { IsSparseFor model.now members.old.members sparse.old }
+    requires sparse { IsSparseFor model.now members.old.members sparse.now }
     requires point { length witness.now.values ≡ length model.now.columns }
+    requires room { IsRoom (length model.now.columns) room.old.items }
     requires short { line + length (witness_phrases (member, witness.now)) < 4294967296 }
     ensures says { let stop = first_stop (witness_trials model.now members.old.members line ((member, witness.now) ∷ [])) in
         MatchResult result (λ lines. (stop ≡ None) × (lines ≡ length (witness_phrases (member, witness.now)))) (IsStop stop) }
     ensures stays { members.new ≡ members.old }
-    ensures sparse { OnOk result (IsSparseFor model.now members.old.members sparse.new) }
+    ensures room { OnOk result (IsRoom (length model.now.columns) room.new.items) }
 {
     members.stands_in_order();
     if !model.is_active(member) {
         return Err(Stop::Rejected(line));
     }
     members.remove(member);
-    let found = check_packed(alloc, model, members, sparse, Some(member), witness);
+    let found = check_packed(alloc, model, members, sparse, Some(member), witness, room);
     members.insert(member);
     let Ok((found, lines)) = found else {
         return Err(Stop::Memory);
     };
     settle(line + MEMBER_LINES, found)?;
-    Ok(lines as u32)
+    Ok(MEMBER_LINES + lines as u32)
 }

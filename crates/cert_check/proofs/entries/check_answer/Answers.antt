@@ -30,12 +30,12 @@ returns-in-Infeasible-clause-says c =
 
 pub returns-in-RigidInfeasible-clause-says : goal.returns-in-RigidInfeasible-clause-says
 returns-in-RigidInfeasible-clause-says c =
-    subst (λ (a : Answer). Says (first_stop (answer_trials c.args.model.now c.args.line a)) c.check_rigid.result) (sym c.in-RigidInfeasible.is) c.check_rigid.ensures
+    subst (λ (a : Answer). Says (first_stop (answer_trials c.args.model.now c.args.line a)) c.check_rigid.result) (sym c.in-RigidInfeasible.is) c.check_rigid.ensures.says
 
 pub returns-in-Least-clause-says : goal.returns-in-Least-clause-says
 returns-in-Least-clause-says c =
-    subst (λ (a : Answer). Says (first_stop (answer_trials c.args.model.now c.args.line a)) c.check_least.result) (sym c.in-Least.is) c.check_least.ensures
+    subst (λ (a : Answer). Says (first_stop (answer_trials c.args.model.now c.args.line a)) c.check_least.result) (sym c.in-Least.is) c.check_least.ensures.says
 
 pub returns-in-Unbounded-clause-says : goal.returns-in-Unbounded-clause-says
 returns-in-Unbounded-clause-says c =
-    subst (λ (a : Answer). Says (first_stop (answer_trials c.args.model.now c.args.line a)) c.check_unbounded.result) (sym c.in-Unbounded.is) c.check_unbounded.ensures
+    subst (λ (a : Answer). Says (first_stop (answer_trials c.args.model.now c.args.line a)) c.check_unbounded.result) (sym c.in-Unbounded.is) c.check_unbounded.ensures.says

@@ -6,8 +6,8 @@ use Rattle.cert_check.specs.Stops.{first_stop}
 use Rattle.cert_check.proofs.Firsts.{stop_first, stop_of, says_second, says_of}
 use Rattle.cert_check.proofs.entries.check_refuted.Goals as goal
 
-pub returns-in_err-end : goal.returns-in_err-end
-returns-in_err-end c =
+pub returns-in_err-end-clause-says : goal.returns-in_err-end-clause-says
+returns-in_err-end-clause-says c =
     let model = c.args.model.now in
     let set = c.args.members.now.members in
     let agree = is_use_of c.args.among.now.members in
@@ -19,8 +19,8 @@ returns-in_err-end c =
     rw (p.1, p.2)
     (stop_first (paired_trials agree (c.args.line + 2) set (proof_members model c.args.proof.now)) _ s (stop_of _ _ s pairs c.in_err-end.ensures))
 
-pub returns : goal.returns
-returns c =
+pub returns-clause-says : goal.returns-clause-says
+returns-clause-says c =
     let model = c.args.model.now in
     let set = c.args.members.now.members in
     let proof = c.args.proof.now in
@@ -35,4 +35,4 @@ returns c =
     ap (λ (z : SetValue). first_stop (proof_trials model z.members (c.in_ok-end.end + 1) proof)) c.in-Ok-unpacked.ensures
     ∙ ap (λ k. first_stop (proof_trials model set k proof)) place in
     says_second (paired_trials agree (c.args.line + 2) set (proof_members model proof)) _ c.check_tree.result (sym pairs ∙ both.0)
-    (says_of _ _ c.check_tree.result tree c.check_tree.ensures)
+    (says_of _ _ c.check_tree.result tree c.check_tree.ensures.says)

@@ -41,7 +41,7 @@ loop-member-preserved-then-holds c =
       same = subst (IsSetOf model) (sym c.remove.ensures) (record { rows = i.same.rows; columns = i.same.columns });
       possible = All-tail (IsPossibleIn set) m c.next.new.self (subst (All (IsPossibleIn set)) c.in-Some.ensures.steps i.possible);
       failing = λ n h none. elim (gone left m n (sym (ap (λ (s : SetValue). has s.members n) c.remove.ensures) ∙ none)) [
-        | inl e ↦ subst P (sym e) (subst (λ (z : List ℚ). Passes model (values_at z) m) c.requires.zeros (c.holds.ensures c.if-holds.true))
+        | inl e ↦ subst P (sym e) (subst (λ (z : List ℚ). Passes model (values_at z) m) c.requires.room.zeros (c.holds.ensures c.if-holds.true))
         | inr before ↦ i.failing n h before
       ];
     }

@@ -1,4 +1,4 @@
-use Rattle.std.proofs.Common.{◌≡◌, ◌∙◌, sym, ap, subst, arith, rules, true, filter}
+use Rattle.std.proofs.Common.{◌≡◌, ◌∙◌, sym, ap, subst, true, filter}
 use Rattle.lp_model.specs.declared.members.Member.{Member}
 use Rattle.lp_model.specs.Members.{has}
 use Rattle.lp_model.specs.MemberSets.{SetValue, possible_in, set_with, set_without}
@@ -26,14 +26,3 @@ returns-in_err-settle-clause-stays c = back c.args.members.now c.remove.new.self
 
 pub returns-clause-stays : goal.returns-clause-stays
 returns-clause-stays c = back c.args.members.now c.remove.new.self c.insert.new.self c.args.member c.remove.ensures c.insert.ensures c.stands_in_order.ensures.possible c.requires.there
-
-pub returns-clause-sparse : goal.returns-clause-sparse
-returns-clause-sparse c = c.in-Ok.ensures.stays c.args.members.now.members c.requires.sparse
-
-pub overflow_cast-result : goal.overflow_cast-result
-overflow_cast-result c =
-    let lines = c.in-Ok.ensures.lines c.args.member in
-    omega (arith, lines, c.requires.short)
-
-pub returns-clause-says : goal.returns-clause-says
-returns-clause-says c = (search rules, c.in-Ok.ensures.lines c.args.member)

@@ -9,7 +9,6 @@ use Rattle.certs.proofs.Possible.{all_possible}
 use Rattle.report_text.specs.Grammar.{witness_phrases}
 use Rattle.cert_check.specs.Trials.{witness_trials}
 use Rattle.cert_check.specs.Stops.{first_stop}
-use Rattle.cert_check.specs.Sparse.{IsSparseFor}
 use Rattle.cert_check.proofs.Firsts.{stop_of}
 use Rattle.cert_check.proofs.Named.{all_there}
 use Rattle.cert_check.proofs.Witnessed.{member_left, lines_step, witness_stops, witness_passes, each_step}
@@ -25,7 +24,7 @@ loop-witness-init c =
       possible = subst (All (IsPossibleIn set)) (sym given) (all_possible set c.stands_in_order.ensures.possible);
       there = subst (All (λ m. has set.members m ≡ true)) (sym given) (all_there set c.stands_in_order.ensures.possible);
       others = c.requires.copy;
-      sparse = c.in-Ok.ensures;
+      room = c.requires.room;
       each = c.requires.each ∙ ap length (sym given);
       line = ap (λ (l : List Member). c.args.start + length (flat_map witness_phrases (zip l witnesses))) given;
       left = ap (λ (l : List Member). first_stop (witness_trials model set.members c.args.start (zip l witnesses))) given;
@@ -45,8 +44,8 @@ check_witness-requires-clause-possible c =
     subst (λ (s : SetValue). IsPossibleIn s c.in-Some.member) (sym c.loop-witness.invariant.others)
     (All-head (IsPossibleIn c.args.members.now) c.in-Some.member c.next.new.self (subst (All (IsPossibleIn c.args.members.now)) c.in-Some.ensures.steps c.loop-witness.invariant.possible))
 
-pub returns-in_err-line : goal.returns-in_err-line
-returns-in_err-line c =
+pub returns-in_err-line-clause-says : goal.returns-in_err-line-clause-says
+returns-in_err-line-clause-says c =
     let model = c.args.model.now in
     let set = c.args.members.now.members in
     let i = c.loop-witness in
@@ -58,9 +57,6 @@ returns-in_err-line c =
     (stop_of _ _ s i.invariant.left
     (witness_stops model c.args.witnesses.now i.witness-index i.left c.next.new.self m w c.in-Some.ensures.steps c.loop-witness-test.true c.witness-item.is set i.line s
     (stop_of _ _ s (ap (λ (v : SetValue). first_stop (witness_trials model v.members i.line ((m, w) ∷ []))) i.invariant.others) c.in_err-line.ensures.says)))
-
-pub check_witness-requires-clause-sparse : goal.check_witness-requires-clause-sparse
-check_witness-requires-clause-sparse c = subst (λ (s : SetValue). IsSparseFor c.args.model.now s.members c.loop-witness.sparse) (sym c.loop-witness.invariant.others) c.loop-witness.invariant.sparse
 
 pub check_witness-requires-clause-short : goal.check_witness-requires-clause-short
 check_witness-requires-clause-short c =
@@ -92,7 +88,7 @@ loop-witness-preserved c =
       possible = All-tail (IsPossibleIn c.args.members.now) m others (subst (All (IsPossibleIn c.args.members.now)) first i.invariant.possible);
       there = All-tail (λ n. has set n ≡ true) m others (subst (All (λ n. has set n ≡ true)) first i.invariant.there);
       others = c.in_ok-line.ensures.stays ∙ i.invariant.others;
-      sparse = subst (λ (v : SetValue). IsSparseFor model v.members c.check_witness.new.sparse) i.invariant.others c.in_ok-line.ensures.sparse;
+      room = c.in_ok-line.ensures.room;
       each = each_step model witnesses i.witness-index i.left others m w first c.loop-witness-test.true c.witness-item.is i.invariant.each;
       line = omega (arith, step, count, i.invariant.line);
       left = witness_passes model witnesses i.witness-index i.left others m w first c.loop-witness-test.true c.witness-item.is set i.line c.in_ok-line.field-0 says count ∙ i.invariant.left;

@@ -5,7 +5,7 @@ use Rattle.lp_model.specs.MemberSets.{IsPossibleIn}
 use Rattle.report_text.specs.Grammar.{witness_phrases}
 use Rattle.cert_check.specs.Trials.{witness_trials}
 use Rattle.cert_check.specs.Stops.{first_stop}
-use Rattle.cert_check.specs.Sparse.{IsSparseFor}
+use Rattle.cert_check.specs.Sparse.{IsRoom}
 use Rattle.cert_check.proofs.witnesses.check_witnesses.Given as goal
 
 -- the members that are still to come, each with a witness that is left, stop the check as all do
@@ -14,7 +14,7 @@ invariant-loop-witness l = record {
   possible : All (IsPossibleIn l.members) l.left;
   there : All (λ m. has l.members.members m ≡ true) l.left;
   others : l.others ≡ l.members;
-  sparse : IsSparseFor l.model l.members.members l.sparse;
+  room : IsRoom (length l.model.columns) l.room.items;
   each : length (drop l.witness-index l.witnesses) ≡ length l.left;
   line : l.line + length (flat_map witness_phrases (zip l.left (drop l.witness-index l.witnesses))) ≡ l.start + length (flat_map witness_phrases (zip l.members.members l.witnesses));
   left :

@@ -3,7 +3,7 @@ use Rattle.rational.specs.Rational.{zero_ℚ}
 use Rattle.lp_model.specs.Satisfaction.{values_at}
 use Rattle.certs.specs.Packed.{HasNonzeros}
 use Rattle.cert_check.specs.Sparse.{nonzero_count}
-use Rattle.cert_check.proofs.sparse.clear.Given as goal
+use Rattle.cert_check.proofs.room.clear.Given as goal
 
 -- the values of the columns so far are 0 and counted, and each that is not 0 is of one of the columns
 abbrev pub invariant-loop-column : goal.invariant-loop-column

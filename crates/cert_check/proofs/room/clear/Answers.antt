@@ -5,7 +5,7 @@ use Rattle.std.proofs.lemmas.List.{ext_get_or, get_or-set_same, get_or-set_other
 use Rattle.rational.specs.Rational.{ℚ, zero_ℚ, eq_ℚ}
 use Rattle.cert_check.specs.Sparse.{nonzero_count}
 use Rattle.cert_check.proofs.Reached.{zero_or_not, zeros_count, cleared_count}
-use Rattle.cert_check.proofs.sparse.clear.Goals as goal
+use Rattle.cert_check.proofs.room.clear.Goals as goal
 
 byte_is : (b : Bool) → bool_byte b ≡ cond b 1 0
 byte_is true = refl
