@@ -37,8 +37,7 @@ use Rattle.report_text.specs.contracts.report.RefusalPartialEq.TheImpl.{ghosts a
 use Rattle.report_text.specs.declared.report.Entry.{Entry}
 use Rattle.report_text.specs.declared.report.Report.{Report}
 use Rattle.report_text.specs.declared.report.Command.{Command}
-use Rattle.report_text.specs.declared.report.Command.TheVariants.{Iis, Relax}
-use Rattle.report_text.specs.declared.report.Method.TheVariants.{Elastic, Alternative}
+use Rattle.report_text.specs.Form.{asks_of}
 use Rattle.report_text.specs.declared.layout.TheConstants.{HEAD_LINES, OPENING_LINES, MEMBER_LINES, PROOF_LINES, BOUND_LINES, LEAST_LINES, TOTAL_LINES}
 use Rattle.report_text.specs.Turns.{after, answer_after, gathered}
 use Rattle.report_text.specs.Grammar.{point_phrases, objective_phrases, node_phrases, proof_phrases, rounds_phrases, witness_phrases}
@@ -249,16 +248,9 @@ settles (NotLinear j) = false
 settles (Stopped stop) = false
 settles _ = true
 
--- whether a command is for linear constraints alone: the elastic method, that of the alternative, and `relax`
-abbrev pub needs_linear : Command → Bool
-needs_linear (Iis Elastic) = true
-needs_linear (Iis Alternative) = true
-needs_linear Relax = true
-needs_linear _ = false
-
--- on the first line of an answer that settles such a command: that no active member is a mark
+-- on the first line of an answer that settles a command for linear constraints alone: that no active member is a mark
 abbrev pub linear_trials : Program → Entry → List Trial
-linear_trials model e = cond (needs_linear e.command && settles e.answer) (on_line (e.line + 1) (said (not (has_mark (active_members model)))) ∷ []) []
+linear_trials model e = cond ((asks_of e.command).linear && settles e.answer) (on_line (e.line + 1) (said (not (has_mark (active_members model)))) ∷ []) []
 
 -- ---- entries
 -- what an entry claims of a program: that it is linear, where the command needs that, and then the answer

@@ -9,7 +9,7 @@ ghost use Rattle.report_text.specs.declared.report.Command.{Command as OneComman
 ghost use Rattle.report_text.specs.declared.report.Answer.TheVariants.{Refused as RefusedBy};
 ghost use Rattle.report_text.specs.Form.{IsProofFor, IsPointFor, IsListed, IsCoreFor, IsAnswerFor, IsEntryFor, AreEntriesFor};
 ghost use Rattle.report_text.specs.Grammar.{answer_phrases, node_phrases, rounds_phrases, witness_phrases};
-ghost use Rattle.cert_check.specs.Trials.{witnesses_of, feasible_trials, refuted_trials, rigid_active, rounds_trials, irreducible_trials, answer_trials, claim_trials, linear_trials, needs_linear as needs_linear_constraints, settles as settles_command, reply_trials, same_reply, tail_trials, entries_trials};
+ghost use Rattle.cert_check.specs.Trials.{witnesses_of, feasible_trials, refuted_trials, rigid_active, rounds_trials, irreducible_trials, answer_trials, claim_trials, linear_trials, settles as settles_command, reply_trials, same_reply, tail_trials, entries_trials};
 ghost use Rattle.cert_check.specs.Stops.{first_stop, IsStop, Says};
 ghost use Rattle.cert_check.specs.Uses.{IsShort, AreShort};
 ghost use Rattle.cert_check.specs.Replay.{Replays};
@@ -28,8 +28,7 @@ use frac128::Frac;
 use least_checks::rigid_set;
 use lp_model::{MemberSet, Model};
 use report_text::{
-    Answer, Command, CommandSession, Core, Entry, MemberList, Method, OPENING_LINES, PROOF_LINES,
-    Refusal,
+    Answer, CommandSession, Core, Entry, MemberList, OPENING_LINES, PROOF_LINES, Refusal,
 };
 use std::alloc::Global;
 
@@ -134,7 +133,7 @@ fn check_linear(alloc: Global, model: &Model, kept: &mut Kept, entry: &Entry) ->
     ensures says { Says (first_stop (linear_trials model.now entry.now)) result }
     ensures kept { OnOk result (IsKept model.now kept.new) }
 {
-    if !needs_linear(&entry.command) || !settles(&entry.answer) {
+    if !entry.command.asks().linear || !settles(&entry.answer) {
         return Ok(());
     }
     let Ok(active) = Active::taken(alloc, model, &mut kept.active) else {
@@ -145,16 +144,6 @@ fn check_linear(alloc: Global, model: &Model, kept: &mut Kept, entry: &Entry) ->
     }
     kept.active = Some(active);
     Ok(())
-}
-
-// Whether a command is for linear constraints alone.
-fn needs_linear(command: &Command) -> bool
-    ensures { result ≡ needs_linear_constraints command.now }
-{
-    matches!(
-        command,
-        Command::Iis(Method::Elastic | Method::Alternative) | Command::Relax
-    )
 }
 
 /// Whether an answer settles its command.

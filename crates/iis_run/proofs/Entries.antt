@@ -3,6 +3,7 @@ use Rattle.std.proofs.Common.{◌≡◌, ◌+◌, refl, sym, subst, ℕ, Bool, f
 use Rattle.lp_model.specs.Program.{Program}
 use Rattle.lp_model.specs.Members.{active_members}
 use Rattle.certs.specs.Trees.{has_mark}
+use Rattle.report_text.specs.Form.{asks_of}
 use Rattle.report_text.specs.declared.report.Answer.{Answer}
 use Rattle.report_text.specs.declared.report.Answer.TheVariants.{Done}
 use Rattle.report_text.specs.declared.report.Command.{Command}
@@ -13,7 +14,7 @@ use Rattle.report_text.specs.Turns.{after, answer_after, AllEntries}
 use Rattle.report_text.proofs.Replies.{reply_after}
 use Rattle.analysis.specs.Right.{IsRightAfter, Right, RightAfter, RightBy, settings_in_force}
 use Rattle.analysis.specs.Written.{report_of}
-use Rattle.cert_check.specs.Trials.{Trial, answer_trials, claim_trials, entries_trials, entry_trials, needs_linear, on_line, paired_trials, reply_trials, said, same_note, settles, trials}
+use Rattle.cert_check.specs.Trials.{Trial, answer_trials, claim_trials, entries_trials, entry_trials, on_line, paired_trials, reply_trials, said, same_note, settles, trials}
 use Rattle.iis_run.specs.Again.{AcceptedAgainLaw}
 use Rattle.iis_run.proofs.Unfailed.{AreUnfailed, nothing, joined}
 use Rattle.iis_run.proofs.Outcome.{accepted_or_wide}
@@ -41,7 +42,7 @@ module _ (first : Program) (before : List Command) (n : ℕ) where
   asked_unfailed _ answer h = absurd h
 
   -- a command that is answered by replay needs no linear program
-  replied_plain : (command : Command) (right : Answer) → answer_after first before command ≡ Some right → needs_linear command ≡ false
+  replied_plain : (command : Command) (right : Answer) → answer_after first before command ≡ Some right → (asks_of command).linear ≡ false
   replied_plain (Edit e) right is = refl
   replied_plain Undo right is = refl
   replied_plain _ right is = absurd (cc)

@@ -16,10 +16,10 @@ use Rattle.report_text.specs.declared.report.TargetKind.TheVariants.{Row, RowLo,
 use Rattle.report_text.specs.declared.report.EditKind.{EditKind}
 use Rattle.report_text.specs.declared.report.EditKind.TheVariants.{Drop, Keep, Weigh, SetSide, SetBound, SetMark}
 use Rattle.report_text.specs.Form.{is_word, IsCommand, IsEditKind}
-use Rattle.report_text.specs.Grammar.{method_word, target_word, side_word, limit_word, weight_word, mark_word, edit_words, command_words}
+use Rattle.report_text.specs.Grammar.{method_word, target_word, side_word, limit_word, weight_word, mark_word, edit_words, command_words, command_text, lone_commands}
 use Rattle.phrase_reader.specs.Numerals.{budget_of, limit_in, weight_in}
 use Rattle.phrase_reader.specs.Commands.{lone_command, method_of, weighed_target, target_in, side_in, mark_in, moving, weighing, set_of, setting, edit_of, iis_command, budget_behind, three_command, command_said}
-use Rattle.phrase_reader.proofs.Named.{told, told_if, split_if, found_spelled}
+use Rattle.phrase_reader.proofs.Named.{told, told_if, split_if, found_of, found_spelled}
 use Rattle.phrase_reader.proofs.Budgets.{budget_within, own_number}
 use Rattle.phrase_reader.proofs.Values.{own_limit, limit_built, own_weight, weight_built}
 
@@ -35,15 +35,10 @@ AreAsked words name (SetMark whole) = words ≡ edit_words name (SetMark whole)
 
 -- each word is the command's, but that the number may be written otherwise
 unfoldable pub AreSaid : List (List ℕ) → Command → Type 0
-AreSaid words Check = words ≡ codes "check" ∷ []
-AreSaid words (Iis method) = words ≡ codes "iis" ∷ method_word method ∷ []
-AreSaid words Unbounded = words ≡ codes "unbounded" ∷ []
-AreSaid words Relax = words ≡ codes "relax" ∷ []
-AreSaid words Reduce = words ≡ codes "reduce" ∷ []
 AreSaid words (Edit e) = (is_word e.name ≡ true) × AreAsked words e.name e.kind
-AreSaid words Undo = words ≡ codes "undo" ∷ []
 AreSaid words (Pivots n) = (number : List ℕ) × ((words ≡ codes "budget" ∷ codes "pivots" ∷ number ∷ []) × (budget_of number ≡ Some n))
 AreSaid words (Nodes n) = (number : List ℕ) × ((words ≡ codes "budget" ∷ codes "nodes" ∷ number ∷ []) × (budget_of number ≡ Some n))
+AreSaid words c = words ≡ command_words c
 
 nothing : {X : Type 0} (P : Type 0) (x : X) → ◌≡◌ {A = Option X} None (Some x) → P
 nothing P x e = absurd (let s : None ≡ Some x = e in cc)
@@ -137,27 +132,12 @@ setting_asked a b name d last k e =
     words = a ∷ b ∷ name ∷ d ∷ last ∷ []
 
 -- ---- commands
--- what may stand in the place of `reduce`, of `relax`, of `unbounded` and of `check`
-abbrev behind_reduce : List ℕ → Option Command
-behind_reduce a = cond (bytes_eq a (codes "undo")) (Some Undo) None
-
-abbrev behind_relax : List ℕ → Option Command
-behind_relax a = cond (bytes_eq a (codes "reduce")) (Some Reduce) (behind_reduce a)
-
-abbrev behind_unbounded : List ℕ → Option Command
-behind_unbounded a = cond (bytes_eq a (codes "relax")) (Some Relax) (behind_relax a)
-
-abbrev behind_check : List ℕ → Option Command
-behind_check a = cond (bytes_eq a (codes "unbounded")) (Some Unbounded) (behind_unbounded a)
-
+-- one word is the text of a command of one word
 lone_said : (a : List ℕ) (c : Command) → lone_command a ≡ Some c → AreSaid (a ∷ []) c
 unfolding AreSaid
 lone_said a c e =
-    split_if (AreSaid (a ∷ []) c) a (codes "check") (Some Check) (behind_check a) c e (λ w g. subst (AreSaid (a ∷ [])) (same_Some Check c g) (ap (λ w. w ∷ []) w))
-    (λ d. split_if (AreSaid (a ∷ []) c) a (codes "unbounded") (Some Unbounded) (behind_unbounded a) c d (λ w g. subst (AreSaid (a ∷ [])) (same_Some Unbounded c g) (ap (λ w. w ∷ []) w))
-    (λ r. split_if (AreSaid (a ∷ []) c) a (codes "relax") (Some Relax) (behind_relax a) c r (λ w g. subst (AreSaid (a ∷ [])) (same_Some Relax c g) (ap (λ w. w ∷ []) w))
-    (λ f. split_if (AreSaid (a ∷ []) c) a (codes "reduce") (Some Reduce) (behind_reduce a) c f (λ w g. subst (AreSaid (a ∷ [])) (same_Some Reduce c g) (ap (λ w. w ∷ []) w))
-    (λ g. split_if (AreSaid (a ∷ []) c) a (codes "undo") (Some Undo) None c g (λ w h. subst (AreSaid (a ∷ [])) (same_Some Undo c h) (ap (λ w. w ∷ []) w)) (nothing (AreSaid (a ∷ []) c) c)))))
+    subst (λ w. AreSaid (w ∷ []) c) (sym (found_spelled command_text lone_commands a c e))
+    (found_of (λ k. AreSaid (command_text k ∷ []) k) (λ k. bytes_eq a (command_text k)) lone_commands c (refl, (refl, (refl, (refl, (refl, tt))))) e)
 
 search_said : (a b : List ℕ) (c : Command) → iis_command a b ≡ Some c → AreSaid (a ∷ b ∷ []) c
 unfolding AreSaid
@@ -212,15 +192,10 @@ asked_built words name (SetMark whole) s = tt
 
 pub said_built : (words : List (List ℕ)) (c : Command) → command_said words ≡ Some c → IsCommand c
 unfolding AreSaid
-said_built words Check e = tt
-said_built words (Iis method) e = tt
 said_built words (Edit n) e = let s = words_said words (Edit n) e in record { word = s.0; kind = asked_built words n.name n.kind s.1 }
-said_built words Unbounded e = tt
-said_built words Relax e = tt
-said_built words Reduce e = tt
-said_built words Undo e = tt
 said_built words (Pivots n) e = let s = words_said words (Pivots n) e in budget_within s.0 n s.1.1
 said_built words (Nodes n) e = let s = words_said words (Nodes n) e in budget_within s.0 n s.1.1
+said_built words c e = tt
 
 -- ---- a command's own words
 own_target : (t : TargetKind) → target_in (target_word t) ≡ Some t
@@ -267,16 +242,12 @@ own_edit name (SetBound side v) w h =
 own_edit name (SetMark whole) w h = named (option_map SetMark (mark_in (mark_word whole))) name (SetMark whole) w (ap (option_map SetMark) (own_mark whole))
 
 pub own_words : (c : Command) → IsCommand c → command_said (command_words c) ≡ Some c
-own_words Check h = refl
 own_words (Iis Deletion) h = refl
 own_words (Iis Additive) h = refl
 own_words (Iis Sensitivity) h = refl
 own_words (Iis Elastic) h = refl
 own_words (Iis Alternative) h = refl
 own_words (Edit e) h = own_edit e.name e.kind h.word h.kind
-own_words Unbounded h = refl
-own_words Relax h = refl
-own_words Reduce h = refl
-own_words Undo h = refl
 own_words (Pivots n) h = ap (option_map Pivots) (own_number n h)
 own_words (Nodes n) h = ap (option_map Nodes) (own_number n h)
+own_words c h = refl

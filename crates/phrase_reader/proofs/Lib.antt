@@ -13,4 +13,3 @@ pub mod Fits
 pub mod Values
 pub mod Asked
 pub mod Scripted
-pub mod Samples

@@ -42,6 +42,19 @@ found_passes {K = K} test (l ∷ ks) k e = by (test l) refl (found_passes test k
     by true t rest f = subst (λ (m : K). test m ≡ true) (same_Some l k f) t
     by false t rest f = rest f
 
+-- and is one of those that there are
+abbrev Each : {K : Type 0} → (K → Type 0) → List K → Type 0
+Each P [] = Unit {0}
+Each P (k ∷ ks) = P k × Each P ks
+
+pub found_of : {K : Type 0} (P : K → Type 0) (test : K → Bool) (ks : List K) (k : K) → Each P ks → find test ks ≡ Some k → P k
+found_of {K = K} P test [] k each e = absurd (let s : None ≡ Some k = e in cc)
+found_of {K = K} P test (l ∷ ks) k each e = by (test l) (found_of P test ks k each.1) e
+  where
+    by : (b : Bool) → (find test ks ≡ Some k → P k) → cond b (Some l) (find test ks) ≡ Some k → P k
+    by true rest f = subst P (same_Some l k f) each.0
+    by false rest f = rest f
+
 -- what is found by its text is spelled so
 pub found_spelled : {K : Type 0} (text : K → List ℕ) (ks : List K) (word : List ℕ) (k : K) → find (λ l. bytes_eq word (text l)) ks ≡ Some k → word ≡ text k
 found_spelled text ks word k e = (bytes_eq-Decides word (text k)).0 (found_passes (λ l. bytes_eq word (text l)) ks k e)

@@ -53,15 +53,10 @@ plain_edit words name (SetMark whole) plain s = s
 
 plain_words : (words : List (List ℕ)) (c : Command) → IsPlain (last_word words) c → AreSaid words c → words ≡ command_words c
 unfolding AreSaid
-plain_words words Check plain s = s
-plain_words words (Iis method) plain s = s
 plain_words words (Edit e) plain s = plain_edit words e.name e.kind plain s.1
-plain_words words Unbounded plain s = s
-plain_words words Relax plain s = s
-plain_words words Reduce plain s = s
-plain_words words Undo plain s = s
 plain_words words (Pivots n) plain s = s.1.0 ∙ ap (λ w. codes "budget" ∷ codes "pivots" ∷ w ∷ []) (sym (ap last_word s.1.0) ∙ plain)
 plain_words words (Nodes n) plain s = s.1.0 ∙ ap (λ w. codes "budget" ∷ codes "nodes" ∷ w ∷ []) (sym (ap last_word s.1.0) ∙ plain)
+plain_words words c plain s = s
 
 own_plain_edit : (name : List ℕ) (k : EditKind) → IsPlainEdit (last_word (edit_words name k)) k
 own_plain_edit name (Drop t) = tt
@@ -72,15 +67,10 @@ own_plain_edit name (SetBound side v) = refl
 own_plain_edit name (SetMark whole) = tt
 
 own_plain : (c : Command) → IsPlain (last_word (command_words c)) c
-own_plain Check = tt
-own_plain (Iis method) = tt
 own_plain (Edit e) = own_plain_edit e.name e.kind
-own_plain Unbounded = tt
-own_plain Relax = tt
-own_plain Reduce = tt
-own_plain Undo = tt
 own_plain (Pivots n) = refl
 own_plain (Nodes n) = refl
+own_plain c = tt
 
 -- what words behind `command` say
 pub record CommandBehind (words : List (List ℕ)) (p : Phrase) : Type 0 where

@@ -21,7 +21,7 @@ use Rattle.report_text.specs.declared.report.EditKind.{EditKind}
 use Rattle.report_text.specs.declared.report.EditKind.TheVariants.{Drop, Keep, Weigh, SetSide, SetBound, SetMark}
 use Rattle.phrase_reader.specs.declared.commands.CommandStop.{CommandStop}
 use Rattle.phrase_reader.specs.declared.commands.CommandStop.TheVariants.{Bad, Memory}
-use Rattle.report_text.specs.Grammar.{method_word, target_word, side_word, mark_word, command_words, command_text}
+use Rattle.report_text.specs.Grammar.{method_word, target_word, side_word, mark_word, command_words, command_text, lone_commands}
 use Rattle.report_text.specs.Form.{is_word, IsCommand}
 use Rattle.phrase_reader.specs.Numerals.{budget_of, limit_in, weight_in}
 
@@ -73,12 +73,7 @@ edit_of kind name = cond (is_word name) (option_map (λ k. Edit (record { name =
 -- ---- the words that are a command
 -- what one word says
 abbrev pub lone_command : List ℕ → Option Command
-lone_command word =
-    cond (bytes_eq word (codes "check")) (Some Check)
-    (cond (bytes_eq word (codes "unbounded")) (Some Unbounded)
-    (cond (bytes_eq word (codes "relax")) (Some Relax)
-    (cond (bytes_eq word (codes "reduce")) (Some Reduce)
-    (cond (bytes_eq word (codes "undo")) (Some Undo) None))))
+lone_command word = find (λ c. bytes_eq word (command_text c)) lone_commands
 
 -- what two words say
 abbrev pub iis_command : List ℕ → List ℕ → Option Command

@@ -41,10 +41,9 @@ IsKnownAnswer model (BoundedBy b) = IsKnownBounded model b
 IsKnownAnswer model (LeastBy p dual) = IsKnownLeast model p dual
 IsKnownAnswer model (RigidRefuted set proof) = IsSetOf model set × IsKnownProof model proof
 IsKnownAnswer model (ReducedTo r) = All (IsKnownStep model) r.steps
-IsKnownAnswer model Done = Unit {0}
-IsKnownAnswer model (Refused r) = Unit {0}
 IsKnownAnswer model (NotLinear j) = j < length model.columns
 IsKnownAnswer model (Stopped stop) = IsKnownStop model stop
+IsKnownAnswer model _ = Unit {0}
 
 -- ---- the parts of a report
 -- what stands before the entries

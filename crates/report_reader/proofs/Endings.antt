@@ -94,7 +94,7 @@ pub body_is : (model : Program) (report : Report) → IsReportFor model report �
 body_is model report h = phrases_apart model (body_phrases model report.notes report.entries) (body_for model report h)
 
 -- a report is its body and the foot
-body_and_foot : (model : Program) (report : Report) → report_lines model report ≡ body model report ++ foot ∷ []
+pub body_and_foot : (model : Program) (report : Report) → report_lines model report ≡ body model report ++ foot ∷ []
 body_and_foot model report = map-append (phrase_line model) (body_phrases model report.notes report.entries) (Phrase.Foot ∷ [])
 
 -- ---- fronts

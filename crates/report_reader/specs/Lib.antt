@@ -1,2 +1,4 @@
 pub mod Reading
-pub mod Drafts
+pub mod Kinds
+pub mod Things
+pub mod Entries

@@ -1,18 +1,13 @@
 //! The reader of reports.
 #![tactic(auto)]
 
-mod advancing;
-mod bounding;
-mod building;
-mod drafts;
-mod following;
+mod answers;
+mod cursor;
+mod evidence;
 mod laws;
-mod least;
-mod ordering;
-mod pricing;
+mod lists;
+mod numbers;
 mod reader;
-mod reducing;
-mod stopping;
 
 pub use laws::{
     bad_is_not_truncated, one_bad_line, one_report, printed_is_read, read_is_not_bad,

@@ -1,18 +1,17 @@
 //! The reader of reports.
-ghost use Rattle.std.specs.Prelude.{◌≡◌, ◌+◌, ◌<◌, ◌∷◌, [], length, IfOk, IfErr, IfSome, MatchOption, MatchResult};
-ghost use Rattle.phrase_reader.specs.Parts.{parts};
+ghost use Rattle.std.specs.Prelude.{◌≡◌, ◌<◌, [], length, Ok, IfOk, IfErr, OnOk, OnErr};
+ghost use Rattle.report_text.specs.declared.phrases.Phrase.{Phrase as OnePhrase};
 ghost use Rattle.report_text.specs.declared.report.Report.{Report};
+ghost use Rattle.report_text.specs.Form.{IsCommand, AreNumbered};
 ghost use Rattle.report_reader.specs.Reading.{Reads, IsReportStop};
-ghost use Rattle.report_reader.specs.Drafts.{Takes, IsLineStop, Replays, StaysOn, ended, IsDraftFor};
-ghost use Rattle.report_text.specs.Turns.{entry_commands};
-ghost use Rattle.report_text.specs.Session.{first_of, IsSessionAt};
+ghost use Rattle.report_reader.specs.Kinds.{IsCursor, IsRead};
+ghost use Rattle.report_reader.specs.Entries.{entries as entries_of, end_of, IsTaken, StaysOn};
 
-use crate::advancing::{advance, nothing};
-use crate::drafts::{Draft, Stage};
-use phrase_reader::read_phrase;
-use report_text::{CommandSession, Report};
-use std::alloc::Global;
-use text_fields::next_line;
+use crate::answers::read_answer;
+use crate::cursor::{Cursor, Word};
+use crate::lists::read_notes;
+use report_text::{Command, CommandSession, Entries, Entry, Notes, Phrase, Report};
+use std::alloc::{AllocError, Global};
 use thiserror::Error;
 
 /// Why a text was not read as a report.
@@ -29,73 +28,61 @@ pub enum ReportStop {
     Memory,
 }
 
-// Takes one line more. The session stands where the commands of whole entries bring it.
-fn take_line(
-    alloc: Global,
-    session: &mut CommandSession,
-    draft: Draft,
-    number: u32,
-    line: &[u8],
-) -> Result<Draft, ReportStop>
-    requires draft { IsDraftFor (first_of session.old) draft }
-    requires session { IsSessionAt session.old (entry_commands draft.entries) }
-    ensures line { MatchResult result
-        (Takes (first_of session.old) number draft line.now)
-        (IsLineStop (first_of session.old) number draft line.now) }
-    ensures goes { IfOk result (λ d. Replays session.old draft.entries session.new d.entries) }
+// Makes an edit or an undo, where the command is one. What is answered to it is not looked at.
+fn replay(session: &mut CommandSession, command: &Command) -> Result<(), AllocError>
+    requires { IsCommand command.now }
+    ensures taken { OnOk result (IsTaken session.old command.now session.new) }
+    ensures unchanged { OnErr result (session.new ≡ session.old) }
+{
+    session.take(command)?;
+    Ok(())
+}
+
+// The entries of a report. The session takes their commands.
+fn read_entries(alloc: Global, cursor: &mut Cursor<'_>, session: &mut CommandSession) -> Entries
+    requires fresh { session.old.formers ≡ [] }
+    requires stands { IsCursor session.old.model cursor.old }
+    ensures read { IsRead session.old.model (entries_of session.old.model) cursor.old cursor.new result }
+    ensures numbered { AreNumbered session.old.model [] cursor.old.number result }
+    ensures looked { IsCursor session.old.model cursor.new }
     ensures stays { StaysOn session.old session.new }
 {
-    let Ok(said) = read_phrase(alloc, session.model(), line) else {
-        return Err(ReportStop::Memory);
-    };
-    let Some(phrase) = said else {
-        return Err(ReportStop::BadLine(number));
-    };
-    let Ok(found) = advance(alloc, session, draft, number, phrase) else {
-        return Err(ReportStop::Memory);
-    };
-    let Some(next) = found else {
-        return Err(ReportStop::BadLine(number));
-    };
-    Ok(next)
+    let mut entries = Vec::new(alloc);
+    loop {
+        let line = cursor.number;
+        let Some(command) = cursor.take_command(alloc, session.model()) else {
+            return Entries::new(entries);
+        };
+        let answer = read_answer(alloc, session.model(), &command, cursor);
+        if replay(session, &command).is_err() {
+            cursor.give_up();
+            return Entries::new(entries);
+        }
+        let entry = Entry {
+            command,
+            answer,
+            line,
+        };
+        cursor.push(&mut entries, entry);
+    }
 }
 
-// What the lines, and the bytes behind the last of them, have come to.
-fn end(draft: Draft, number: u32, rest: &[u8]) -> Result<Report, ReportStop>
-    requires { number + length rest.now < 2147483648 }
-    ensures { result ≡ ended number draft rest.now }
+// What the lines have come to: the report, where the last line says that it ends and nothing is behind it.
+fn end(cursor: Cursor<'_>, report: Report) -> Result<Report, ReportStop>
+    requires { (p : OnePhrase) → cursor.ahead ≡ Ok p → cursor.number < 4294967295 }
+    ensures { result ≡ end_of cursor.entry.number cursor.entry.ahead cursor.entry.rest.now report }
 {
-    let Draft {
-        notes,
-        entries,
-        stage,
-    } = draft;
-    match stage {
-        Stage::Done => {
-            if rest.is_empty() {
-                Ok(Report { notes, entries })
+    match cursor.ahead {
+        Ok(Phrase::Foot) => {
+            if cursor.rest.is_empty() {
+                Ok(report)
             } else {
-                Err(ReportStop::BadLine(number + 1))
+                Err(ReportStop::BadLine(cursor.number + 1))
             }
         }
-        _ => Err(ReportStop::Truncated),
+        Ok(_) => Err(ReportStop::BadLine(cursor.number)),
+        Err(stop) => Err(stop),
     }
-}
-
-// The first line of a text, where its byte 10 ends it, and the bytes after that.
-fn whole_line(bytes: &[u8]) -> Option<(&[u8], &[u8])>
-    ensures parts { MatchOption result
-        (parts 10 bytes.now ≡ bytes.now ∷ [])
-        (λ r. parts 10 bytes.now ≡ r.0.now ∷ parts 10 r.1.now) }
-    ensures shorter { IfSome result (λ r. length r.1.now < length bytes.now) }
-{
-    let Some(line) = next_line(bytes, 0, 1) else {
-        return None;
-    };
-    if line.to == bytes.len() {
-        return None;
-    }
-    Some((&bytes[..line.to], &bytes[line.to + 1..]))
 }
 
 // Reads the lines of a report, and makes the edits and undos of its commands.
@@ -112,15 +99,11 @@ fn read_lines(
     ensures stop { IfErr result (IsReportStop session.old.model bytes.now) }
     ensures stays { StaysOn session.old session.new }
 {
-    let mut draft = nothing(alloc);
-    let mut rest = bytes;
-    let mut number: u32 = 0;
-    while let Some((line, after)) = whole_line(rest) {
-        number += 1;
-        draft = take_line(alloc, session, draft, number, line)?;
-        rest = after;
-    }
-    end(draft, number, rest)
+    let mut cursor = Cursor::new(alloc, session.model(), bytes);
+    cursor.pass_word(alloc, session.model(), Word::Head);
+    let notes = read_notes(alloc, session.model(), &mut cursor);
+    let entries = read_entries(alloc, &mut cursor, session);
+    end(cursor, Report { notes, entries })
 }
 
 /// Reads a report on the program of a session in which nothing was edited yet.

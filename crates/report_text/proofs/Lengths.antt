@@ -1,10 +1,9 @@
--- How many lines there are of a member and its witness.
+-- How many lines there are of a point.
 use Rattle.std.proofs.Common.{◌≡◌, refl, ap, ℕ, suc, ◌+◌, Bool, true, false, cond, not, List, [], ◌∷◌, length, filter, arith}
 use Rattle.rational.specs.Rational.{ℚ, zero_ℚ, eq_ℚ}
-use Rattle.lp_model.specs.declared.members.Member.{Member}
 use Rattle.certs.specs.declared.evidence.Point.{Point}
 use Rattle.report_text.specs.declared.phrases.Phrase.{Phrase}
-use Rattle.report_text.specs.Grammar.{value_phrases, point_phrases, witness_phrases}
+use Rattle.report_text.specs.Grammar.{value_phrases, point_phrases}
 
 -- a line for each value that is not 0
 value_count : (j : ℕ) (values : List ℚ) → length (value_phrases j values) ≡ length (filter (λ v. not (eq_ℚ v zero_ℚ)) values)
@@ -19,10 +18,4 @@ pub point_count : (p : Point) → 1 + length (filter (λ v. not (eq_ℚ v zero_�
 point_count p =
     let values : length (value_phrases 0 p.values) ≡ length (filter (λ v. not (eq_ℚ v zero_ℚ)) p.values) = value_count 0 p.values in
     let h : length (point_phrases p) ≡ suc (length (value_phrases 0 p.values)) = refl in
-    omega (arith, h, values)
-
-pub witness_count : (m : Member) (w : Point) → 2 + length (filter (λ v. not (eq_ℚ v zero_ℚ)) w.values) ≡ length (witness_phrases (m, w))
-witness_count m w =
-    let values : length (value_phrases 0 w.values) ≡ length (filter (λ v. not (eq_ℚ v zero_ℚ)) w.values) = value_count 0 w.values in
-    let h : length (witness_phrases (m, w)) ≡ suc (suc (length (value_phrases 0 w.values))) = refl in
     omega (arith, h, values)

@@ -54,15 +54,9 @@ module _ (first : Program) (Allowed : Command → Type 0) (Holds : List Edit →
   holds_named e (Some edit) edits allowed is h = cond_both (changes (after_edits first edits) edit) (edit ∷ edits) edits Holds (λ t. more e edit edits allowed is h) (λ t. h)
 
   holds_command : (c : Command) (edits : List Edit) → Allowed c → Holds edits → Holds (standing first edits (actions_of first c))
-  holds_command Command.Check edits allowed h = h
-  holds_command (Command.Iis method) edits allowed h = h
-  holds_command Command.Unbounded edits allowed h = h
-  holds_command Command.Relax edits allowed h = h
-  holds_command Command.Reduce edits allowed h = h
   holds_command (Command.Edit e) edits allowed h = holds_named e (named_edit first e) edits allowed refl h
   holds_command Command.Undo edits allowed h = holds_without edits h
-  holds_command (Command.Pivots n) edits allowed h = h
-  holds_command (Command.Nodes n) edits allowed h = h
+  holds_command c edits allowed h = h
 
   holds_standing : (before : List Command) (edits : List Edit) → All Allowed before → Holds edits → Holds (standing first edits (flat_map (actions_of first) before))
   holds_standing [] edits allowed h = h

@@ -1,5 +1,5 @@
 -- Which reports stand in the grammar: what is asked of their names, numbers and order.
-use Rattle.std.specs.Prelude.{◌≡◌, ◌≢◌, ℕ, ◌+◌, ◌^◌, ◌<◌, ◌≤◌, nat_lt, Bool, true, false, ◌&&◌, List, [], ◌∷◌, ◌++◌, length, Option, None, Some, All, IsTrue}
+use Rattle.std.specs.Prelude.{◌≡◌, ◌≢◌, ℕ, ◌+◌, ◌^◌, ◌<◌, ◌≤◌, nat_lt, Bool, true, false, ◌&&◌, ◌||◌, List, [], ◌∷◌, ◌++◌, length, Option, None, Some, All, IsTrue}
 use Rattle.std.specs.List.{list_all}
 use Rattle.report_text.specs.Names.{is_shown}
 use Rattle.rational.specs.Rational.{ℚ, zero_ℚ, ◌<ℚ◌}
@@ -32,6 +32,7 @@ use Rattle.reductions.specs.declared.steps.ReduceStep.{ReduceStep}
 use Rattle.reductions.specs.declared.steps.ReduceStep.TheVariants.{Empty, Singleton, Fixed, Redundant, Forcing, Doubleton}
 use Rattle.report_text.specs.declared.report.Command.{Command}
 use Rattle.report_text.specs.declared.report.Command.TheVariants.{Check, Iis, Unbounded, Relax as RelaxIt, Reduce, Edit, Undo, Pivots, Nodes}
+use Rattle.report_text.specs.declared.report.Asks.{Asks}
 use Rattle.report_text.specs.declared.report.Method.{Method}
 use Rattle.report_text.specs.declared.report.Method.TheVariants.{Elastic, Alternative}
 use Rattle.report_text.specs.declared.report.TargetKind.{TargetKind}
@@ -297,34 +298,57 @@ has_price Alternative None = false
 has_price _ (Some p) = false
 has_price _ None = true
 
--- whether the answer is of a kind that the command may have
+-- whether a method is for linear constraints alone
+abbrev pub is_linear : Method → Bool
+is_linear Elastic = true
+is_linear Alternative = true
+is_linear _ = false
+
+-- a command with no answer
+abbrev pub no_asks : Asks
+no_asks = record { point = false; infeasible = false; splits = false; search = None; objective = false; least = false; reduced = false; linear = false; stops = false; done = false; edits = false; undoes = false }
+
+-- of which kinds the answers to a command may be: a point; members that no point satisfies, by a proof with splits; an irreducible set by a method; and so on
+abbrev pub asks_of : Command → Asks
+asks_of Check = record no_asks { point = true; infeasible = true; splits = true; stops = true }
+asks_of (Iis method) = record no_asks { point = true; search = Some method; linear = is_linear method; stops = true }
+asks_of Unbounded = record no_asks { infeasible = true; splits = true; objective = true; stops = true }
+asks_of RelaxIt = record no_asks { least = true; linear = true; stops = true }
+asks_of Reduce = record no_asks { infeasible = true; reduced = true }
+asks_of (Edit e) = record no_asks { done = true; edits = true }
+asks_of Undo = record no_asks { done = true; undoes = true }
+asks_of (Pivots n) = record no_asks { done = true }
+asks_of (Nodes n) = record no_asks { done = true }
+
+-- whether rounds and a price are told just where the method has them; without a method there is no such set
+abbrev pub is_kept : Option Method → Core → Bool
+is_kept None core = false
+is_kept (Some method) core = has_rounds method core.rounds && has_price method core.price
+
+-- whether an edit or an undo may be refused so
+abbrev pub refuses : Asks → Refusal → Bool
+refuses k Refusal.UnknownName = k.edits
+refuses k Refusal.NoChange = k.edits
+refuses k Refusal.NothingToUndo = k.undoes
+
+-- whether the answer is of these kinds
+abbrev pub answers : Asks → Answer → Bool
+answers k (Feasible p) = k.point
+answers k (Infeasible set proof) = k.infeasible && (k.splits || is_one_leaf proof.nodes)
+answers k (Irreducible core) = is_kept k.search core
+answers k (RunsAway p ray) = k.objective
+answers k (BoundedBy b) = k.objective
+answers k (LeastBy p dual) = k.least
+answers k (RigidRefuted set proof) = k.least && (k.splits || is_one_leaf proof.nodes)
+answers k (ReducedTo r) = k.reduced
+answers k Done = k.done
+answers k (Refused r) = refuses k r
+answers k (NotLinear j) = k.linear
+answers k (Stopped stop) = k.stops
+
+-- whether it is of a kind that the command may have
 abbrev pub can_answer : Command → Answer → Bool
-can_answer Check (Feasible p) = true
-can_answer Check (Infeasible set proof) = true
-can_answer Check (Stopped stop) = true
-can_answer (Iis method) (Feasible p) = true
-can_answer (Iis method) (Irreducible core) = has_rounds method core.rounds && has_price method core.price
-can_answer (Iis Elastic) (NotLinear j) = true
-can_answer (Iis Alternative) (NotLinear j) = true
-can_answer (Iis method) (Stopped stop) = true
-can_answer Unbounded (Infeasible set proof) = true
-can_answer Unbounded (RunsAway p ray) = true
-can_answer Unbounded (BoundedBy b) = true
-can_answer Unbounded (Stopped stop) = true
-can_answer RelaxIt (LeastBy p dual) = true
-can_answer RelaxIt (RigidRefuted set proof) = is_one_leaf proof.nodes
-can_answer RelaxIt (NotLinear j) = true
-can_answer RelaxIt (Stopped stop) = true
-can_answer Reduce (Infeasible set proof) = is_one_leaf proof.nodes
-can_answer Reduce (ReducedTo r) = true
-can_answer (Edit e) Done = true
-can_answer (Edit e) (Refused Refusal.UnknownName) = true
-can_answer (Edit e) (Refused Refusal.NoChange) = true
-can_answer Undo Done = true
-can_answer Undo (Refused Refusal.NothingToUndo) = true
-can_answer (Pivots n) Done = true
-can_answer (Nodes n) Done = true
-can_answer _ _ = false
+can_answer command answer = answers (asks_of command) answer
 
 -- ---- reports
 -- an entry whose answer is one to its command

@@ -506,6 +506,10 @@ joined (word ∷ words) = spelled word words
 abbrev pub command_text : Command → List ℕ
 command_text c = joined (command_words c)
 
+-- the commands of one word
+abbrev pub lone_commands : List Command
+lone_commands = Check ∷ Unbounded ∷ RelaxIt ∷ Reduce ∷ Undo ∷ []
+
 -- ---- the phrases of a report
 -- those of values, of which the first is that of column j: one for each that is not 0
 abbrev pub value_phrases : ℕ → List ℚ → List Phrase

@@ -1,8 +1,7 @@
 //! How many lines the parts of a report have.
 ghost use Rattle.std.specs.Prelude.{◌≡◌, ◌≤◌, length, filter, not};
 ghost use Rattle.rational.specs.Rational.{zero_ℚ, eq_ℚ};
-ghost use Rattle.lp_model.specs.declared.members.Member.{Member as OneMember};
-ghost use Rattle.report_text.specs.Grammar.{point_phrases, witness_phrases};
+ghost use Rattle.report_text.specs.Grammar.{point_phrases};
 ghost use Rattle.report_text.specs.Places.{PlacesLaw};
 
 use certs::Point;
@@ -51,14 +50,6 @@ pub fn point_length(point: &Point) -> u64
     ensures { result ≡ length (point_phrases point.now) }
 {
     1 + count_values(point.values.as_slice())
-}
-
-/// How many lines a member with its witness has: one for the member, one for the point, and one for each value that is
-/// not 0.
-pub fn witness_length(witness: &Point) -> u64
-    ensures { (m : OneMember) → result ≡ length (witness_phrases (m, witness.now)) }
-{
-    2 + count_values(witness.values.as_slice())
 }
 
 /// What stands behind so many lines of a report, an entry, a witness and a proof. It does nothing when it runs.

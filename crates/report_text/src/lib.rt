@@ -14,13 +14,14 @@ pub use command_session::CommandSession;
 pub use history::{History, changes_law, history_law};
 pub use layout::{
     BOUND_LINES, HEAD_LINES, LEAST_LINES, MEMBER_LINES, OPENING_LINES, PROOF_LINES, TOTAL_LINES,
-    places_law, point_length, witness_length,
+    places_law, point_length,
 };
 pub use listed::{ListedMembers, MemberList};
 pub use phrases::{Keyword, Phrase, StopPhrase};
 pub use report::{
-    Answer, Bounded, Command, Core, EditKind, Entries, Entry, Members, Method, NamedEdit, Notes,
-    ReduceSteps, Reduced, Refusal, Report, Script, TargetKind, ToldSite, ToldStop, Witnesses,
+    Answer, Asks, Bounded, Command, Core, EditKind, Entries, Entry, Members, Method, NamedEdit,
+    Notes, ReduceSteps, Reduced, Refusal, Report, Script, TargetKind, ToldSite, ToldStop,
+    Witnesses,
 };
 pub use session::{EditStop, Session, UndoStop, names_stand};
 pub use table::{

@@ -1,4 +1,6 @@
 //! What a script asks, and what a report says: notes, and for each command its answer.
+ghost use Rattle.std.specs.Prelude.{◌≡◌};
+ghost use Rattle.report_text.specs.Form.{asks_of, is_linear as is_linear_by};
 
 use crate::listed::MemberList;
 use certs::{Dual, PackedPoint, PackedRay, Path, Proof, SiteKind};
@@ -62,6 +64,114 @@ pub enum Command {
     Undo,
     Pivots(u64),
     Nodes(u64),
+}
+
+/// Of which kinds the answers to a command may be.
+#[derive(Clone, Copy)]
+pub struct Asks {
+    /// A point of the active members.
+    pub point: bool,
+    /// Members that no point satisfies.
+    pub infeasible: bool,
+    /// A proof with splits.
+    pub splits: bool,
+    /// An irreducible set, as it is looked for so.
+    pub search: Option<Method>,
+    /// Whether the objective runs away, or how far it can go.
+    pub objective: bool,
+    /// How little must give way, or rigid members that no point satisfies.
+    pub least: bool,
+    /// How far the program is reduced.
+    pub reduced: bool,
+    /// That a column is to be whole where it may not be: the command is for linear constraints alone.
+    pub linear: bool,
+    /// Why a solve stopped.
+    pub stops: bool,
+    /// That the command is done.
+    pub done: bool,
+    /// Why an edit is refused.
+    pub edits: bool,
+    /// Why an undo is refused.
+    pub undoes: bool,
+}
+
+/// A command with no answer.
+const NOTHING: Asks = Asks {
+    point: false,
+    infeasible: false,
+    splits: false,
+    search: None,
+    objective: false,
+    least: false,
+    reduced: false,
+    linear: false,
+    stops: false,
+    done: false,
+    edits: false,
+    undoes: false,
+};
+
+impl Command {
+    /// Of which kinds its answers may be.
+    pub fn asks(&self) -> Asks
+        ensures { result ≡ asks_of self.now }
+    {
+        match self {
+            Command::Check => Asks {
+                point: true,
+                infeasible: true,
+                splits: true,
+                stops: true,
+                ..NOTHING
+            },
+            Command::Iis(method) => Asks {
+                point: true,
+                search: Some(*method),
+                linear: is_linear(*method),
+                stops: true,
+                ..NOTHING
+            },
+            Command::Unbounded => Asks {
+                infeasible: true,
+                splits: true,
+                objective: true,
+                stops: true,
+                ..NOTHING
+            },
+            Command::Relax => Asks {
+                least: true,
+                linear: true,
+                stops: true,
+                ..NOTHING
+            },
+            Command::Reduce => Asks {
+                infeasible: true,
+                reduced: true,
+                ..NOTHING
+            },
+            Command::Edit(_) => Asks {
+                done: true,
+                edits: true,
+                ..NOTHING
+            },
+            Command::Undo => Asks {
+                done: true,
+                undoes: true,
+                ..NOTHING
+            },
+            Command::Pivots(_) | Command::Nodes(_) => Asks {
+                done: true,
+                ..NOTHING
+            },
+        }
+    }
+}
+
+// Whether a method is for linear constraints alone.
+fn is_linear(method: Method) -> bool
+    ensures { result ≡ is_linear_by method }
+{
+    matches!(method, Method::Elastic | Method::Alternative)
 }
 
 /// The commands of a script in order, as a list.
